@@ -1,0 +1,4 @@
+pub mod Width
+pub mod Condition
+pub mod Bytes
+pub mod Line
