@@ -1,0 +1,21 @@
+//! Addresses of operands in memory, and what an instruction loads.
+//!
+//! Both are decided by the registers before the instruction. Takes no memory.
+#![tactic(auto)]
+
+mod address;
+mod load;
+
+use ia_word::Width;
+
+pub use address::address_of;
+pub use load::load_of;
+
+/// A byte or a doubleword in memory.
+#[derive(Clone, Copy, PartialEq, Eq, Debug)]
+pub struct Access {
+    /// The address of its lowest byte.
+    pub addr: u32,
+    /// How many bytes: 1 or 4.
+    pub width: Width,
+}

@@ -1,0 +1,39 @@
+//! Bit tests.
+
+ghost use Rattle.std.specs.Prelude.{◌≡◌, ◌<◌, ◌%◌, ◌==◌, ◌↔◌, IsTrue};
+ghost use Rattle.std.specs.Int.{bit_at};
+ghost use Rattle.ia_alu.specs.Bits.{bit_value};
+ghost use Rattle.ia_regs.specs.Flags.{has_carry, with_carry};
+
+use ia_regs::Flags;
+use ia_word::BitOp;
+
+/// A doubleword with the bit of an index modulo 32 tested, and CF the bit.
+#[tactic(auto, unfolding(crate::specs::Bits::bit_value))]
+pub fn bit(op: BitOp, a: u32, index: u8, flags: Flags) -> (u32, Flags)
+    ensures value { result.0 ≡ bit_value op a (index % 32) }
+    ensures flags { result.1 ≡ with_carry (bit_at a (index % 32) == 1) flags }
+
+    // CF alone.
+    ensures cf { IsTrue (has_carry result.1) ↔ bit_at a (index % 32) ≡ 1 }
+{
+    let place = index % 32;
+    let mask = 1u32 << place;
+    let after = selected(a, place, flags);
+    let value = match op {
+        BitOp::Bt => a,
+        BitOp::Bts => a | mask,
+        BitOp::Btr => a & !mask,
+        BitOp::Btc => a ^ mask,
+    };
+    (value, after)
+}
+
+// The flags, with CF the bit at a place.
+fn selected(a: u32, place: u8, flags: Flags) -> Flags
+    requires { place < 32 }
+    ensures flags { result ≡ with_carry (bit_at a place == 1) flags }
+    ensures cf { IsTrue (has_carry result) ↔ bit_at a place ≡ 1 }
+{
+    flags.with_carry((a >> place) % 2 == 1)
+}

@@ -1,0 +1,84 @@
+//! Operands as signed whole numbers.
+
+ghost use Rattle.std.specs.Prelude.{◌≡◌, ◌<◌, ◌^◌, ◌≤◌, ◌<ℤ◌, ◌≤ℤ◌, pos, neg_ℤ};
+ghost use Rattle.ia_word.specs.Width.{bits_of};
+ghost use Rattle.ia_regs.specs.Flags.{flags_of};
+ghost use Rattle.ia_alu.specs.Numbers.{signed, overflows, half_of, flags_from, modulo};
+
+use ia_regs::Flags;
+use ia_word::{Width, parity_even};
+
+/// Half of the values of a width: from there on the top bit is 1.
+pub(crate) fn half(width: Width) -> u64
+    ensures { result ≡ half_of width }
+{
+    match width {
+        Width::B => 0x80,
+        Width::D => 0x8000_0000,
+    }
+}
+
+/// The signed number that an operand stands for.
+#[tactic(auto, unfolding(crate::specs::Numbers::signed))]
+pub(crate) fn as_signed(width: Width, operand: u32) -> i64
+    requires { operand < 2 ^ bits_of width }
+    ensures value { result ≡ signed width operand }
+    ensures low { neg_ℤ (pos (2 ^ 31)) ≤ℤ result }
+    ensures high { result <ℤ pos (2 ^ 31) }
+{
+    match width {
+        Width::B => {
+            if operand < 0x80 {
+                i64::from(operand)
+            } else {
+                i64::from(operand) - 0x100
+            }
+        }
+        Width::D => {
+            if operand < 0x8000_0000 {
+                i64::from(operand)
+            } else {
+                i64::from(operand) - 0x1_0000_0000
+            }
+        }
+    }
+}
+
+/// Whether a number is no signed number of this width.
+#[tactic(auto, unfolding(crate::specs::Numbers::overflows))]
+pub(crate) fn is_outside(width: Width, number: i64) -> bool
+    ensures { result ≡ overflows width number }
+{
+    match width {
+        Width::B => number < -0x80 || number >= 0x80,
+        Width::D => number < -0x8000_0000 || number >= 0x8000_0000,
+    }
+}
+
+/// What a signed number leaves in a doubleword.
+pub(crate) fn low_word(number: i64) -> u32
+    ensures { result ≡ modulo (2 ^ 32) number }
+{
+    (number.cast_unsigned() % 0x1_0000_0000) as u32
+}
+
+/// The flags of a result, with its carry, adjust and overflow.
+pub(crate) fn result_flags(
+    width: Width,
+    value: u32,
+    carry: bool,
+    adjust: bool,
+    overflow: bool,
+) -> Flags
+    ensures { result ≡ flags_from width value carry adjust overflow }
+{
+    let parity = parity_even((value % 0x100) as u8);
+    Flags::of(
+        carry,
+        parity,
+        adjust,
+        value == 0,
+        u64::from(value) >= half(width),
+        overflow,
+    )
+}

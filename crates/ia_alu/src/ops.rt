@@ -1,0 +1,118 @@
+//! The operations on two operands, and those on one.
+
+ghost use Rattle.std.specs.Prelude.{◌≡◌, ◌≢◌, ◌<◌, ◌≤◌, ◌%◌, ◌^◌, ◌↔◌, IsTrue, false, count_ones};
+ghost use Rattle.ia_word.specs.Width.{bits_of};
+ghost use Rattle.ia_regs.specs.Flags.{has_carry, has_parity, has_adjust, has_zero, has_sign, has_overflow, with_carry};
+ghost use Rattle.ia_alu.specs.Numbers.{half_of};
+ghost use Rattle.ia_alu.specs.Ops.{alu_value, alu_flags, step_value, step_flags, logic_flags};
+ghost use Rattle.ia_alu.specs.Sums.{difference_of, difference_flags};
+ghost use Rattle.ia_word.specs.declared.width.Width.TheVariants.{D};
+
+use crate::numbers::result_flags;
+use crate::sums::{add, sub};
+use ia_regs::Flags;
+use ia_word::{AluOp, Width};
+
+/// A step by one (SDM volume 2, INC, DEC).
+#[derive(Clone, Copy, PartialEq, Eq, Debug)]
+pub enum StepOp {
+    /// Adds 1.
+    Inc,
+    /// Takes 1 away.
+    Dec,
+}
+
+/// The result of an operation on two operands, and the flags after it. CMP gives the difference, which is not stored.
+#[tactic(auto, unfolding(crate::specs::Ops::alu_value, crate::specs::Ops::alu_flags))]
+pub fn alu(op: AluOp, width: Width, a: u32, b: u32, flags: Flags) -> (u32, Flags)
+    requires left { a < 2 ^ bits_of width }
+    requires right { b < 2 ^ bits_of width }
+    ensures value { result.0 ≡ alu_value op width a b flags }
+    ensures flags { result.1 ≡ alu_flags op width a b flags }
+    ensures fits { result.0 < 2 ^ bits_of width }
+
+    // What every operation says of its result. CF, AF and OF are those of the sum, the difference or the logic.
+    ensures pf { IsTrue (has_parity result.1) ↔ count_ones (result.0 % 256) % 2 ≡ 0 }
+    ensures zf { IsTrue (has_zero result.1) ↔ result.0 ≡ 0 }
+    ensures sf { IsTrue (has_sign result.1) ↔ half_of width ≤ result.0 }
+{
+    match op {
+        AluOp::Add => add(width, a, b, false),
+        AluOp::Or => logic(width, a | b, flags),
+        AluOp::Adc => add(width, a, b, flags.carry()),
+        AluOp::Sbb => sub(width, a, b, flags.carry()),
+        AluOp::And => logic(width, a & b, flags),
+        AluOp::Sub => sub(width, a, b, false),
+        AluOp::Xor => logic(width, a ^ b, flags),
+        AluOp::Cmp => sub(width, a, b, false),
+    }
+}
+
+// A result of AND, OR or XOR with its flags.
+#[tactic(auto, unfolding(crate::specs::Ops::logic_flags))]
+fn logic(width: Width, value: u32, flags: Flags) -> (u32, Flags)
+    ensures value { result.0 ≡ value }
+    ensures flags { result.1 ≡ logic_flags width value flags }
+
+    // The flags one by one.
+    ensures cf { has_carry result.1 ≡ false }
+    ensures pf { IsTrue (has_parity result.1) ↔ count_ones (value % 256) % 2 ≡ 0 }
+    ensures af { has_adjust result.1 ≡ has_adjust flags }
+    ensures zf { IsTrue (has_zero result.1) ↔ value ≡ 0 }
+    ensures sf { IsTrue (has_sign result.1) ↔ half_of width ≤ value }
+    ensures of { has_overflow result.1 ≡ false }
+{
+    (
+        value,
+        result_flags(width, value, false, flags.adjust(), false),
+    )
+}
+
+/// An operand with 1 added or taken away. The carry flag is kept.
+#[tactic(auto, unfolding(crate::specs::Ops::step_value, crate::specs::Ops::step_flags))]
+pub fn incdec(op: StepOp, width: Width, a: u32, flags: Flags) -> (u32, Flags)
+    requires { a < 2 ^ bits_of width }
+    ensures value { result.0 ≡ step_value op width a }
+    ensures flags { result.1 ≡ step_flags op width a flags }
+    ensures fits { result.0 < 2 ^ bits_of width }
+
+    // CF is kept; PF, ZF and SF say of the result what they say of a sum's.
+    ensures cf { has_carry result.1 ≡ has_carry flags }
+    ensures pf { IsTrue (has_parity result.1) ↔ count_ones (result.0 % 256) % 2 ≡ 0 }
+    ensures zf { IsTrue (has_zero result.1) ↔ result.0 ≡ 0 }
+    ensures sf { IsTrue (has_sign result.1) ↔ half_of width ≤ result.0 }
+{
+    match op {
+        StepOp::Inc => keep_carry(add(width, a, 1, false), flags),
+        StepOp::Dec => keep_carry(sub(width, a, 1, false), flags),
+    }
+}
+
+// A result with its flags, of which CF is as before.
+fn keep_carry(after: (u32, Flags), before: Flags) -> (u32, Flags)
+    ensures value { result.0 ≡ after.0 }
+    ensures flags { result.1 ≡ with_carry (has_carry before) after.1 }
+    ensures cf { has_carry result.1 ≡ has_carry before }
+    ensures pf { has_parity result.1 ≡ has_parity after.1 }
+    ensures zf { has_zero result.1 ≡ has_zero after.1 }
+    ensures sf { has_sign result.1 ≡ has_sign after.1 }
+{
+    let (value, flags) = after;
+    (value, flags.with_carry(before.carry()))
+}
+
+/// 0 minus a doubleword.
+pub fn neg(a: u32) -> (u32, Flags)
+    ensures value { result.0 ≡ difference_of D 0 a 0 }
+    ensures flags { result.1 ≡ difference_flags D 0 a 0 }
+
+    // The flags one by one.
+    ensures cf { IsTrue (has_carry result.1) ↔ a ≢ 0 }
+    ensures pf { IsTrue (has_parity result.1) ↔ count_ones (result.0 % 256) % 2 ≡ 0 }
+    ensures af { IsTrue (has_adjust result.1) ↔ a % 16 ≢ 0 }
+    ensures zf { IsTrue (has_zero result.1) ↔ a ≡ 0 }
+    ensures sf { IsTrue (has_sign result.1) ↔ half_of D ≤ result.0 }
+    ensures of { IsTrue (has_overflow result.1) ↔ a ≡ 2 ^ 31 }
+{
+    sub(Width::D, 0, a, false)
+}

@@ -1,0 +1,113 @@
+//! The opcodes behind 0F.
+
+ghost use Rattle.std.specs.Prelude.{◌≡◌, ◌<◌, ◌≤◌};
+ghost use Rattle.ia_insn.specs.Table.{two_byte, behind_f3};
+ghost use Rattle.ia_insn.specs.Reading.{Gives, form_at};
+
+use crate::rows::{bit_op, head_byte, modrm};
+use ia_insn::{DecodeFault, Op};
+use ia_modrm::{byte, long, operand};
+use ia_word::Condition;
+
+/// 0F 01: XEND and XTEST.
+#[tactic(auto, unfolding(ia_insn::specs::Table::two_byte, ia_insn::specs::Reading::operand_at))]
+fn row_01(bytes: &[u8]) -> Result<(Op, &[u8]), DecodeFault>
+    ensures { Gives (λ x. (x.0, x.1.now)) result (form_at (two_byte 0x01) bytes.now) }
+{
+    let (head, rest) = head_byte(bytes)?;
+    match (head.mode, head.reg, head.rm) {
+        (3, 2, 5) => Ok((Op::Xend, rest)),
+        (3, 2, 6) => Ok((Op::Xtest, rest)),
+        _ => Err(DecodeFault::NotInSubset),
+    }
+}
+
+/// 0F AE: the fences.
+#[tactic(auto, unfolding(ia_insn::specs::Table::two_byte, ia_insn::specs::Reading::operand_at))]
+fn row_ae(bytes: &[u8]) -> Result<(Op, &[u8]), DecodeFault>
+    ensures { Gives (λ x. (x.0, x.1.now)) result (form_at (two_byte 0xAE) bytes.now) }
+{
+    let (head, rest) = head_byte(bytes)?;
+    match (head.mode, head.reg, head.rm) {
+        (3, 5, 0) => Ok((Op::Lfence, rest)),
+        (3, 6, 0) => Ok((Op::Mfence, rest)),
+        (3, 7, 0) => Ok((Op::Sfence, rest)),
+        _ => Err(DecodeFault::NotInSubset),
+    }
+}
+
+#[tactic(auto, unfolding(ia_insn::specs::Table::two_byte))]
+pub fn behind_0f(opcode: u8, bytes: &[u8]) -> Result<(Op, &[u8]), DecodeFault>
+    ensures { Gives (λ x. (x.0, x.1.now)) result (form_at (two_byte opcode) bytes.now) }
+{
+    match opcode {
+        0x01 => row_01(bytes),
+        0x0b => Ok((Op::Ud2, bytes)),
+        0x1f => {
+            let (head, rest) = head_byte(bytes)?;
+            if head.reg != 0 {
+                return Err(DecodeFault::NotInSubset);
+            }
+            let (operand, rest) = operand(head, rest)?;
+            Ok((Op::NopOf(operand), rest))
+        }
+        0x40..=0x4f => {
+            let (reg, operand, rest) = modrm(bytes)?;
+            Ok((Op::Cmovcc(Condition::of(opcode - 0x40), reg, operand), rest))
+        }
+        0x80..=0x8f => {
+            let (distance, rest) = long(bytes)?;
+            Ok((Op::Jcc(Condition::of(opcode - 0x80), distance), rest))
+        }
+        0x90..=0x9f => {
+            let (head, rest) = head_byte(bytes)?;
+            if head.reg != 0 {
+                return Err(DecodeFault::NotInSubset);
+            }
+            let (operand, rest) = operand(head, rest)?;
+            Ok((Op::Setcc(Condition::of(opcode - 0x90), operand), rest))
+        }
+        0xa2 => Ok((Op::Cpuid, bytes)),
+        0xae => row_ae(bytes),
+        0xaf => {
+            let (reg, operand, rest) = modrm(bytes)?;
+            Ok((Op::Imul(reg, operand), rest))
+        }
+        0xb1 => {
+            let (reg, operand, rest) = modrm(bytes)?;
+            Ok((Op::Cmpxchg(operand, reg), rest))
+        }
+        0xb6 => {
+            let (reg, operand, rest) = modrm(bytes)?;
+            Ok((Op::Movzx(reg, operand), rest))
+        }
+        0xba => {
+            let (head, rest) = head_byte(bytes)?;
+            let Some(kind) = bit_op(head.reg) else {
+                return Err(DecodeFault::NotInSubset);
+            };
+            let (operand, rest) = operand(head, rest)?;
+            let (number, rest) = byte(rest)?;
+            Ok((Op::Bit(kind, operand, number), rest))
+        }
+        0xbe => {
+            let (reg, operand, rest) = modrm(bytes)?;
+            Ok((Op::Movsx(reg, operand), rest))
+        }
+        0xc1 => {
+            let (reg, operand, rest) = modrm(bytes)?;
+            Ok((Op::Xadd(operand, reg), rest))
+        }
+        _ => Err(DecodeFault::NotInSubset),
+    }
+}
+
+#[tactic(auto, unfolding(ia_insn::specs::Table::behind_f3))]
+pub fn behind_f3(opcode: u8, bytes: &[u8]) -> Result<(Op, &[u8]), DecodeFault>
+    ensures { Gives (λ x. (x.0, x.1.now)) result (form_at (behind_f3 opcode) bytes.now) }
+{
+    match opcode {
+        0x90 => Ok((Op::Pause, bytes)),
+        _ => Err(DecodeFault::NotInSubset),
+    }
+}

@@ -1,0 +1,19 @@
+//! The instruction table: what each instruction does to registers and memory.
+//!
+//! `specs/Table.antt` has one row a mnemonic, to be laid beside its page in Intel's SDM, volume 2. The table is decided by
+//! the instruction and its length, the registers, what was loaded and the depth of transactions. It loads and stores
+//! nothing itself: `load_of` says what is to be loaded, and `Done` what is to be stored. Takes no memory.
+#![tactic(auto)]
+
+mod arithmetic;
+mod control;
+mod done;
+mod laws;
+mod moves;
+mod operand;
+mod table;
+
+pub use done::{AbortKind, Done, Effect, Exception, Store};
+pub use ia_addr::{Access, load_of};
+pub use laws::{each_outcome_is_lawful, loaded_counts_only_where_there_is_a_load};
+pub use table::{fallback, finish};

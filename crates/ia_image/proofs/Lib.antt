@@ -1,0 +1,7 @@
+mod Tests
+pub mod Opening
+mod Fronts
+mod Lending
+mod Rows
+mod Written
+mod ReadBack

@@ -1,0 +1,13 @@
+use Rattle.std.proofs.Common.{sym, ◌∙◌}
+use Rattle.ia_image.proofs.Tests.{sound}
+use Rattle.ia_image.proofs.loader.load.Goals as goal
+
+pub entry_row-requires : goal.entry_row-requires
+entry_row-requires c =
+    let passed = sound c.args.bytes.now c.args.base c.args.code_len c.args.mem_size c.args.entries.now (sym c.refusal.ensures ∙ c.in_default.is) in
+    passed.few_cores
+
+pub invariant_of-result : goal.invariant_of-result
+invariant_of-result c =
+    let passed = sound c.args.bytes.now c.args.base c.args.code_len c.args.mem_size c.args.entries.now (sym c.refusal.ensures ∙ c.in_default.is) in
+    rw (c.in_ok-bytes.ensures.items, c.entry_row.ensures) passed

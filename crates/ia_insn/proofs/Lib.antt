@@ -1,0 +1,14 @@
+pub mod Exact
+pub mod Parts
+pub mod Operands
+pub mod Refusing
+pub mod Forms
+pub mod Maps
+pub mod Whole
+pub mod Lengths
+pub mod Order
+pub mod Written
+pub mod Templates
+pub mod Spelt
+pub mod Makes
+pub mod Decodes

@@ -1,0 +1,9 @@
+pub mod Fault
+pub mod Operands
+pub mod Form
+pub mod Table
+pub mod Order
+pub mod Spelling
+pub mod Reading
+pub mod Writing
+pub mod Encoding

@@ -1,0 +1,4 @@
+pub mod Fronts
+pub mod Skips
+pub mod Parts
+pub mod Ends

@@ -1,0 +1,4 @@
+pub mod Writing
+pub mod Digits
+mod Lines
+mod Rows

@@ -1,0 +1,5 @@
+pub mod Places
+pub mod Orders
+pub mod Entries
+pub mod Kept
+pub mod Drain

@@ -1,0 +1,21 @@
+use Rattle.std.proofs.Common.{◌≡◌, ◌<◌, ◌+◌, ◌*◌, length, get_or, refl, ap, ◌∙◌, arith}
+use Rattle.std.proofs.lemmas.Grind.{common_steps}
+use Rattle.tm_buffer.proofs.Drain.{drain_next, drain_all, slot_fits, drained_below}
+use Rattle.tm_buffer.proofs.slots.drain.Goals as goal
+
+pub drain_slot-requires-clause-below : goal.drain_slot-requires-clause-below
+drain_slot-requires-clause-below c = λ k small bit.
+    let below : get_or c.args.lines.now c.loop-slot.slot 0 * 64 + k < length c.args.memory.now =
+        slot_fits c.args.lines.now c.args.masks.now c.args.bytes.now (length c.args.memory.now) c.loop-slot.slot k _ _ c.requires.fits c.requires.places c.loop-slot-test.true refl refl small bit in
+    omega (arith, below, c.loop-slot.auto.memory)
+
+pub loop-slot-preserved : goal.loop-slot-preserved
+loop-slot-preserved c =
+    drain_next c.args.lines.now c.args.masks.now c.args.bytes.now c.args.memory.now _ c.loop-slot.memory c.drain_slot.new.memory c.loop-slot.slot _ _
+    c.requires.places c.loop-slot-test.true refl refl (λ i small. grind (arith, common_steps)) c.loop-slot.invariant c.drain_slot.ensures
+
+pub returns : goal.returns
+returns c =
+    let end : c.loop-slot.slot ≡ length c.args.lines.now = omega arith in
+    drain_all c.args.lines.now c.args.masks.now c.args.bytes.now c.args.memory.now c.loop-slot.memory c.loop-slot.auto.memory
+    (λ q. c.loop-slot.invariant q ∙ ap (λ n. drained_below c.args.lines.now c.args.masks.now c.args.bytes.now c.args.memory.now n q) end)

@@ -1,0 +1,81 @@
+-- A buffer as its callers see it: a map from addresses to bytes, and the lines of these bytes.
+use Rattle.std.specs.Prelude.{ℕ, ◌+◌, ◌<◌, Bool, List, [], ◌∷◌, ◌++◌, map, length, refl, Option, Some, None, IsSome, is_some, if◌then◌else◌, nat_eq, option_map, unwrap_or, slice_index}
+use Rattle.std.specs.List.{range_with_len}
+use Rattle.std.specs.Ordering.{nat_cmp}
+use Rattle.std.specs.Coded.{Coded, code_by, coded×, coded_ℕ, coded_list}
+use Rattle.std.specs.FinMap as bytes_map
+use Rattle.std.specs.FinSet as set
+use Rattle.ia_word.specs.declared.width.Width.{Width}
+use Rattle.ia_word.specs.declared.width.Width.TheVariants.{B, D}
+use Rattle.ia_word.specs.Bytes.{long_bytes, long_of}
+
+abbrev pub Bytes : Type 0
+Bytes = bytes_map.FinMap nat_cmp ℕ
+
+abbrev pub Lines : Type 0
+Lines = set.FinSet nat_cmp
+
+-- the stored bytes, the lines that they are on in the order of each line's first store, and how many lines there is room for
+pub record Held : Type 0 where
+  pub bytes : Bytes
+  pub order : List ℕ
+  pub room : ℕ
+
+abbrev pub held_code : Coded Held
+held_code =
+    code_by (Bytes × (List ℕ × ℕ)) (coded× (bytes_map.code coded_ℕ coded_ℕ) (coded× (coded_list coded_ℕ) coded_ℕ))
+    (λ h. (h.bytes, (h.order, h.room))) (λ p. record { bytes = p.0; order = p.1.0; room = p.1.1 }) (λ _. refl)
+
+-- the bytes of an operand, the lowest first (SDM volume 1, section 1.3.1 "Bit and Byte Order")
+abbrev pub operand_bytes : Width → ℕ → List ℕ
+operand_bytes B value = value ∷ []
+operand_bytes D value = long_bytes value
+
+-- the operand of these bytes
+abbrev pub operand_of : Width → List ℕ → ℕ
+operand_of B bytes = slice_index bytes 0
+operand_of D bytes = long_of bytes
+
+-- the bytes of a store, each with its address
+abbrev pub placed : ℕ → List ℕ → List (ℕ × ℕ)
+placed address [] = []
+placed address (b ∷ bs) = (address, b) ∷ placed (address + 1) bs
+
+-- a map with these bytes put in
+abbrev pub with_bytes : Bytes → List (ℕ × ℕ) → Bytes
+with_bytes m [] = m
+with_bytes m (e ∷ es) = bytes_map.insert (with_bytes m es) e.0 e.1
+
+-- these bytes of memory, with the stored bytes laid over them
+abbrev pub laid_over : Bytes → ℕ → List ℕ → List ℕ
+laid_over m address [] = []
+laid_over m address (b ∷ bs) = unwrap_or (bytes_map.get m address) b ∷ laid_over m (address + 1) bs
+
+-- memory with the stored bytes written to it
+abbrev pub drained : Bytes → List ℕ → List ℕ
+drained m memory = map (λ address. unwrap_or (bytes_map.get m address) (slice_index memory address)) (range_with_len 0 (length memory))
+
+-- each stored byte is below the end of memory
+abbrev pub Fits : Bytes → ℕ → Type 0
+Fits m size = (address : ℕ) → IsSome (bytes_map.get m address) → address < size
+
+-- the lines of an order
+abbrev pub lines_of : List ℕ → Lines
+lines_of order = set.from_list order
+
+-- where a line stands in the order
+abbrev pub place_of : List ℕ → ℕ → Option ℕ
+place_of [] line = None
+place_of (x ∷ xs) line = if nat_eq x line then Some 0 else option_map (λ k. k + 1) (place_of xs line)
+
+-- the line is in the order
+abbrev pub holds : List ℕ → ℕ → Bool
+holds order line = is_some (place_of order line)
+
+-- the order after a store to this line, and to these lines
+abbrev pub with_line : List ℕ → ℕ → List ℕ
+with_line order line = if holds order line then order else order ++ line ∷ []
+
+abbrev pub with_lines : List ℕ → List ℕ → List ℕ
+with_lines order [] = order
+with_lines order (l ∷ ls) = with_lines (with_line order l) ls

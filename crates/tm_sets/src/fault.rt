@@ -1,0 +1,46 @@
+//! Why a line is not added, or a list not made.
+
+ghost use Rattle.std.specs.Prelude.{◌≡◌};
+
+use std::alloc::{AllocError, AllocFailed};
+use thiserror::Error;
+
+/// The core has no room for a further line of this kind.
+#[derive(Clone, Copy, PartialEq, Eq, Debug, Drop, Error)]
+#[error("Full")]
+pub struct Full;
+
+impl Full {
+    /// The fault's number.
+    pub fn code(self) -> u8
+        ensures { result ≡ 31 }
+    {
+        31
+    }
+}
+
+/// There is no memory for the rows of a set, or for a list of its lines.
+#[derive(Clone, Copy, PartialEq, Eq, Debug, Drop, Error)]
+#[error("NoMemory")]
+pub struct NoMemory;
+
+impl NoMemory {
+    /// The fault's number.
+    pub fn code(self) -> u8
+        ensures { result ≡ 32 }
+    {
+        32
+    }
+}
+
+impl<T: Drop> From<AllocFailed<T>> for NoMemory {
+    fn from(_refused: AllocFailed<T>) -> NoMemory {
+        NoMemory
+    }
+}
+
+impl From<AllocError> for NoMemory {
+    fn from(_refused: AllocError) -> NoMemory {
+        NoMemory
+    }
+}
