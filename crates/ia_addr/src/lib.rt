@@ -6,9 +6,8 @@
 mod address;
 mod load;
 
-use ia_word::Width;
-
 pub use address::address_of;
+use ia_word::Width;
 pub use load::load_of;
 
 /// A byte or a doubleword in memory.
@@ -19,3 +18,6 @@ pub struct Access {
     /// How many bytes: 1 or 4.
     pub width: Width,
 }
+
+#[cfg(test)]
+mod tests;

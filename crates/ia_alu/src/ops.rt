@@ -22,7 +22,8 @@ pub enum StepOp {
     Dec,
 }
 
-/// The result of an operation on two operands, and the flags after it. CMP gives the difference, which is not stored.
+/// The result of an operation on two operands, and the flags after it (SDM volume 2, ADD, OR, ADC, SBB, AND, SUB, XOR,
+/// CMP). CMP gives the difference, which the instruction does not store.
 #[tactic(auto, unfolding(crate::specs::Ops::alu_value, crate::specs::Ops::alu_flags))]
 pub fn alu(op: AluOp, width: Width, a: u32, b: u32, flags: Flags) -> (u32, Flags)
     requires left { a < 2 ^ bits_of width }
@@ -68,7 +69,7 @@ fn logic(width: Width, value: u32, flags: Flags) -> (u32, Flags)
     )
 }
 
-/// An operand with 1 added or taken away. The carry flag is kept.
+/// An operand with 1 added or taken away, modulo 2^8 or 2^32. The carry flag is kept (SDM volume 2, INC, DEC).
 #[tactic(auto, unfolding(crate::specs::Ops::step_value, crate::specs::Ops::step_flags))]
 pub fn incdec(op: StepOp, width: Width, a: u32, flags: Flags) -> (u32, Flags)
     requires { a < 2 ^ bits_of width }
@@ -101,7 +102,7 @@ fn keep_carry(after: (u32, Flags), before: Flags) -> (u32, Flags)
     (value, flags.with_carry(before.carry()))
 }
 
-/// 0 minus a doubleword.
+/// 0 minus a doubleword, modulo 2^32, and the flags of that difference (SDM volume 2, NEG).
 pub fn neg(a: u32) -> (u32, Flags)
     ensures value { result.0 ≡ difference_of D 0 a 0 }
     ensures flags { result.1 ≡ difference_flags D 0 a 0 }

@@ -11,7 +11,7 @@ use crate::numbers::{as_signed, is_outside, low_word};
 use ia_regs::Flags;
 use ia_word::Width;
 
-/// The product of two doublewords, low half first.
+/// The product of two doublewords, low half first (SDM volume 2, MUL).
 #[tactic(auto, unfolding(crate::specs::Products::product_flags))]
 pub fn mul(a: u32, b: u32, flags: Flags) -> (u32, u32, Flags)
     ensures low { result.0 ≡ a * b % 2 ^ 32 }
@@ -31,7 +31,7 @@ pub fn mul(a: u32, b: u32, flags: Flags) -> (u32, u32, Flags)
     )
 }
 
-/// The product of two signed doublewords modulo 2^64, low half first.
+/// The product of two signed doublewords modulo 2^64, low half first (SDM volume 2, IMUL with one operand).
 #[tactic(auto, unfolding(crate::specs::Products::signed_product_flags))]
 pub fn imul(a: u32, b: u32, flags: Flags) -> (u32, u32, Flags)
     ensures low { result.0 ≡ modulo (2 ^ 64) (signed D a *ℤ signed D b) % 2 ^ 32 }
@@ -80,7 +80,8 @@ fn signed_flags(product: i64, flags: Flags) -> Flags
     flags.with_carry(wide).with_overflow(wide)
 }
 
-/// The quotient and remainder of a doubled word.
+/// The quotient and remainder of high and low half by a divisor (SDM volume 2, DIV). `Divide` where the divisor is 0 or
+/// the quotient is 2^32 or more.
 #[tactic(auto, unfolding(crate::specs::Products::div_of))]
 pub fn div(high: u32, low: u32, divisor: u32) -> Result<(u32, u32), Divide>
     ensures whole { result ≡ div_of high low divisor }
@@ -99,7 +100,8 @@ pub fn div(high: u32, low: u32, divisor: u32) -> Result<(u32, u32), Divide>
     Ok((quotient as u32, (dividend % u64::from(divisor)) as u32))
 }
 
-/// The signed quotient, rounded toward zero, and the remainder of a doubled word.
+/// The signed quotient, rounded toward zero, and the remainder of high and low half by a divisor (SDM volume 2, IDIV).
+/// `Divide` where the divisor is 0 or the quotient lies outside -2^31 to 2^31 - 1.
 #[tactic(auto, using(crate::proofs::Divisions::signed_nonzero), unfolding(crate::specs::Products::idiv_of))]
 pub fn idiv(high: u32, low: u32, divisor: u32) -> Result<(u32, u32), Divide>
     ensures whole { result ≡ idiv_of high low divisor }

@@ -11,7 +11,7 @@ use crate::numbers::{as_signed, is_outside, result_flags};
 use ia_regs::Flags;
 use ia_word::Width;
 
-/// The sum of two operands and a carry.
+/// The sum of two operands and a carry, modulo 2^8 or 2^32, and all six flags (SDM volume 2, ADD and ADC).
 #[tactic(auto, unfolding(crate::specs::Sums::sum_flags))]
 pub fn add(width: Width, a: u32, b: u32, carry: bool) -> (u32, Flags)
     requires left { a < 2 ^ bits_of width }
@@ -39,7 +39,7 @@ pub fn add(width: Width, a: u32, b: u32, carry: bool) -> (u32, Flags)
     )
 }
 
-/// The first operand less the second and a borrow.
+/// The first operand less the second and a borrow, modulo 2^8 or 2^32, and all six flags (SDM volume 2, SUB and SBB).
 #[tactic(auto, unfolding(crate::specs::Sums::difference_flags))]
 pub fn sub(width: Width, a: u32, b: u32, borrow: bool) -> (u32, Flags)
     requires left { a < 2 ^ bits_of width }

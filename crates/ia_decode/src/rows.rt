@@ -31,6 +31,7 @@ pub fn modrm(bytes: &[u8]) -> Result<(u8, Operand, &[u8]), DecodeFault>
     Ok((head.reg, place, rest))
 }
 
+/// ADD to CMP by number.
 pub fn alu(number: u8) -> AluOp
     requires { number < 8 }
     ensures { result ≡ alu_of number }
@@ -47,6 +48,7 @@ pub fn alu(number: u8) -> AluOp
     }
 }
 
+/// ROL, ROR, SHL, SHR and SAR by /n.
 pub fn shift(number: u8) -> Option<ShiftOp>
     ensures { result ≡ shift_of number }
 {
@@ -60,6 +62,7 @@ pub fn shift(number: u8) -> Option<ShiftOp>
     }
 }
 
+/// BT, BTS, BTR and BTC by /n.
 pub fn bit_op(number: u8) -> Option<BitOp>
     ensures { result ≡ bit_of number }
 {

@@ -36,6 +36,49 @@ fn row_ae(bytes: &[u8]) -> Result<(Op, &[u8]), DecodeFault>
     }
 }
 
+/// 0F 1F /0: NOP with an operand.
+#[tactic(auto, unfolding(ia_insn::specs::Table::two_byte))]
+fn nop_of(bytes: &[u8]) -> Result<(Op, &[u8]), DecodeFault>
+    ensures { Gives (λ x. (x.0, x.1.now)) result (form_at (two_byte 0x1F) bytes.now) }
+{
+    let (head, rest) = head_byte(bytes)?;
+    if head.reg != 0 {
+        return Err(DecodeFault::NotInSubset);
+    }
+    let (operand, rest) = operand(head, rest)?;
+    Ok((Op::NopOf(operand), rest))
+}
+
+/// 0F 90 to 9F /0: SETcc.
+#[tactic(auto, unfolding(ia_insn::specs::Table::two_byte))]
+fn setcc(opcode: u8, bytes: &[u8]) -> Result<(Op, &[u8]), DecodeFault>
+    requires low { 0x90 ≤ opcode }
+    requires high { opcode ≤ 0x9F }
+    ensures { Gives (λ x. (x.0, x.1.now)) result (form_at (two_byte opcode) bytes.now) }
+{
+    let (head, rest) = head_byte(bytes)?;
+    if head.reg != 0 {
+        return Err(DecodeFault::NotInSubset);
+    }
+    let (operand, rest) = operand(head, rest)?;
+    Ok((Op::Setcc(Condition::of(opcode - 0x90), operand), rest))
+}
+
+/// 0F BA /4 to /7: the bit of a number.
+#[tactic(auto, unfolding(ia_insn::specs::Table::two_byte))]
+fn row_ba(bytes: &[u8]) -> Result<(Op, &[u8]), DecodeFault>
+    ensures { Gives (λ x. (x.0, x.1.now)) result (form_at (two_byte 0xBA) bytes.now) }
+{
+    let (head, rest) = head_byte(bytes)?;
+    let Some(kind) = bit_op(head.reg) else {
+        return Err(DecodeFault::NotInSubset);
+    };
+    let (operand, rest) = operand(head, rest)?;
+    let (number, rest) = byte(rest)?;
+    Ok((Op::Bit(kind, operand, number), rest))
+}
+
+/// What a byte behind 0F and the bytes behind it are.
 #[tactic(auto, unfolding(ia_insn::specs::Table::two_byte))]
 pub fn behind_0f(opcode: u8, bytes: &[u8]) -> Result<(Op, &[u8]), DecodeFault>
     ensures { Gives (λ x. (x.0, x.1.now)) result (form_at (two_byte opcode) bytes.now) }
@@ -43,14 +86,7 @@ pub fn behind_0f(opcode: u8, bytes: &[u8]) -> Result<(Op, &[u8]), DecodeFault>
     match opcode {
         0x01 => row_01(bytes),
         0x0b => Ok((Op::Ud2, bytes)),
-        0x1f => {
-            let (head, rest) = head_byte(bytes)?;
-            if head.reg != 0 {
-                return Err(DecodeFault::NotInSubset);
-            }
-            let (operand, rest) = operand(head, rest)?;
-            Ok((Op::NopOf(operand), rest))
-        }
+        0x1f => nop_of(bytes),
         0x40..=0x4f => {
             let (reg, operand, rest) = modrm(bytes)?;
             Ok((Op::Cmovcc(Condition::of(opcode - 0x40), reg, operand), rest))
@@ -59,14 +95,7 @@ pub fn behind_0f(opcode: u8, bytes: &[u8]) -> Result<(Op, &[u8]), DecodeFault>
             let (distance, rest) = long(bytes)?;
             Ok((Op::Jcc(Condition::of(opcode - 0x80), distance), rest))
         }
-        0x90..=0x9f => {
-            let (head, rest) = head_byte(bytes)?;
-            if head.reg != 0 {
-                return Err(DecodeFault::NotInSubset);
-            }
-            let (operand, rest) = operand(head, rest)?;
-            Ok((Op::Setcc(Condition::of(opcode - 0x90), operand), rest))
-        }
+        0x90..=0x9f => setcc(opcode, bytes),
         0xa2 => Ok((Op::Cpuid, bytes)),
         0xae => row_ae(bytes),
         0xaf => {
@@ -81,15 +110,7 @@ pub fn behind_0f(opcode: u8, bytes: &[u8]) -> Result<(Op, &[u8]), DecodeFault>
             let (reg, operand, rest) = modrm(bytes)?;
             Ok((Op::Movzx(reg, operand), rest))
         }
-        0xba => {
-            let (head, rest) = head_byte(bytes)?;
-            let Some(kind) = bit_op(head.reg) else {
-                return Err(DecodeFault::NotInSubset);
-            };
-            let (operand, rest) = operand(head, rest)?;
-            let (number, rest) = byte(rest)?;
-            Ok((Op::Bit(kind, operand, number), rest))
-        }
+        0xba => row_ba(bytes),
         0xbe => {
             let (reg, operand, rest) = modrm(bytes)?;
             Ok((Op::Movsx(reg, operand), rest))
@@ -102,6 +123,7 @@ pub fn behind_0f(opcode: u8, bytes: &[u8]) -> Result<(Op, &[u8]), DecodeFault>
     }
 }
 
+/// What a byte behind F3 is: PAUSE or nothing.
 #[tactic(auto, unfolding(ia_insn::specs::Table::behind_f3))]
 pub fn behind_f3(opcode: u8, bytes: &[u8]) -> Result<(Op, &[u8]), DecodeFault>
     ensures { Gives (λ x. (x.0, x.1.now)) result (form_at (behind_f3 opcode) bytes.now) }

@@ -15,7 +15,9 @@ use ia_word::Width;
 
 // The numbers of the registers that are used without being named.
 const ECX: u8 = 1;
+
 const ESP: u8 = 4;
+
 const EBP: u8 = 5;
 
 /// What an instruction does that uses the stack or jumps; NOP and the fences change nothing.

@@ -17,3 +17,6 @@ pub use done::{AbortKind, Done, Effect, Exception, Store};
 pub use ia_addr::{Access, load_of};
 pub use laws::{each_outcome_is_lawful, loaded_counts_only_where_there_is_a_load};
 pub use table::{fallback, finish};
+
+#[cfg(test)]
+mod tests;

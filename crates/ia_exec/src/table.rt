@@ -21,7 +21,12 @@ pub fn finish(insn: &Insn, len: u8, regs: &Regs, loaded: u32, depth: u8) -> Done
     requires { IsTrue (is_encodable insn.now) }
     ensures { result ≡ finish_of insn.now len regs.now loaded depth }
 {
-    done(&insn.op, &at(sum(regs.eip, u32::from(len)), regs), loaded, depth)
+    done(
+        &insn.op,
+        &at(sum(regs.eip, u32::from(len)), regs),
+        loaded,
+        depth,
+    )
 }
 
 // The same with EIP already behind the instruction.
@@ -87,9 +92,7 @@ fn divided(depth: u8, quotient: Result<(u32, u32), Divide>, regs: &Regs) -> Done
     ensures { result ≡ divided_of depth quotient regs.now }
 {
     match quotient {
-        Ok((quotient, remainder)) => {
-            went(kept(doubled(quotient, remainder, regs.flags, regs)))
-        }
+        Ok((quotient, remainder)) => { went(kept(doubled(quotient, remainder, regs.flags, regs))) }
         Err(_) => by_depth(depth, Done::Fault(Exception::Divide), AbortKind::Other),
     }
 }

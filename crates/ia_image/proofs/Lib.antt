@@ -1,4 +1,4 @@
-mod Tests
+mod Sound
 pub mod Opening
 mod Fronts
 mod Lending

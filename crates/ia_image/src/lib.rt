@@ -12,3 +12,6 @@ pub use loader::load;
 pub use program::Program;
 pub use text::{ImageText, read_image};
 pub use write::write_image;
+
+#[cfg(test)]
+mod tests;

@@ -42,24 +42,28 @@ step : (n b c : ℕ) (rest : List ℕ) → (b == 10) ≡ false → prefix_len (d
     → lines_of (c ∷ rest) ≡ without_cr (take n (c ∷ rest)) ∷ lines_of (drop (suc n) (c ∷ rest))
     → lines_of (b ∷ c ∷ rest) ≡ without_cr (take (suc n) (b ∷ c ∷ rest)) ∷ lines_of (drop (suc (suc n)) (b ∷ c ∷ rest))
 step zero b c rest f e ih = elim (cases_Bool (c == 10)) [
-    inl t ↦ elim (cases_Bool (b == 13)) [ inl u ↦ simp (f, t, u) refl | inr u ↦ simp (f, t, u) refl ]
-  | inr g ↦ let k : prefix_len (differs 10) (c ∷ rest) ≡ 1 + prefix_len (differs 10) rest = rw g refl in absurd (omega (arith, k, e)) ]
+  | inl t ↦ elim (cases_Bool (b == 13)) [ inl u ↦ simp (f, t, u) refl | inr u ↦ simp (f, t, u) refl ]
+  | inr g ↦ let k : prefix_len (differs 10) (c ∷ rest) ≡ 1 + prefix_len (differs 10) rest = rw g refl in absurd (omega (arith, k, e))
+]
 step (suc n) b c rest f e ih = elim (cases_Bool (c == 10)) [
-    inl t ↦ let k : prefix_len (differs 10) (c ∷ rest) ≡ 0 = rw t refl in absurd (omega (arith, k, e))
-  | inr g ↦ pick (b == 10) (b == 13) (c == 10) ([] ∷ lines_of (c ∷ rest)) (lines_of (c ∷ rest)) (onto b (lines_of (c ∷ rest))) f g ∙ ap (onto b) ih ]
+  | inl t ↦ let k : prefix_len (differs 10) (c ∷ rest) ≡ 0 = rw t refl in absurd (omega (arith, k, e))
+  | inr g ↦ pick (b == 10) (b == 13) (c == 10) ([] ∷ lines_of (c ∷ rest)) (lines_of (c ∷ rest)) (onto b (lines_of (c ∷ rest))) f g ∙ ap (onto b) ih
+]
 
 split_at : (n : ℕ) (xs : List ℕ) → prefix_len (differs 10) xs ≡ n → n < length xs → lines_of xs ≡ without_cr (take n xs) ∷ lines_of (drop (suc n) xs)
 split_at n [] e h = absurd (omega arith)
 split_at zero (b ∷ rest) e h = elim (cases_Bool (b == 10)) [
-    inl t ↦ rw t refl
-  | inr f ↦ let k : prefix_len (differs 10) (b ∷ rest) ≡ 1 + prefix_len (differs 10) rest = rw f refl in absurd (omega (arith, k, e)) ]
+  | inl t ↦ rw t refl
+  | inr f ↦ let k : prefix_len (differs 10) (b ∷ rest) ≡ 1 + prefix_len (differs 10) rest = rw f refl in absurd (omega (arith, k, e))
+]
 split_at (suc n) (b ∷ []) e h = absurd (omega arith)
 split_at (suc n) (b ∷ c ∷ rest) e h = elim (cases_Bool (b == 10)) [
-    inl t ↦ let k : prefix_len (differs 10) (b ∷ c ∷ rest) ≡ 0 = rw t refl in absurd (omega (arith, k, e))
+  | inl t ↦ let k : prefix_len (differs 10) (b ∷ c ∷ rest) ≡ 0 = rw t refl in absurd (omega (arith, k, e))
   | inr f ↦
-    let k : prefix_len (differs 10) (b ∷ c ∷ rest) ≡ 1 + prefix_len (differs 10) (c ∷ rest) = rw f refl in
-    let e2 : prefix_len (differs 10) (c ∷ rest) ≡ n = omega (arith, k, e) in
-    step n b c rest f e2 (split_at n (c ∷ rest) e2 (omega arith)) ]
+      let k : prefix_len (differs 10) (b ∷ c ∷ rest) ≡ 1 + prefix_len (differs 10) (c ∷ rest) = rw f refl in
+      let e2 : prefix_len (differs 10) (c ∷ rest) ≡ n = omega (arith, k, e) in
+      step n b c rest f e2 (split_at n (c ∷ rest) e2 (omega arith))
+]
 
 -- a line that has a line feed behind it
 pub first_is : (xs : List ℕ) → prefix_len (differs 10) xs < length xs → lines_of xs ≡ without_cr (take (prefix_len (differs 10) xs) xs) ∷ lines_of (drop (prefix_len (differs 10) xs + 1) xs)
@@ -68,17 +72,20 @@ first_is xs h = split_at (prefix_len (differs 10) xs) xs refl h ∙ (let k : suc
 alone : (xs : List ℕ) → 0 < length xs → prefix_len (differs 10) xs ≡ length xs → lines_of xs ≡ xs ∷ []
 alone [] h e = absurd (omega arith)
 alone (b ∷ []) h e = elim (cases_Bool (b == 10)) [
-    inl t ↦ let k : prefix_len (differs 10) (b ∷ []) ≡ 0 = rw t refl in absurd (omega (arith, k, e))
-  | inr f ↦ pick (b == 10) (b == 13) false ([] ∷ []) [] ((b ∷ []) ∷ []) f refl ]
+  | inl t ↦ let k : prefix_len (differs 10) (b ∷ []) ≡ 0 = rw t refl in absurd (omega (arith, k, e))
+  | inr f ↦ pick (b == 10) (b == 13) false ([] ∷ []) [] ((b ∷ []) ∷ []) f refl
+]
 alone (b ∷ c ∷ rest) h e = elim (cases_Bool (b == 10)) [
-    inl t ↦ let k : prefix_len (differs 10) (b ∷ c ∷ rest) ≡ 0 = rw t refl in absurd (omega (arith, k, e))
+  | inl t ↦ let k : prefix_len (differs 10) (b ∷ c ∷ rest) ≡ 0 = rw t refl in absurd (omega (arith, k, e))
   | inr f ↦
-    let k : prefix_len (differs 10) (b ∷ c ∷ rest) ≡ 1 + prefix_len (differs 10) (c ∷ rest) = rw f refl in
-    let e2 : prefix_len (differs 10) (c ∷ rest) ≡ length (c ∷ rest) = omega (arith, k, e) in
-    elim (cases_Bool (c == 10)) [
-        inl t ↦ let j : prefix_len (differs 10) (c ∷ rest) ≡ 0 = rw t refl in absurd (omega (arith, j, e2))
-      | inr g ↦ pick (b == 10) (b == 13) (c == 10) ([] ∷ lines_of (c ∷ rest)) (lines_of (c ∷ rest)) (onto b (lines_of (c ∷ rest))) f g
-          ∙ ap (onto b) (alone (c ∷ rest) (omega arith) e2) ] ]
+      let k : prefix_len (differs 10) (b ∷ c ∷ rest) ≡ 1 + prefix_len (differs 10) (c ∷ rest) = rw f refl in
+      let e2 : prefix_len (differs 10) (c ∷ rest) ≡ length (c ∷ rest) = omega (arith, k, e) in
+      elim (cases_Bool (c == 10)) [
+        | inl t ↦ let j : prefix_len (differs 10) (c ∷ rest) ≡ 0 = rw t refl in absurd (omega (arith, j, e2))
+        | inr g ↦ pick (b == 10) (b == 13) (c == 10) ([] ∷ lines_of (c ∷ rest)) (lines_of (c ∷ rest)) (onto b (lines_of (c ∷ rest))) f g
+            ∙ ap (onto b) (alone (c ∷ rest) (omega arith) e2)
+      ]
+]
 
 -- a line that has none
 pub first_is_all : (xs : List ℕ) → 0 < length xs → prefix_len (differs 10) xs ≡ length xs → lines_of xs ≡ xs ∷ lines_of (drop (length xs) xs)

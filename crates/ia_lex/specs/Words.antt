@@ -25,9 +25,9 @@ row r = (r.0.now, r.1)
 abbrev pub register_rows : List (List ℕ × (Width × ℕ))
 register_rows =
     (codes "eax", (D, 0)) ∷ (codes "ecx", (D, 1)) ∷ (codes "edx", (D, 2)) ∷ (codes "ebx", (D, 3))
-  ∷ (codes "esp", (D, 4)) ∷ (codes "ebp", (D, 5)) ∷ (codes "esi", (D, 6)) ∷ (codes "edi", (D, 7))
-  ∷ (codes "al", (B, 0)) ∷ (codes "cl", (B, 1)) ∷ (codes "dl", (B, 2)) ∷ (codes "bl", (B, 3))
-  ∷ (codes "ah", (B, 4)) ∷ (codes "ch", (B, 5)) ∷ (codes "dh", (B, 6)) ∷ (codes "bh", (B, 7)) ∷ []
+    ∷ (codes "esp", (D, 4)) ∷ (codes "ebp", (D, 5)) ∷ (codes "esi", (D, 6)) ∷ (codes "edi", (D, 7))
+    ∷ (codes "al", (B, 0)) ∷ (codes "cl", (B, 1)) ∷ (codes "dl", (B, 2)) ∷ (codes "bl", (B, 3))
+    ∷ (codes "ah", (B, 4)) ∷ (codes "ch", (B, 5)) ∷ (codes "dh", (B, 6)) ∷ (codes "bh", (B, 7)) ∷ []
 
 abbrev pub register_of : List ℕ → Option (Width × ℕ)
 register_of w = find_word register_rows w

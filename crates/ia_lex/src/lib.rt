@@ -19,5 +19,5 @@ pub use number::word_number;
 pub use read::{atom, expr, sign};
 pub use scan::tokens;
 pub use terms::{Atom, Expr, Term};
-pub use words::{find_word, is_word, register_of};
 pub use token::{LexFault, Token};
+pub use words::{find_word, is_word, register_of};

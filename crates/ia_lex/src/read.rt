@@ -37,7 +37,10 @@ pub fn atom<'a>(token: &Token<'a>) -> Option<Atom<'a>>
 /// What stands behind a part: a sign and parts, or nothing of this expression.
 #[cycle(parts)]
 #[tactic(auto, using(crate::proofs::Parts::parts_one, crate::proofs::Parts::parts_bad, crate::proofs::Parts::parts_full, crate::proofs::Parts::parts_stop, crate::proofs::Parts::parts_nil, crate::proofs::Parts::parts_sign))]
-fn behind_part<'a, 'b>(out: Expr<'a>, tokens: &'b [Token<'a>]) -> Option<(Expr<'a>, &'b [Token<'a>])>
+fn behind_part<'a, 'b>(
+    out: Expr<'a>,
+    tokens: &'b [Token<'a>],
+) -> Option<(Expr<'a>, &'b [Token<'a>])>
     ensures { option_map view result ≡ with_parts (map part out.entry.items) (parts_at (16 - length out.entry.items) None (map seen tokens.now)) }
 {
     match tokens.split_first() {

@@ -1,4 +1,4 @@
--- The words of the text: registers, conditions and mnemonics.
+-- The words of the text: registers, conditions and mnemonics, as SDM volume 2 names them, in lower case.
 use Rattle.std.specs.Prelude.{ℕ, List, [], ◌∷◌, codes, slice_index_or}
 use Rattle.ia_word.specs.declared.condition.Condition.{Condition}
 use Rattle.ia_word.specs.declared.condition.Condition.TheVariants as is

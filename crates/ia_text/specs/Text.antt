@@ -1,4 +1,5 @@
--- The text of an instruction at an address.
+-- The text of an instruction at an address: mnemonic and operands in the order of SDM volume 2, memory in brackets as
+-- NASM writes it, and numbers as unsigned.
 use Rattle.std.specs.Prelude.{ℕ, ◌==◌, Bool, ◌&&◌, ◌||◌, if◌then◌else◌, is_some, Option, Some, None, List, [], ◌++◌, codes}
 use Rattle.ia_word.specs.declared.width.Width.TheVariants.{D}
 use Rattle.ia_insn.specs.declared.op.Insn.{Insn}

@@ -13,3 +13,6 @@ pub use arg::Arg;
 pub use listing::{disassemble, write_line};
 pub use out::{Failed, Out, ToVec, ToWriter, WriteFault};
 pub use print::write_insn;
+
+#[cfg(test)]
+mod tests;

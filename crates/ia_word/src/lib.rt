@@ -14,3 +14,6 @@ pub use condition::Condition;
 pub use line::{line_of, lines_of};
 pub use operation::{AluOp, BitOp, ShiftOp, UnaryOp};
 pub use width::Width;
+
+#[cfg(test)]
+mod tests;

@@ -31,6 +31,7 @@ laid_same line mask bytes old n q apart =
   where
     turned : {A B : Type 0} → (A ⊎ B) → (B ⊎ A)
     turned s = ⊎_elim (λ a. inr a) (λ b. inl b) s
+
     tests : q / 64 ≡ line → (ltb (q % 64) n && eqb (bit_at mask (q % 64)) 1) ≡ (ltb (q % 64) (n + 1) && eqb (bit_at mask (q % 64)) 1)
     tests e = ⊎_elim
         (λ (here : q % 64 ≡ n).
@@ -101,21 +102,25 @@ drain_next lines masks bytes old part m after n line mask places below line_is m
     ∙ elim (place_of lines (q / 64)) as (λ o. place_of lines (q / 64) ≡ o → drained_at n f x o ≡ drained_at (n + 1) f x o) [
       | None ↦ λ _. refl
       | Some k ↦ λ is.
-        let s : StandsAt lines (q / 64) k = place_in lines (q / 64) k is in
-        let apart : k ≡ n → ⊥ = λ e. other (sym s.is ∙ ap (λ i. get_or lines i 0) e ∙ sym line_is) in
-        ap (λ t. cond t (unwrap_or (f k) x) x) (more k n apart)
+          let s : StandsAt lines (q / 64) k = place_in lines (q / 64) k is in
+          let apart : k ≡ n → ⊥ = λ e. other (sym s.is ∙ ap (λ i. get_or lines i 0) e ∙ sym line_is) in
+          ap (λ t. cond t (unwrap_or (f k) x) x) (more k n apart)
     ] refl)
     (cases_eq (q / 64) line)
   where
     f : ℕ → Option ℕ
     f = slot_byte masks bytes (q % 64)
+
     x : ℕ
     x = get_or old q 0
+
     bit : Bool
     bit = eqb (bit_at (get_or masks n 0) (q % 64)) 1
+
     stored : (b : Bool) (v : ℕ) → cond b v x ≡ unwrap_or (cond b (Some v) None) x
     stored true v = refl
     stored false v = refl
+
     more : (k i : ℕ) → (k ≡ i → ⊥) → ltb k i ≡ ltb k (i + 1)
     more k i apart = ⊎_elim
         (λ (l : k < i). lt-ltb k i l ∙ sym (lt-ltb k (i + 1) (omega arith)))
@@ -141,7 +146,7 @@ slot_fits lines masks bytes size n k line mask fits places below line_is mask_is
     let offset : (line * 64 + k) % 64 ≡ k = omega arith in
     let place : place_of lines ((line * 64 + k) / 64) ≡ Some n = ap (place_of lines) (at ∙ line_is) ∙ places n below in
     let there : found lines masks bytes (line * 64 + k) ≡ Some (get_or bytes (n * 64 + (line * 64 + k) % 64) 0) =
-        ap (option_and_then (slot_byte masks bytes ((line * 64 + k) % 64))) place
-        ∙ ap (λ t. cond t (Some (get_or bytes (n * 64 + (line * 64 + k) % 64) 0)) None) (eq-eqb (bit_at (get_or masks n 0) ((line * 64 + k) % 64)) 1 (ap (λ j. bit_at (get_or masks n 0) j) offset ∙ ap (λ j. bit_at j k) (sym mask_is) ∙ bit)) in
+    ap (option_and_then (slot_byte masks bytes ((line * 64 + k) % 64))) place
+    ∙ ap (λ t. cond t (Some (get_or bytes (n * 64 + (line * 64 + k) % 64) 0)) None) (eq-eqb (bit_at (get_or masks n 0) ((line * 64 + k) % 64)) 1 (ap (λ j. bit_at (get_or masks n 0) j) offset ∙ ap (λ j. bit_at j k) (sym mask_is) ∙ bit)) in
     let got : Some (get_or bytes (n * 64 + (line * 64 + k) % 64) 0) ≡ bytes_map.get (bytes_of lines masks bytes) (line * 64 + k) = sym (get_bytes lines masks bytes (line * 64 + k) ∙ there) in
     fits (line * 64 + k) (ap is_some (sym got))

@@ -21,13 +21,13 @@ get_entries f [] q = bytes_map.get-empty nat_cmp q
 get_entries f (a ∷ qs) q =
     elim (f a) as (λ o. f a ≡ o → bytes_map.get (entries_map (entry_at a o (entries_of f qs))) q ≡ cond (eqb q a || list_any (eqb q) qs) (f q) None) [
       | None ↦ λ is. get_entries f qs q ∙ ⊎_elim
-        (λ (e : q ≡ a). let none : f q ≡ None = ap f e ∙ is in nothing (list_any (eqb q) qs) (eqb q a || list_any (eqb q) qs) (f q) none)
-        (λ (e : q ≡ a → ⊥). sym (ap (λ t. cond (t || list_any (eqb q) qs) (f q) None) (ne_eqb q a e)))
-        (cases_eq q a)
+          (λ (e : q ≡ a). let none : f q ≡ None = ap f e ∙ is in nothing (list_any (eqb q) qs) (eqb q a || list_any (eqb q) qs) (f q) none)
+          (λ (e : q ≡ a → ⊥). sym (ap (λ t. cond (t || list_any (eqb q) qs) (f q) None) (ne_eqb q a e)))
+          (cases_eq q a)
       | Some v ↦ λ is. get_insert (entries_map (entries_of f qs)) a v q ∙ ⊎_elim
-        (λ (e : q ≡ a). ap (λ t. cond t (Some v) (bytes_map.get (entries_map (entries_of f qs)) q)) (eq-eqb q a e) ∙ sym (ap f e ∙ is) ∙ sym (ap (λ t. cond (t || list_any (eqb q) qs) (f q) None) (eq-eqb q a e)))
-        (λ (e : q ≡ a → ⊥). ap (λ t. cond t (Some v) (bytes_map.get (entries_map (entries_of f qs)) q)) (ne_eqb q a e) ∙ get_entries f qs q ∙ sym (ap (λ t. cond (t || list_any (eqb q) qs) (f q) None) (ne_eqb q a e)))
-        (cases_eq q a)
+          (λ (e : q ≡ a). ap (λ t. cond t (Some v) (bytes_map.get (entries_map (entries_of f qs)) q)) (eq-eqb q a e) ∙ sym (ap f e ∙ is) ∙ sym (ap (λ t. cond (t || list_any (eqb q) qs) (f q) None) (eq-eqb q a e)))
+          (λ (e : q ≡ a → ⊥). ap (λ t. cond t (Some v) (bytes_map.get (entries_map (entries_of f qs)) q)) (ne_eqb q a e) ∙ get_entries f qs q ∙ sym (ap (λ t. cond (t || list_any (eqb q) qs) (f q) None) (ne_eqb q a e)))
+          (cases_eq q a)
     ] refl
   where
     nothing : (b c : Bool) (o : Option ℕ) → o ≡ None → cond b o None ≡ cond c o None

@@ -24,7 +24,7 @@ found_taken lines masks bytes l q room =
         | false ↦ refl
       ]
       | Some k ↦ λ is. let s : StandsAt lines (q / 64) k = place_in lines (q / 64) k is in
-        ap (λ m. cond (eqb (bit_at m (q % 64)) 1) (Some (get_or bytes (k * 64 + q % 64) 0)) None) (get_or-set_other masks (length lines) k 0 0 (λ e. omega (arith, s.below)))
+          ap (λ m. cond (eqb (bit_at m (q % 64)) 1) (Some (get_or bytes (k * 64 + q % 64) 0)) None) (get_or-set_other masks (length lines) k 0 0 (λ e. omega (arith, s.below)))
     ] refl
 
 pub bytes_taken : (lines masks bytes : List ℕ) (l : ℕ) → length lines < length masks
@@ -45,12 +45,13 @@ bytes_written lines masks bytes a v k at in_masks in_bytes = same_bytes _ _ (λ 
   where
     mark : ℕ
     mark = marked (get_or masks k 0) (a % 64)
+
     at_each : (q : ℕ) → found lines (set masks k mark) (set bytes (k * 64 + a % 64) v) q ≡ cond (eqb q a) (Some v) (found lines masks bytes q)
     at_each q = ⊎_elim
         (λ (same : q / 64 ≡ a / 64). ap (λ l. option_and_then (slot_byte (set masks k mark) (set bytes (k * 64 + a % 64) v) (q % 64)) (place_of lines l)) same
-            ∙ ap (option_and_then (slot_byte (set masks k mark) (set bytes (k * 64 + a % 64) v) (q % 64))) at
-            ∙ in_slot q same
-            ∙ sym (ap (λ o. cond (eqb q a) (Some v) (option_and_then (slot_byte masks bytes (q % 64)) o)) (ap (place_of lines) same ∙ at)))
+        ∙ ap (option_and_then (slot_byte (set masks k mark) (set bytes (k * 64 + a % 64) v) (q % 64))) at
+        ∙ in_slot q same
+        ∙ sym (ap (λ o. cond (eqb q a) (Some v) (option_and_then (slot_byte masks bytes (q % 64)) o)) (ap (place_of lines) same ∙ at)))
         (λ (other : q / 64 ≡ a / 64 → ⊥). off_line q other ∙ sym (ap (λ t. cond t (Some v) (found lines masks bytes q)) (ne_eqb q a (λ e. other (ap (λ n. n / 64) e)))))
         (cases_eq (q / 64) (a / 64))
       where
@@ -68,14 +69,15 @@ bytes_written lines masks bytes a v k at in_masks in_bytes = same_bytes _ _ (λ 
             ∙ ap (λ x. cond (eqb (bit_at (get_or masks k 0) (p % 64)) 1) (Some x) None) (get_or-set_other bytes (k * 64 + a % 64) (k * 64 + p % 64) v 0 (λ i. e (omega arith)))
             ∙ sym (ap (λ t. cond t (Some v) (slot_byte masks bytes (p % 64) k)) (ne_eqb p a (λ i. e (ap (λ n. n % 64) i)))))
             (cases_eq (p % 64) (a % 64))
+
         off_line : (p : ℕ) → (p / 64 ≡ a / 64 → ⊥) → found lines (set masks k mark) (set bytes (k * 64 + a % 64) v) p ≡ found lines masks bytes p
         off_line p other =
             elim (place_of lines (p / 64)) as (λ o. place_of lines (p / 64) ≡ o → option_and_then (slot_byte (set masks k mark) (set bytes (k * 64 + a % 64) v) (p % 64)) o ≡ option_and_then (slot_byte masks bytes (p % 64)) o) [
               | None ↦ λ _. refl
               | Some j ↦ λ is.
-                let here : StandsAt lines (p / 64) j = place_in lines (p / 64) j is in
-                let there : StandsAt lines (a / 64) k = place_in lines (a / 64) k at in
-                let apart : j ≡ k → ⊥ = λ e. other (sym here.is ∙ ap (λ n. get_or lines n 0) e ∙ there.is) in
-                ap (λ m. cond (eqb (bit_at m (p % 64)) 1) (Some (get_or (set bytes (k * 64 + a % 64) v) (j * 64 + p % 64) 0)) None) (get_or-set_other masks k j mark 0 apart)
-                ∙ ap (λ x. cond (eqb (bit_at (get_or masks j 0) (p % 64)) 1) (Some x) None) (get_or-set_other bytes (k * 64 + a % 64) (j * 64 + p % 64) v 0 (λ i. apart (omega arith)))
+                  let here : StandsAt lines (p / 64) j = place_in lines (p / 64) j is in
+                  let there : StandsAt lines (a / 64) k = place_in lines (a / 64) k at in
+                  let apart : j ≡ k → ⊥ = λ e. other (sym here.is ∙ ap (λ n. get_or lines n 0) e ∙ there.is) in
+                  ap (λ m. cond (eqb (bit_at m (p % 64)) 1) (Some (get_or (set bytes (k * 64 + a % 64) v) (j * 64 + p % 64) 0)) None) (get_or-set_other masks k j mark 0 apart)
+                  ∙ ap (λ x. cond (eqb (bit_at (get_or masks j 0) (p % 64)) 1) (Some x) None) (get_or-set_other bytes (k * 64 + a % 64) (j * 64 + p % 64) v 0 (λ i. apart (omega arith)))
             ] refl

@@ -18,9 +18,9 @@ pub holds_with : (order : List ℕ) (l q : ℕ) → holds (with_line order l) q 
 holds_with order l q =
     elim (holds order l) as (λ t. holds order l ≡ t → holds (cond t order (order ++ l ∷ [])) q ≡ (holds order q || eqb l q)) [
       | true ↦ λ there. ⊎_elim
-        (λ (e : l ≡ q). let found : holds order q ≡ true = ap (holds order) (sym e) ∙ there in found ∙ sym (ap (λ t. t || eqb l q) found))
-        (λ (e : l ≡ q → ⊥). or_false (holds order q) (eqb l q) (ne_eqb l q e))
-        (cases_eq l q)
+          (λ (e : l ≡ q). let found : holds order q ≡ true = ap (holds order) (sym e) ∙ there in found ∙ sym (ap (λ t. t || eqb l q) found))
+          (λ (e : l ≡ q → ⊥). or_false (holds order q) (eqb l q) (ne_eqb l q e))
+          (cases_eq l q)
       | false ↦ λ _. ap (λ o. is_some o) (place_push order l q) ∙ is_some_or_at (eqb l q) (length order) (place_of order q)
     ] refl
   where
@@ -66,6 +66,7 @@ length_two order first last =
     turned true b false e = refl
     turned false b true e = e
     turned false b false e = e
+
     eqb_sym : (a b : ℕ) → eqb a b ≡ eqb b a
     eqb_sym a b = ⊎_elim (λ (e : a ≡ b). eq-eqb a b e ∙ sym (eq-eqb b a (sym e))) (λ (e : a ≡ b → ⊥). ne_eqb a b e ∙ sym (ne_eqb b a (λ i. e (sym i)))) (cases_eq a b)
 
@@ -81,6 +82,7 @@ contains_holds (x ∷ xs) q =
     either true o = refl
     either false None = refl
     either false (Some k) = refl
+
     eqb_sym : (a b : ℕ) → eqb a b ≡ eqb b a
     eqb_sym a b = ⊎_elim (λ (e : a ≡ b). eq-eqb a b e ∙ sym (eq-eqb b a (sym e))) (λ (e : a ≡ b → ⊥). ne_eqb a b e ∙ sym (ne_eqb b a (λ i. e (sym i)))) (cases_eq a b)
 
@@ -93,6 +95,7 @@ one_line order l = set.same_set nat_cmp_total set.nat_cmp-IsAntisymmetric (lines
     swapped true false = refl
     swapped false true = refl
     swapped false false = refl
+
     split : (a q : ℕ) → holds (a ∷ order) q ≡ (eqb a q || holds order q)
     split a q = elim (eqb a q) as (λ t. is_some (cond t (Some 0) (option_map (λ k. k + 1) (place_of order q))) ≡ (t || holds order q)) [
       | true ↦ refl
@@ -104,6 +107,7 @@ insert_turned s a b = set.same_set nat_cmp_total set.nat_cmp-IsAntisymmetric _ _
   where
     at : (q a b : ℕ) → set.contains (set.insert (set.insert s a) b) q ≡ (eq_by_cmp nat_cmp q b || (eq_by_cmp nat_cmp q a || set.contains s q))
     at q a b = set.contains-insert nat_cmp_total (set.insert s a) b q ∙ ap (λ t. eq_by_cmp nat_cmp q b || t) (set.contains-insert nat_cmp_total s a q)
+
     swapped : (x y z : Bool) → (x || (y || z)) ≡ (y || (x || z))
     swapped true true z = refl
     swapped true false z = refl

@@ -63,6 +63,7 @@ place_in (x ∷ xs) l k e =
   where
     at_first : x ≡ l → (n : ℕ) → 0 ≡ n → StandsAt (x ∷ xs) l n
     at_first same n z = subst (StandsAt (x ∷ xs) l) z (record { below = omega arith; is = same })
+
     at_next : (j : ℕ) → StandsAt xs l j → (n : ℕ) → j + 1 ≡ n → StandsAt (x ∷ xs) l n
     at_next j s n z =
         let next : suc j ≡ n = omega arith in
@@ -99,19 +100,21 @@ len_lines (x ∷ xs) h =
       where
         zero_suc : (n : ℕ) → 0 ≡ suc n → ⊥
         zero_suc n z = omega arith
+
     absent : (ys : List ℕ) → ((k : ℕ) → k < length ys → get_or ys k 0 ≡ x → ⊥) → list_any (eq_by_cmp nat_cmp x) ys ≡ false
     absent [] g = refl
     absent (y ∷ ys) g =
         ap (λ t. t || list_any (eq_by_cmp nat_cmp x) ys) (unsigned_tied x y ∙ ne_eqb x y (λ e. g 0 (omega arith) (sym e)))
         ∙ absent ys (λ k b e. g (suc k) (omega arith) e)
+
     tail : (k : ℕ) → k < length xs → place_of xs (get_or xs k 0) ≡ Some k
     tail k b =
         let place : place_of (x ∷ xs) (get_or xs k 0) ≡ Some (suc k) = h (suc k) (omega arith) in
         elim (place_of xs (get_or xs k 0)) as (λ o. place_of xs (get_or xs k 0) ≡ o → o ≡ Some k) [
           | None ↦ λ is. absurd (not_none (suc k) (sym (ap (λ t. cond t (Some 0) (option_map (λ j. j + 1) (place_of xs (get_or xs k 0)))) (ne_eqb x (get_or xs k 0) (λ e. apart k b (sym e))) ∙ ap (option_map (λ j. j + 1)) is) ∙ place))
           | Some n ↦ λ is.
-            let s : Some (n + 1) ≡ Some (suc k) = sym (ap (λ t. cond t (Some 0) (option_map (λ j. j + 1) (place_of xs (get_or xs k 0)))) (ne_eqb x (get_or xs k 0) (λ e. apart k b (sym e))) ∙ ap (option_map (λ j. j + 1)) is) ∙ place in
-            let same : n + 1 ≡ suc k = cc in ap Some (let e : n ≡ k = omega arith in e)
+              let s : Some (n + 1) ≡ Some (suc k) = sym (ap (λ t. cond t (Some 0) (option_map (λ j. j + 1) (place_of xs (get_or xs k 0)))) (ne_eqb x (get_or xs k 0) (λ e. apart k b (sym e))) ∙ ap (option_map (λ j. j + 1)) is) ∙ place in
+              let same : n + 1 ≡ suc k = cc in ap Some (let e : n ≡ k = omega arith in e)
         ] refl
 
 pub none_of : (xs : List ℕ) (l : ℕ) → is_some (place_of xs l) ≡ false → place_of xs l ≡ None

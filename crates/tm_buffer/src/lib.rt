@@ -1,7 +1,8 @@
 //! The bytes that an open transaction has stored: a map from addresses to bytes, bounded by lines of 64 bytes.
 //!
-//! Stores of a transaction stay here until it commits, and its loads see them over memory (SDM volume 1, section 16.2
-//! "Intel Transactional Synchronization Extensions": on a commit all stores become visible at once, on an abort none).
+//! Stores of a transaction stay here until it commits, and its loads see them over memory (SDM volume 1, chapter
+//! "Programming with Intel Transactional Synchronization Extensions": on a commit all stores become visible at once, on
+//! an abort none).
 //! One slot a line holds 64 bytes and a mask of those that are stored, so that each call's work is bounded by the lines
 //! stored to, whatever the memory's size and the room.
 #![tactic(auto)]
@@ -12,3 +13,6 @@ mod stored;
 
 pub use fault::{Full, NoMemory};
 pub use stored::Buffer;
+
+#[cfg(test)]
+mod tests;

@@ -1,6 +1,6 @@
 //! The buffer.
 
-ghost use Rattle.std.specs.Prelude.{◌≡◌, ◌+◌, ◌/◌, ◌^◌, ◌<◌, ◌≤◌, [], ◌++◌, length, slice_index, nat_lt, is_err, if◌then◌else◌, IfOk, OnOk, OnErr, IsSome, IsNone, IsTrue, unwrap_or};
+ghost use Rattle.std.specs.Prelude.{◌≡◌, ◌+◌, ◌/◌, ◌^◌, ◌<◌, ◌≤◌, [], ◌∷◌, ◌++◌, length, slice_index, nat_lt, is_err, if◌then◌else◌, IfOk, OnOk, OnErr, IsSome, IsNone, IsTrue, unwrap_or};
 ghost use Rattle.std.specs.FinMap as bytes_map;
 ghost use Rattle.std.specs.FinSet as set;
 ghost use Rattle.ia_word.specs.Width.{bits_of, bytes_of};
@@ -112,14 +112,18 @@ impl Buffer {
         ensures { result ≡ operand_of width (laid_over self.now.bytes address (operand_bytes width memory_value)) }
     {
         match width {
-            Width::B => u32::from(self.byte_over(address, memory_value as u8)),
+            Width::B => {
+                let slot = self.slot(line_of(address));
+                u32::from(self.byte_over(slot, address, memory_value as u8))
+            }
             Width::D => {
+                let [low, second, third, high] = self.slots(address);
                 let under = le_bytes(memory_value);
                 from_le([
-                    self.byte_over(address, under[0]),
-                    self.byte_over(address + 1, under[1]),
-                    self.byte_over(address + 2, under[2]),
-                    self.byte_over(address + 3, under[3]),
+                    self.byte_over(low, address, under[0]),
+                    self.byte_over(second, address + 1, under[1]),
+                    self.byte_over(third, address + 2, under[2]),
+                    self.byte_over(high, address + 3, under[3]),
                 ])
             }
         }
@@ -205,12 +209,30 @@ impl Buffer {
         Ok(())
     }
 
-    /// The byte stored at an address, or else this one.
-    fn byte_over(&self, address: u32, under: u8) -> u8
+    /// The slots of the lines of four bytes.
+    fn slots(&self, address: u32) -> [Option<usize>; 4]
+        requires { address + 4 ≤ 2 ^ 32 }
+        ensures { result ≡ place_of self.now.order (line address) ∷ place_of self.now.order (line (address + 1)) ∷ place_of self.now.order (line (address + 2)) ∷ place_of self.now.order (line (address + 3)) ∷ [] }
+    {
+        let low = self.slot(line_of(address));
+        if line_of(address + 3) == line_of(address) {
+            return [low; 4];
+        }
+        [
+            low,
+            self.slot(line_of(address + 1)),
+            self.slot(line_of(address + 2)),
+            self.slot(line_of(address + 3)),
+        ]
+    }
+
+    /// The byte stored at an address, whose line has this slot, or else this byte.
+    fn byte_over(&self, slot: Option<usize>, address: u32, under: u8) -> u8
+        requires { slot ≡ place_of self.now.order (line address) }
         ensures { result ≡ unwrap_or (bytes_map.get self.now.bytes address) under }
     {
         let (masks, bytes) = (self.masks.as_slice(), self.bytes.as_slice());
-        let Some(slot) = self.slot(line_of(address)) else {
+        let Some(slot) = slot else {
             return under;
         };
         byte_in(masks, bytes, slot, address as usize % 64).unwrap_or(under)

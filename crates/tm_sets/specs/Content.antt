@@ -1,13 +1,11 @@
--- The read sets and write sets of all cores, as one value (SDM volume 1, section 16.2.4.2).
+-- The read sets and write sets of all cores, as one value (SDM volume 1, chapter "Programming with Intel Transactional
+-- Synchronization Extensions").
 use Rattle.std.specs.Prelude.{ℕ, Bool, true, false, ◌&&◌, ◌||◌, not, nat_eq, nat_le, if◌then◌else◌}
 use Rattle.tm_sets.specs.Row.{Lines}
 use Rattle.std.specs.Int.{bit_at}
 use Rattle.std.specs.FinSet as set
 use Rattle.tm_sets.specs.declared.touched.Kind.{Kind}
 use Rattle.tm_sets.specs.declared.touched.Kind.TheVariants.{Read, Write}
-
-
-
 
 -- what stays: how many lines of each kind a core has room for, and the numbers of cores and of lines of memory
 pub record Fixed : Type 0 where

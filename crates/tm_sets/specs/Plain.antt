@@ -1,5 +1,6 @@
 -- What plain rows contain.
-use Rattle.std.specs.Prelude.{ℕ, ◌≡◌, ◌<◌, List, length, slice_index_or}
+use Rattle.std.specs.Prelude.{ℕ, ◌≡◌, ◌<◌, Bool, ◌&&◌, ◌||◌, not, nat_eq, List, length, slice_index_or}
+use Rattle.std.specs.FinSet as set
 use Rattle.tm_sets.specs.declared.touched.Kind.{Kind}
 use Rattle.tm_sets.specs.declared.touched.Kind.TheVariants.{Read, Write}
 use Rattle.tm_sets.specs.Row.{Held, Lines, no_row}
@@ -21,3 +22,7 @@ plain_content reads writes line_count read_lines write_lines = record {
 -- each core has a row with room for so many lines
 abbrev pub HaveRoom : List Held → ℕ → Type 0
 HaveRoom rows room = (core : ℕ) → core < length rows → (row_at rows core).room ≡ room
+
+-- core k is not this core, and has the line
+abbrev pub is_other : List Held → List Held → ℕ → ℕ → ℕ → Bool
+is_other reads writes line core k = not (nat_eq k core) && (set.contains (row_at reads k).lines line || set.contains (row_at writes k).lines line)

@@ -1,7 +1,8 @@
 //! The lines that open transactions have touched: their read sets and write sets.
 //!
 //! A line is 64 bytes of memory. What is kept is a set of triples of a core, a line and a kind, of which each core has
-//! room for so many of each kind (SDM volume 1, section 16.2.4.2 "RTM Transactional Execution": read set and write set).
+//! room for so many of each kind (SDM volume 1, chapter "Programming with Intel Transactional Synchronization
+//! Extensions": read set and write set).
 #![tactic(auto)]
 
 mod fault;
@@ -12,3 +13,6 @@ mod touched;
 pub use fault::{Full, NoMemory};
 pub use plain::PlainSets;
 pub use touched::{Kind, Sets};
+
+#[cfg(test)]
+mod tests;

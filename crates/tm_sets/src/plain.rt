@@ -2,7 +2,8 @@
 
 ghost use Rattle.std.specs.Prelude.{◌≡◌, ◌<◌, ◌≤◌, ◌^◌, ℕ, Bool, ◌&&◌, ◌||◌, not, nat_eq, length, is_err, IfOk, IfSome, OnOk, OnErr};
 ghost use Rattle.std.specs.FinSet as set;
-ghost use Rattle.tm_sets.specs.Plain.{plain_content, HaveRoom, row_at};
+ghost use Rattle.tm_sets.specs.Plain.{plain_content, HaveRoom, is_other, row_at};
+ghost use Rattle.tm_sets.specs.Content.{bit};
 
 use crate::fault::{Full, NoMemory};
 use crate::row::Row;
@@ -71,55 +72,51 @@ fn rows(alloc: Global, cores: u8, room: u32) -> Result<Vec<Row>, NoMemory>
     Ok(rows)
 }
 
-/// How many entries a search through a row has read, where it found the line at this place.
-fn entries_read(row: &Row, place: Option<usize>) -> u64
-    requires { IfSome place (λ p. p < 4096) }
+/// Whether a row has a line. The count of entries visited rises by those that were read for it, and stops at
+/// `u64::MAX`.
+fn search(row: &Row, line: u32, visits: &mut u64) -> bool
+    ensures value { result ≡ set.contains row.now.lines line }
+    ensures visits { visits.old ≤ visits.new }
 {
-    match place {
+    let place = row.place(line);
+    let read = match place {
         Some(place) => place as u64 + 1,
         None => u64::from(row.count()),
-    }
+    };
+    *visits = visits.saturating_add(read);
+    place.is_some()
 }
 
-impl PlainSets {
-    ghost use Rattle.tm_sets.specs.declared.touched.Kind.{Kind};
-    ghost use Rattle.tm_sets.specs.Plain.{lines_at};
+/// Whether a core that is not `core` has a line, in its row of lines read or that of lines written.
+fn is_other(other: u8, core: u8, reads: &Row, writes: &Row, line: u32, visits: &mut u64) -> bool
+    ensures value { result ≡ (not (nat_eq other core) && (set.contains reads.now.lines line || set.contains writes.now.lines line)) }
+    ensures visits { visits.old ≤ visits.new }
+{
+    other != core && (search(reads, line, visits) || search(writes, line, visits))
+}
 
-    /// Whether a set of a core has a line, counting the entries read.
-    fn search(&mut self, core: u8, line: u32, kind: Kind) -> bool
-        requires { core < length self.old.reads.items }
-        ensures value { result ≡ set.contains (lines_at self.old.reads.items self.old.writes.items core kind) line }
-        ensures reads { self.new.reads.items ≡ self.old.reads.items }
-        ensures writes { self.new.writes.items ≡ self.old.writes.items }
-        ensures line_count { self.new.line_count ≡ self.old.line_count }
-        ensures read_lines { self.new.read_lines ≡ self.old.read_lines }
-        ensures write_lines { self.new.write_lines ≡ self.old.write_lines }
-        ensures visits { self.old.visits ≤ self.new.visits }
-    {
-        let row = match kind {
-            Kind::Read => &self.reads[usize::from(core)],
-            Kind::Write => &self.writes[usize::from(core)],
-        };
-        let place = row.place(line);
-        let read = entries_read(row, place);
-        self.visits = self.visits.saturating_add(read);
-        place.is_some()
+/// The cores but `core` that have a line: bit k for core k.
+fn others(reads: &[Row], writes: &[Row], line: u32, core: u8, visits: &mut u64) -> u16
+    requires same { length writes.now ≡ length reads.now }
+    requires few { length reads.now ≤ 16 }
+    ensures mask { (k : ℕ) → k < length reads.now → bit result k ≡ is_other reads.now writes.now line core k }
+    ensures below { result < 2 ^ length reads.now }
+    ensures visits { visits.old ≤ visits.new }
+{
+    let mut others = 0;
+    for other in 0..reads.len() {
+        if is_other(
+            other as u8,
+            core,
+            &reads[other],
+            &writes[other],
+            line,
+            visits,
+        ) {
+            others |= 1 << other;
+        }
     }
-
-    /// Whether a core that is not `core` has a line, counting the entries read.
-    fn is_other(&mut self, other: u8, line: u32, core: u8) -> bool
-        requires { other < length self.old.reads.items }
-        ensures value { result ≡ (not (nat_eq other core) && (set.contains (lines_at self.old.reads.items self.old.writes.items other Kind.Read) line || set.contains (lines_at self.old.reads.items self.old.writes.items other Kind.Write) line)) }
-        ensures reads { self.new.reads.items ≡ self.old.reads.items }
-        ensures writes { self.new.writes.items ≡ self.old.writes.items }
-        ensures line_count { self.new.line_count ≡ self.old.line_count }
-        ensures read_lines { self.new.read_lines ≡ self.old.read_lines }
-        ensures write_lines { self.new.write_lines ≡ self.old.write_lines }
-        ensures visits { self.old.visits ≤ self.new.visits }
-    {
-        other != core
-            && (self.search(other, line, Kind::Read) || self.search(other, line, Kind::Write))
-    }
+    others
 }
 
 impl Sets for PlainSets {
@@ -135,17 +132,14 @@ impl Sets for PlainSets {
     }
 
     fn has(&mut self, core: u8, line: u32, kind: Kind) -> bool {
-        self.search(core, line, kind)
+        match kind {
+            Kind::Read => search(&self.reads[usize::from(core)], line, &mut self.visits),
+            Kind::Write => search(&self.writes[usize::from(core)], line, &mut self.visits),
+        }
     }
 
     fn others_on(&mut self, line: u32, core: u8) -> u16 {
-        let mut others = 0;
-        for other in 0..self.reads.as_slice().len() as u8 {
-            if self.is_other(other, line, core) {
-                others |= 1 << other;
-            }
-        }
-        others
+        others(&self.reads, &self.writes, line, core, &mut self.visits)
     }
 
     fn count(&self, core: u8, kind: Kind) -> u32 {

@@ -1,5 +1,5 @@
 use Rattle.std.proofs.Common.{sym, ◌∙◌}
-use Rattle.ia_image.proofs.Tests.{sound}
+use Rattle.ia_image.proofs.Sound.{sound}
 use Rattle.ia_image.proofs.loader.load.Goals as goal
 
 pub entry_row-requires : goal.entry_row-requires

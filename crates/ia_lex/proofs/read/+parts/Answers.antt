@@ -12,7 +12,7 @@ behind_sign-returns-in-Some-atom t c =
     let lt : length c.args.out.items < 16 = grind (arith, common_steps) in
     let p : Part = record { negative = c.args.negative; value = seen_atom c.in-Some-atom.atom } in
     let pushed : map part c.push.new.self.items ≡ map part items ++ p ∷ []
-        = ap (map part) c.push.ensures.items ∙ map-append part items ((record { negative = c.args.negative; atom = c.in-Some-atom.atom }) ∷ []) in
+    = ap (map part) c.push.ensures.items ∙ map-append part items ((record { negative = c.args.negative; atom = c.in-Some-atom.atom }) ∷ []) in
     let after : List Part → ℕ → Option (List Part × List Tok) = λ front n. with_parts front (parts_at (16 - n) None (map seen c.in-Some.rest.now)) in
     c.behind_part.ensures
     ∙ ap (λ f. after f (length c.push.new.self.items)) pushed

@@ -6,7 +6,7 @@ use Rattle.tm_buffer.proofs.slots.drain.Goals as goal
 pub drain_slot-requires-clause-below : goal.drain_slot-requires-clause-below
 drain_slot-requires-clause-below c = λ k small bit.
     let below : get_or c.args.lines.now c.loop-slot.slot 0 * 64 + k < length c.args.memory.now =
-        slot_fits c.args.lines.now c.args.masks.now c.args.bytes.now (length c.args.memory.now) c.loop-slot.slot k _ _ c.requires.fits c.requires.places c.loop-slot-test.true refl refl small bit in
+    slot_fits c.args.lines.now c.args.masks.now c.args.bytes.now (length c.args.memory.now) c.loop-slot.slot k _ _ c.requires.fits c.requires.places c.loop-slot-test.true refl refl small bit in
     omega (arith, below, c.loop-slot.auto.memory)
 
 pub loop-slot-preserved : goal.loop-slot-preserved

@@ -17,7 +17,7 @@ pub returns-then-used_with-self-clause-full : goal.returns-then-used_with-self-c
 returns-then-used_with-self-clause-full c =
     let last : c.line_of-last.result ≡ last_line c.args.address c.args.width = c.line_of-last.ensures ∙ ap (λ b. line (c.args.address + (b - 1))) c.bytes.ensures in
     let order : with_line (with_line c.args.self.now.order c.line_of-first.result) c.line_of-last.result ≡ with_lines c.args.self.now.order (lines c.args.address c.args.width) =
-        grown c.args.self.now.order c.args.address c.line_of-first.result c.line_of-last.result c.args.width c.line_of-first.ensures last in
+    grown c.args.self.now.order c.args.address c.line_of-first.result c.line_of-last.result c.args.width c.line_of-first.ensures last in
     let room : c.self.inside.room ≡ c.args.self.now.room = ap (λ h. h.room) c.self.view_is in
     let count : c.used_with.result ≡ length (with_lines c.args.self.now.order (lines c.args.address c.args.width)) = c.used_with.ensures ∙ ap length order in
     sym (lt-ltb c.args.self.now.room (length (with_lines c.args.self.now.order (lines c.args.address c.args.width))) (omega (arith, room, count, c.if-used_with-self.true)))
@@ -26,7 +26,7 @@ pub returns-clause-full : goal.returns-clause-full
 returns-clause-full c =
     let last : c.line_of-last.result ≡ last_line c.args.address c.args.width = c.line_of-last.ensures ∙ ap (λ b. line (c.args.address + (b - 1))) c.bytes.ensures in
     let order : with_line (with_line c.args.self.now.order c.line_of-first.result) c.line_of-last.result ≡ with_lines c.args.self.now.order (lines c.args.address c.args.width) =
-        grown c.args.self.now.order c.args.address c.line_of-first.result c.line_of-last.result c.args.width c.line_of-first.ensures last in
+    grown c.args.self.now.order c.args.address c.line_of-first.result c.line_of-last.result c.args.width c.line_of-first.ensures last in
     let room : c.self.inside.room ≡ c.args.self.now.room = ap (λ h. h.room) c.self.view_is in
     let count : c.used_with.result ≡ length (with_lines c.args.self.now.order (lines c.args.address c.args.width)) = c.used_with.ensures ∙ ap length order in
     sym (le-ltb c.args.self.now.room (length (with_lines c.args.self.now.order (lines c.args.address c.args.width))) (omega (arith, room, count, c.if-used_with-self.false)))

@@ -19,13 +19,16 @@ invariant_of-self c =
     let room_is : c.self.inside.room ≡ c.args.self.now.room = ap (λ h. h.room) c.self.view_is in
     let asked : length (with_line old c.args.line) ≤ c.self.inside.room = subst (λ xs. length (with_line xs c.args.line) ≤ c.self.inside.room) (sym order) (omega arith) in
     let wanted : length (old ++ c.args.line ∷ []) ≤ c.self.inside.room = subst (λ xs. length xs ≤ c.self.inside.room) (with_new_line old c.args.line none) asked in
-    let place : AtItsPlace c.push.new.self.items = subst AtItsPlace (sym pushed) (at_place_push old c.args.line none c.self.invariant.0.at_its_place) in
-    (record {
-      at_its_place = place;
-      within = omega (arith, ap length pushed);
-      masks = length-set c.self.inside.masks.items c.len-slot.result 0 ∙ c.self.invariant.0.masks;
-      bytes = c.self.invariant.0.bytes;
-    }, omega (arith, c.push.ensures.capacity, c.self.invariant.1), c.self.invariant.2)
+    let place : AtItsPlace c.push.new.self.items = subst AtItsPlace (sym pushed) (at_place_push old c.args.line none c.self.invariant.0.at_its_place) in (
+      record {
+        at_its_place = place;
+        within = omega (arith, ap length pushed);
+        masks = length-set c.self.inside.masks.items c.len-slot.result 0 ∙ c.self.invariant.0.masks;
+        bytes = c.self.invariant.0.bytes;
+      },
+      omega (arith, c.push.ensures.capacity, c.self.invariant.1),
+      c.self.invariant.2,
+    )
 
 pub returns-clause-bytes : goal.returns-clause-bytes
 returns-clause-bytes c =

@@ -15,10 +15,12 @@ invariant_of-self c =
     let items : c.push.new.self.items ≡ old ++ c.args.line ∷ [] = c.push.ensures.items ∙ ap (λ r. cond (is_ok r) (old ++ c.args.line ∷ []) old) c.unwrap.ensures in
     let lines : lines_of old ≡ c.args.self.now.lines = ap (λ h. h.lines) c.self.view_is in
     let new : set.contains (lines_of old) c.args.line ≡ false = ap (λ s. set.contains s c.args.line) lines ∙ sym c.place.ensures.found ∙ sym c.is_some.ensures ∙ c.if-is_some.false in
-    let one : set.len (lines_of (old ++ c.args.line ∷ [])) ≡ length (old ++ c.args.line ∷ []) = ap (λ s. set.len s) (pushed old c.args.line) ∙ len_push (lines_of old) c.args.line new ∙ ap (λ n. n + 1) c.self.invariant.0 ∙ sym (length_push old c.args.line) in
-    (ap (λ xs. set.len (lines_of xs)) items ∙ one ∙ sym (ap length items),
-    omega (arith, ap length items, length_push old c.args.line, ap length c.as_slice.ensures.value, c.if-as_slice-self.false, c.self.invariant.1),
-    omega (arith, c.push.ensures.capacity, c.self.invariant.2), c.self.invariant.3)
+    let one : set.len (lines_of (old ++ c.args.line ∷ [])) ≡ length (old ++ c.args.line ∷ []) = ap (λ s. set.len s) (pushed old c.args.line) ∙ len_push (lines_of old) c.args.line new ∙ ap (λ n. n + 1) c.self.invariant.0 ∙ sym (length_push old c.args.line) in (
+      ap (λ xs. set.len (lines_of xs)) items ∙ one ∙ sym (ap length items),
+      omega (arith, ap length items, length_push old c.args.line, ap length c.as_slice.ensures.value, c.if-as_slice-self.false, c.self.invariant.1),
+      omega (arith, c.push.ensures.capacity, c.self.invariant.2),
+      c.self.invariant.3,
+    )
 
 pub returns-clause-ok : goal.returns-clause-ok
 returns-clause-ok c =

@@ -1,0 +1,19 @@
+//! Numbers and names of the command line.
+
+use ia_lex::word_number;
+
+/// The number that a word writes, where it is one below 2^32: decimal, hex after `0x`, hex with a leading digit and a
+/// final `h`, or binary with a final `b`.
+pub fn word32(word: &str) -> Option<u32> {
+    u32::try_from(word_number(word.as_bytes())?).ok()
+}
+
+/// Whether a word is a name: letters, digits, `_` and `.`, not beginning with a digit.
+pub fn is_name(word: &str) -> bool {
+    let bytes = word.as_bytes();
+    let is_part = |byte: &u8| byte.is_ascii_alphanumeric() || *byte == b'_' || *byte == b'.';
+    match bytes.first() {
+        Some(first) => !first.is_ascii_digit() && bytes.iter().all(is_part),
+        None => false,
+    }
+}

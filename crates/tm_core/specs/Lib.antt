@@ -1,0 +1,14 @@
+pub mod Types
+pub mod Access
+pub mod Setting
+pub mod Isolated
+pub mod State
+pub mod Steps
+pub mod Conflicts
+pub mod Owed
+pub mod Shown
+pub mod Runs
+pub mod Machine
+pub mod ViewSteps
+pub mod Parts
+pub mod Faults

@@ -1,0 +1,18 @@
+//! One core.
+
+use crate::outcome::CoreState;
+use ia_regs::Regs;
+use tm_buffer::Buffer;
+
+/// A core. Outside a transaction, and where it is condemned, `regs` is `base` and the buffer is empty.
+#[derive(Drop)]
+pub struct Cpu {
+    /// The registers before the outermost XBEGIN, where a transaction is open.
+    pub base: Regs,
+    /// The registers now.
+    pub regs: Regs,
+    /// What the core is doing.
+    pub state: CoreState,
+    /// The bytes that the open transaction has stored.
+    pub buffer: Buffer,
+}

@@ -1,0 +1,21 @@
+//! The machine: IA-32 cores over one flat memory, with Intel's restricted transactional memory.
+#![tactic(auto)]
+
+mod conflict;
+mod cpu;
+mod fault;
+mod limits;
+mod machine;
+mod memory;
+mod opening;
+mod outcome;
+mod step;
+#[cfg(test)]
+mod tests;
+mod transaction;
+
+pub use fault::{MachineFault, NoSuchCore, RunFault};
+pub use limits::Limits;
+pub use machine::Machine;
+pub use outcome::{CoreState, Outcome};
+pub use tm_rule::Stop;

@@ -1,0 +1,182 @@
+//! A machine before its first step.
+
+ghost use Rattle.std.specs.Prelude.{◌≡◌, ◌<◌, ◌≤◌, ◌*◌, ◌^◌, ◌↔◌, ℕ, List, Option, None, Err, true, length, IfOk};
+ghost use Rattle.std.specs.FinSet as set;
+ghost use Rattle.ia_image.specs.Program.{opening_memory as memory_of, code_of};
+ghost use Rattle.tm_sets.specs.declared.touched.Kind as AnyKind;
+ghost use Rattle.tm_core.specs.State.{opening};
+ghost use Rattle.tm_core.specs.Setting.{setting};
+ghost use Rattle.tm_core.specs.Parts.{cpu_at};
+ghost use Rattle.tm_core.specs.Machine.{StandsFor, IsStart, bad_limits, rules_of};
+
+use crate::cpu::Cpu;
+use crate::fault::MachineFault;
+use crate::limits::Limits;
+use crate::machine::Machine;
+use crate::outcome::CoreState;
+use ia_image::Program;
+use ia_regs::{Flags, Regs};
+use std::alloc::{AllocError, Global};
+use tm_buffer::Buffer;
+use tm_sets::{Kind, PlainSets, Sets};
+
+// Memory: the image at its base, and zeros.
+fn opening_memory(alloc: Global, program: &Program) -> Result<Vec<u8>, AllocError>
+    ensures memory { IfOk result (λ memory. memory.items ≡ memory_of program.now) }
+    ensures size { IfOk result (λ memory. length memory.items ≡ program.now.mem_size) }
+{
+    let size = program.mem_size() as usize;
+    let mut memory = Vec::with_capacity(alloc, size)?;
+    memory.resize(program.base() as usize, 0)?;
+    memory.extend_from_slice(program.bytes())?;
+    memory.resize(size, 0)?;
+    Ok(memory)
+}
+
+// The registers of a core before its first step.
+fn start_regs(program: &Program, core: u8) -> Regs
+    requires { core < length program.now.entries }
+    ensures { result ≡ Rattle.ia_image.specs.Program.start_regs program.now core }
+{
+    let stack = program.mem_size() - 4096 * u32::from(core);
+    let eip = match program.entry(core) {
+        Some(entry) => entry,
+        None => unreachable!(),
+    };
+    Regs {
+        gpr: [
+            u32::from(core),
+            u32::from(program.cores()),
+            0,
+            0,
+            stack,
+            0,
+            0,
+            0,
+        ],
+        flags: Flags::of(false, false, false, false, false, false),
+        eip,
+    }
+}
+
+// A core before its first step.
+fn start_cpu(
+    alloc: Global,
+    program: &Program,
+    write_lines: u32,
+    core: u8,
+) -> Result<Cpu, AllocError>
+    requires core { core < length program.now.entries }
+    requires some { 1 ≤ write_lines }
+    requires most { write_lines ≤ 4096 }
+    ensures { IfOk result (λ cpu. IsStart program.now write_lines core cpu) }
+{
+    let regs = start_regs(program, core);
+    match Buffer::with_lines(alloc, write_lines) {
+        Ok(buffer) => Ok(Cpu {
+            base: regs,
+            regs,
+            state: CoreState::Running,
+            buffer,
+        }),
+        Err(_) => Err(AllocError),
+    }
+}
+
+// All cores before their first steps.
+fn start_cpus(alloc: Global, program: &Program, write_lines: u32) -> Result<Vec<Cpu>, AllocError>
+    requires some { 1 ≤ write_lines }
+    requires most { write_lines ≤ 4096 }
+    ensures { IfOk result (λ cpus. (length cpus.items ≡ length program.now.entries) × ((i : ℕ) → i < length program.now.entries → IsStart program.now write_lines i (cpu_at cpus.items i))) }
+{
+    let mut cpus = Vec::new(alloc);
+    for core in 0..program.cores() {
+        cpus.push(start_cpu(alloc, program, write_lines, core)?)?;
+    }
+    Ok(cpus)
+}
+
+// The code, memory and cores of a machine before its first step.
+fn start_parts(
+    alloc: Global,
+    program: &Program,
+    write_lines: u32,
+) -> Result<(Vec<u8>, Vec<u8>, Vec<Cpu>), AllocError>
+    requires some { 1 ≤ write_lines }
+    requires most { write_lines ≤ 4096 }
+    ensures code { IfOk result (λ parts. parts.0.items ≡ code_of program.now) }
+    ensures memory { IfOk result (λ parts. parts.1.items ≡ memory_of program.now) }
+    ensures size { IfOk result (λ parts. length parts.1.items ≡ program.now.mem_size) }
+    ensures cores { IfOk result (λ parts. length parts.2.items ≡ length program.now.entries) }
+    ensures starts { IfOk result (λ parts. (i : ℕ) → i < length program.now.entries → IsStart program.now write_lines i (cpu_at parts.2.items i)) }
+{
+    let code = Vec::from_slice(alloc, program.code())?;
+    let memory = opening_memory(alloc, program)?;
+    let cpus = start_cpus(alloc, program, write_lines)?;
+    Ok((code, memory, cpus))
+}
+
+impl<S: Sets + Drop> Machine<S> {
+    /// A machine before its first step, over empty sets that were made for the program's cores and memory and for these
+    /// limits. `BadLimits` (40) where a limit is not 1 to 4096, or else `NoMemory` (41).
+    pub fn with_sets(
+        alloc: Global,
+        program: &Program,
+        limits: Limits,
+        sets: S,
+    ) -> Result<Machine<S>, MachineFault>
+        requires cores { length program.now.entries ≤ (S.content sets).fixed.cores }
+        requires lines { program.now.mem_size ≤ (S.content sets).fixed.line_count * 64 }
+        requires empty { (c : ℕ) (kind : AnyKind.Kind) → (S.content sets).lines c kind ≡ set.empty }
+        requires read_lines { (S.content sets).fixed.room Kind.Read ≡ limits.read_lines }
+        requires write_lines { (S.content sets).fixed.room Kind.Write ≡ limits.write_lines }
+        ensures limits { result ≡ Err MachineFault.BadLimits ↔ (bad_limits limits ≡ true) }
+        ensures opening { IfOk result (λ machine. StandsFor machine (opening program.now) (λ _. None)) }
+        ensures rules { IfOk result (λ machine. rules_of machine ≡ setting (code_of program.now) program.now.base program.now.mem_size limits.read_lines limits.write_lines) }
+        ensures cores { IfOk result (λ machine. length machine.views ≡ length program.now.entries) }
+    {
+        if limits.are_bad() {
+            return Err(MachineFault::BadLimits);
+        }
+        match start_parts(alloc, program, limits.write_lines) {
+            Ok((code, memory, cpus)) => Ok(Machine {
+                code,
+                base: program.base(),
+                memory,
+                cpus,
+                sets,
+                busy: false,
+            }),
+            Err(_) => Err(MachineFault::NoMemory),
+        }
+    }
+}
+
+impl Machine<PlainSets> {
+    /// A machine before its first step. `BadLimits` (40) where a limit is not 1 to 4096, or else `NoMemory` (41).
+    pub fn new(
+        alloc: Global,
+        program: &Program,
+        limits: Limits,
+    ) -> Result<Machine<PlainSets>, MachineFault>
+        ensures limits { result ≡ Err MachineFault.BadLimits ↔ (bad_limits limits ≡ true) }
+        ensures opening { IfOk result (λ machine. StandsFor machine (opening program.now) (λ _. None)) }
+        ensures rules { IfOk result (λ machine. rules_of machine ≡ setting (code_of program.now) program.now.base program.now.mem_size limits.read_lines limits.write_lines) }
+        ensures cores { IfOk result (λ machine. length machine.views ≡ length program.now.entries) }
+    {
+        if limits.are_bad() {
+            return Err(MachineFault::BadLimits);
+        }
+        let lines = program.mem_size() / 64;
+        match PlainSets::new(
+            alloc,
+            program.cores(),
+            lines,
+            limits.read_lines,
+            limits.write_lines,
+        ) {
+            Ok(sets) => Machine::with_sets(alloc, program, limits, sets),
+            Err(_) => Err(MachineFault::NoMemory),
+        }
+    }
+}

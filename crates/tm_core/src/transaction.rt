@@ -1,0 +1,231 @@
+//! One core's transaction: its instructions, its commit and its abort.
+
+ghost use Rattle.std.specs.Prelude.{◌≡◌, ◌+◌, ◌-◌, ◌*◌, ◌/◌, ◌^◌, ◌<◌, ◌≤◌, ℕ, List, Option, None, [], ◌∷◌, true, false, length, map, nat_lt, not, slice_set, IfSome};
+ghost use Rattle.std.specs.FinSet as set;
+ghost use Rattle.ia_word.specs.Width.{bytes_of, bits_of};
+ghost use Rattle.tm_buffer.specs.Held.{drained, Fits};
+ghost use Rattle.tm_rule.specs.Rule.{load_at as load_by, fallback_of};
+ghost use Rattle.tm_sets.specs.Content.{Content, added};
+ghost use Rattle.tm_sets.specs.declared.touched.Kind as AnyKind;
+ghost use Rattle.tm_core.specs.Access.{places, places_of, stores_of, loaded_places, loaded_value};
+ghost use Rattle.tm_core.specs.Owed.{fits};
+ghost use Rattle.tm_core.specs.Shown.{plain_view};
+ghost use Rattle.tm_core.specs.ViewSteps.{seen, add_all, grows, stepped, stored_places};
+ghost use Rattle.tm_core.specs.Parts.{view_of, kept_of, Elsewhere, IsHeld, AreLines, setting_of, left_inside};
+
+use crate::cpu::Cpu;
+use crate::memory::read;
+use crate::outcome::{CoreState, Outcome};
+use ia_addr::Access;
+use ia_exec::Store;
+use ia_regs::Regs;
+use ia_word::{Width, line_of};
+use tm_rule::{Code, Within, fallback, fetch, inside, load_at};
+use tm_sets::{Kind, Sets};
+use tm_status::{Cause, status};
+
+/// Aborts the transaction of a core, which resumes at the fallback of its outermost XBEGIN with this status in EAX.
+pub fn abort<S: Sets>(
+    code: &Code,
+    cpu: &mut Cpu,
+    sets: &mut S,
+    c: u8,
+    cause: Cause,
+    depth: u8,
+) -> Outcome
+    requires { c < (S.content sets.old).fixed.cores }
+    ensures result { result ≡ Outcome.Aborted (Rattle.tm_core.specs.Owed.status cause depth) }
+    ensures view { view_of (S.content sets.new) c cpu.new ≡ plain_view CoreState.Running (record cpu.old.base { gpr = slice_set cpu.old.base.gpr 0 (Rattle.tm_core.specs.Owed.status cause depth); eip = fallback_of code.now.bytes.now code.now.base cpu.old.base }) }
+    ensures elsewhere { Elsewhere (S.content sets.old) (S.content sets.new) c }
+    ensures order { cpu.new.buffer.order ≡ [] }
+    ensures room { cpu.new.buffer.room ≡ cpu.old.buffer.room }
+{
+    let status = status(cause, depth > 1);
+    let mut regs = cpu.base;
+    regs.eip = fallback(&fetch(code, regs.eip), &regs);
+    regs.set(0, status);
+    cpu.base = regs;
+    cpu.regs = regs;
+    cpu.state = CoreState::Running;
+    cpu.buffer.clear();
+    sets.clear(c);
+    Outcome::Aborted(status)
+}
+
+/// Ends a commit: the stored bytes go to memory, and the core is closed.
+pub fn settle<S: Sets>(memory: &mut [u8], cpu: &mut Cpu, sets: &mut S, c: u8)
+    requires core { c < (S.content sets.old).fixed.cores }
+    requires fits { Fits cpu.old.buffer.bytes (length memory.old) }
+    ensures view { view_of (S.content sets.new) c cpu.new ≡ plain_view CoreState.Running cpu.old.regs }
+    ensures memory { memory.new ≡ drained cpu.old.buffer.bytes memory.old }
+    ensures elsewhere { Elsewhere (S.content sets.old) (S.content sets.new) c }
+    ensures order { cpu.new.buffer.order ≡ [] }
+    ensures room { cpu.new.buffer.room ≡ cpu.old.buffer.room }
+{
+    cpu.buffer.drain_into(memory);
+    cpu.base = cpu.regs;
+    cpu.state = CoreState::Running;
+    sets.clear(c);
+}
+
+// What the transaction loads: memory, with its own bytes laid over it.
+fn load(memory: &[u8], cpu: &Cpu, access: Option<Access>) -> u32
+    requires small { length memory.now < 2 ^ 32 }
+    requires within { IfSome access (λ a. a.addr + bytes_of a.width ≤ length memory.now) }
+    ensures { result ≡ loaded_value access (map (seen cpu.now.buffer.bytes memory.now) (loaded_places access)) }
+{
+    match access {
+        Some(a) => cpu
+            .buffer
+            .overlay(a.addr, a.width, read(memory, a.addr, a.width)),
+        None => 0,
+    }
+}
+
+// Adds a line to a core's set, or answers that there is no room.
+#[tactic(auto, using(crate::proofs::Rooms::room_told))]
+fn add_line<S: Sets>(sets: &mut S, c: u8, line: u32, kind: Kind) -> bool
+    requires core { c < (S.content sets.old).fixed.cores }
+    requires line { line < (S.content sets.old).fixed.line_count }
+    requires room { set.len ((S.content sets.old).lines c kind) ≤ (S.content sets.old).fixed.room kind }
+    ensures told { result ≡ not (nat_lt ((S.content sets.old).fixed.room kind) (set.len (set.insert ((S.content sets.old).lines c kind) line))) }
+    ensures ok { result ≡ true → S.content sets.new ≡ added (S.content sets.old) c kind line }
+    ensures err { result ≡ false → S.content sets.new ≡ S.content sets.old }
+{
+    sets.add(c, line, kind).is_ok()
+}
+
+// Adds the lines of an access to a core's set, or answers that there is no room.
+fn add_lines<S: Sets>(sets: &mut S, c: u8, addr: u32, width: Width, kind: Kind) -> bool
+    requires core { c < (S.content sets.old).fixed.cores }
+    requires within { addr + bytes_of width ≤ (S.content sets.old).fixed.line_count * 64 }
+    requires small { addr + bytes_of width ≤ 2 ^ 32 }
+    requires room { set.len ((S.content sets.old).lines c kind) ≤ (S.content sets.old).fixed.room kind }
+    ensures told { result ≡ not (nat_lt ((S.content sets.old).fixed.room kind) (set.len (add_all ((S.content sets.old).lines c kind) (places addr width)))) }
+    ensures ok { result ≡ true → (S.content sets.new).lines c kind ≡ add_all ((S.content sets.old).lines c kind) (places addr width) }
+    ensures others { (other : AnyKind.Kind) → Rattle.tm_sets.specs.Content.same_kind other kind ≡ false → (S.content sets.new).lines c other ≡ (S.content sets.old).lines c other }
+    ensures elsewhere { Elsewhere (S.content sets.old) (S.content sets.new) c }
+{
+    let first = line_of(addr);
+    let last = line_of(addr + (width.bytes() - 1));
+    add_line(sets, c, first, kind) && (last == first || add_line(sets, c, last, kind))
+}
+
+// Adds the lines of an instruction to a core's sets, or answers that there is no room.
+fn touch<S: Sets>(sets: &mut S, c: u8, access: Option<Access>, store: Option<Store>) -> bool
+    requires core { c < (S.content sets.old).fixed.cores }
+    requires access { IfSome access (λ a. (a.addr + bytes_of a.width ≤ (S.content sets.old).fixed.line_count * 64) × (a.addr + bytes_of a.width ≤ 2 ^ 32)) }
+    requires store { IfSome store (λ w. (w.addr + bytes_of w.width ≤ (S.content sets.old).fixed.line_count * 64) × (w.addr + bytes_of w.width ≤ 2 ^ 32)) }
+    requires reads { set.len ((S.content sets.old).lines c Kind.Read) ≤ (S.content sets.old).fixed.room Kind.Read }
+    requires writes { set.len ((S.content sets.old).lines c Kind.Write) ≤ (S.content sets.old).fixed.room Kind.Write }
+    ensures told { (code : List ℕ) (base size : ℕ) → result ≡ fits (setting_of code base size (S.content sets.old)) (add_all ((S.content sets.old).lines c Kind.Read) (loaded_places access)) (add_all ((S.content sets.old).lines c Kind.Write) (stored_places store)) }
+    ensures reads { result ≡ true → (S.content sets.new).lines c Kind.Read ≡ add_all ((S.content sets.old).lines c Kind.Read) (loaded_places access) }
+    ensures writes { result ≡ true → (S.content sets.new).lines c Kind.Write ≡ add_all ((S.content sets.old).lines c Kind.Write) (stored_places store) }
+    ensures elsewhere { Elsewhere (S.content sets.old) (S.content sets.new) c }
+{
+    let read = match access {
+        Some(a) => add_lines(sets, c, a.addr, a.width, Kind::Read),
+        None => true,
+    };
+    let write = match store {
+        Some(w) => add_lines(sets, c, w.addr, w.width, Kind::Write),
+        None => true,
+    };
+    read && write
+}
+
+// One more instruction of a body, or an answer that its lines have no room.
+fn grow<S: Sets>(
+    cpu: &mut Cpu,
+    sets: &mut S,
+    c: u8,
+    access: Option<Access>,
+    store: Option<Store>,
+    next: Regs,
+    depth: u8,
+) -> bool
+    requires core { c < (S.content sets.old).fixed.cores }
+    requires access { IfSome access (λ a. (a.addr + bytes_of a.width ≤ (S.content sets.old).fixed.line_count * 64) × (a.addr + bytes_of a.width ≤ 2 ^ 32)) }
+    requires store { IfSome store (λ w. (w.addr + bytes_of w.width ≤ (S.content sets.old).fixed.line_count * 64) × (w.addr + bytes_of w.width ≤ 2 ^ 32)) }
+    requires value { IfSome store (λ w. w.value < 2 ^ bits_of w.width) }
+    requires reads { set.len ((S.content sets.old).lines c Kind.Read) ≤ (S.content sets.old).fixed.room Kind.Read }
+    requires writes { set.len ((S.content sets.old).lines c Kind.Write) ≤ (S.content sets.old).fixed.room Kind.Write }
+    requires held { IsHeld ((S.content sets.old).fixed.room Kind.Write) (kept_of (S.content sets.old) c cpu.old) }
+    ensures told { (code : List ℕ) (base size : ℕ) → let new = grows (view_of (S.content sets.old) c cpu.old) depth next (loaded_places access) (stores_of store) in result ≡ fits (setting_of code base size (S.content sets.old)) new.reads new.writes }
+    ensures grown { result ≡ true → view_of (S.content sets.new) c cpu.new ≡ grows (view_of (S.content sets.old) c cpu.old) depth next (loaded_places access) (stores_of store) }
+    ensures held { result ≡ true → IsHeld ((S.content sets.old).fixed.room Kind.Write) (kept_of (S.content sets.new) c cpu.new) }
+    ensures base { cpu.new.base ≡ cpu.old.base }
+    ensures elsewhere { Elsewhere (S.content sets.old) (S.content sets.new) c }
+    ensures room { cpu.new.buffer.room ≡ cpu.old.buffer.room }
+    ensures order { store ≡ None → cpu.new.buffer.order ≡ cpu.old.buffer.order }
+{
+    let room = touch(sets, c, access, store);
+    if room {
+        cpu.regs = next;
+        cpu.state = CoreState::Open(depth);
+        if let Some(w) = store {
+            match cpu.buffer.put(w.addr, w.width, w.value) {
+                Ok(()) => {}
+                Err(_) => unreachable!(),
+            }
+        }
+    }
+    room
+}
+
+/// A step of an open core, but for what a commit does to memory and to other cores: `None` where the core is to commit.
+pub fn step_inside<S: Sets>(
+    code: &Code,
+    memory: &[u8],
+    cpu: &mut Cpu,
+    sets: &mut S,
+    c: u8,
+    size: u32,
+    depth: u8,
+) -> Option<Outcome>
+    requires core { c < (S.content sets.old).fixed.cores }
+    requires lines { size ≤ (S.content sets.old).fixed.line_count * 64 }
+    requires size { size ≡ length memory.now }
+    requires mode { cpu.old.state ≡ CoreState.Open depth }
+    requires deep { 0 < depth }
+    requires depth { depth ≤ 7 }
+    requires reads { set.len ((S.content sets.old).lines c Kind.Read) ≤ (S.content sets.old).fixed.room Kind.Read }
+    requires writes { set.len ((S.content sets.old).lines c Kind.Write) ≤ (S.content sets.old).fixed.room Kind.Write }
+    requires held { IsHeld ((S.content sets.old).fixed.room Kind.Write) (kept_of (S.content sets.old) c cpu.old) }
+    ensures step { stepped (setting_of code.now.bytes.now code.now.base size (S.content sets.old)) memory.now (view_of (S.content sets.old) c cpu.old) (CoreState.Open depth) ≡ left_inside memory.now result (view_of (S.content sets.new) c cpu.new) }
+    ensures held { IsHeld ((S.content sets.old).fixed.room Kind.Write) (kept_of (S.content sets.new) c cpu.new) }
+    ensures elsewhere { Elsewhere (S.content sets.old) (S.content sets.new) c }
+    ensures buffer { result ≡ None → cpu.new.buffer.bytes ≡ cpu.old.buffer.bytes }
+    ensures order { result ≡ None → cpu.new.buffer.order ≡ cpu.old.buffer.order }
+{
+    let regs = cpu.regs;
+    let fetched = fetch(code, regs.eip);
+    let access = load_at(&fetched, &regs, size);
+    let loaded = load(memory, cpu, access);
+    match inside(&fetched, code, size, &regs, loaded, depth) {
+        Within::Fails(cause) => Some(abort(code, cpu, sets, c, cause, depth)),
+        Within::GoesOn(next, store) => {
+            if grow(cpu, sets, c, access, store, next, depth) {
+                Some(Outcome::Inside)
+            } else {
+                Some(abort(code, cpu, sets, c, Cause::Capacity, depth))
+            }
+        }
+        Within::Nests(next) => {
+            if grow(cpu, sets, c, access, None, next, depth + 1) {
+                Some(Outcome::Inside)
+            } else {
+                Some(abort(code, cpu, sets, c, Cause::Capacity, depth))
+            }
+        }
+        Within::Ends(next) => {
+            if !grow(cpu, sets, c, access, None, next, depth - 1) {
+                Some(abort(code, cpu, sets, c, Cause::Capacity, depth))
+            } else if depth == 1 {
+                None
+            } else {
+                Some(Outcome::Inside)
+            }
+        }
+    }
+}

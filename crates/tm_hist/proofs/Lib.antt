@@ -1,0 +1,5 @@
+pub mod Rows
+pub mod Cuts
+pub mod Back
+pub mod Bodies
+pub mod Runs

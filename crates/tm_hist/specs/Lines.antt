@@ -1,0 +1,98 @@
+-- The lines that are printed of a run: state lines, outcome lines and dumps of memory (docs/FORMATS.md, "Printed lines").
+use Rattle.std.specs.Prelude.{ℕ, ◌+◌, ◌-◌, ◌*◌, ◌/◌, ◌%◌, ◌^◌, List, [], ◌∷◌, ◌++◌, codes, drop, take, length, slice_index, nat_lt, if◌then◌else◌}
+use Rattle.std.specs.List.{flat_map, range_with_len}
+use Rattle.std.specs.Int.{w16, to_be_bytes}
+use Rattle.hex.specs.Hex.{encode_lower}
+use Rattle.ia_text.specs.Number.{eight_digits}
+use Rattle.ia_regs.specs.Flags.{flags_of, has_carry, has_parity, has_adjust, has_zero, has_sign, has_overflow}
+use Rattle.ia_regs.specs.declared.flags.Flags.{Flags}
+use Rattle.tm_rule.specs.declared.kinds.Stop.TheVariants as stop
+use Rattle.ia_regs.specs.declared.Regs.{Regs}
+use Rattle.tm_rule.specs.declared.kinds.Stop.{Stop}
+use Rattle.tm_core.specs.declared.outcome.CoreState.{CoreState}
+use Rattle.tm_core.specs.declared.outcome.Outcome.{Outcome}
+use Rattle.tm_core.specs.declared.outcome.CoreState.TheVariants as state
+use Rattle.tm_core.specs.declared.outcome.Outcome.TheVariants as outcome
+use Rattle.tm_core.specs.Machine.{Shown}
+use Rattle.tm_hist.specs.Machine.{core_count, shown_state, shown_regs}
+
+-- a line feed
+abbrev pub line_end : List ℕ
+line_end = 10 ∷ []
+
+-- a number below 1000 in decimal digits
+unfoldable pub number_text : ℕ → List ℕ
+number_text n =
+    if nat_lt n 10 then (48 + n) ∷ []
+    else if nat_lt n 100 then (48 + n / 10) ∷ (48 + n % 10) ∷ []
+    else (48 + n / 100) ∷ (48 + n / 10 % 10) ∷ (48 + n % 10) ∷ []
+
+-- the sum of CF 001h, PF 004h, AF 010h, ZF 040h, SF 080h and OF 800h, each where it is set
+abbrev pub flag_sum : Flags → ℕ
+flag_sum f = (flags_of (has_carry f) (has_parity f) (has_adjust f) (has_zero f) (has_sign f) (has_overflow f)).0
+
+-- the flags in three hex digits
+abbrev pub flags_text : Flags → List ℕ
+flags_text f = drop 1 (encode_lower (to_be_bytes w16 (flag_sum f)))
+
+abbrev pub stop_word : Stop → List ℕ
+stop_word stop.Divide = codes "#DE"
+stop_word stop.Breakpoint = codes "#BP"
+stop_word stop.Undefined = codes "#UD"
+stop_word stop.Protection = codes "#GP"
+stop_word stop.Halt = codes "HLT"
+stop_word stop.Range = codes "range"
+stop_word stop.CodeStore = codes "code-store"
+stop_word stop.Fetch = codes "fetch"
+stop_word stop.NotInSubset = codes "not-in-subset"
+
+abbrev pub state_word : CoreState → List ℕ
+state_word state.Running = codes "run"
+state_word (state.Open depth) = codes "tx" ++ number_text depth
+state_word (state.Condemned depth) = codes "condemned"
+state_word (state.Stopped why) = codes "stop:" ++ stop_word why
+
+-- a register behind its name
+unfoldable pub register_text : List ℕ → ℕ → List ℕ
+register_text name value = name ++ eight_digits value
+
+-- the general registers, the instruction pointer and the flags
+unfoldable pub regs_text : Regs → List ℕ
+regs_text regs =
+    register_text (codes " eax=") (slice_index regs.gpr 0) ++ register_text (codes " ecx=") (slice_index regs.gpr 1)
+    ++ register_text (codes " edx=") (slice_index regs.gpr 2) ++ register_text (codes " ebx=") (slice_index regs.gpr 3)
+    ++ register_text (codes " esp=") (slice_index regs.gpr 4) ++ register_text (codes " ebp=") (slice_index regs.gpr 5)
+    ++ register_text (codes " esi=") (slice_index regs.gpr 6) ++ register_text (codes " edi=") (slice_index regs.gpr 7)
+    ++ register_text (codes " eip=") regs.eip ++ codes " flags=" ++ flags_text regs.flags
+
+-- a state line
+unfoldable pub core_line : ℕ → CoreState → Regs → List ℕ
+core_line core state regs = codes "core " ++ number_text core ++ codes " " ++ state_word state ++ regs_text regs ++ line_end
+
+-- the state line of a core of a machine, and those of all its cores
+abbrev pub core_text : Shown → ℕ → List ℕ
+core_text machine core = core_line core (shown_state machine core) (shown_regs machine core)
+
+abbrev pub state_text : Shown → List ℕ
+state_text machine = flat_map (core_text machine) (range_with_len 0 (core_count machine))
+
+abbrev pub outcome_words : Outcome → List ℕ
+outcome_words outcome.Plain = codes "plain"
+outcome_words (outcome.Stopped why) = codes "stopped " ++ stop_word why
+outcome_words outcome.Idle = codes "idle"
+outcome_words outcome.Begun = codes "begun"
+outcome_words outcome.Inside = codes "inside"
+outcome_words outcome.Committed = codes "committed"
+outcome_words (outcome.Aborted status) = codes "aborted " ++ eight_digits status
+
+-- an outcome line
+unfoldable pub outcome_line : ℕ → Outcome → List ℕ
+outcome_line core outcome = number_text core ++ codes " " ++ outcome_words outcome ++ line_end
+
+-- the line with this index of a dump: the address, and up to 16 bytes in hex
+abbrev pub dump_line : List ℕ → ℕ → ℕ → List ℕ
+dump_line bytes at i = eight_digits ((at + 16 * i) % 2 ^ 32) ++ codes " " ++ encode_lower (take 16 (drop (16 * i) bytes)) ++ line_end
+
+-- the dump of bytes that stand at an address
+abbrev pub dump_lines : List ℕ → ℕ → List ℕ
+dump_lines bytes at = flat_map (dump_line bytes at) (range_with_len 0 ((length bytes + 15) / 16))

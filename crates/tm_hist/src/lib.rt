@@ -1,0 +1,21 @@
+//! A machine with the history of its steps, the serial run of a history, and what is printed and read of a run: state lines,
+//! outcome lines, dumps of memory and schedules.
+#![tactic(auto)]
+
+mod flat;
+mod lines;
+mod one_memory;
+mod pieces;
+mod replay;
+mod row;
+mod schedule;
+mod shape;
+mod step;
+
+pub use lines::{write_core, write_dump, write_outcome, write_state};
+pub use one_memory::serial;
+pub use replay::{Serial, SerialFault};
+pub use schedule::{ScheduleFault, read_schedule, read_steps, write_schedule};
+
+#[cfg(test)]
+mod tests;

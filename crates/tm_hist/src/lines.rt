@@ -1,0 +1,230 @@
+//! The lines that are printed of a run.
+
+ghost use Rattle.std.specs.Prelude.{◌≡◌, ◌+◌, ◌-◌, ◌*◌, ◌%◌, ◌^◌, ◌≤◌, ◌<◌, ◌++◌, length};
+ghost use Rattle.arrayvec.specs.ArrayVec.{array_vec_len};
+ghost use Rattle.ia_text.specs.Writing.{Writes};
+ghost use Rattle.tm_hist.specs.Machine.{core_count};
+ghost use Rattle.tm_hist.specs.Lines.{flag_sum, flags_text, stop_word, state_word, regs_text, core_line, core_text, state_text, outcome_words, outcome_line, register_text, dump_line, dump_lines};
+
+use crate::row::{Row, push, push_hex, push_long, push_number};
+use ia_regs::{Flags, Regs};
+use ia_text::{Out, WriteFault};
+use tm_core::{CoreState, Machine, Outcome};
+use tm_rule::Stop;
+
+// The word of a stop.
+fn stop_text(stop: Stop) -> &'static [u8]
+    ensures text { result.now ≡ stop_word stop }
+    ensures short { length result.now ≤ 13 }
+{
+    match stop {
+        Stop::Divide => b"#DE",
+        Stop::Breakpoint => b"#BP",
+        Stop::Undefined => b"#UD",
+        Stop::Protection => b"#GP",
+        Stop::Halt => b"HLT",
+        Stop::Range => b"range",
+        Stop::CodeStore => b"code-store",
+        Stop::Fetch => b"fetch",
+        Stop::NotInSubset => b"not-in-subset",
+    }
+}
+
+fn push_state(row: &mut Row, state: CoreState)
+    requires { array_vec_len row.old + 18 ≤ 160 }
+    ensures text { row.new.items ≡ row.old.items ++ state_word state }
+    ensures len { array_vec_len row.new ≤ array_vec_len row.old + 18 }
+{
+    match state {
+        CoreState::Running => push(row, b"run"),
+        CoreState::Open(depth) => {
+            push(row, b"tx");
+            push_number(row, depth);
+        }
+        CoreState::Condemned(_depth) => push(row, b"condemned"),
+        CoreState::Stopped(stop) => {
+            push(row, b"stop:");
+            push(row, stop_text(stop));
+        }
+    }
+}
+
+// The flags' bits, and no other.
+fn flag_bits(flags: Flags) -> u16
+    ensures { result ≡ flag_sum flags }
+{
+    use bitflags::Flags as _;
+    Flags::of(
+        flags.carry(),
+        flags.parity(),
+        flags.adjust(),
+        flags.zero(),
+        flags.sign(),
+        flags.overflow(),
+    )
+    .bits()
+}
+
+fn push_flags(row: &mut Row, flags: Flags)
+    requires { array_vec_len row.old + 3 ≤ 160 }
+    ensures text { row.new.items ≡ row.old.items ++ flags_text flags }
+    ensures len { array_vec_len row.new ≡ array_vec_len row.old + 3 }
+{
+    let mut digits = [0; 4];
+    let _ = hex::encode_to_slice(&flag_bits(flags).to_be_bytes(), &mut digits);
+    push(row, &digits[1..]);
+}
+
+// A register's value behind its name.
+#[tactic(auto, unfolding(crate::specs::Lines::register_text))]
+fn push_register(row: &mut Row, name: &[u8], value: u32)
+    requires room { array_vec_len row.old + 13 ≤ 160 }
+    requires short { length name.now ≡ 5 }
+    ensures text { row.new.items ≡ row.old.items ++ register_text name.now value }
+    ensures len { array_vec_len row.new ≡ array_vec_len row.old + 13 }
+{
+    push(row, name);
+    push_long(row, value);
+}
+
+#[tactic(auto, unfolding(crate::specs::Lines::regs_text))]
+fn push_regs(row: &mut Row, regs: &Regs)
+    requires { array_vec_len row.old + 127 ≤ 160 }
+    ensures text { row.new.items ≡ row.old.items ++ regs_text regs.now }
+    ensures len { array_vec_len row.new ≡ array_vec_len row.old + 127 }
+{
+    push_register(row, b" eax=", regs.get(0));
+    push_register(row, b" ecx=", regs.get(1));
+    push_register(row, b" edx=", regs.get(2));
+    push_register(row, b" ebx=", regs.get(3));
+    push_register(row, b" esp=", regs.get(4));
+    push_register(row, b" ebp=", regs.get(5));
+    push_register(row, b" esi=", regs.get(6));
+    push_register(row, b" edi=", regs.get(7));
+    push_register(row, b" eip=", regs.eip);
+    push(row, b" flags=");
+    push_flags(row, regs.flags);
+}
+
+#[tactic(auto, unfolding(crate::specs::Lines::core_line))]
+fn push_core(row: &mut Row, core: u8, state: CoreState, regs: &Regs)
+    requires { array_vec_len row.old ≡ 0 }
+    ensures { row.new.items ≡ row.old.items ++ core_line core state regs.now }
+{
+    push(row, b"core ");
+    push_number(row, core);
+    push(row, b" ");
+    push_state(row, state);
+    push_regs(row, regs);
+    push(row, b"\n");
+}
+
+/// Writes the state line of a core that the machine has.
+///
+/// [`WriteFault::Write`], where the device failed: a beginning of the line was written.
+pub fn write_core<O: Out>(machine: &Machine, core: u8, out: &mut O) -> Result<(), WriteFault>
+    requires { core < core_count machine.now }
+    ensures { Writes (O.device out.old) (O.device out.new) (core_text machine.now core) result }
+{
+    let mut row = Row::new();
+    let state = machine.state(core).unwrap();
+    let regs = machine.regs(core).unwrap();
+    push_core(&mut row, core, state, &regs);
+    out.put(row.as_slice())?;
+    Ok(())
+}
+
+/// Writes the state lines of all cores, in order.
+///
+/// [`WriteFault::Write`], where the device failed: a beginning of the lines was written.
+pub fn write_state<O: Out>(machine: &Machine, out: &mut O) -> Result<(), WriteFault>
+    ensures { Writes (O.device out.old) (O.device out.new) (state_text machine.now) result }
+{
+    for core in 0..machine.core_count() {
+        write_core(machine, core, out)?;
+    }
+    Ok(())
+}
+
+#[tactic(auto, unfolding(crate::specs::Lines::outcome_line))]
+fn push_outcome(row: &mut Row, core: u8, outcome: &Outcome)
+    requires { array_vec_len row.old ≡ 0 }
+    ensures { row.new.items ≡ row.old.items ++ outcome_line core outcome.now }
+{
+    push_number(row, core);
+    push(row, b" ");
+    match outcome {
+        Outcome::Plain => push(row, b"plain"),
+        Outcome::Stopped(stop) => {
+            push(row, b"stopped ");
+            push(row, stop_text(*stop));
+        }
+        Outcome::Idle => push(row, b"idle"),
+        Outcome::Begun => push(row, b"begun"),
+        Outcome::Inside => push(row, b"inside"),
+        Outcome::Committed => push(row, b"committed"),
+        Outcome::Aborted(status) => {
+            push(row, b"aborted ");
+            push_long(row, *status);
+        }
+    }
+    push(row, b"\n");
+}
+
+/// Writes the outcome line of a step.
+///
+/// [`WriteFault::Write`], where the device failed: a beginning of the line was written.
+pub fn write_outcome<O: Out>(core: u8, outcome: &Outcome, out: &mut O) -> Result<(), WriteFault>
+    ensures { Writes (O.device out.old) (O.device out.new) (outcome_line core outcome.now) result }
+{
+    let mut row = Row::new();
+    push_outcome(&mut row, core, outcome);
+    out.put(row.as_slice())?;
+    Ok(())
+}
+
+// The address of the line with this index.
+fn line_address(at: u32, index: usize) -> u32
+    ensures { result ≡ (at + 16 * index) % 2 ^ 32 }
+{
+    at.wrapping_add((index % 0x1000_0000) as u32 * 16)
+}
+
+fn push_dump_line(row: &mut Row, bytes: &[u8], at: u32, index: usize)
+    requires empty { array_vec_len row.old ≡ 0 }
+    requires within { 16 * index < length bytes.now }
+    ensures { row.new.items ≡ row.old.items ++ dump_line bytes.now at index }
+{
+    push_long(row, line_address(at, index));
+    push(row, b" ");
+    let rest = &bytes[16 * index..];
+    push_hex(row, &rest[..rest.len().min(16)]);
+    push(row, b"\n");
+}
+
+fn write_dump_line<O: Out>(
+    bytes: &[u8],
+    at: u32,
+    index: usize,
+    out: &mut O,
+) -> Result<(), WriteFault>
+    requires { 16 * index < length bytes.now }
+    ensures { Writes (O.device out.old) (O.device out.new) (dump_line bytes.now at index) result }
+{
+    let mut row = Row::new();
+    push_dump_line(&mut row, bytes, at, index);
+    out.put(row.as_slice())?;
+    Ok(())
+}
+
+/// Writes the dump lines of bytes that stand at an address: 16 a line, addresses modulo 2^32.
+///
+/// [`WriteFault::Write`], where the device failed: a beginning of the lines was written.
+pub fn write_dump<O: Out>(bytes: &[u8], at: u32, out: &mut O) -> Result<(), WriteFault>
+    ensures { Writes (O.device out.old) (O.device out.new) (dump_lines bytes.now at) result }
+{
+    for index in 0..bytes.len().div_ceil(16) {
+        write_dump_line(bytes, at, index, out)?;
+    }
+    Ok(())
+}

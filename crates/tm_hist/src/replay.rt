@@ -1,0 +1,78 @@
+//! What a serial run answers.
+
+ghost use Rattle.std.specs.Prelude.{◌≡◌, ◌↔◌, ◌<◌, length, IfOk, IsOk};
+ghost use Rattle.tm_hist.specs.Serial.{serial_code};
+
+use crate::shape::Shape;
+use ia_regs::Regs;
+use thiserror::Error;
+use tm_core::NoSuchCore;
+use tm_rule::Stop;
+
+/// Why a history was not run.
+#[derive(Clone, Copy, PartialEq, Eq, Debug, Error)]
+pub enum SerialFault {
+    /// The pair at this index is the first at which the list is no run.
+    #[error("NotARun")]
+    NotARun(usize),
+    /// Memory or the list of cores found no memory.
+    #[error("NoMemory")]
+    NoMemory,
+}
+
+impl SerialFault {
+    /// The fault's number.
+    pub fn code(self) -> u8
+        ensures { result ≡ serial_code self }
+    {
+        match self {
+            SerialFault::NotARun(_index) => 53,
+            SerialFault::NoMemory => 54,
+        }
+    }
+}
+
+/// A history that was run on one flat memory.
+#[derive(Debug, Drop)]
+pub struct Serial {
+    pub(crate) memory: Vec<u8>,
+    pub(crate) cores: Vec<Shape>,
+}
+
+impl Serial {
+    ghost use Rattle.tm_hist.specs.Replay.{memory_of, cores_of};
+    ghost use Rattle.tm_hist.specs.Serial.{base_of, stop_of, core_at};
+
+    /// Memory at the end.
+    pub fn memory(&self) -> &[u8]
+        ensures { result.now ≡ memory_of self.now }
+    {
+        self.memory.as_slice()
+    }
+
+    /// The registers of a core at the end, those before its outermost XBEGIN where it is in a transaction.
+    ///
+    /// [`NoSuchCore`] for a number that no core of the program has.
+    pub fn regs(&self, core: u8) -> Result<Regs, NoSuchCore>
+        ensures exists { IsOk result ↔ (core < length (cores_of self.now)) }
+        ensures value { IfOk result (λ regs. regs ≡ base_of (core_at (cores_of self.now) core)) }
+    {
+        match self.cores.as_slice().get(usize::from(core)) {
+            Some(shape) => Ok(shape.base()),
+            None => Err(NoSuchCore),
+        }
+    }
+
+    /// Why a core stopped, and nothing where it did not.
+    ///
+    /// [`NoSuchCore`] for a number that no core of the program has.
+    pub fn stop(&self, core: u8) -> Result<Option<Stop>, NoSuchCore>
+        ensures exists { IsOk result ↔ (core < length (cores_of self.now)) }
+        ensures value { IfOk result (λ stop. stop ≡ stop_of (core_at (cores_of self.now) core)) }
+    {
+        match self.cores.as_slice().get(usize::from(core)) {
+            Some(shape) => Ok(shape.stop()),
+            None => Err(NoSuchCore),
+        }
+    }
+}

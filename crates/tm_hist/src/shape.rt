@@ -1,0 +1,39 @@
+//! A core in a serial run.
+
+ghost use Rattle.std.specs.Prelude.{◌≡◌};
+ghost use Rattle.tm_hist.specs.Serial.{base_of, core_of, stop_of};
+
+use ia_regs::Regs;
+use tm_rule::Stop;
+
+/// A core between two steps.
+#[derive(Clone, Copy, Debug)]
+pub enum Shape {
+    /// It is in no transaction.
+    Closed(Regs),
+    /// It has stopped.
+    Halted(Regs, Stop),
+    /// It is in a transaction: its registers before the XBEGIN, and how many steps it made since then, that one included.
+    Opened(Regs, u64),
+}
+
+impl Shape {
+    /// The registers, those before the XBEGIN of an open transaction.
+    pub fn base(&self) -> Regs
+        ensures { result ≡ base_of (core_of self.now) }
+    {
+        match self {
+            Shape::Closed(regs) | Shape::Halted(regs, _) | Shape::Opened(regs, _) => *regs,
+        }
+    }
+
+    /// Why the core stopped.
+    pub fn stop(&self) -> Option<Stop>
+        ensures { result ≡ stop_of (core_of self.now) }
+    {
+        match self {
+            Shape::Halted(_, stop) => Some(*stop),
+            Shape::Closed(_) | Shape::Opened(_, _) => None,
+        }
+    }
+}

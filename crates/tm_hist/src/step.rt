@@ -1,0 +1,183 @@
+//! One step of a run on one flat memory.
+
+ghost use Rattle.std.specs.Prelude.{◌≡◌, ℕ, ◌+◌, ◌<◌, ◌^◌, ◌≤◌, length, map, Some, None, IfSome, option_map, if◌then◌else◌};
+ghost use Rattle.std.specs.List.{AllByRecursion};
+ghost use Rattle.tm_core.specs.Setting.{outside_at};
+ghost use Rattle.tm_core.specs.Isolated.{isolated};
+ghost use Rattle.tm_core.specs.State.{Closed, Halted, Opened};
+ghost use Rattle.tm_core.specs.Steps.{aborted, gone, halted, moved, stop_number};
+ghost use Rattle.tm_hist.specs.Serial.{rules, core_of, opened, steps_of, list_step};
+
+use crate::flat::{outside_on, run_body, write};
+use crate::shape::Shape;
+use ia_regs::Regs;
+use tm_core::Outcome;
+use tm_rule::{Code, Outside, Stop, fallback, fetch};
+
+// One instruction outside of transactions that goes on.
+fn plain_step(code: &Code<'_>, size: u32, memory: &mut [u8], regs: &Regs) -> Option<Shape>
+    requires { length memory.old ≡ size }
+    ensures step { gone memory.old (outside_at (rules code.now.bytes.now code.now.base size) regs.now memory.old) ≡ option_map (λ c. (memory.new, core_of c)) result }
+    ensures growth { IfSome result (λ c. steps_of c ≤ 1) }
+{
+    match outside_on(code, size, memory, regs) {
+        Outside::Goes(next, store) => {
+            write(memory, store);
+            Some(Shape::Closed(next))
+        }
+        Outside::Begins(_) | Outside::Stops(_) => None,
+    }
+}
+
+// A number for each stop.
+fn number(stop: Stop) -> u8
+    ensures { result ≡ stop_number stop }
+{
+    match stop {
+        Stop::Divide => 0,
+        Stop::Breakpoint => 1,
+        Stop::Undefined => 2,
+        Stop::Protection => 3,
+        Stop::Halt => 4,
+        Stop::Range => 5,
+        Stop::CodeStore => 6,
+        Stop::Fetch => 7,
+        Stop::NotInSubset => 8,
+    }
+}
+
+// One instruction outside of transactions that stops for this reason.
+fn stop_step(code: &Code<'_>, size: u32, memory: &[u8], regs: &Regs, stop: Stop) -> Option<Shape>
+    requires { length memory.now ≡ size }
+    ensures step { halted memory.now regs.now stop (outside_at (rules code.now.bytes.now code.now.base size) regs.now memory.now) ≡ option_map (λ c. (memory.now, core_of c)) result }
+    ensures growth { IfSome result (λ c. steps_of c ≤ 1) }
+{
+    match outside_on(code, size, memory, regs) {
+        Outside::Stops(why) => {
+            if number(stop) == number(why) {
+                Some(Shape::Halted(*regs, stop))
+            } else {
+                None
+            }
+        }
+        Outside::Goes(_, _) | Outside::Begins(_) => None,
+    }
+}
+
+// An XBEGIN outside of transactions.
+fn begin_step(code: &Code<'_>, size: u32, memory: &[u8], regs: &Regs) -> Option<Shape>
+    requires { length memory.now ≡ size }
+    ensures step { opened memory.now regs.now (isolated (rules code.now.bytes.now code.now.base size) regs.now memory.now 1) ≡ option_map (λ c. (memory.now, core_of c)) result }
+    ensures growth { IfSome result (λ c. steps_of c ≤ 1) }
+{
+    match outside_on(code, size, memory, regs) {
+        Outside::Begins(_) => Some(Shape::Opened(*regs, 1)),
+        Outside::Goes(_, _) | Outside::Stops(_) => None,
+    }
+}
+
+// A step of a core that is in no transaction.
+fn closed_step(
+    code: &Code<'_>,
+    size: u32,
+    memory: &mut [u8],
+    regs: &Regs,
+    outcome: &Outcome,
+) -> Option<Shape>
+    requires { length memory.old ≡ size }
+    ensures step { moved (rules code.now.bytes.now code.now.base size) memory.old (Closed regs.now) outcome.now ≡ option_map (λ c. (memory.new, core_of c)) result }
+    ensures growth { IfSome result (λ c. steps_of c ≤ 1) }
+{
+    match outcome {
+        Outcome::Plain => plain_step(code, size, memory, regs),
+        Outcome::Stopped(stop) => stop_step(code, size, memory, regs, *stop),
+        Outcome::Begun => begin_step(code, size, memory, regs),
+        Outcome::Idle | Outcome::Inside | Outcome::Committed | Outcome::Aborted(_) => None,
+    }
+}
+
+// The registers after an abort with this status.
+fn aborted(code: &Code<'_>, regs: &Regs, status: u32) -> Regs
+    ensures { (size : ℕ) → result ≡ aborted (rules code.now.bytes.now code.now.base size) regs.now status }
+{
+    let fetched = fetch(code, regs.eip);
+    let mut next = *regs;
+    next.set(0, status);
+    next.eip = fallback(&fetched, regs);
+    next
+}
+
+// A step of a core that has made so many steps since its XBEGIN.
+fn open_step(
+    code: &Code<'_>,
+    size: u32,
+    memory: &mut [u8],
+    regs: &Regs,
+    steps: u64,
+    outcome: &Outcome,
+) -> Option<Shape>
+    requires size { length memory.old ≡ size }
+    requires few { steps + 1 < 2 ^ 64 }
+    ensures step { moved (rules code.now.bytes.now code.now.base size) memory.old (Opened regs.now steps) outcome.now ≡ option_map (λ c. (memory.new, core_of c)) result }
+    ensures growth { IfSome result (λ c. steps_of c ≤ steps + 1) }
+{
+    match outcome {
+        Outcome::Inside => Some(Shape::Opened(*regs, steps + 1)),
+        Outcome::Committed => match run_body(code, size, memory, regs, steps + 1) {
+            Some(regs) => Some(Shape::Closed(regs)),
+            None => None,
+        },
+        Outcome::Aborted(status) => Some(Shape::Closed(aborted(code, regs, *status))),
+        Outcome::Plain | Outcome::Stopped(_) | Outcome::Idle | Outcome::Begun => None,
+    }
+}
+
+/// The core after its step of this outcome, where the rules of a run allow that; memory changes with it.
+pub fn core_step(
+    code: &Code<'_>,
+    size: u32,
+    memory: &mut [u8],
+    core: &Shape,
+    outcome: &Outcome,
+) -> Option<Shape>
+    requires size { length memory.old ≡ size }
+    requires few { steps_of core.now + 1 < 2 ^ 64 }
+    ensures step { moved (rules code.now.bytes.now code.now.base size) memory.old (core_of core.now) outcome.now ≡ option_map (λ c. (memory.new, core_of c)) result }
+    ensures growth { IfSome result (λ c. steps_of c ≤ steps_of core.now + 1) }
+{
+    match core {
+        Shape::Closed(regs) => closed_step(code, size, memory, regs, outcome),
+        Shape::Opened(regs, steps) => open_step(code, size, memory, regs, *steps, outcome),
+        Shape::Halted(regs, stop) => match outcome {
+            Outcome::Idle => Some(Shape::Halted(*regs, *stop)),
+            _ => None,
+        },
+    }
+}
+
+/// One step of a run: the pair of a core and its outcome. False where the rules of a run do not allow it.
+pub fn step(
+    code: &Code<'_>,
+    size: u32,
+    memory: &mut [u8],
+    cores: &mut [Shape],
+    core: u8,
+    outcome: &Outcome,
+) -> bool
+    requires size { length memory.old ≡ size }
+    requires few { AllByRecursion (λ c. steps_of c + 1 < 2 ^ 64) cores.old }
+    ensures step { list_step (rules code.now.bytes.now code.now.base size) memory.old (map core_of cores.old) core outcome.now ≡ (if result then Some (memory.new, map core_of cores.new) else None) }
+    ensures growth { (most : ℕ) → AllByRecursion (λ c. steps_of c ≤ most) cores.old → AllByRecursion (λ c. steps_of c ≤ most + 1) cores.new }
+{
+    let index = usize::from(core);
+    if index >= cores.len() {
+        return false;
+    }
+    match core_step(code, size, memory, &cores[index], outcome) {
+        Some(next) => {
+            cores[index] = next;
+            true
+        }
+        None => false,
+    }
+}

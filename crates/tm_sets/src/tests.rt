@@ -1,0 +1,43 @@
+//! Each call once, on sets worked out by hand.
+
+use crate::{Full, Kind, NoMemory, PlainSets, Sets};
+
+#[test]
+fn two_cores_on_one_line(rt: HostRuntime) {
+    let mut sets = PlainSets::new(rt.alloc(), 2, 0x400, 4, 4).expect(&rt, "memory");
+    assert!(rt; sets.add(0, 0x40, Kind::Read).is_ok());
+    assert!(rt; sets.add(1, 0x40, Kind::Read).is_ok());
+    assert!(rt; sets.add(0, 0x40, Kind::Write).is_ok());
+    assert_eq!(rt; sets.others_on(0x40, 0), 0b10);
+    assert_eq!(rt; sets.others_on(0x40, 1), 0b01);
+    assert_eq!(rt; sets.others_on(0x41, 1), 0);
+    sets.clear(0);
+    assert_eq!(rt; sets.others_on(0x40, 1), 0);
+    assert!(rt; sets.has(1, 0x40, Kind::Read));
+    assert!(rt; !sets.has(1, 0x40, Kind::Write));
+    assert!(rt; sets.visits() > 0);
+}
+
+#[test]
+fn room_for_two_lines(rt: HostRuntime) {
+    let mut sets = PlainSets::new(rt.alloc(), 1, 0x400, 2, 1).expect(&rt, "memory");
+    assert!(rt; sets.add(0, 0x3ff, Kind::Read).is_ok());
+    assert!(rt; sets.add(0, 7, Kind::Read).is_ok());
+    assert_eq!(rt; sets.add(0, 8, Kind::Read), Err(Full));
+    assert!(rt; sets.add(0, 7, Kind::Read).is_ok());
+    assert_eq!(rt; sets.count(0, Kind::Read), 2);
+    assert_eq!(rt; sets.count(0, Kind::Write), 0);
+    let lines = sets
+        .listing(rt.alloc(), 0, Kind::Read)
+        .expect(&rt, "memory");
+    assert_eq!(rt; lines.as_slice(), [7, 0x3ff].as_slice());
+    sets.clear(0);
+    assert_eq!(rt; sets.count(0, Kind::Read), 0);
+    assert!(rt; sets.add(0, 8, Kind::Read).is_ok());
+}
+
+#[test]
+fn numbers_of_the_faults(rt: HostRuntime) {
+    assert_eq!(rt; Full.code(), 31);
+    assert_eq!(rt; NoMemory.code(), 32);
+}
