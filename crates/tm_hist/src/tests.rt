@@ -94,13 +94,13 @@ fn schedules_written(rt: HostRuntime) -> Result<(), WriteFault> {
     let mut out = ToVec::new(Vec::new(rt.alloc()));
     let cores = [200; 33];
     write_schedule(&cores, &mut out)?;
-    let mut lines = 0;
+    let mut lines: u8 = 0;
     for byte in out.bytes.as_slice() {
         if *byte == b'\n' {
-            lines += 1;
+            lines = lines.saturating_add(1);
         }
     }
-    assert_eq!(rt; lines, 3u8);
+    assert_eq!(rt; lines, 3);
     match read_schedule(rt.alloc(), out.bytes.as_slice()) {
         Ok(back) => assert_eq!(rt; back.as_slice(), cores.as_slice()),
         Err(fault) => assert!(rt; false, "{fault}"),
