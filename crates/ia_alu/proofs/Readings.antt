@@ -88,3 +88,16 @@ negation_overflows n h = grind (arith, nat_tests, ints)
 
 pub through : (A B C : Type 0) → A ↔ B → B ↔ C → A ↔ C
 through A B C p q = (λ a. q.0 (p.0 a), λ c. p.1 (q.1 c))
+
+-- CF and OF written one after the other keep the other four
+pub parity_kept : (a b : Bool) (f : Flags) → has_parity (with_overflow b (with_carry a f)) ≡ has_parity f
+parity_kept a b f = parity_of _ _ _ _ _ _ ∙ parity_of _ _ _ _ _ _
+
+pub adjust_kept : (a b : Bool) (f : Flags) → has_adjust (with_overflow b (with_carry a f)) ≡ has_adjust f
+adjust_kept a b f = adjust_of _ _ _ _ _ _ ∙ adjust_of _ _ _ _ _ _
+
+pub zero_kept : (a b : Bool) (f : Flags) → has_zero (with_overflow b (with_carry a f)) ≡ has_zero f
+zero_kept a b f = zero_of _ _ _ _ _ _ ∙ zero_of _ _ _ _ _ _
+
+pub sign_kept : (a b : Bool) (f : Flags) → has_sign (with_overflow b (with_carry a f)) ≡ has_sign f
+sign_kept a b f = sign_of _ _ _ _ _ _ ∙ sign_of _ _ _ _ _ _

@@ -4,7 +4,7 @@ ghost use Rattle.std.specs.Prelude.{◌≡◌, ◌≢◌, ◌<◌, ◌≤◌, �
 ghost use Rattle.ia_word.specs.Width.{bits_of};
 ghost use Rattle.ia_regs.specs.Flags.{has_carry, has_parity, has_adjust, has_zero, has_sign, has_overflow, with_carry};
 ghost use Rattle.ia_alu.specs.Numbers.{half_of};
-ghost use Rattle.ia_alu.specs.Ops.{alu_value, alu_flags, step_value, step_flags, logic_flags};
+ghost use Rattle.ia_alu.specs.Ops.{alu_value, alu_flags, step_value, step_flags, logic_flags, carry_in, AluCarries, AluAdjusts, AluOverflows, StepAdjusts, StepOverflows};
 ghost use Rattle.ia_alu.specs.Sums.{difference_of, difference_flags};
 ghost use Rattle.ia_word.specs.declared.width.Width.TheVariants.{D};
 
@@ -32,10 +32,13 @@ pub fn alu(op: AluOp, width: Width, a: u32, b: u32, flags: Flags) -> (u32, Flags
     ensures flags { result.1 ≡ alu_flags op width a b flags }
     ensures fits { result.0 < 2 ^ bits_of width }
 
-    // What every operation says of its result. CF, AF and OF are those of the sum, the difference or the logic.
+    // The flags one by one.
+    ensures cf { IsTrue (has_carry result.1) ↔ AluCarries op width a b (carry_in op flags) }
     ensures pf { IsTrue (has_parity result.1) ↔ count_ones (result.0 % 256) % 2 ≡ 0 }
+    ensures af { IsTrue (has_adjust result.1) ↔ AluAdjusts op a b (carry_in op flags) flags }
     ensures zf { IsTrue (has_zero result.1) ↔ result.0 ≡ 0 }
     ensures sf { IsTrue (has_sign result.1) ↔ half_of width ≤ result.0 }
+    ensures of { IsTrue (has_overflow result.1) ↔ AluOverflows op width a b (carry_in op flags) }
 {
     match op {
         AluOp::Add => add(width, a, b, false),
@@ -77,11 +80,13 @@ pub fn incdec(op: StepOp, width: Width, a: u32, flags: Flags) -> (u32, Flags)
     ensures flags { result.1 ≡ step_flags op width a flags }
     ensures fits { result.0 < 2 ^ bits_of width }
 
-    // CF is kept; PF, ZF and SF say of the result what they say of a sum's.
+    // The flags one by one: CF is kept.
     ensures cf { has_carry result.1 ≡ has_carry flags }
     ensures pf { IsTrue (has_parity result.1) ↔ count_ones (result.0 % 256) % 2 ≡ 0 }
+    ensures af { IsTrue (has_adjust result.1) ↔ StepAdjusts op a }
     ensures zf { IsTrue (has_zero result.1) ↔ result.0 ≡ 0 }
     ensures sf { IsTrue (has_sign result.1) ↔ half_of width ≤ result.0 }
+    ensures of { IsTrue (has_overflow result.1) ↔ StepOverflows op width a }
 {
     match op {
         StepOp::Inc => keep_carry(add(width, a, 1, false), flags),
@@ -95,8 +100,10 @@ fn keep_carry(after: (u32, Flags), before: Flags) -> (u32, Flags)
     ensures flags { result.1 ≡ with_carry (has_carry before) after.1 }
     ensures cf { has_carry result.1 ≡ has_carry before }
     ensures pf { has_parity result.1 ≡ has_parity after.1 }
+    ensures af { has_adjust result.1 ≡ has_adjust after.1 }
     ensures zf { has_zero result.1 ≡ has_zero after.1 }
     ensures sf { has_sign result.1 ≡ has_sign after.1 }
+    ensures of { has_overflow result.1 ≡ has_overflow after.1 }
 {
     let (value, flags) = after;
     (value, flags.with_carry(before.carry()))

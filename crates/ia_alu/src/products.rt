@@ -3,7 +3,7 @@
 ghost use Rattle.std.specs.Prelude.{◌≡◌, ◌<◌, ◌^◌, ◌%◌, ◌/◌, ◌*◌, ◌+◌, ◌*ℤ◌, Ok, Err, true, ◌↔◌, IsErr, IsTrue, IfOk, ◌≤◌, ◌≢◌, pos, int_div, int_rem};
 ghost use Rattle.ia_alu.specs.Numbers.{signed, modulo, overflows, IsOutside};
 ghost use Rattle.ia_alu.specs.Products.{product_flags, signed_product_flags, double_of, signed_double, CannotDivide, CannotDivideSigned, signed_quotient, signed_remainder, div_of, idiv_of};
-ghost use Rattle.ia_regs.specs.Flags.{has_carry, has_overflow, with_carry, with_overflow};
+ghost use Rattle.ia_regs.specs.Flags.{has_carry, has_parity, has_adjust, has_zero, has_sign, has_overflow, with_carry, with_overflow};
 ghost use Rattle.ia_word.specs.declared.width.Width.TheVariants.{D};
 
 use crate::divide::Divide;
@@ -18,9 +18,13 @@ pub fn mul(a: u32, b: u32, flags: Flags) -> (u32, u32, Flags)
     ensures high { result.1 ≡ a * b / 2 ^ 32 }
     ensures flags { result.2 ≡ product_flags a b flags }
 
-    // The flags one by one.
+    // The flags one by one: PF, AF, ZF and SF are kept.
     ensures cf { IsTrue (has_carry result.2) ↔ 2 ^ 32 ≤ a * b }
     ensures of { IsTrue (has_overflow result.2) ↔ 2 ^ 32 ≤ a * b }
+    ensures pf { has_parity result.2 ≡ has_parity flags }
+    ensures af { has_adjust result.2 ≡ has_adjust flags }
+    ensures zf { has_zero result.2 ≡ has_zero flags }
+    ensures sf { has_sign result.2 ≡ has_sign flags }
 {
     let product = u64::from(a) * u64::from(b);
     let wide = product >= 0x1_0000_0000;
@@ -38,9 +42,13 @@ pub fn imul(a: u32, b: u32, flags: Flags) -> (u32, u32, Flags)
     ensures high { result.1 ≡ modulo (2 ^ 64) (signed D a *ℤ signed D b) / 2 ^ 32 }
     ensures flags { result.2 ≡ signed_product_flags a b flags }
 
-    // The flags one by one.
+    // The flags one by one: PF, AF, ZF and SF are kept.
     ensures cf { IsTrue (has_carry result.2) ↔ IsOutside D (signed D a *ℤ signed D b) }
     ensures of { IsTrue (has_overflow result.2) ↔ IsOutside D (signed D a *ℤ signed D b) }
+    ensures pf { has_parity result.2 ≡ has_parity flags }
+    ensures af { has_adjust result.2 ≡ has_adjust flags }
+    ensures zf { has_zero result.2 ≡ has_zero flags }
+    ensures sf { has_sign result.2 ≡ has_sign flags }
 {
     let product = as_signed(Width::D, a) * as_signed(Width::D, b);
     let (low, high) = halves(product);
@@ -53,9 +61,13 @@ pub fn imul_low(a: u32, b: u32, flags: Flags) -> (u32, Flags)
     ensures value { result.0 ≡ modulo (2 ^ 32) (signed D a *ℤ signed D b) }
     ensures flags { result.1 ≡ signed_product_flags a b flags }
 
-    // The flags one by one.
+    // The flags one by one: PF, AF, ZF and SF are kept.
     ensures cf { IsTrue (has_carry result.1) ↔ IsOutside D (signed D a *ℤ signed D b) }
     ensures of { IsTrue (has_overflow result.1) ↔ IsOutside D (signed D a *ℤ signed D b) }
+    ensures pf { has_parity result.1 ≡ has_parity flags }
+    ensures af { has_adjust result.1 ≡ has_adjust flags }
+    ensures zf { has_zero result.1 ≡ has_zero flags }
+    ensures sf { has_sign result.1 ≡ has_sign flags }
 {
     let product = as_signed(Width::D, a) * as_signed(Width::D, b);
     (low_word(product), signed_flags(product, flags))
@@ -75,6 +87,10 @@ fn signed_flags(product: i64, flags: Flags) -> Flags
     ensures flags { result ≡ with_overflow (overflows D product) (with_carry (overflows D product) flags) }
     ensures cf { IsTrue (has_carry result) ↔ IsOutside D product }
     ensures of { IsTrue (has_overflow result) ↔ IsOutside D product }
+    ensures pf { has_parity result ≡ has_parity flags }
+    ensures af { has_adjust result ≡ has_adjust flags }
+    ensures zf { has_zero result ≡ has_zero flags }
+    ensures sf { has_sign result ≡ has_sign flags }
 {
     let wide = is_outside(Width::D, product);
     flags.with_carry(wide).with_overflow(wide)
