@@ -1,5 +1,5 @@
 -- The sixteen conditions and their numbers in an opcode (SDM volume 2, appendix B, encoding of the conditional test field).
-use Rattle.std.specs.Prelude.{ℕ, List, [], ◌∷◌, slice_index_or}
+use Rattle.std.specs.Prelude.{ℕ, [], ◌∷◌, slice_index_or}
 use Rattle.ia_word.specs.declared.condition.Condition.{Condition}
 use Rattle.ia_word.specs.declared.condition.Condition.TheVariants as is
 

@@ -16,3 +16,4 @@ pub mod Sanity
 pub mod Held
 pub mod Adds
 pub mod Rooms
+pub mod Going

@@ -10,5 +10,6 @@ pub mod Shown
 pub mod Runs
 pub mod Machine
 pub mod ViewSteps
+pub mod Went
 pub mod Parts
 pub mod Faults

@@ -51,6 +51,7 @@ shown_by a code base memory cpus = record { code = code; base = base; read_lines
 
 -- what holds of a machine between steps. Where it is not busy, no core is open
 pub record IsMachine (a : Content) (code : List ℕ) (base : ℕ) (memory : List ℕ) (cpus : List Cpu) (busy : Bool) : Type 0 where
+  pub some : 1 ≤ length cpus
   pub few : length cpus ≤ 16
   pub small : length memory < 2 ^ 32
   pub sound : IsSound (setting_of code base (length memory) a) a cpus

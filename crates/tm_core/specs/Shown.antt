@@ -36,14 +36,23 @@ open_view s b = record { mode = Open b.depth; base = s; regs = b.regs; buffer = 
 abbrev pub open_shown : Regs → Body → Option View
 open_shown s b = if nat_eq b.depth 0 then None else Some (open_view s b)
 
--- of a core, with its depth where it is doomed
+-- the body so far of an open core, run by itself on this memory
+abbrev pub alone : Setting → List ℕ → Core → Option Body
+alone k m (Closed s) = None
+alone k m (Halted s x) = None
+alone k m (Opened s n) = isolated k s m n
+
+-- of a core with this body so far, and with its depth where it is doomed
+abbrev pub shown_with : Core → Option Body → Option ℕ → Option View
+shown_with (Closed s) b None = Some (plain_view Running s)
+shown_with (Closed s) b (Some depth) = None
+shown_with (Halted s x) b None = Some (plain_view (AtStop x) s)
+shown_with (Halted s x) b (Some depth) = None
+shown_with (Opened s n) b None = option_and_then (open_shown s) b
+shown_with (Opened s n) b (Some depth) = Some (plain_view (Condemned depth) s)
+
 abbrev pub shown : Setting → List ℕ → Core → Option ℕ → Option View
-shown k m (Closed s) None = Some (plain_view Running s)
-shown k m (Closed s) (Some depth) = None
-shown k m (Halted s x) None = Some (plain_view (AtStop x) s)
-shown k m (Halted s x) (Some depth) = None
-shown k m (Opened s n) None = option_and_then (open_shown s) (isolated k s m n)
-shown k m (Opened s n) (Some depth) = Some (plain_view (Condemned depth) s)
+shown k m x doom = shown_with x (alone k m x) doom
 
 -- a machine of these many cores with this memory, which shows these views, stands for the state and its doomed cores
 pub record Stands (k : Setting) (cores : ℕ) (memory : List ℕ) (views : ℕ → View) (a : State) (d : ℕ → Option ℕ) : Type 0 where

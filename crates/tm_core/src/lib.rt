@@ -4,6 +4,7 @@
 mod conflict;
 mod cpu;
 mod fault;
+mod laws;
 mod limits;
 mod machine;
 mod memory;
@@ -15,6 +16,7 @@ mod tests;
 mod transaction;
 
 pub use fault::{MachineFault, NoSuchCore, RunFault};
+pub use laws::transactions_are_as_they_went;
 pub use limits::Limits;
 pub use machine::Machine;
 pub use outcome::{CoreState, Outcome};

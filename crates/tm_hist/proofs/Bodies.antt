@@ -1,16 +1,16 @@
 -- A body that runs on the one memory is the isolated one.
-use Rattle.std.proofs.Common.{◌≡◌, ℕ, zero, suc, ◌+◌, ◌-◌, ◌<◌, ◌≤◌, ◌^◌, List, [], ◌∷◌, ◌++◌, refl, sym, ◌∙◌, ap, arith, subst, length, Option, Some, None, nat_eq, slice_set, if◌then◌else◌, Bool, true, false}
+use Rattle.std.proofs.Common.{◌≡◌, ℕ, zero, suc, ◌+◌, ◌-◌, ◌<◌, ◌≤◌, ◌^◌, List, [], ◌∷◌, ◌++◌, refl, sym, ◌∙◌, ap, arith, Option, Some, None, nat_eq, slice_set, if◌then◌else◌}
 use Rattle.std.proofs.lemmas.Bool.{ne_eqb}
-use Rattle.std.specs.Option.{option_and_then, option_map}
+use Rattle.std.specs.Option.{option_and_then}
 use Rattle.ia_regs.specs.declared.Regs.{Regs}
 use Rattle.tm_rule.specs.declared.kinds.Outside.{Outside}
 use Rattle.tm_rule.specs.declared.kinds.Outside.TheVariants.{Goes, Begins, Stops}
 use Rattle.tm_rule.specs.declared.kinds.Within.{Within}
 use Rattle.tm_rule.specs.declared.kinds.Within.TheVariants.{GoesOn, Nests, Ends, Fails}
-use Rattle.tm_core.specs.Access.{Stores, stores_of, written, bytes}
-use Rattle.tm_core.specs.Setting.{Setting, setting, outside_at, inside_at}
+use Rattle.tm_core.specs.Access.{Stores, stores_of, written}
+use Rattle.tm_core.specs.Setting.{Setting, outside_at, inside_at}
 use Rattle.tm_core.specs.Isolated.{Body as Isolated, begun, grown, longer, next_of, isolated}
-use Rattle.tm_core.specs.State.{Core, Closed}
+use Rattle.tm_core.specs.State.{Closed}
 use Rattle.tm_core.specs.Steps.{committed}
 use Rattle.ia_word.specs.Width.{bytes_of, bits_of}
 use Rattle.ia_exec.specs.declared.done.Store.{Store}

@@ -1,8 +1,9 @@
 -- A run over lists is a run of the definitions.
-use Rattle.std.proofs.Common.{◌≡◌, ◌≢◌, ℕ, zero, suc, ◌+◌, ◌-◌, ◌<◌, ◌≤◌, List, [], ◌∷◌, ◌++◌, refl, sym, ◌∙◌, ap, arith, subst, length, map, take, drop, replicate, zero-add, get_or, Option, Some, None, nat_eq, nat_lt, slice_set, if◌then◌else◌, Bool, true, false}
+use Rattle.std.proofs.Common.{◌≡◌, ℕ, zero, suc, ◌+◌, ◌-◌, ◌<◌, ◌≤◌, List, [], ◌∷◌, ◌++◌, refl, sym, ◌∙◌, ap, arith, subst, length, map, take, drop, replicate, zero-add, get_or, Option, Some, None, nat_eq, nat_lt, slice_set, if◌then◌else◌, Bool, true, false}
 use Rattle.std.proofs.lemmas.Bool.{ltb-true, lt-ltb, le-ltb, eqb-true, eqb-false}
 use Rattle.std.proofs.lemmas.List.{length-set, length-map, map-set, get_or-map, get_or-set_same, get_or-set_other, take_more}
-use Rattle.std.specs.List.{AllByRecursion, range_with_len}
+use Rattle.std.specs.List.{AllByRecursion, range_with_len, slice_get}
+use Rattle.std.proofs.lemmas.Option.{get_or_from_slice_get, slice_get_within}
 use Rattle.std.proofs.lemmas.List.{length-append, length-replicate, take_at}
 use Rattle.std.proofs.lemmas.List.FromFn.{map-range_with_len_more, length-map-range_with_len, get_or-map-range_with_len}
 use Rattle.ia_image.specs.Program.{Shown as Program, code_of, opening_memory, IsSound}
@@ -172,6 +173,13 @@ run_next k m now cores after history i d l ran =
     ap (list_run k m cores) (take_more history i d l)
     ∙ run_more k (take i history) (get_or history i d) m cores
     ∙ ap (option_and_then (λ q. list_step k q.0 q.1 (get_or history i d).0 (get_or history i d).1)) ran
+
+-- the same where the next pair is known
+pub run_at : (k : Setting) (m now : List ℕ) (cores after : List Core) (history : List (ℕ × Outcome)) (i : ℕ) (p : ℕ × Outcome) → slice_get history i ≡ Some p →
+    list_run k m cores (take i history) ≡ Some (now, after) → list_run k m cores (take (i + 1) history) ≡ list_step k now after p.0 p.1
+run_at k m now cores after history i p at ran =
+    run_next k m now cores after history i p (slice_get_within history i p at) ran
+    ∙ ap (λ (q : ℕ × Outcome). list_step k now after q.0 q.1) (get_or_from_slice_get history i p p at)
 
 -- memory before the first step
 pub memory_made : (p : Program) (z a bs b c : List ℕ) (base size : ℕ) → z ≡ [] → base ≡ p.base → bs ≡ p.bytes → size ≡ p.mem_size →

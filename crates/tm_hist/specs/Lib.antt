@@ -3,4 +3,7 @@ pub mod Lines
 pub mod Schedule
 pub mod Pieces
 pub mod Serial
+pub mod History
+pub mod Board
+pub mod BoardFaults
 pub mod Replay

@@ -1,7 +1,7 @@
 -- The text of a schedule (docs/FORMATS.md, "Schedules").
-use Rattle.std.specs.Prelude.{ℕ, ◌+◌, ◌-◌, ◌*◌, ◌/◌, ◌==◌, Bool, ◌&&◌, List, [], ◌∷◌, ◌++◌, codes, map, take, drop, length, Option, Some, None, option_map, Result, Ok, Err, nat_lt, nat_le, nat_eq, slice_index, if◌then◌else◌}
+use Rattle.std.specs.Prelude.{ℕ, ◌+◌, ◌-◌, ◌*◌, ◌/◌, ◌==◌, ◌&&◌, List, [], ◌∷◌, ◌++◌, codes, map, take, drop, length, Option, Some, None, option_map, Result, Ok, Err, nat_lt, nat_eq, if◌then◌else◌}
 use Rattle.std.specs.Char.{is_ascii_digit}
-use Rattle.std.specs.List.{list_all, slice_split, flat_map, range_with_len, join_with_byte}
+use Rattle.std.specs.List.{slice_split, flat_map, range_with_len, join_with_byte}
 use Rattle.std.specs.Cmp.Lexicographic.{pointwise}
 use Rattle.ia_lex.specs.Lines.{lines_of}
 use Rattle.tm_hist.specs.declared.schedule.ScheduleFault.{ScheduleFault}

@@ -11,7 +11,7 @@ use Rattle.tm_core.specs.declared.outcome.Outcome.{Outcome}
 use Rattle.tm_core.specs.Access.{stores_of, written}
 use Rattle.tm_core.specs.Setting.{Setting, setting}
 use Rattle.tm_core.specs.Isolated.{Body as Isolated}
-use Rattle.tm_core.specs.State.{Core, State, Closed, Halted, Opened, opening}
+use Rattle.tm_core.specs.State.{Core, State, Closed, Halted, Opened}
 use Rattle.tm_core.specs.Steps.{moved, run}
 use Rattle.tm_hist.specs.declared.flat.Body.{Body}
 use Rattle.tm_hist.specs.declared.replay.SerialFault.{SerialFault}

@@ -2,9 +2,12 @@
 //! outcome lines, dumps of memory and schedules.
 #![tactic(auto)]
 
+mod board;
 mod flat;
+mod history;
 mod lines;
 mod one_memory;
+mod pair;
 mod pieces;
 mod replay;
 mod row;
@@ -12,10 +15,14 @@ mod schedule;
 mod shape;
 mod step;
 
+pub use board::{Board, BoardFault, MOST_STEPS, StepFault};
+pub use history::History;
 pub use lines::{write_core, write_dump, write_outcome, write_state};
 pub use one_memory::serial;
 pub use replay::{Serial, SerialFault};
 pub use schedule::{ScheduleFault, read_schedule, read_steps, write_schedule};
 
+#[cfg(test)]
+mod board_tests;
 #[cfg(test)]
 mod tests;

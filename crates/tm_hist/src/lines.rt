@@ -140,7 +140,7 @@ pub fn write_core<O: Out>(machine: &Machine, core: u8, out: &mut O) -> Result<()
 pub fn write_state<O: Out>(machine: &Machine, out: &mut O) -> Result<(), WriteFault>
     ensures { Writes (O.device out.old) (O.device out.new) (state_text machine.now) result }
 {
-    for core in 0..machine.core_count() {
+    for core in 0..machine.cores() {
         write_core(machine, core, out)?;
     }
     Ok(())

@@ -3,16 +3,17 @@
 ghost use Rattle.std.specs.Prelude.{◌≡◌, ◌⊎◌, ◌-◌, ◌≤◌, ◌<◌, [], ◌∷◌, ◌++◌, length, map, replicate, Some, IfOk, OnOk, IfErr};
 ghost use Rattle.std.specs.List.{AllByRecursion, range_with_len};
 ghost use Rattle.ia_image.specs.Program.{opening_memory, start_regs};
+ghost use Rattle.tm_hist.specs.History.{pairs_of};
 ghost use Rattle.tm_hist.specs.Replay.{IsReplay, IsRefused};
 ghost use Rattle.tm_hist.specs.Serial.{rules, core_of, first_shape, steps_of, list_run, ListStuck};
 
+use crate::history::History;
 use crate::replay::{Serial, SerialFault};
 use crate::shape::Shape;
 use crate::step::step;
 use ia_image::Program;
 use ia_regs::{Flags, Regs};
 use std::alloc::Global;
-use tm_core::Outcome;
 use tm_rule::Code;
 
 // Runs a history; where that fails, the index of the first pair at which it is no run.
@@ -21,16 +22,16 @@ fn run_history(
     size: u32,
     memory: &mut [u8],
     cores: &mut [Shape],
-    history: &[(u8, Outcome)],
+    history: History<'_>,
 ) -> Result<(), usize>
     requires size { length memory.old ≡ size }
     requires closed { AllByRecursion (λ c. steps_of c ≤ 0) cores.old }
-    ensures ok { OnOk result (list_run (rules code.now.bytes.now code.now.base size) memory.old (map core_of cores.old) history.now ≡ Some (memory.new, map core_of cores.new)) }
-    ensures err { IfErr result (λ i. ListStuck (rules code.now.bytes.now code.now.base size) memory.old (map core_of cores.old) history.now i) }
+    ensures ok { OnOk result (list_run (rules code.now.bytes.now code.now.base size) memory.old (map core_of cores.old) (pairs_of history.entry) ≡ Some (memory.new, map core_of cores.new)) }
+    ensures err { IfErr result (λ i. ListStuck (rules code.now.bytes.now code.now.base size) memory.old (map core_of cores.old) (pairs_of history.entry) i) }
 {
     'pairs: for index in 0..history.len() {
-        let (core, outcome) = &history[index];
-        if !step(code, size, memory, cores, *core, outcome) {
+        let (core, outcome) = history.get(index).unwrap();
+        if !step(code, size, memory, cores, core, &outcome) {
             return Err(index);
         }
     }
@@ -126,13 +127,9 @@ fn first_cores(alloc: Global, program: &Program) -> Result<Vec<Shape>, SerialFau
 ///
 /// [`SerialFault::NotARun`] names the first pair at which the history is no run of the program; [`SerialFault::NoMemory`],
 /// where memory or the list of cores found no memory.
-pub fn serial(
-    alloc: Global,
-    program: &Program,
-    history: &[(u8, Outcome)],
-) -> Result<Serial, SerialFault>
-    ensures ok { IfOk result (λ s. IsReplay program.now history.now s) }
-    ensures err { IfErr result (λ fault. (fault ≡ SerialFault.NoMemory) ⊎ IsRefused program.now history.now fault) }
+pub fn serial(alloc: Global, program: &Program, history: History<'_>) -> Result<Serial, SerialFault>
+    ensures ok { IfOk result (λ s. IsReplay program.now (pairs_of history.entry) s) }
+    ensures err { IfErr result (λ fault. (fault ≡ SerialFault.NoMemory) ⊎ IsRefused program.now (pairs_of history.entry) fault) }
 {
     let code = Code {
         bytes: program.code(),

@@ -1,8 +1,8 @@
 //! Texts that were written by hand, each as it is to be printed or read.
 
 use crate::{
-    ScheduleFault, SerialFault, read_schedule, read_steps, serial, write_dump, write_outcome,
-    write_schedule,
+    History, ScheduleFault, SerialFault, read_schedule, read_steps, serial, write_dump,
+    write_outcome, write_schedule,
 };
 use ia_image::load;
 use ia_text::{ToVec, WriteFault};
@@ -131,7 +131,7 @@ fn serial_runs(rt: HostRuntime) -> Result<(), SerialFault> {
         (1, Outcome::Stopped(Stop::Halt)),
         (1, Outcome::Idle),
     ];
-    let end = serial(rt.alloc(), &program, &committed)?;
+    let end = serial(rt.alloc(), &program, History::new(&committed))?;
     assert!(rt; end.memory().get(0x1000) == Some(&1));
     assert_eq!(rt; end.memory().len(), 65536);
     match (end.regs(0), end.regs(1), end.stop(0), end.stop(1)) {
@@ -162,7 +162,7 @@ fn serial_runs(rt: HostRuntime) -> Result<(), SerialFault> {
         ([(2, Outcome::Begun)].as_slice(), 0),
     ];
     for (history, index) in &refused {
-        match serial(rt.alloc(), &program, history) {
+        match serial(rt.alloc(), &program, History::new(history)) {
             Ok(_) => assert!(rt; false, "no run from {index} on"),
             Err(fault) => {
                 assert!(rt; fault == SerialFault::NotARun(*index), "at {index}");
@@ -171,7 +171,7 @@ fn serial_runs(rt: HostRuntime) -> Result<(), SerialFault> {
         }
     }
     let allowed = [(0, Outcome::Begun), (0, Outcome::Aborted(0))];
-    let end = serial(rt.alloc(), &program, &allowed)?;
+    let end = serial(rt.alloc(), &program, History::new(&allowed))?;
     assert!(rt; end.regs(0).is_ok());
     Ok(())
 }

@@ -1,4 +1,3 @@
-use Rattle.std.proofs.Common.{ℕ}
 use Rattle.std.specs.List.{flat_map, range_with_len}
 use Rattle.ia_text.specs.Writing.{Wrote}
 use Rattle.tm_hist.specs.Lines.{dump_line}

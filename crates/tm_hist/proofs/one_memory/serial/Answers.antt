@@ -1,8 +1,8 @@
-use Rattle.std.proofs.Common.{◌≡◌, ◌≤◌, ℕ, List, ◌++◌, length, map, take, drop, sym, ◌∙◌, ap, subst, inr}
-use Rattle.std.specs.List.{AllByRecursion}
+use Rattle.std.proofs.Common.{◌≡◌, ℕ, List, ◌++◌, length, map, take, drop, sym, ◌∙◌, ap, subst, inr}
 use Rattle.tm_core.specs.State.{opening}
 use Rattle.tm_hist.specs.declared.shape.Shape.{Shape}
-use Rattle.tm_hist.specs.Serial.{EndsWith, core_of, rules_of, steps_of}
+use Rattle.tm_hist.specs.History.{pairs_of}
+use Rattle.tm_hist.specs.Serial.{EndsWith, core_of, rules_of}
 use Rattle.tm_hist.proofs.Runs.{first_closed, opening_size, refused, replayed, written_back}
 use Rattle.tm_hist.proofs.one_memory.serial.Goals as goal
 
@@ -16,7 +16,7 @@ run_history-requires-clause-closed c = first_closed c.args.program.now c.deref_m
 pub returns-in-Ok-clause-ok : goal.returns-in-Ok-clause-ok
 returns-in-Ok-clause-ok c =
     let p = c.args.program.now in
-    let h = c.args.history.now in
+    let h = (pairs_of c.args.history) in
     let m = c.in_ok-memory.memory.items in
     let cores = c.in_ok-cores.cores.items in
     let m2 = c.run_history.new.memory in
@@ -34,6 +34,6 @@ returns-in-Ok-clause-ok c =
 
 pub returns-in-Err-clause-err : goal.returns-in-Err-clause-err
 returns-in-Err-clause-err c =
-    inr (refused c.args.program.now c.args.history.now c.code.result.now c.base.result c.mem_size.result c.deref_mut.result.now c.deref_mut-2.result.now c.in-Err.index
+    inr (refused c.args.program.now (pairs_of c.args.history) c.code.result.now c.base.result c.mem_size.result c.deref_mut.result.now c.deref_mut-2.result.now c.in-Err.index
     c.code.ensures.code c.base.ensures.base c.mem_size.ensures.size (c.deref_mut.ensures.value ∙ c.in_ok-memory.ensures.ok) (c.deref_mut-2.ensures.value ∙ c.in_ok-cores.ensures.ok)
     c.in-Err.ensures.err)

@@ -1,4 +1,4 @@
-use Rattle.std.proofs.Common.{◌≡◌, ◌+◌, ◌-◌, ◌<◌, length, take, drop, sym, ap, arith}
+use Rattle.std.proofs.Common.{length, ap, arith}
 use Rattle.std.specs.Bool.{◌==◌}
 use Rattle.tm_hist.proofs.Cuts.{cut_at, cut_within, cut_nowhere, shorter, rest_at}
 use Rattle.tm_hist.proofs.pieces.cut.Goals as goal

@@ -1,4 +1,4 @@
-use Rattle.std.proofs.Common.{arith, ◌*◌, length}
+use Rattle.std.proofs.Common.{arith, ◌*◌}
 use Rattle.tm_hist.proofs.Cuts.{row_cut}
 use Rattle.tm_hist.proofs.schedule.row_of.Goals as goal
 

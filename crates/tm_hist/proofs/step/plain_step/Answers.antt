@@ -1,4 +1,4 @@
-use Rattle.std.proofs.Common.{◌≤◌, ◌+◌, sym, ◌∙◌, length}
+use Rattle.std.proofs.Common.{sym, ◌∙◌, length}
 use Rattle.tm_core.specs.Access.{bytes, loaded_places, loaded_value}
 use Rattle.tm_rule.specs.Rule.{load_at}
 use Rattle.tm_rule.proofs.Facts.{store_within as rule_store_within}

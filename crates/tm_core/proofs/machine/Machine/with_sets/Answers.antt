@@ -17,7 +17,7 @@ invariant_of-result g c =
     let small : length c.in-Ok.memory.items < 2 ^ 32 = omega arith in
     let lines : p.mem_size ≤ a.fixed.line_count * 64 = c.requires.lines in
     opening_machine p a c.in-Ok.code.items c.base.result c.in-Ok.memory.items c.in-Ok.cpus.items c.requires.empty c.in-Ok.ensures.memory c.in-Ok.ensures.cores start
-    c.base.ensures.sound.few_cores small c.requires.cores (omega arith)
+    c.base.ensures.sound.some_core c.base.ensures.sound.few_cores small c.requires.cores (omega arith)
 
 pub returns-in-Ok-clause-opening : goal.returns-in-Ok-clause-opening
 returns-in-Ok-clause-opening g c =

@@ -1,0 +1,266 @@
+//! A machine with the history of its steps.
+
+ghost use Rattle.std.specs.Prelude.{◌≡◌, ◌↔◌, ◌<◌, ◌≤◌, ℕ, List, [], ◌∷◌, ◌++◌, Err, IfErr, IfOk, IsTrue, OnErr, false, length, true};
+ghost use Rattle.tm_core.specs.Machine.{bad_limits};
+ghost use Rattle.tm_hist.specs.Board.{IsFull, IsHistory, IsNew, IsStopped, SameBoard, bad_limit};
+ghost use Rattle.tm_hist.specs.BoardFaults.{board_code, step_code};
+ghost use Rattle.tm_hist.specs.History.{pairs_of};
+ghost use Rattle.tm_hist.specs.Replay.{Replays};
+
+use crate::history::History;
+use crate::one_memory::serial;
+use crate::pair::Pair;
+use crate::replay::{Serial, SerialFault};
+use ia_image::Program;
+use std::alloc::Global;
+use std::marker::Model;
+use thiserror::Error;
+use tm_core::{CoreState, Limits, Machine, MachineFault, NoSuchCore, Outcome};
+
+/// Why no board was made.
+#[derive(Clone, Copy, PartialEq, Eq, Debug, Drop, Error)]
+pub enum BoardFault {
+    /// The limit on steps is not 1 to 16,777,216.
+    #[error("BadLimit")]
+    BadLimit,
+    /// A limit on lines is not 1 to 4096.
+    #[error("BadLimits")]
+    BadLimits,
+    /// There is no memory for the machine.
+    #[error("NoMemory")]
+    NoMachine,
+    /// There is no memory for the history or the copy of the program.
+    #[error("NoMemory")]
+    NoMemory,
+}
+
+impl BoardFault {
+    /// The fault's number.
+    pub fn code(self) -> u8
+        ensures { result ≡ board_code self }
+    {
+        match self {
+            BoardFault::BadLimit => 55,
+            BoardFault::BadLimits => 40,
+            BoardFault::NoMachine => 41,
+            BoardFault::NoMemory => 51,
+        }
+    }
+}
+
+/// Why a step was not made.
+#[derive(Clone, Copy, PartialEq, Eq, Debug, Drop, Error)]
+pub enum StepFault {
+    /// There is no core of this number.
+    #[error("NoSuchCore")]
+    NoSuchCore,
+    /// The history is full.
+    #[error("LimitReached")]
+    LimitReached,
+}
+
+impl StepFault {
+    /// The fault's number.
+    pub fn code(self) -> u8
+        ensures { result ≡ step_code self }
+    {
+        match self {
+            StepFault::NoSuchCore => 42,
+            StepFault::LimitReached => 50,
+        }
+    }
+}
+
+/// The most steps that a history may be made for.
+pub const MOST_STEPS: u64 = 16_777_216;
+
+/// A program's machine, with each step that it made.
+///
+/// Its machine is always the run of its history from the program's opening state, and each outcome of the history is the
+/// owed one ([`Board::is_run`]).
+#[derive(Drop)]
+pub struct Board {
+    program: Program,
+    limits: Limits,
+    limit: u64,
+    made: Vec<Pair>,
+    machine: Machine,
+}
+
+impl Model for Board {
+    ghost use Rattle.std.specs.Prelude.{map, vec_capacity};
+    ghost use Rattle.ia_regs.specs.contracts.Regs.{the_row as regs_row};
+    ghost use Rattle.tm_core.specs.contracts.limits.Limits.{the_row as limits_row};
+    ghost use Rattle.tm_core.specs.contracts.outcome.CoreState.{the_row as state_row};
+    ghost use Rattle.tm_core.specs.contracts.outcome.Outcome.{the_row as outcome_row};
+    ghost use Rattle.tm_core.specs.Machine.{shown_code};
+    ghost use Rattle.tm_hist.specs.History.{pair_of};
+    ghost use Rattle.tm_hist.specs.Board.{Shown, board_code, IsBoard};
+
+    ghost Value = { Shown };
+
+    ghost coded = { board_code limits_row.coded outcome_row.coded (shown_code state_row.coded regs_row.coded) };
+
+    ghost view = { λ b. record { program = b.program; limits = b.limits; limit = b.limit; history = map pair_of b.made.items; machine = b.machine } };
+
+    ghost invariant = { λ b. IsBoard (record { program = b.program; limits = b.limits; limit = b.limit; history = map pair_of b.made.items; machine = b.machine }) (vec_capacity b.made) };
+}
+
+// Whether a limit on steps is out of range.
+fn is_bad(limit: u64) -> bool
+    ensures { result ≡ bad_limit limit }
+{
+    !(1..=MOST_STEPS).contains(&limit)
+}
+
+impl Board {
+    /// A board before its first step, whose history has room for as many steps as the limit says.
+    ///
+    /// In this order: [`BoardFault::BadLimit`], where the limit is not 1 to 16,777,216; [`BoardFault::BadLimits`], where a
+    /// limit on lines is not 1 to 4096; [`BoardFault::NoMachine`] and [`BoardFault::NoMemory`].
+    pub fn new(
+        alloc: Global,
+        program: &Program,
+        limits: Limits,
+        limit: u64,
+    ) -> Result<Board, BoardFault>
+        ensures limit { result ≡ Err BoardFault.BadLimit ↔ (bad_limit limit ≡ true) }
+        ensures limits { result ≡ Err BoardFault.BadLimits ↔ ((bad_limit limit ≡ false) × (bad_limits limits ≡ true)) }
+        ensures ok { IfOk result (λ board. IsNew program.now limits limit board) }
+    {
+        if is_bad(limit) {
+            return Err(BoardFault::BadLimit);
+        }
+        let machine = match Machine::new(alloc, program, limits) {
+            Ok(machine) => machine,
+            Err(MachineFault::BadLimits) => return Err(BoardFault::BadLimits),
+            Err(MachineFault::NoMemory) => return Err(BoardFault::NoMachine),
+        };
+        let Ok(made) = Vec::with_capacity(alloc, limit as usize) else {
+            return Err(BoardFault::NoMemory);
+        };
+        let Ok(program) = program.copy(alloc) else {
+            return Err(BoardFault::NoMemory);
+        };
+        Ok(Board {
+            program,
+            limits,
+            limit,
+            made,
+            machine,
+        })
+    }
+
+    /// One step of a core, which is one more pair of the history.
+    ///
+    /// [`StepFault::NoSuchCore`], where the program has no core of this number; for one that it has,
+    /// [`StepFault::LimitReached`] exactly where the history is full. Then the board is as before. Takes no memory.
+    pub fn step(&mut self, core: u8) -> Result<Outcome, StepFault>
+        ensures none { result ≡ Err StepFault.NoSuchCore ↔ (length self.old.program.entries ≤ core) }
+        ensures full { result ≡ Err StepFault.LimitReached ↔ ((core < length self.old.program.entries) × IsFull self.old) }
+        ensures same { SameBoard self.old self.new }
+        ensures ok { IfOk result (λ outcome. self.new.history ≡ self.old.history ++ (core, outcome) ∷ []) }
+        ensures stops { (k : ℕ) → IsStopped self.old k → IsStopped self.new k }
+        ensures err { OnErr result (self.new ≡ self.old) }
+    {
+        if core >= self.machine.cores() {
+            return Err(StepFault::NoSuchCore);
+        }
+        if self.made.len() as u64 >= self.limit {
+            return Err(StepFault::LimitReached);
+        }
+        match self.machine.step(core) {
+            Ok(outcome) => {
+                self.made.push_reserved(Pair::new(core, outcome));
+                Ok(outcome)
+            }
+            Err(NoSuchCore) => Err(StepFault::NoSuchCore),
+        }
+    }
+
+    /// The machine.
+    pub fn machine(&self) -> &Machine
+        ensures { result.now ≡ self.now.machine }
+    {
+        &self.machine
+    }
+
+    /// The program.
+    pub fn program(&self) -> &Program
+        ensures { result.now ≡ self.now.program }
+    {
+        &self.program
+    }
+
+    /// The limits on the lines of a transaction.
+    pub fn limits(&self) -> Limits
+        ensures { result ≡ self.now.limits }
+    {
+        self.limits
+    }
+
+    /// The steps that were made, in order.
+    pub fn history(&self) -> History<'_>
+        ensures { pairs_of result ≡ self.now.history }
+    {
+        History::made(self.made.as_slice())
+    }
+
+    /// How many steps there may be, 1 to 16,777,216.
+    pub fn limit(&self) -> u64
+        ensures limit { result ≡ self.now.limit }
+        ensures most { result ≤ 16777216 }
+    {
+        self.limit
+    }
+
+    /// How many steps were made.
+    pub fn made(&self) -> u64
+        ensures made { result ≡ length self.now.history }
+        ensures most { result ≤ self.now.limit }
+    {
+        self.made.as_slice().len() as u64
+    }
+
+    /// Whether the history is full.
+    pub fn is_full(&self) -> bool
+        ensures { IsTrue result ↔ IsFull self.now }
+    {
+        self.made() == self.limit()
+    }
+
+    /// How many cores there are, 1 to 16.
+    pub fn cores(&self) -> u8
+        ensures program { result ≡ length self.now.program.entries }
+        ensures machine { result ≡ length self.now.machine.views }
+        ensures most { result ≤ 16 }
+    {
+        self.program.cores()
+    }
+
+    /// Whether a core has stopped; false for a number that no core has.
+    pub fn is_stopped(&self, core: u8) -> bool
+        ensures { IsTrue result ↔ IsStopped self.now core }
+    {
+        matches!(self.machine.state(core), Ok(CoreState::Stopped(_)))
+    }
+
+    /// The law that each board keeps: its machine is the run of its history from the program's opening state, and each
+    /// outcome of its history is the owed one.
+    pub fn is_run(&self)
+        ensures { IsHistory self.now }
+    {
+        let _limit = self.limit;
+    }
+
+    /// The run of the history on one flat memory ([`serial`]), which is never refused but for want of memory, and which ends
+    /// with the machine's memory, and with each core's registers before its open transaction, and its stop.
+    ///
+    /// [`SerialFault::NoMemory`], where memory or the list of cores found no memory.
+    pub fn replay(&self, alloc: Global) -> Result<Serial, SerialFault>
+        ensures ok { IfOk result (λ s. Replays self.now s) }
+        ensures err { IfErr result (λ fault. fault ≡ SerialFault.NoMemory) }
+    {
+        serial(alloc, &self.program, self.history())
+    }
+}
