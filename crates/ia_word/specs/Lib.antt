@@ -2,3 +2,4 @@ pub mod Width
 pub mod Condition
 pub mod Bytes
 pub mod Line
+pub mod Operand

@@ -6,7 +6,8 @@ use Rattle.std.specs.Option.{is_some}
 use Rattle.std.specs.Result.{OnOk, OnErr}
 use Rattle.std.specs.Ordering.{nat_cmp}
 use Rattle.std.specs.FinMap as bytes_map
-use Rattle.tm_buffer.specs.Held.{Bytes, Held, Fits, placed, with_bytes}
+use Rattle.ia_word.specs.Operand.{placed}
+use Rattle.tm_buffer.specs.Held.{Bytes, Held, Fits, with_bytes}
 use Rattle.tm_buffer.proofs.Entries.{get_insert}
 
 pub fits_empty : (size : ℕ) → Fits bytes_map.empty size

@@ -5,9 +5,7 @@ use Rattle.std.specs.Ordering.{nat_cmp}
 use Rattle.std.specs.Coded.{Coded, code_by, coded×, coded_ℕ, coded_list}
 use Rattle.std.specs.FinMap as bytes_map
 use Rattle.std.specs.FinSet as set
-use Rattle.ia_word.specs.declared.width.Width.{Width}
-use Rattle.ia_word.specs.declared.width.Width.TheVariants.{B, D}
-use Rattle.ia_word.specs.Bytes.{long_bytes, long_of}
+pub use Rattle.ia_word.specs.Operand.{operand_bytes, operand_of, placed}
 
 abbrev pub Bytes : Type 0
 Bytes = bytes_map.FinMap nat_cmp ℕ
@@ -25,21 +23,6 @@ abbrev pub held_code : Coded Held
 held_code =
     code_by (Bytes × (List ℕ × ℕ)) (coded× (bytes_map.code coded_ℕ coded_ℕ) (coded× (coded_list coded_ℕ) coded_ℕ))
     (λ h. (h.bytes, (h.order, h.room))) (λ p. record { bytes = p.0; order = p.1.0; room = p.1.1 }) (λ _. refl)
-
--- the bytes of an operand, the lowest first (SDM volume 1, section 1.3.1 "Bit and Byte Order")
-abbrev pub operand_bytes : Width → ℕ → List ℕ
-operand_bytes B value = value ∷ []
-operand_bytes D value = long_bytes value
-
--- the operand of these bytes
-abbrev pub operand_of : Width → List ℕ → ℕ
-operand_of B bytes = slice_index bytes 0
-operand_of D bytes = long_of bytes
-
--- the bytes of a store, each with its address
-abbrev pub placed : ℕ → List ℕ → List (ℕ × ℕ)
-placed address [] = []
-placed address (b ∷ bs) = (address, b) ∷ placed (address + 1) bs
 
 -- a map with these bytes put in
 abbrev pub with_bytes : Bytes → List (ℕ × ℕ) → Bytes

@@ -5,7 +5,8 @@ ghost use Rattle.std.specs.FinMap as bytes_map;
 ghost use Rattle.std.specs.FinSet as set;
 ghost use Rattle.ia_word.specs.Width.{bits_of, bytes_of};
 ghost use Rattle.ia_word.specs.Line.{line, last_line, lines};
-ghost use Rattle.tm_buffer.specs.Held.{Fits, with_bytes, placed, operand_bytes, operand_of, laid_over, drained, lines_of, holds, place_of, with_line, with_lines};
+ghost use Rattle.ia_word.specs.Operand.{operand_bytes, operand_of, placed};
+ghost use Rattle.tm_buffer.specs.Held.{Fits, with_bytes, laid_over, drained, lines_of, holds, place_of, with_line, with_lines};
 
 use crate::fault::{Full, NoMemory};
 use crate::slots::{byte_in, drain, slot_of};

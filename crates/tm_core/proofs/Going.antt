@@ -2,7 +2,6 @@ use Rattle.std.proofs.Common.{◌≡◌, ℕ, suc, ◌<◌, true, false, cond, e
 use Rattle.std.specs.Prelude.{option_and_then, option_map, MatchOption}
 use Rattle.std.proofs.lemmas.Option.{option_and_then_some, same_Some}
 use Rattle.std.proofs.lemmas.Bool.{lt-ltb, ltb-true}
-use Rattle.ia_image.specs.Program.{Shown as Program}
 use Rattle.tm_core.proofs.Frame.{frame, length-written}
 use Rattle.tm_core.proofs.Others.{open_shown_is}
 use Rattle.tm_core.proofs.Own.{Own, isolated-suc, own}
@@ -12,17 +11,17 @@ use Rattle.tm_core.proofs.Table.{sound}
 use Rattle.tm_core.proofs.Whole.{Right, right}
 use Rattle.tm_core.specs.Access.{Stores, places_of, stores_of, written}
 use Rattle.tm_core.specs.Conflicts.{after_own, doomed, hit, hit_body, stored, touches}
-use Rattle.tm_core.specs.Isolated.{Body, begun, isolated, longer, read_set, write_set}
-use Rattle.tm_core.specs.Machine.{IsRun, Shown, StandsFor, rules_of, view_at}
+use Rattle.tm_core.specs.Isolated.{Body, isolated, longer, read_set, write_set}
+use Rattle.tm_core.specs.Machine.{rules_of, view_at}
 use Rattle.tm_core.specs.Owed.{owed}
 use Rattle.tm_core.specs.Runs.{IsOwed, doomed_at_end}
 use Rattle.tm_core.specs.Setting.{Setting, outside_at}
-use Rattle.tm_core.specs.Shown.{Stands, View, alone, open_shown, open_view, plain_view, shown, shown_with}
+use Rattle.tm_core.specs.Shown.{Stands, View, alone, open_shown, plain_view, shown, shown_with}
 use Rattle.tm_core.specs.State.{Closed, Core, Halted, Opened, State, opening}
 use Rattle.tm_core.specs.Steps.{aborted, committed, gone, halted, moved, put, run, step, stop_number}
 use Rattle.tm_core.specs.Types.{Aborted, AtStop, Begins, Begun, Committed, Condemned, Goes, Idle, Inside, Outcome, Outside, Plain, Regs, Running, Stop, Stopped, Stops}
 use Rattle.tm_core.specs.ViewSteps.{Result, stepped, views_after}
-use Rattle.tm_core.specs.Went.{AsTheyWent, Going, Went, go, go_all, mark, moved_by, put_going, setting_out, went_on}
+use Rattle.tm_core.specs.Went.{AsTheyWent, go, go_all, mark, moved_by, put_going, setting_out, went_on}
 
 -- ---- the core that steps
 

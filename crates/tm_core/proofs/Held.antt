@@ -9,7 +9,8 @@ use Rattle.std.proofs.lemmas.List.{length-append}
 use Rattle.ia_word.specs.declared.width.Width.{Width}
 use Rattle.ia_word.specs.Line.{line, last_line, lines as access_row}
 use Rattle.ia_word.specs.declared.width.Width.TheVariants.{B, D}
-use Rattle.tm_buffer.specs.Held.{placed, operand_bytes, place_of, with_line, with_lines}
+use Rattle.ia_word.specs.Operand.{placed, operand_bytes}
+use Rattle.tm_buffer.specs.Held.{place_of, with_line, with_lines}
 use Rattle.tm_core.proofs.Pieces.{contains-insert}
 use Rattle.tm_core.proofs.Adds.{adds_one, adds_two}
 use Rattle.tm_core.specs.Access.{places, places_of, stores_of}

@@ -3,7 +3,7 @@ use Rattle.std.specs.Prelude.{IfSome}
 use Rattle.ia_word.specs.Width.{bytes_of, bits_of}
 use Rattle.ia_word.specs.declared.width.Width.{Width}
 use Rattle.ia_word.specs.declared.width.Width.TheVariants.{B, D}
-use Rattle.tm_buffer.specs.Held.{placed, operand_bytes}
+use Rattle.ia_word.specs.Operand.{placed, operand_bytes}
 use Rattle.tm_rule.proofs.Facts.{LoadIn, StoreIn, store_within, store_within_inside, nests_below, begins_without_load}
 use Rattle.tm_core.proofs.Sound.{Sound, InRange}
 use Rattle.tm_core.specs.Access.{loaded_places, stores_of}

@@ -4,7 +4,7 @@ use Rattle.std.specs.Prelude.{ℕ, zero, suc, ◌+◌, List, [], ◌∷◌, map,
 use Rattle.std.specs.FinSet as set
 use Rattle.ia_word.specs.Width.{bytes_of}
 use Rattle.ia_word.specs.Line.{line}
-use Rattle.tm_buffer.specs.Held.{operand_bytes, operand_of, placed}
+use Rattle.ia_word.specs.Operand.{operand_bytes, operand_of, placed}
 use Rattle.tm_core.specs.Types.{Access, Lines, Store, Width}
 
 -- this many addresses, one after another

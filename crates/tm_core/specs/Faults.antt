@@ -4,7 +4,6 @@ use Rattle.tm_core.specs.declared.fault.MachineFault.{MachineFault}
 use Rattle.tm_core.specs.declared.fault.MachineFault.TheVariants as machine
 use Rattle.tm_core.specs.declared.fault.RunFault.{RunFault}
 use Rattle.tm_core.specs.declared.fault.RunFault.TheVariants as run
-use Rattle.tm_core.specs.Steps.{run}
 
 abbrev pub machine_number : MachineFault → ℕ
 machine_number machine.BadLimits = 40

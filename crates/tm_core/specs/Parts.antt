@@ -7,7 +7,7 @@ use Rattle.tm_buffer.specs.Held.{Fits}
 use Rattle.tm_sets.specs.Content.{Content}
 use Rattle.ia_word.specs.Line.{line}
 use Rattle.tm_core.specs.declared.cpu.Cpu.{Cpu}
-use Rattle.tm_core.specs.Access.{bytes, lines, places_of, stores_of, written}
+use Rattle.tm_core.specs.Access.{places_of, stores_of, written}
 use Rattle.tm_core.specs.Conflicts.{on_lines}
 use Rattle.tm_core.specs.Owed.{fits, status}
 use Rattle.tm_core.specs.Setting.{Setting, setting}

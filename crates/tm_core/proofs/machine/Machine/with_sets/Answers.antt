@@ -1,4 +1,4 @@
-use Rattle.std.proofs.Common.{◌≡◌, ◌<◌, ◌≤◌, ◌+◌, ◌*◌, ◌^◌, ℕ, length, refl, sym, ap, ◌∙◌, subst, arith}
+use Rattle.std.proofs.Common.{◌≡◌, ◌<◌, ◌≤◌, ◌*◌, ◌^◌, ℕ, length, sym, ◌∙◌, subst, arith}
 use Rattle.ia_image.specs.Program.{Shown as Program}
 use Rattle.tm_sets.specs.Content.{Content}
 use Rattle.tm_core.specs.Types.{Write}

@@ -1,4 +1,4 @@
-use Rattle.std.proofs.Common.{◌≡◌, ℕ, ap}
+use Rattle.std.proofs.Common.{ap}
 use Rattle.tm_sets.specs.Content.{Content}
 use Rattle.tm_core.specs.Types.{Read, Write}
 use Rattle.tm_core.proofs.opening.Machine+PlainSets.new.Goals as goal
