@@ -10,14 +10,14 @@ mod one_memory;
 mod pair;
 mod pieces;
 mod replay;
-mod row;
+pub mod row;
 mod schedule;
 mod shape;
 mod step;
 
 pub use board::{Board, BoardFault, MOST_STEPS, StepFault};
 pub use history::History;
-pub use lines::{write_core, write_dump, write_outcome, write_state};
+pub use lines::{push_state, write_core, write_dump, write_outcome, write_state};
 pub use one_memory::serial;
 pub use replay::{Serial, SerialFault};
 pub use schedule::{ScheduleFault, read_schedule, read_steps, write_schedule};

@@ -30,7 +30,8 @@ fn stop_text(stop: Stop) -> &'static [u8]
     }
 }
 
-fn push_state(row: &mut Row, state: CoreState)
+/// Adds what a core is doing: `run`, `tx` and the depth, `condemned`, or `stop:` and why.
+pub fn push_state(row: &mut Row, state: CoreState)
     requires { array_vec_len row.old + 18 ≤ 160 }
     ensures text { row.new.items ≡ row.old.items ++ state_word state }
     ensures len { array_vec_len row.new ≤ array_vec_len row.old + 18 }
