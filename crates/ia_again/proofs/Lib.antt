@@ -1,0 +1,14 @@
+pub mod Lexed
+pub mod Hex
+pub mod Printed
+pub mod Places
+pub mod Operands
+pub mod Heads
+pub mod Fits
+pub mod Fields
+pub mod Forms
+pub mod Plain
+pub mod Again
+pub mod Lines
+pub mod Program
+pub mod Sums

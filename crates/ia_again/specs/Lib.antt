@@ -1,0 +1,9 @@
+pub mod Printed
+pub mod Lines
+pub mod Operands
+pub mod Mnemonics
+pub mod Filled
+pub mod Forms
+pub mod Again
+pub mod Program
+pub mod Sums

@@ -1,0 +1,9 @@
+pub mod Fills
+pub mod Sizes
+pub mod Powers
+pub mod Walks
+pub mod Tellings
+pub mod Ends
+pub mod Shown
+pub mod Refusals
+pub mod Spelt

@@ -1,0 +1,15 @@
+use Rattle.std.proofs.Common.{◌≡◌, ◌≤◌, ◌^◌, ◌++◌, drop, map}
+use Rattle.std.specs.Prelude.{All}
+use Rattle.ia_item.specs.Fits.{AllFit}
+use Rattle.ia_asm.specs.Placement.{places, start}
+use Rattle.ia_asm.specs.Seen.{state, seen, IsGood}
+use Rattle.ia_asm.proofs.place.places.Given as goal
+
+abbrev pub invariant-loop-entry : goal.invariant-loop-entry
+invariant-loop-entry l = record {
+  fits : AllFit (drop l.entry-index l.entries);
+  text : l.walk.text ≤ 2 ^ 62;
+  tail : l.walk.tail ≤ 2 ^ 62;
+  good : All IsGood l.spots.items;
+  whole : map seen l.spots.items ++ places (state l.walk) (drop l.entry-index l.entries) ≡ places (start l.base l.tail) l.entries;
+}

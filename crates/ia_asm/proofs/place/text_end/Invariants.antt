@@ -1,0 +1,13 @@
+use Rattle.std.proofs.Common.{◌≡◌, ◌≤◌, ◌^◌, drop}
+use Rattle.ia_item.specs.Fits.{AllFit}
+use Rattle.ia_asm.specs.Placement.{after, start}
+use Rattle.ia_asm.specs.Seen.{state}
+use Rattle.ia_asm.proofs.place.text_end.Given as goal
+
+abbrev pub invariant-loop-entry : goal.invariant-loop-entry
+invariant-loop-entry l = record {
+  fits : AllFit (drop l.entry-index l.entries);
+  text : l.walk.text ≤ 2 ^ 62;
+  tail : l.walk.tail ≤ 2 ^ 62;
+  end : after (state l.walk) (drop l.entry-index l.entries) ≡ after (start l.base 0) l.entries;
+}

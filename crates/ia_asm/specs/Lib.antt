@@ -1,0 +1,10 @@
+pub mod Faults
+pub mod Symbols
+pub mod Values
+pub mod Items
+pub mod Placement
+pub mod Seen
+pub mod Listed
+pub mod Lister
+pub mod Assembled
+pub mod Assembles

@@ -1,0 +1,186 @@
+//! The listing.
+
+ghost use Rattle.std.specs.Prelude.{◌≡◌, ◌≤◌, ◌+◌, ◌%◌, ◌^◌, ◌++◌, ◌∷◌, [], false, IsTrue, List, map, length, IfOk, OnOk, All};
+ghost use Rattle.ia_text.specs.Listing.{listing_line};
+ghost use Rattle.ia_asm.specs.Symbols.{known};
+ghost use Rattle.ia_asm.specs.Placement.{item_bytes, Place};
+ghost use Rattle.ia_asm.specs.Listed.{bytes_line, is_datum, own_line, goes_on, listing_text};
+ghost use Rattle.ia_asm.specs.Seen.{seen, IsGood};
+ghost use Rattle.ia_asm.specs.Lister.{row_text, row_line, listed};
+
+use crate::bytes::{push_bytes, push_item};
+use crate::symbols::Table;
+use crate::walk::Spot;
+use ia_item::Item;
+use ia_text::page::{Page, push, push_bytes as push_hex_bytes, push_eight};
+use ia_text::{ToVec, write_line};
+use std::alloc::{AllocError, Global};
+
+/// Where a line of `db` or `dd` begins.
+#[derive(Clone, Copy)]
+pub struct Row {
+    pub line: u32,
+    pub at: u64,
+}
+
+/// A listing in the making: the lines so far, and a line of `db` or `dd` that may go on, with its bytes so far.
+#[derive(Drop)]
+pub struct Lister {
+    pub out: ToVec,
+    pub row: Option<Row>,
+    pub bytes: Vec<u8>,
+}
+
+/// Whether an item is a part of a line of `db` or `dd`.
+#[tactic(auto, unfolding(crate::specs::Listed::is_datum))]
+fn is_datum(item: &Item) -> bool
+    ensures { result ≡ is_datum item.now }
+{
+    match item {
+        Item::Byte(_) => true,
+        Item::Text(_) => true,
+        Item::Long(_) => true,
+        _ => false,
+    }
+}
+
+/// Writes an address and at most 12 bytes.
+fn write_bytes(out: &mut Vec<u8>, at: u64, bytes: &[u8]) -> Result<(), AllocError>
+    ensures { OnOk result (out.new.items ≡ out.old.items ++ bytes_line at bytes.now) }
+{
+    let mut page = Page::new();
+    push_eight(&mut page, (at % (1 << 32)) as u32);
+    push(&mut page, b"  ");
+    push_hex_bytes(&mut page, &bytes[..bytes.len().min(12)]);
+    push(&mut page, b"\n");
+    push_bytes(out, page.as_slice())
+}
+
+/// Writes the line of an instruction.
+fn write_insn(out: &mut ToVec, at: u64, bytes: &[u8]) -> Result<(), AllocError>
+    ensures { OnOk result (out.new.bytes.items ≡ out.old.bytes.items ++ listing_line bytes.now (at % 2 ^ 32)) }
+{
+    match write_line(bytes, (at % (1 << 32)) as u32, out) {
+        Ok(_) => Ok(()),
+        Err(_) => Err(AllocError),
+    }
+}
+
+/// Whether an item goes on with the row before it.
+fn goes_on(row: Option<Row>, spot: &Spot) -> bool
+    ensures { result ≡ goes_on (row_line row) (seen spot.now) }
+{
+    match row {
+        None => false,
+        Some(row) => is_datum(&spot.entry.item) && spot.entry.line == row.line,
+    }
+}
+
+impl Lister {
+    /// Writes the row before, if there is one.
+    fn finish(&mut self) -> Result<(), AllocError>
+        ensures out { OnOk result (self.new.out.bytes.items ≡ self.old.out.bytes.items ++ row_text self.old.row self.old.bytes.items) }
+        ensures bytes { OnOk result (self.new.bytes.items ≡ []) }
+        ensures row { OnOk result (self.new.row ≡ self.old.row) }
+    {
+        if let Some(row) = self.row {
+            write_bytes(&mut self.out.bytes, row.at, self.bytes.as_slice())?;
+        }
+        self.bytes.clear();
+        Ok(())
+    }
+
+    /// Writes the line of an item that stands alone.
+    #[tactic(auto, unfolding(crate::specs::Listed::own_line))]
+    fn write_own(&mut self, symbols: &Table, spot: &Spot) -> Result<(), AllocError>
+        requires good { IsGood spot.now }
+        requires empty { self.old.bytes.items ≡ [] }
+        ensures line { OnOk result (self.new.out.bytes.items ≡ self.old.out.bytes.items ++ own_line (known symbols.now.values.entries) (seen spot.now) (seen spot.now).entry.item) }
+        ensures row { OnOk result (self.new.row ≡ self.old.row) }
+    {
+        match &spot.entry.item {
+            Item::Code(_) => {
+                push_item(&mut self.bytes, symbols, spot)?;
+                write_insn(&mut self.out, spot.at, self.bytes.as_slice())
+            }
+            Item::Reserve(_) => {
+                push_item(&mut self.bytes, symbols, spot)?;
+                write_bytes(&mut self.out.bytes, spot.at, self.bytes.as_slice())
+            }
+            Item::Align(_) => {
+                push_item(&mut self.bytes, symbols, spot)?;
+                write_bytes(&mut self.out.bytes, spot.at, self.bytes.as_slice())
+            }
+            _ => Ok(()),
+        }
+    }
+
+    /// Takes in a part of a row.
+    fn list_datum(&mut self, symbols: &Table, spot: &Spot) -> Result<(), AllocError>
+        requires good { IsGood spot.now }
+        requires datum { IsTrue (is_datum spot.now.entry.now.item) }
+        ensures { OnOk result ((more : List Place) → listed (known symbols.now.values.entries) self.new more ≡ listed (known symbols.now.values.entries) self.old (seen spot.now ∷ more)) }
+    {
+        if goes_on(self.row, spot) {
+            push_item(&mut self.bytes, symbols, spot)
+        } else {
+            self.finish()?;
+            self.row = Some(Row {
+                line: spot.entry.line,
+                at: spot.at,
+            });
+            push_item(&mut self.bytes, symbols, spot)
+        }
+    }
+
+    /// Takes in an item that stands alone.
+    fn list_own(&mut self, symbols: &Table, spot: &Spot) -> Result<(), AllocError>
+        requires good { IsGood spot.now }
+        requires own { is_datum spot.now.entry.now.item ≡ false }
+        ensures { OnOk result ((more : List Place) → listed (known symbols.now.values.entries) self.new more ≡ listed (known symbols.now.values.entries) self.old (seen spot.now ∷ more)) }
+    {
+        self.finish()?;
+        self.row = None;
+        self.write_own(symbols, spot)?;
+        self.bytes.clear();
+        Ok(())
+    }
+
+    /// Takes in the next item.
+    fn list(&mut self, symbols: &Table, spot: &Spot) -> Result<(), AllocError>
+        requires { IsGood spot.now }
+        ensures { OnOk result ((more : List Place) → listed (known symbols.now.values.entries) self.new more ≡ listed (known symbols.now.values.entries) self.old (seen spot.now ∷ more)) }
+    {
+        if is_datum(&spot.entry.item) {
+            self.list_datum(symbols, spot)
+        } else {
+            self.list_own(symbols, spot)
+        }
+    }
+}
+
+/// The lines of all items.
+fn listed(alloc: Global, symbols: &Table, spots: &[Spot]) -> Result<Lister, AllocError>
+    requires { All IsGood spots.now }
+    ensures { IfOk result (λ l. listed (known symbols.now.values.entries) l [] ≡ listing_text (known symbols.now.values.entries) (map seen spots.now)) }
+{
+    let mut lister = Lister {
+        out: ToVec::new(Vec::new(alloc)),
+        row: None,
+        bytes: Vec::new(alloc),
+    };
+    for spot in spots {
+        lister.list(symbols, spot)?;
+    }
+    Ok(lister)
+}
+
+/// The listing: a line for each instruction, each line of `db` or `dd`, each `resb` and each `align`.
+pub fn listing(alloc: Global, symbols: &Table, spots: &[Spot]) -> Result<Vec<u8>, AllocError>
+    requires { All IsGood spots.now }
+    ensures { IfOk result (λ v. v.items ≡ listing_text (known symbols.now.values.entries) (map seen spots.now)) }
+{
+    let mut lister = listed(alloc, symbols, spots)?;
+    lister.finish()?;
+    Ok(lister.out.bytes)
+}

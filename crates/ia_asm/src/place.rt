@@ -1,0 +1,134 @@
+//! The place of each entry, and the symbols.
+
+ghost use Rattle.std.specs.Prelude.{◌≡◌, ℕ, ◌≤◌, ◌<◌, ◌+◌, ◌^◌, [], ◌∷◌, ◌++◌, map, IfOk, OnOk, All};
+ghost use Rattle.indexmap.specs.IndexMap.{insert_all};
+ghost use Rattle.ia_item.specs.Names.{same_name};
+ghost use Rattle.ia_item.specs.Fits.{AllFit};
+ghost use Rattle.ia_asm.specs.Placement.{org_value, base_or, base_of, start, after, places, text_end, tail_base, defined, definition, symbols};
+ghost use Rattle.ia_asm.specs.Seen.{seen, state, IsGood, or_base};
+
+use crate::symbols::Table;
+use crate::walk::{Spot, Walk, gap};
+use ia_item::{Entry, Item};
+use indexmap::IndexMap;
+use std::alloc::{AllocError, Global};
+
+fn org_value(number: Option<u64>) -> u32
+    ensures { result ≡ org_value number }
+{
+    match number {
+        None => 0,
+        Some(n) => { if n < 1 << 32 { n as u32 } else { 0 } }
+    }
+}
+
+/// The base that an item sets.
+#[tactic(auto, unfolding(crate::specs::Placement::base_or))]
+fn org_of(item: &Item) -> Option<u32>
+    ensures { (base : ℕ) → base_or item.now base ≡ or_base result base }
+{
+    match item {
+        Item::Org(number) => Some(org_value(*number)),
+        _ => None,
+    }
+}
+
+/// The base that is written, or 100h.
+pub fn base_of(entries: &[Entry]) -> u32
+    ensures { result ≡ base_of entries.now }
+{
+    for entry in entries {
+        if let Some(base) = org_of(&entry.item) {
+            return base;
+        }
+    }
+    0x100
+}
+
+/// Where the code ends.
+pub fn text_end<'a>(alloc: Global, base: u32, entries: &[Entry<'a>]) -> Result<u64, AllocError>
+    requires fits { AllFit entries.now }
+    ensures end { IfOk result (λ end. end ≡ (after (start base 0) entries.now).text) }
+    ensures near { IfOk result (λ end. end ≤ 2 ^ 61) }
+{
+    let mut walk = Walk::new(alloc, u64::from(base), 0);
+    for entry in entries {
+        walk.place(entry)?;
+    }
+    if walk.text > 1 << 61 {
+        return Err(AllocError);
+    }
+    Ok(walk.text)
+}
+
+/// Where the data begins.
+pub fn tail_base(text_end: u64) -> u64
+    requires { text_end ≤ 2 ^ 61 }
+    ensures value { result ≡ tail_base text_end }
+    ensures near { result ≤ 2 ^ 62 }
+{
+    text_end + gap(64, text_end)
+}
+
+fn push<T: Drop>(items: &mut Vec<T>, item: T) -> Result<(), AllocError>
+    ensures { OnOk result (items.new.items ≡ items.old.items ++ (item ∷ [])) }
+{
+    match items.push(item) {
+        Ok(()) => Ok(()),
+        Err(_) => Err(AllocError),
+    }
+}
+
+/// The place of each entry.
+pub fn places<'a, 'b>(
+    alloc: Global,
+    base: u32,
+    tail: u64,
+    entries: &'b [Entry<'a>],
+) -> Result<Vec<Spot<'a, 'b>>, AllocError>
+    requires fits { AllFit entries.now }
+    requires near { tail ≤ 2 ^ 62 }
+    ensures places { IfOk result (λ v. map seen v.items ≡ places (start base tail) entries.now) }
+    ensures good { IfOk result (λ v. All IsGood v.items) }
+{
+    let mut spots = Vec::new(alloc);
+    let mut walk = Walk::new(alloc, u64::from(base), tail);
+    for entry in entries {
+        let spot = walk.place(entry)?;
+        push(&mut spots, spot)?;
+    }
+    Ok(spots)
+}
+
+/// Takes in a label or `equ`.
+#[tactic(auto, unfolding(crate::specs::Placement::defined))]
+fn define<'a>(table: &mut Table<'a>, spot: &Spot<'a, '_>) -> Result<(), AllocError>
+    requires { IsGood spot.now }
+    ensures { OnOk result (table.new.values.entries ≡ insert_all same_name table.old.values.entries (definition (seen spot.now))) }
+{
+    match &spot.entry.item {
+        Item::Label(name) => match table.values.insert(*name, spot.at as i64) {
+            Ok(_) => Ok(()),
+            Err(_) => Err(AllocError),
+        },
+        Item::Equ(name, _) => match table.values.insert(*name, spot.settled) {
+            Ok(_) => Ok(()),
+            Err(_) => Err(AllocError),
+        },
+        _ => Ok(()),
+    }
+}
+
+/// The symbols, in the order of the source.
+pub fn symbols<'a>(alloc: Global, spots: &[Spot<'a, '_>]) -> Result<Table<'a>, AllocError>
+    requires { All IsGood spots.now }
+    ensures { IfOk result (λ t. t.values.entries ≡ symbols (map seen spots.now)) }
+{
+    let mut table = Table {
+        values: IndexMap::new(alloc),
+    };
+    for spot in spots {
+        define(&mut table, spot)?;
+    }
+    Ok(table)
+}

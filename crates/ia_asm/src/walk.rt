@@ -1,0 +1,190 @@
+//! Where items go: a walk over a source that keeps the next address of each section.
+
+ghost use Rattle.std.specs.Prelude.{◌≡◌, ◌≤◌, ◌<◌, ◌+◌, ◌-◌, ◌^◌, ℕ, ℤ, pos, negsuc, ◌≤ℤ◌, IfOk, OnOk, length};
+ghost use Rattle.ia_item.specs.Fits.{Fits, FitsItem, FitsEntry};
+ghost use Rattle.ia_asm.specs.Items.{code_bytes};
+ghost use Rattle.ia_asm.specs.Placement.{nowhere, settled, settled_fault, gap, size_of, at_in, place_at, above_next, text_next, tail_next, next, start};
+ghost use Rattle.ia_asm.specs.Seen.{seen, state, IsGood};
+
+use crate::fault::PlaceFault;
+use crate::field::modulo_long;
+use crate::fill::fill;
+use crate::sum::{Worth, sum_worth, wide};
+use crate::symbols::{NoSymbols, Table};
+use ia_encode::encode_with;
+use ia_item::{Entry, Item, Section, Template};
+use indexmap::IndexMap;
+use std::alloc::{AllocError, Global};
+
+/// An address that no image reaches, and from which sums of addresses are far below 2^64.
+const FAR: u64 = 1 << 62;
+
+/// The place of an entry.
+#[derive(Clone, Copy)]
+pub struct Spot<'a, 'b> {
+    /// The entry.
+    pub entry: &'b Entry<'a>,
+    /// Its address.
+    pub at: u64,
+    /// How many bytes it takes.
+    pub size: u64,
+    /// The value of `equ`, or the count of `resb`.
+    pub settled: i64,
+    /// What is wrong with these.
+    pub fault: Option<PlaceFault>,
+}
+
+/// A walk over entries.
+#[derive(Drop)]
+pub struct Walk<'a> {
+    /// The `equ` symbols so far.
+    pub above: Table<'a>,
+    /// Where the next item of the code goes.
+    pub text: u64,
+    /// Where the next item of the data goes.
+    pub tail: u64,
+}
+
+/// The value of `equ`, or the count of `resb`, by the `equ` symbols above.
+#[tactic(auto, unfolding(crate::specs::Placement::settled, crate::specs::Placement::settled_fault))]
+fn settled(above: &Table, item: &Item) -> Worth
+    requires { FitsItem item.now }
+    ensures value { result.value ≡ settled above.now.values.entries item.now }
+    ensures fault { result.fault ≡ settled_fault above.now.values.entries item.now }
+    ensures low { negsuc (2 ^ 31 - 1) ≤ℤ result.value }
+    ensures high { result.value ≤ℤ pos (2 ^ 32 - 1) }
+{
+    match item {
+        Item::Equ(_, sum) => sum_worth(above, -0x8000_0000, 0xffff_ffff, sum),
+        Item::Reserve(sum) => sum_worth(above, 0, 0xffff_ffff, sum),
+        _ => Worth {
+            value: 0,
+            fault: None,
+        },
+    }
+}
+
+/// How far it is from an address to the next multiple.
+pub fn gap(multiple: u32, at: u64) -> u64
+    requires { 0 < multiple }
+    ensures value { result ≡ gap multiple at }
+    ensures small { result < multiple }
+{
+    let n = u64::from(multiple);
+    (n - at % n) % n
+}
+
+#[tactic(auto, unfolding(crate::specs::Items::code_bytes))]
+fn code_size(at: u64, template: &Template) -> u64
+    requires near { at ≤ 2 ^ 62 }
+    requires fits { Fits template.now }
+    ensures { result ≡ length (code_bytes nowhere at template.now) }
+{
+    let filled = fill(&NoSymbols, at, template);
+    let bytes = encode_with(&filled.insn, wide(&template.number), wide(&template.place));
+    bytes.as_slice().len() as u64
+}
+
+/// How many bytes an item takes at an address.
+#[tactic(auto, using(crate::proofs::Powers::power_some), unfolding(crate::specs::Placement::size_of))]
+fn size_of(at: u64, value: i64, item: &Item) -> u64
+    requires near { at ≤ 2 ^ 62 }
+    requires fits { FitsItem item.now }
+    requires low { negsuc (2 ^ 31 - 1) ≤ℤ value }
+    requires high { value ≤ℤ pos (2 ^ 32 - 1) }
+    ensures { result ≡ size_of at value item.now }
+{
+    match item {
+        Item::Label(_) => 0,
+        Item::Equ(_, _) => 0,
+        Item::Code(template) => code_size(at, template),
+        Item::Byte(_) => 1,
+        Item::Text(bytes) => bytes.len() as u64,
+        Item::Long(_) => 4,
+        Item::Reserve(_) => u64::from(modulo_long(value)),
+        Item::Align(multiple) => gap(*multiple, at),
+        Item::Org(_) => 0,
+    }
+}
+
+/// Takes in the value of `equ`.
+#[tactic(auto, unfolding(crate::specs::Placement::above_next))]
+fn define_equ<'a>(above: &mut Table<'a>, value: i64, item: &Item<'a>) -> Result<(), AllocError>
+    ensures { OnOk result (above.new.values.entries ≡ above_next above.old.values.entries value item.now) }
+{
+    match item {
+        Item::Equ(name, _) => match above.values.insert(*name, value) {
+            Ok(_) => Ok(()),
+            Err(_) => Err(AllocError),
+        },
+        _ => Ok(()),
+    }
+}
+
+impl<'a> Walk<'a> {
+    /// A walk that puts the code and the data there.
+    pub fn new(alloc: Global, base: u64, tail: u64) -> Walk<'a>
+        ensures { state result ≡ start base tail }
+    {
+        Walk {
+            above: Table {
+                values: IndexMap::new(alloc),
+            },
+            text: base,
+            tail,
+        }
+    }
+
+    fn at(&self, section: Section) -> u64
+        ensures { result ≡ at_in section (state self.now) }
+    {
+        match section {
+            Section::Text => self.text,
+            Section::Data => self.tail,
+        }
+    }
+
+    fn advance(&mut self, section: Section, size: u64)
+        requires text { self.old.text ≤ 2 ^ 62 }
+        requires tail { self.old.tail ≤ 2 ^ 62 }
+        requires near { at_in section (state self.old) + size ≤ 2 ^ 62 }
+        ensures above { self.new.above ≡ self.old.above }
+        ensures text { self.new.text ≡ text_next section self.old.text size }
+        ensures tail { self.new.tail ≡ tail_next section self.old.tail size }
+        ensures text_near { self.new.text ≤ 2 ^ 62 }
+        ensures tail_near { self.new.tail ≤ 2 ^ 62 }
+    {
+        match section {
+            Section::Text => self.text += size,
+            Section::Data => self.tail += size,
+        }
+    }
+
+    /// Places an entry behind the one before. Memory is refused also where it ends more than 2^62 bytes from 0.
+    pub fn place<'b>(&mut self, entry: &'b Entry<'a>) -> Result<Spot<'a, 'b>, AllocError>
+        requires fits { FitsEntry entry.now }
+        requires text { self.old.text ≤ 2 ^ 62 }
+        requires tail { self.old.tail ≤ 2 ^ 62 }
+        ensures place { IfOk result (λ s. seen s ≡ place_at (state self.old) entry.now) }
+        ensures next { OnOk result (state self.new ≡ next (state self.old) entry.now) }
+        ensures text_near { OnOk result (self.new.text ≤ 2 ^ 62) }
+        ensures tail_near { OnOk result (self.new.tail ≤ 2 ^ 62) }
+        ensures good { IfOk result IsGood }
+    {
+        let at = self.at(entry.section);
+        let worth = settled(&self.above, &entry.item);
+        let size = size_of(at, worth.value, &entry.item);
+        if size > FAR - at {
+            return Err(AllocError);
+        }
+        define_equ(&mut self.above, worth.value, &entry.item)?;
+        self.advance(entry.section, size);
+        Ok(Spot {
+            entry,
+            at,
+            size,
+            settled: worth.value,
+            fault: worth.fault,
+        })
+    }
+}

@@ -1,0 +1,136 @@
+-- What an instruction's number and displacement go into.
+use Rattle.std.specs.Prelude.{ℕ, ◌+◌, ◌-◌, ◌%◌, ◌^◌, ◌<◌, Bool, ◌&&◌, if◌then◌else◌, IsTrue, ℤ, pos, negsuc, int_le}
+use Rattle.ia_word.specs.declared.width.Width.TheVariants.{B}
+use Rattle.ia_insn.specs.declared.kinds.Count.TheVariants as count
+use Rattle.ia_insn.specs.declared.op.Op.{Op}
+use Rattle.ia_insn.specs.declared.op.Op.TheVariants as op
+use Rattle.ia_insn.specs.declared.operand.Mem.{Mem}
+use Rattle.ia_insn.specs.declared.operand.Operand.{Operand}
+use Rattle.ia_insn.specs.declared.operand.Operand.TheVariants as operand
+use Rattle.ia_insn.specs.Encoding.{fits_short}
+use Rattle.ia_item.specs.declared.item.Field.{Field}
+use Rattle.ia_item.specs.declared.item.Field.TheVariants as field
+
+-- what the number of an instruction goes into; a jump's distance counts from behind the jump
+abbrev pub field_of : Op → Field
+field_of (op.Alu k B m s) = field.Byte
+field_of (op.Mov B m s) = field.Byte
+field_of (op.Test B m s) = field.Byte
+field_of (op.Shift k m n) = field.Byte
+field_of (op.Bit k m n) = field.Byte
+field_of (op.Xabort n) = field.Byte
+field_of (op.RetPop n) = field.Half
+field_of (op.Call d) = field.Near 5
+field_of (op.Jmp d) = field.Near 5
+field_of (op.Jcc c d) = field.Near 6
+field_of (op.Xbegin d) = field.Near 6
+field_of (op.JmpShort d) = field.Short 2
+field_of (op.JccShort c d) = field.Short 2
+field_of (op.Loop d) = field.Short 2
+field_of (op.Jecxz d) = field.Short 2
+field_of _ = field.Long
+
+abbrev pub number_in : Operand → ℕ → Operand
+number_in (operand.Imm x) n = operand.Imm n
+number_in m n = m
+
+-- the instruction with that number
+abbrev pub with_number : Op → ℕ → Op
+with_number (op.Alu k w m s) n = op.Alu k w m (number_in s n)
+with_number (op.Mov w m s) n = op.Mov w m (number_in s n)
+with_number (op.Test w m s) n = op.Test w m (number_in s n)
+with_number (op.ImulImm r m x) n = op.ImulImm r m n
+with_number (op.Shift k m (count.Imm x)) n = op.Shift k m (count.Imm n)
+with_number (op.Push m) n = op.Push (number_in m n)
+with_number (op.Call d) n = op.Call n
+with_number (op.RetPop d) n = op.RetPop n
+with_number (op.Jmp d) n = op.Jmp n
+with_number (op.JmpShort d) n = op.JmpShort n
+with_number (op.Jcc c d) n = op.Jcc c n
+with_number (op.JccShort c d) n = op.JccShort c n
+with_number (op.Loop d) n = op.Loop n
+with_number (op.Jecxz d) n = op.Jecxz n
+with_number (op.Bit k m x) n = op.Bit k m n
+with_number (op.Xbegin d) n = op.Xbegin n
+with_number (op.Xabort d) n = op.Xabort n
+with_number o n = o
+
+abbrev pub moved : Mem → ℕ → Mem
+moved m d = record { base = m.base; index = m.index; scale = m.scale; disp = d }
+
+abbrev pub place_in : Operand → ℕ → Operand
+place_in (operand.Mem m) d = operand.Mem (moved m d)
+place_in m d = m
+
+-- the instruction with that displacement
+abbrev pub with_place : Op → ℕ → Op
+with_place (op.Alu k w m s) d = op.Alu k w (place_in m d) (place_in s d)
+with_place (op.Mov w m s) d = op.Mov w (place_in m d) (place_in s d)
+with_place (op.Lea r m) d = op.Lea r (moved m d)
+with_place (op.Xchg w m r) d = op.Xchg w (place_in m d) r
+with_place (op.Inc w m) d = op.Inc w (place_in m d)
+with_place (op.Dec w m) d = op.Dec w (place_in m d)
+with_place (op.Test w m s) d = op.Test w (place_in m d) (place_in s d)
+with_place (op.Unary k m) d = op.Unary k (place_in m d)
+with_place (op.Imul r m) d = op.Imul r (place_in m d)
+with_place (op.ImulImm r m n) d = op.ImulImm r (place_in m d) n
+with_place (op.Shift k m n) d = op.Shift k (place_in m d) n
+with_place (op.Push m) d = op.Push (place_in m d)
+with_place (op.Pop m) d = op.Pop (place_in m d)
+with_place (op.CallTo m) d = op.CallTo (place_in m d)
+with_place (op.JmpTo m) d = op.JmpTo (place_in m d)
+with_place (op.Setcc c m) d = op.Setcc c (place_in m d)
+with_place (op.Cmovcc c r m) d = op.Cmovcc c r (place_in m d)
+with_place (op.Movzx r m) d = op.Movzx r (place_in m d)
+with_place (op.Movsx r m) d = op.Movsx r (place_in m d)
+with_place (op.Cmpxchg m r) d = op.Cmpxchg (place_in m d) r
+with_place (op.Xadd m r) d = op.Xadd (place_in m d) r
+with_place (op.Bit k m n) d = op.Bit k (place_in m d) n
+with_place (op.NopOf m) d = op.NopOf (place_in m d)
+with_place o d = o
+
+-- ---- values
+
+-- from low to high
+abbrev pub within : ℤ → ℤ → ℤ → Bool
+within low high v = int_le low v && int_le v high
+
+-- the least and the greatest value that a field takes
+abbrev pub low_of : Field → ℤ
+low_of field.Byte = negsuc 127
+low_of field.Half = pos 0
+low_of _ = negsuc (2 ^ 31 - 1)
+
+abbrev pub high_of : Field → ℤ
+high_of field.Byte = pos 255
+high_of field.Half = pos 65535
+high_of _ = pos (2 ^ 32 - 1)
+
+-- a value in its range modulo 2^32, and modulo 2^8
+abbrev pub modulo_long : ℤ → ℕ
+modulo_long (pos n) = n
+modulo_long (negsuc n) = 2 ^ 32 - 1 - n
+
+abbrev pub modulo_byte : ℤ → ℕ
+modulo_byte (pos n) = n
+modulo_byte (negsuc n) = 255 - n
+
+-- the distance to a target from so many bytes behind an address, modulo 2^32
+abbrev pub distance : ℕ → ℕ → ℕ → ℕ
+distance at long target = (target + 2 ^ 32 - (at + long) % 2 ^ 32) % 2 ^ 32
+
+-- what goes into a field at an address for a value in its range; of a distance that is too far, 0
+abbrev pub stored : Field → ℕ → ℤ → ℕ
+stored field.Byte at v = modulo_byte v
+stored field.Half at v = modulo_long v
+stored field.Long at v = modulo_long v
+stored (field.Near long) at v = distance at long (modulo_long v)
+stored (field.Short long) at v = if fits_short (distance at long (modulo_long v)) then distance at long (modulo_long v) else 0
+
+-- what a field can hold
+abbrev pub Holds : Field → ℕ → Type 0
+Holds field.Byte n = n < 256
+Holds field.Half n = n < 65536
+Holds field.Long n = n < 2 ^ 32
+Holds (field.Near long) n = n < 2 ^ 32
+Holds (field.Short long) n = IsTrue (fits_short n)

@@ -1,0 +1,4 @@
+pub mod Names
+pub mod Sums
+pub mod Fields
+pub mod Fits

@@ -1,0 +1,75 @@
+//! Items.
+
+use crate::name::Name;
+use crate::sum::Sum;
+use ia_insn::Insn;
+
+/// What the number of an instruction goes into.
+#[derive(Clone, Copy, Debug, PartialEq, Eq)]
+pub enum Field {
+    /// A byte: an immediate, a count of a shift, a bit's number or the code of XABORT.
+    Byte,
+    /// The two bytes that RET takes from the stack.
+    Half,
+    /// 32 bits.
+    Long,
+    /// A jump's target, which goes as a distance of 32 bits, counted from so many bytes behind the jump's address.
+    Near(u8),
+    /// A jump's target, which goes as a distance of one signed byte, counted from so many bytes behind the jump's address.
+    Short(u8),
+}
+
+/// An instruction, and the sums that its number and its displacement are written as. In `insn` both stand as 0, or as
+/// what makes the instruction encodable.
+#[derive(Debug, Drop)]
+pub struct Template<'a> {
+    /// The instruction.
+    pub insn: Insn,
+    /// Its immediate, count or target, where one is written.
+    pub number: Option<Sum<'a>>,
+    /// Its displacement, where one is written.
+    pub place: Option<Sum<'a>>,
+}
+
+/// What a line, or a part of it, asks for.
+#[derive(Debug, Drop)]
+pub enum Item<'a> {
+    /// A symbol whose value is the address of what follows.
+    Label(Name<'a>),
+    /// A symbol whose value is a sum of numbers and of such symbols from above.
+    Equ(Name<'a>, Sum<'a>),
+    /// An instruction.
+    Code(Template<'a>),
+    /// One byte.
+    Byte(Sum<'a>),
+    /// Bytes between quotes.
+    Text(&'a [u8]),
+    /// 32 bits.
+    Long(Sum<'a>),
+    /// So many bytes that are 0.
+    Reserve(Sum<'a>),
+    /// Bytes up to the next multiple of this power of two, 1 to 4096.
+    Align(u32),
+    /// The base; none where the number is above u64::MAX.
+    Org(Option<u64>),
+}
+
+/// A part of the image.
+#[derive(Clone, Copy, Debug, PartialEq, Eq)]
+pub enum Section {
+    /// The code, from the base on.
+    Text,
+    /// The data behind it.
+    Data,
+}
+
+/// An item, the section in force, and its line, counted from 1.
+#[derive(Debug, Drop)]
+pub struct Entry<'a> {
+    /// Its line.
+    pub line: u32,
+    /// The section that it goes to.
+    pub section: Section,
+    /// What it asks for.
+    pub item: Item<'a>,
+}

@@ -1,0 +1,9 @@
+pub mod Commas
+pub mod Places
+pub mod Sums
+pub mod Heads
+pub mod Added
+pub mod Powers
+pub mod Names
+pub mod Fitting
+pub mod Fitted

@@ -1,0 +1,16 @@
+use Rattle.std.proofs.Common.{◌≡◌, ◌+◌, ◌-◌, ◌≤◌, length, map}
+use Rattle.ia_lex.specs.Tokens.{seen}
+use Rattle.ia_source.specs.Seen.{seen_entry}
+use Rattle.ia_source.specs.Commas.{between_commas, pieces_from}
+use Rattle.ia_source.specs.Statements.{values_onto, seen_at}
+use Rattle.ia_source.proofs.statement.push_values.Given as goal
+
+abbrev pub invariant-loop-place : goal.invariant-loop-place
+invariant-loop-place l = record {
+  within : l.place ≤ length l.tokens + 1;
+  read : values_onto l.long (seen_at l.state) (map seen_entry l.entries.items) (pieces_from l.place l.tokens)
+      ≡ values_onto l.long (seen_at l.state) (map seen_entry l.initial.entries.items) (between_commas (map seen l.tokens));
+}
+
+abbrev pub decreases-loop-place : goal.decreases-loop-place
+decreases-loop-place l = length l.tokens + 1 - l.place

@@ -1,0 +1,11 @@
+pub mod Seen
+pub mod Keywords
+pub mod Forms
+pub mod Commas
+pub mod Places
+pub mod Operands
+pub mod Heads
+pub mod Symbols
+pub mod Statements
+pub mod Source
+pub mod Fits

@@ -1,0 +1,333 @@
+//! The entries that lines ask for.
+
+ghost use Rattle.std.specs.Prelude.{◌≡◌, Some, None, true, false, map, option_map, MatchResult, IfOk};
+ghost use Rattle.ia_lex.specs.Tokens.{seen};
+ghost use Rattle.ia_source.specs.Seen.{Reserve, seen_item, seen_entry, seen_sum};
+ghost use Rattle.ia_source.specs.Commas.{between_commas};
+ghost use Rattle.ia_source.specs.Operands.{operands_of};
+ghost use Rattle.ia_source.specs.Statements.{add_some, if_fits, sum_in, code_item, byte_item, value_item, values_onto, only_number, is_32, is_symbol, is_power, align_item, org_item, equ_item, directive_onto, statement_onto, seen_at, IsBad, IsUnfit};
+
+use crate::comma::comma_place;
+use crate::fault::{SourceFault, Why};
+use crate::form::instruction;
+use crate::head::What;
+use crate::mnemonic::{Directive, Mnemonic};
+use crate::operand::{read_operands, whole_sum};
+use crate::state::{State, named_section, only_number};
+use crate::sum::{name_in, some_sum, sum_in};
+use ia_item::{Entry, Item, Sum, Template};
+use ia_lex::{Token, register_of};
+use std::alloc::{AllocError, Global};
+
+/// The sum that tokens are, if they are one.
+fn read_sum<'a>(
+    alloc: Global,
+    state: State<'a>,
+    tokens: &[Token<'a>],
+) -> Result<Option<Sum<'a>>, AllocError>
+    ensures { IfOk result (λ s. option_map seen_sum s ≡ sum_in (seen_at state.entry) (map seen tokens.now)) }
+{
+    match whole_sum(tokens) {
+        None => Ok(None),
+        Some(expr) => {
+            let sum = sum_in(alloc, state.scope, &expr)?;
+            Ok(Some(sum))
+        }
+    }
+}
+
+/// The instruction that a mnemonic and operands write.
+fn read_code<'a>(
+    alloc: Global,
+    state: State<'a>,
+    lock: bool,
+    mnemonic: Mnemonic,
+    tokens: &[Token<'a>],
+) -> Result<Option<Item<'a>>, AllocError>
+    ensures { IfOk result (λ i. option_map seen_item i ≡ code_item (seen_at state.entry) lock mnemonic (operands_of (map seen tokens.now))) }
+{
+    match read_operands(tokens) {
+        None => Ok(None),
+        Some(operands) => match instruction(lock, mnemonic, operands.shapes) {
+            None => Ok(None),
+            Some(insn) => {
+                let number = some_sum(alloc, state.scope, &operands.number)?;
+                let place = some_sum(alloc, state.scope, &operands.place)?;
+                Ok(Some(Item::Code(Template {
+                    insn,
+                    number,
+                    place,
+                })))
+            }
+        },
+    }
+}
+
+/// A value of `db`.
+fn read_byte<'a>(
+    alloc: Global,
+    state: State<'a>,
+    tokens: &[Token<'a>],
+) -> Result<Option<Item<'a>>, AllocError>
+    ensures { IfOk result (λ i. option_map seen_item i ≡ byte_item (seen_at state.entry) (map seen tokens.now)) }
+{
+    if let [Token::Text(bytes)] = tokens {
+        return Ok(Some(Item::Text(bytes)));
+    }
+    match read_sum(alloc, state, tokens)? {
+        Some(sum) => Ok(Some(Item::Byte(sum))),
+        None => Ok(None),
+    }
+}
+
+/// A value of `dd`, or of `db`.
+fn read_value<'a>(
+    alloc: Global,
+    state: State<'a>,
+    long: bool,
+    tokens: &[Token<'a>],
+) -> Result<Option<Item<'a>>, AllocError>
+    ensures { IfOk result (λ i. option_map seen_item i ≡ value_item long (seen_at state.entry) (map seen tokens.now)) }
+{
+    if !long {
+        return read_byte(alloc, state, tokens);
+    }
+    match read_sum(alloc, state, tokens)? {
+        Some(sum) => Ok(Some(Item::Long(sum))),
+        None => Ok(None),
+    }
+}
+
+fn read_reserve<'a>(
+    alloc: Global,
+    state: State<'a>,
+    tokens: &[Token<'a>],
+) -> Result<Option<Item<'a>>, AllocError>
+    ensures { IfOk result (λ i. option_map seen_item i ≡ option_map Reserve (sum_in (seen_at state.entry) (map seen tokens.now))) }
+{
+    match read_sum(alloc, state, tokens)? {
+        Some(sum) => Ok(Some(Item::Reserve(sum))),
+        None => Ok(None),
+    }
+}
+
+fn read_equ<'a>(
+    alloc: Global,
+    state: State<'a>,
+    label: Option<&'a [u8]>,
+    tokens: &[Token<'a>],
+) -> Result<Option<Item<'a>>, AllocError>
+    ensures { IfOk result (λ i. option_map seen_item i ≡ equ_item (seen_at state.entry) (option_map (λ l. l.now) label.entry) (map seen tokens.now)) }
+{
+    match label {
+        None => Ok(None),
+        Some(own) => match read_sum(alloc, state, tokens)? {
+            Some(sum) => Ok(Some(Item::Equ(name_in(state.scope, own), sum))),
+            None => Ok(None),
+        },
+    }
+}
+
+/// The base, once and before anything is placed.
+fn read_org<'a>(state: State<'a>, tokens: &[Token<'a>]) -> Option<Item<'a>>
+    ensures { option_map seen_item result ≡ org_item (seen_at state.entry) (map seen tokens.now) }
+{
+    if state.based || state.placed {
+        return None;
+    }
+    match only_number(tokens) {
+        Some(number) => Some(Item::Org(number)),
+        None => None,
+    }
+}
+
+/// A power of two up to 4096.
+fn is_power(number: u64) -> bool
+    ensures { result ≡ is_power number }
+{
+    number == 1
+        || number == 2
+        || number == 4
+        || number == 8
+        || number == 16
+        || number == 32
+        || number == 64
+        || number == 128
+        || number == 256
+        || number == 512
+        || number == 1024
+        || number == 2048
+        || number == 4096
+}
+
+#[tactic(auto, using(crate::proofs::Powers::small_power))]
+fn read_align<'a>(tokens: &[Token<'a>]) -> Option<Item<'a>>
+    ensures { option_map seen_item result ≡ align_item (only_number (map seen tokens.now)) }
+{
+    match only_number(tokens) {
+        Some(Some(number)) => {
+            if is_power(number) {
+                Some(Item::Align(number as u32))
+            } else {
+                None
+            }
+        }
+        _ => None,
+    }
+}
+
+fn is_32(tokens: &[Token]) -> bool
+    ensures { result ≡ is_32 (only_number (map seen tokens.now)) }
+{
+    match only_number(tokens) {
+        Some(Some(number)) => number == 32,
+        _ => false,
+    }
+}
+
+/// A name, which no register has.
+fn is_symbol(tokens: &[Token]) -> bool
+    ensures { result ≡ is_symbol (map seen tokens.now) }
+{
+    match tokens {
+        [Token::Word(word)] => register_of(word).is_none(),
+        _ => false,
+    }
+}
+
+/// Adds an entry of an item, if there is one.
+#[tactic(auto, using(crate::proofs::Added::one_more))]
+pub fn push_some<'a>(
+    entries: &mut Vec<Entry<'a>>,
+    state: State<'a>,
+    item: Option<Item<'a>>,
+) -> Result<(), SourceFault>
+    ensures { MatchResult result (λ _. add_some (map seen_entry entries.old.items) (seen_at state.entry) (option_map seen_item item.entry) ≡ Some (map seen_entry entries.new.items))
+        (IsBad (add_some (map seen_entry entries.old.items) (seen_at state.entry) (option_map seen_item item.entry)) state.entry.line) }
+{
+    match item {
+        None => Err(SourceFault::Line {
+            line: state.line,
+            why: Why::BadOperand,
+        }),
+        Some(item) => {
+            entries.push(Entry {
+                line: state.line,
+                section: state.section,
+                item,
+            })?;
+            Ok(())
+        }
+    }
+}
+
+fn push_value<'a>(
+    alloc: Global,
+    entries: &mut Vec<Entry<'a>>,
+    state: State<'a>,
+    long: bool,
+    tokens: &[Token<'a>],
+) -> Result<(), SourceFault>
+    ensures { MatchResult result (λ _. add_some (map seen_entry entries.old.items) (seen_at state.entry) (value_item long (seen_at state.entry) (map seen tokens.now)) ≡ Some (map seen_entry entries.new.items))
+        (IsBad (add_some (map seen_entry entries.old.items) (seen_at state.entry) (value_item long (seen_at state.entry) (map seen tokens.now))) state.entry.line) }
+{
+    let item = read_value(alloc, state, long, tokens)?;
+    push_some(entries, state, item)
+}
+
+/// Adds the values of `dd`, or of `db`.
+fn push_values<'a>(
+    alloc: Global,
+    entries: &mut Vec<Entry<'a>>,
+    state: State<'a>,
+    long: bool,
+    tokens: &[Token<'a>],
+) -> Result<(), SourceFault>
+    ensures { MatchResult result (λ _. values_onto long (seen_at state.entry) (map seen_entry entries.old.items) (between_commas (map seen tokens.now)) ≡ Some (map seen_entry entries.new.items))
+        (IsBad (values_onto long (seen_at state.entry) (map seen_entry entries.old.items) (between_commas (map seen tokens.now))) state.entry.line) }
+{
+    let mut place = 0;
+    while place <= tokens.len() {
+        let left = &tokens[place..];
+        let end = comma_place(left);
+        match push_value(alloc, entries, state, long, &left[..end]) {
+            Ok(()) => {}
+            Err(fault) => return Err(fault),
+        }
+        place += end + 1;
+    }
+    Ok(())
+}
+
+fn if_fits(fits: bool, state: State) -> Result<(), SourceFault>
+    ensures { MatchResult result (λ _. fits ≡ true) (IsUnfit fits state.entry.line) }
+{
+    if fits {
+        Ok(())
+    } else {
+        Err(SourceFault::Line {
+            line: state.line,
+            why: Why::BadOperand,
+        })
+    }
+}
+
+/// Adds what a directive asks for.
+#[tactic(auto, unfolding(crate::specs::Statements::directive_onto))]
+fn push_directive<'a>(
+    alloc: Global,
+    entries: &mut Vec<Entry<'a>>,
+    state: State<'a>,
+    label: Option<&'a [u8]>,
+    directive: Directive,
+    tokens: &[Token<'a>],
+) -> Result<(), SourceFault>
+    ensures { MatchResult result (λ _. directive_onto (map seen_entry entries.old.items) (seen_at state.entry) (option_map (λ l. l.now) label.entry) directive (map seen tokens.now) ≡ Some (map seen_entry entries.new.items))
+        (IsBad (directive_onto (map seen_entry entries.old.items) (seen_at state.entry) (option_map (λ l. l.now) label.entry) directive (map seen tokens.now)) state.entry.line) }
+{
+    match directive {
+        Directive::Section => if_fits(named_section(tokens).is_some(), state),
+        Directive::Org => push_some(entries, state, read_org(state, tokens)),
+        Directive::Bits => if_fits(is_32(tokens), state),
+        Directive::Global => if_fits(is_symbol(tokens), state),
+        Directive::Db => push_values(alloc, entries, state, false, tokens),
+        Directive::Dd => push_values(alloc, entries, state, true, tokens),
+        Directive::Resb => {
+            let item = read_reserve(alloc, state, tokens)?;
+            push_some(entries, state, item)
+        }
+        Directive::Align => push_some(entries, state, read_align(tokens)),
+        Directive::Equ => {
+            let item = read_equ(alloc, state, label, tokens)?;
+            push_some(entries, state, item)
+        }
+    }
+}
+
+/// Adds what a line asks for, behind its label.
+pub fn push_statement<'a>(
+    alloc: Global,
+    entries: &mut Vec<Entry<'a>>,
+    state: State<'a>,
+    label: Option<&'a [u8]>,
+    what: What,
+    tokens: &[Token<'a>],
+) -> Result<(), SourceFault>
+    ensures { MatchResult result (λ _. statement_onto (map seen_entry entries.old.items) (seen_at state.entry) (option_map (λ l. l.now) label.entry) what (map seen tokens.now) ≡ Some (map seen_entry entries.new.items))
+        (IsBad (statement_onto (map seen_entry entries.old.items) (seen_at state.entry) (option_map (λ l. l.now) label.entry) what (map seen tokens.now)) state.entry.line) }
+{
+    match what {
+        What::Nothing => Ok(()),
+        What::Code(lock, mnemonic) => {
+            let item = read_code(alloc, state, lock, mnemonic, tokens)?;
+            push_some(entries, state, item)
+        }
+        What::Directive(directive) => {
+            push_directive(alloc, entries, state, label, directive, tokens)
+        }
+        What::Unfit => Err(SourceFault::Line {
+            line: state.line,
+            why: Why::BadOperand,
+        }),
+    }
+}
