@@ -1,0 +1,13 @@
+//! What a worker tells the world.
+
+use tm_core::Outcome;
+
+/// What hears of each turn of a worker. It is called in the worker's thread, without the desk's lock, so it may wait for
+/// another worker.
+pub trait Gate: Sync {
+    /// Before each turn of this core's worker, which has made so many steps.
+    fn before(&self, core: u8, done: u32);
+
+    /// After a turn that made a step.
+    fn after(&self, core: u8, outcome: &Outcome);
+}

@@ -1,0 +1,227 @@
+//! One worker a core, each in a thread of its own.
+
+ghost use Rattle.std.specs.Prelude.{◌≡◌, ◌<◌, ◌≤◌, ◌+◌, [], ℕ, length, IfOk, IfErr, Some, slice_get, slice_index, vec_capacity, vec_len, IfNone, IfSome};
+ghost use Rattle.tm_work.specs.Seats.{Seated};
+ghost use Rattle.tm_work.specs.Served.{IsDone, EachDone, AreLeft, IsReport};
+ghost use Rattle.tm_work.specs.Faults.{IsFault};
+
+use crate::desk::Desk;
+use crate::fault::WorkFault;
+use crate::gate::Gate;
+use crate::opening::Opening;
+use crate::seat::{Seat, Session};
+use std::alloc::Global;
+use std::collections::VecDeque;
+use std::marker::Brand;
+use std::sync::Wait;
+use std::thread;
+use std::thread::{Promise, PromisedHandle, Scope, Threads};
+use tm_hist::Board;
+
+/// What workers made of a board.
+#[derive(Drop)]
+pub struct Report {
+    /// The board after all their steps.
+    pub board: Board,
+    /// How many steps each core's worker made.
+    pub steps: Vec<u32>,
+}
+
+// What a worker is to do. Its seat comes back with that many steps, or ended.
+#[derive(Clone, Copy)]
+struct Job {
+    core: u8,
+    budget: u32,
+}
+
+impl<J: Session> Promise<Seat<J>> for Job {
+    ghost use Rattle.tm_work.specs.Served.{IsDone};
+
+    ghost kept_by = { λ p s. IsDone p.core p.budget s };
+}
+
+type Handles<J> = Vec<PromisedHandle<Seat<J>, Job>>;
+
+/// Starts one worker a core, in the order of the cores, and joins them all. Each repeats [`Gate::before`], a turn and
+/// [`Gate::after`] until it has made as many steps as its budget, or a turn finds its core stopped or the history full.
+///
+/// [`WorkFault::NoMemory`] (61): no worker was started, and the board is as it was. [`WorkFault::SpawnRefused`] (60): the
+/// workers of the cores below this one ran by these rules, and the other cores made no step.
+pub fn run_workers<G: Gate, R: Threads + Wait + Sync>(
+    rt: &R,
+    alloc: Global,
+    board: Board,
+    budgets: &[u32],
+    gate: &G,
+) -> Result<Report, WorkFault>
+    requires { length budgets.now ≡ length board.program.entries }
+    ensures report { IfOk result (λ r. IsReport board budgets.now r.board r.steps.items) }
+    ensures fault { IfErr result (λ e. IsFault board budgets.now e) }
+{
+    let opening = Opening::new(alloc, board)?;
+    run_at::<Brand, G, R>(rt, alloc, opening, budgets, gate)
+}
+
+fn run_at<J: Session + Send + Sync, G: Gate, R: Threads + Wait + Sync>(
+    rt: &R,
+    alloc: Global,
+    opening: Opening,
+    budgets: &[u32],
+    gate: &G,
+) -> Result<Report, WorkFault>
+    requires name { opening.table ≡ J.table }
+    requires given { opening.given ≡ J.given }
+    requires budgets { length budgets.now ≡ length opening.given.program.entries }
+    ensures report { IfOk result (λ r. IsReport opening.given budgets.now r.board r.steps.items) }
+    ensures fault { IfErr result (λ e. IsFault opening.given budgets.now e) }
+{
+    let count = budgets.len();
+    let Ok(handles) = Vec::with_capacity(alloc, count) else {
+        return Err(WorkFault::NoMemory(opening.into_board()));
+    };
+    let Ok(done) = Vec::with_capacity(alloc, count) else {
+        return Err(WorkFault::NoMemory(opening.into_board()));
+    };
+    let Ok(steps) = Vec::with_capacity(alloc, count) else {
+        return Err(WorkFault::NoMemory(opening.into_board()));
+    };
+    let (desk, seats) = Desk::<J>::open(alloc, opening)?;
+    let seats = VecDeque::from_vec(seats);
+    let (done, left) = serve(rt, &desk, gate, budgets, seats, handles, done);
+    let steps = steps_of(budgets, &done, steps);
+    let core = done.len() as u8;
+    match left {
+        None => {
+            let board = desk.close(done);
+            Ok(Report { board, steps })
+        }
+        Some(left) => Err(WorkFault::SpawnRefused(core, desk.close_both(done, left))),
+    }
+}
+
+// Starts a worker for each seat, and joins those that there are.
+fn serve<'x, J: Session + Send + Sync, G: Gate, R: Threads + Wait + Sync>(
+    rt: &'x R,
+    desk: &'x Desk<J>,
+    gate: &'x G,
+    budgets: &'x [u32],
+    seats: VecDeque<Seat<J>>,
+    handles: Handles<J>,
+    done: Vec<Seat<J>>,
+) -> (Vec<Seat<J>>, Option<VecDeque<Seat<J>>>)
+    requires seats { AreLeft seats.items 0 (length budgets.now) }
+    requires handles { (handles.items ≡ []) × (length budgets.now ≤ vec_capacity handles) }
+    requires done { (done.items ≡ []) × (length budgets.now ≤ vec_capacity done) }
+    ensures done { EachDone budgets.now result.0.items }
+    ensures all { IfNone result.1 (vec_len result.0 ≡ length budgets.now) }
+    ensures left { IfSome result.1 (λ l. (vec_len result.0 < length budgets.now) × AreLeft l.items (vec_len result.0 + 1) (length budgets.now)) }
+{
+    thread::scope(
+        thread::scope_env(),
+        rt,
+        |scope| -> (Vec<Seat<J>>, Option<VecDeque<Seat<J>>>)
+            requires seats { AreLeft seats.items 0 (length budgets.now) }
+            requires handles { (handles.items ≡ []) × (length budgets.now ≤ vec_capacity handles) }
+            requires done { (done.items ≡ []) × (length budgets.now ≤ vec_capacity done) }
+            ensures done { EachDone budgets.entry.now result.0.items }
+            ensures all { IfNone result.1 (vec_len result.0 ≡ length budgets.entry.now) }
+            ensures left { IfSome result.1 (λ l. (vec_len result.0 < length budgets.entry.now) × AreLeft l.items (vec_len result.0 + 1) (length budgets.entry.now)) }
+        {
+            let mut handles = handles;
+            let left = start_all(scope, rt, desk, gate, budgets, seats, &mut handles);
+            (join_all(rt, budgets, handles, done), left)
+        },
+    )
+}
+
+// Starts the workers in the order of their cores. Where no thread can be made, the seats of the cores behind that one come back.
+fn start_all<'s, E: 's, J: Session + Send + Sync + 's, G: Gate + 's, R: Wait + Sync + 's>(
+    scope: &'s Scope<'s, E>,
+    rt: &'s R,
+    desk: &'s Desk<J>,
+    gate: &'s G,
+    budgets: &[u32],
+    seats: VecDeque<Seat<J>>,
+    handles: &mut Handles<J>,
+) -> Option<VecDeque<Seat<J>>>
+    requires seats { AreLeft seats.items 0 (length budgets.now) }
+    requires handles { (handles.old.items ≡ []) × (length budgets.now ≤ vec_capacity handles.old) }
+    ensures jobs { (k : ℕ) (h : _) → slice_get handles.new.items k ≡ Some h → (h.promise.core ≡ k) × (h.promise.budget ≡ slice_index budgets.now k) }
+    ensures all { IfNone result (vec_len handles.new ≡ length budgets.now) }
+    ensures left { IfSome result (λ l. (vec_len handles.new < length budgets.now) × AreLeft l.items (vec_len handles.new + 1) (length budgets.now)) }
+{
+    let mut seats = seats;
+    for core in 0..budgets.len() {
+        let Some(seat) = seats.pop_front() else {
+            unreachable!()
+        };
+        let job = Job {
+            core: seat.core(),
+            budget: budgets[core],
+        };
+        let work = move || -> Seat<J>
+            requires { seat.mark.steps ≡ 0 }
+            ensures { IsDone seat.core job.budget result }
+        { work(rt, desk, seat, job.budget, gate) };
+        match scope.spawn_with(job, work) {
+            Ok(handle) => handles.push_reserved(handle),
+            Err(_) => return Some(seats),
+        }
+    }
+    None
+}
+
+fn join_all<J: Session, R: Threads>(
+    rt: &R,
+    budgets: &[u32],
+    handles: Handles<J>,
+    done: Vec<Seat<J>>,
+) -> Vec<Seat<J>>
+    requires jobs { (k : ℕ) (h : _) → slice_get handles.items k ≡ Some h → (h.promise.core ≡ k) × (h.promise.budget ≡ slice_index budgets.now k) }
+    requires done { (done.items ≡ []) × (vec_len handles ≤ vec_capacity done) }
+    ensures done { EachDone budgets.now result.items }
+    ensures count { vec_len result ≡ vec_len handles }
+{
+    let mut done = done;
+    for handle in handles {
+        done.push_reserved(handle.join(rt));
+    }
+    let _ = budgets;
+    done
+}
+
+// How many steps each worker made.
+fn steps_of<J: Session>(budgets: &[u32], seats: &Vec<Seat<J>>, steps: Vec<u32>) -> Vec<u32>
+    requires seats { EachDone budgets.now seats.now.items × (vec_len seats.now ≤ length budgets.now) }
+    requires steps { (steps.items ≡ []) × (vec_len seats.now ≤ vec_capacity steps) }
+    ensures count { vec_len result ≡ vec_len seats.now }
+    ensures each { (k : ℕ) (s : Seated) → slice_get seats.now.items k ≡ Some s → slice_index result.items k ≡ s.mark.steps }
+{
+    let mut steps = steps;
+    for seat in seats {
+        steps.push_reserved(seat.steps() as u32);
+    }
+    steps
+}
+
+// What the worker of a seat does.
+fn work<J: Session, G: Gate, R: Wait>(
+    rt: &R,
+    desk: &Desk<J>,
+    seat: Seat<J>,
+    budget: u32,
+    gate: &G,
+) -> Seat<J>
+    requires { seat.mark.steps ≡ 0 }
+    ensures { IsDone seat.core budget result }
+{
+    let mut seat = seat;
+    for done in 0..budget {
+        gate.before(seat.core(), done);
+        let Some(receipt) = desk.turn(rt, &mut seat) else {
+            return seat;
+        };
+        gate.after(seat.core(), &receipt.outcome);
+    }
+    seat
+}
