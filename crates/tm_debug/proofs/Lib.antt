@@ -1,0 +1,4 @@
+pub mod Parts
+pub mod Feeds
+pub mod Bytewise
+pub mod Sessions

@@ -1,0 +1,113 @@
+-- Texts that are written in parts, and runs that grow by a step.
+use Rattle.std.proofs.Common.{◌≡◌, ℕ, zero, suc, ◌+◌, ◌-◌, ◌%◌, ◌^◌, ◌<◌, ◌==◌, List, [], ◌++◌, drop, refl, sym, ap, ◌∙◌, arith, append-nil, inl, inr, subst}
+use Rattle.std.specs.Prelude.{Result, Ok, Err, IsErr, OnErr, OnOk}
+use Rattle.ia_text.specs.Listing.{listing_line, shown_bytes}
+use Rattle.ia_text.specs.Writing.{Device, Stopped, Writes, Wrote}
+use Rattle.ia_text.proofs.Writing.{stopped_then, writes_stopped, writes_then, wrote_none, wrote_then}
+use Rattle.tm_debug.specs.declared.state.Turn.{Turn}
+use Rattle.tm_debug.specs.declared.state.Turn.TheVariants.{Go}
+use Rattle.tm_debug.specs.Session.{GoAnswer, Place, Ran, RunPart, RunWhole, ending, some_lines, turn_of}
+
+pub no_lines : (d : Device) (n : ℕ) (code : List ℕ) (at : ℕ) → n ≡ 0 → Wrote d d (some_lines n code at)
+unfolding some_lines
+no_lines d zero code at e = wrote_none d
+no_lines d (suc n) code at e = absurd (omega arith)
+
+lines_more : (n : ℕ) (code : List ℕ) (at : ℕ) → 0 < n → listing_line code at ++ some_lines (n - 1) (drop (shown_bytes code) code) ((at + shown_bytes code) % 2 ^ 32) ≡ some_lines n code at
+unfolding some_lines
+lines_more zero code at h = absurd (omega arith)
+lines_more (suc n) code at h =
+    let same : suc n - 1 ≡ n = omega arith in
+    ap (λ m. listing_line code at ++ some_lines m (drop (shown_bytes code) code) ((at + shown_bytes code) % 2 ^ 32)) same
+
+pub lines_stopped : {T E : Type 0} {a b : Device} (n : ℕ) (code : List ℕ) (at : ℕ) (r : Result T E) → 0 < n → IsErr r → Stopped a b (listing_line code at) → Writes a b (some_lines n code at) r
+lines_stopped {T} {E} {a} {b} n code at r h failed stopped =
+    subst (λ (text : List ℕ). Writes a b text r) (lines_more n code at h) (writes_stopped (some_lines (n - 1) (drop (shown_bytes code) code) ((at + shown_bytes code) % 2 ^ 32)) r failed stopped)
+
+pub lines_then : {T E : Type 0} {a b : Device} (c : Device) (n m shown : ℕ) (code rest : List ℕ) (at next : ℕ) (r : Result T E) → 0 < n → m ≡ n - 1 → shown ≡ shown_bytes code →
+    rest ≡ drop shown code → next ≡ (at + shown) % 2 ^ 32 → Wrote a b (listing_line code at) → Writes b c (some_lines m rest next) r → Writes a c (some_lines n code at) r
+lines_then {T} {E} {a} {b} c n m shown code rest at next r h em es er en wrote writes =
+    let same : some_lines m rest next ≡ some_lines (n - 1) (drop (shown_bytes code) code) ((at + shown_bytes code) % 2 ^ 32) =
+    ap (λ k. some_lines k rest next) em
+    ∙ ap (λ l. some_lines (n - 1) l next) (er ∙ ap (λ k. drop k code) es)
+    ∙ ap (λ k. some_lines (n - 1) (drop (shown_bytes code) code) k) (en ∙ ap (λ k. (at + k) % 2 ^ 32) es) in
+    subst (λ (text : List ℕ). Writes a c text r) (ap (λ l. listing_line code at ++ l) same ∙ lines_more n code at h) (writes_then c (some_lines m rest next) r wrote writes)
+
+-- ---- runs
+
+abbrev pub SoFar : ℕ → Place → Place → Device → Device → Type 0
+SoFar n p q a b = (text : List ℕ) × Ran n p text q × Wrote a b text
+
+ran_more : (n : ℕ) (p q s : Place) (core : ℕ) (text line : List ℕ) → turn_of q (n == 0) ≡ Go core → Ran n p text q → GoAnswer q core line s → Ran (n + 1) p (text ++ line) s
+ran_more n p q s core text line turn ran go =
+    let more : Ran (suc n) p (text ++ line) s = record {
+      before = q;
+      lines = text;
+      core = core;
+      outcome = go.0;
+      steps_before = ran;
+      goes_on = turn;
+      step = go.1;
+      line = ap (λ l. text ++ l) go.2;
+    } in
+    let same : suc n ≡ n + 1 = omega arith in
+    subst (λ (k : ℕ). Ran k p (text ++ line) s) same more
+
+pub steps_more : {a b c : Device} (n : ℕ) (p q s : Place) (core : ℕ) → turn_of q (n == 0) ≡ Go core → SoFar n p q a b → (line : List ℕ) × GoAnswer q core line s × Wrote b c line → SoFar (n + 1) p s a c
+steps_more n p q s core turn so_far told = (so_far.0 ++ told.0, ran_more n p q s core so_far.0 told.0 turn so_far.1 told.1, wrote_then so_far.2 told.2)
+
+pub on_err : {T E : Type 0} (r : Result T E) (P : Type 0) → P → OnErr r P
+on_err (Ok x) P h = tt
+on_err (Err e) P h = h
+
+-- the line of the last step was not written whole
+pub step_broken : {a b c : Device} (count n : ℕ) (p q s : Place) (core : ℕ) → n < count → turn_of q (n == 0) ≡ Go core → SoFar n p q a b → (line : List ℕ) × GoAnswer q core line s × Stopped b c line →
+    (text : List ℕ) × RunPart count p text s × Stopped a c text
+step_broken count n p q s core below turn so_far told = (
+  so_far.0 ++ told.0,
+  record {
+    count = n + 1;
+    lines = so_far.0 ++ told.0;
+    tail = [];
+    few = omega arith;
+    ran = ran_more n p q s core so_far.0 told.0 turn so_far.1 told.1;
+    tail_is = inl refl;
+    whole = sym (append-nil (so_far.0 ++ told.0));
+  },
+  stopped_then so_far.2 told.2,
+)
+
+-- a test ends the run
+pub run_ended : {E : Type 0} (a b c : Device) (count n : ℕ) (p q : Place) (turn : Turn) (r : Result (Unit {0}) E) → n < count → turn ≡ turn_of q (n == 0) → ((core : ℕ) → turn ≡ Go core → ⊥) → SoFar n p q a b → Writes b c (ending turn) r →
+    OnOk r ((text : List ℕ) × RunWhole count p text q × Wrote a c text) × OnErr r ((text : List ℕ) × RunPart count p text q × Stopped a c text)
+run_ended a b c count n p q turn (Ok done) below same ends so_far writes = (
+  (
+    so_far.0 ++ ending turn,
+    record {
+      count = n;
+      lines = so_far.0;
+      tail = ending turn;
+      ran = so_far.1;
+      end = inr (below, ap ending same, λ core e. ends core (same ∙ e));
+      whole = refl;
+    },
+    wrote_then so_far.2 writes,
+  ),
+  tt,
+)
+run_ended a b c count n p q turn (Err fault) below same ends so_far writes = (
+  tt,
+  (
+    so_far.0 ++ ending turn,
+    record {
+      count = n;
+      lines = so_far.0;
+      tail = ending turn;
+      few = omega arith;
+      ran = so_far.1;
+      tail_is = inr (ap ending same);
+      whole = refl;
+    },
+    stopped_then so_far.2 writes,
+  ),
+)

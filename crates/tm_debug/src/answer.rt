@@ -1,0 +1,213 @@
+//! What a command answers.
+
+ghost use Rattle.std.specs.Prelude.{◌≡◌, ◌==◌, ◌++◌, ◌<◌, IfSome, length};
+ghost use Rattle.std.specs.List.{position};
+ghost use Rattle.arrayvec.specs.ArrayVec.{array_vec_len};
+ghost use Rattle.ia_text.specs.Writing.{Writes};
+ghost use Rattle.tm_debug.specs.Session.{StepAnswer, Told, break_line, core_named, done_line, ending, list_answer, mem_answer, ok_line, place_of, regs_answer, set_break, some_lines, unset_break};
+ghost use Rattle.tm_debug.specs.Commands.{refusal_line};
+
+use crate::refusal::Refusal;
+use crate::state::{MOST_BREAKPOINTS, State, Turn, core_count};
+use ia_image::Program;
+use ia_text::{Out, WriteFault, write_line};
+use tm_core::Machine;
+use tm_hist::row::{Row, push, push_long, push_number};
+use tm_hist::{StepFault, write_core, write_dump, write_outcome};
+
+/// Tells a refusal.
+pub fn refuse<O: Out>(refusal: Refusal, out: &mut O) -> Result<(), WriteFault>
+    ensures { Writes (O.device out.old) (O.device out.new) (refusal_line refusal) result }
+{
+    out.put(refusal.line())?;
+    Ok(())
+}
+
+/// Tells that a command was done.
+fn agree<O: Out>(out: &mut O) -> Result<(), WriteFault>
+    ensures { Writes (O.device out.old) (O.device out.new) ok_line result }
+{
+    out.put(b"ok\n")?;
+    Ok(())
+}
+
+/// The core of this number.
+pub fn core_of(state: &State, core: u64) -> Option<u8>
+    ensures named { result ≡ core_named (place_of state.now) core }
+    ensures exists { IfSome result (λ c. c < length state.now.board.machine.views) }
+{
+    if core < u64::from(core_count(&state.board)) {
+        Some(core as u8)
+    } else {
+        None
+    }
+}
+
+/// A step of a core.
+pub fn step<O: Out>(state: &mut State, core: u64, out: &mut O) -> Result<(), WriteFault>
+    ensures { Told (StepAnswer (place_of state.old) core) (O.device out.old) (O.device out.new) (place_of state.new) result }
+{
+    let Some(core) = core_of(state, core) else {
+        return refuse(Refusal::NoSuchCore, out);
+    };
+    match state.step(core) {
+        Ok(outcome) => write_outcome(core, &outcome, out),
+        Err(StepFault::NoSuchCore) => refuse(Refusal::NoSuchCore, out),
+        Err(StepFault::LimitReached) => refuse(Refusal::LimitReached, out),
+    }
+}
+
+fn push_break(row: &mut Row, core: u8, address: u32)
+    requires { array_vec_len row.old ≡ 0 }
+    ensures { row.new.items ≡ row.old.items ++ break_line core address }
+{
+    push(row, b"break ");
+    push_number(row, core);
+    push(row, b" ");
+    push_long(row, address);
+    push(row, b"\n");
+}
+
+/// The line that ends a run, and none where it goes on.
+pub fn end_run<O: Out>(turn: Turn, out: &mut O) -> Result<(), WriteFault>
+    ensures { Writes (O.device out.old) (O.device out.new) (ending turn) result }
+{
+    match turn {
+        Turn::AllStopped => out.put(b"all stopped\n")?,
+        Turn::Full => out.put(Refusal::LimitReached.line())?,
+        Turn::AtBreakpoint(core, address) => {
+            let mut row = Row::new();
+            push_break(&mut row, core, address);
+            out.put(row.as_slice())?;
+        }
+        Turn::Go(_core) => out.put(b"")?,
+    }
+    Ok(())
+}
+
+// Where a breakpoint stands in the list.
+fn place(breakpoints: &[u32], address: u32) -> Option<usize>
+    ensures { result ≡ position (λ b. b == address) breakpoints.now }
+{
+    breakpoints.iter().position(|b| *b == address)
+}
+
+// Sets a breakpoint, or says why not.
+fn set(state: &mut State, address: u64) -> Result<(), Refusal>
+    ensures { (result, place_of state.new) ≡ set_break (place_of state.old) address }
+{
+    if address > u64::from(u32::MAX) {
+        return Err(Refusal::OutOfRange);
+    }
+    let address = address as u32;
+    if place(state.breakpoints.as_slice(), address).is_some() {
+        return Ok(());
+    }
+    if state.breakpoints.len() == MOST_BREAKPOINTS {
+        return Err(Refusal::TooManyBreakpoints);
+    }
+    state.breakpoints.push(address);
+    Ok(())
+}
+
+// Takes a breakpoint away, or says why not.
+fn unset(state: &mut State, address: u64) -> Result<(), Refusal>
+    ensures { (result, place_of state.new) ≡ unset_break (place_of state.old) address }
+{
+    if address > u64::from(u32::MAX) {
+        return Err(Refusal::OutOfRange);
+    }
+    if let Some(index) = place(state.breakpoints.as_slice(), address as u32) {
+        let _ = state.breakpoints.remove(index);
+    }
+    Ok(())
+}
+
+fn tell<O: Out>(done: Result<(), Refusal>, out: &mut O) -> Result<(), WriteFault>
+    ensures { Writes (O.device out.old) (O.device out.new) (done_line done) result }
+{
+    match done {
+        Ok(()) => agree(out),
+        Err(refusal) => refuse(refusal, out),
+    }
+}
+
+/// Sets a breakpoint.
+pub fn set_breakpoint<O: Out>(
+    state: &mut State,
+    address: u64,
+    out: &mut O,
+) -> Result<(), WriteFault>
+    ensures text { Writes (O.device out.old) (O.device out.new) (done_line (set_break (place_of state.old) address).0) result }
+    ensures place { place_of state.new ≡ (set_break (place_of state.old) address).1 }
+{
+    let done = set(state, address);
+    tell(done, out)
+}
+
+/// Takes a breakpoint away.
+pub fn clear_breakpoint<O: Out>(
+    state: &mut State,
+    address: u64,
+    out: &mut O,
+) -> Result<(), WriteFault>
+    ensures text { Writes (O.device out.old) (O.device out.new) (done_line (unset_break (place_of state.old) address).0) result }
+    ensures place { place_of state.new ≡ (unset_break (place_of state.old) address).1 }
+{
+    let done = unset(state, address);
+    tell(done, out)
+}
+
+/// The state line of a core.
+pub fn regs<O: Out>(state: &State, core: u64, out: &mut O) -> Result<(), WriteFault>
+    ensures { Writes (O.device out.old) (O.device out.new) (regs_answer (place_of state.now) core) result }
+{
+    match core_of(state, core) {
+        Some(core) => write_core(state.board.machine(), core, out),
+        None => refuse(Refusal::NoSuchCore, out),
+    }
+}
+
+/// Dump lines of memory.
+pub fn mem<O: Out>(machine: &Machine, at: u64, count: u64, out: &mut O) -> Result<(), WriteFault>
+    ensures { Writes (O.device out.old) (O.device out.new) (mem_answer machine.now at count) result }
+{
+    let memory = machine.view();
+    if !(1..=256).contains(&count)
+        || at > u64::from(u32::MAX)
+        || at > memory.len() as u64
+        || count > memory.len() as u64 - at
+    {
+        return refuse(Refusal::OutOfRange, out);
+    }
+    let from = at as usize;
+    write_dump(&memory[from..from + count as usize], at as u32, out)
+}
+
+// So many listing lines of some code at an address.
+fn write_lines<O: Out>(code: &[u8], at: u32, count: u8, out: &mut O) -> Result<(), WriteFault>
+    ensures { Writes (O.device out.old) (O.device out.new) (some_lines count code.now at) result }
+{
+    if count == 0 {
+        return Ok(());
+    }
+    let shown = write_line(code, at, out)?;
+    write_lines(
+        &code[usize::from(shown)..],
+        at.wrapping_add(u32::from(shown)),
+        count - 1,
+        out,
+    )
+}
+
+/// A listing.
+pub fn list<O: Out>(program: &Program, at: u64, count: u64, out: &mut O) -> Result<(), WriteFault>
+    ensures { Writes (O.device out.old) (O.device out.new) (list_answer program.now at count) result }
+{
+    let code = program.code();
+    let base = u64::from(program.base());
+    if !(1..=64).contains(&count) || at < base || at - base >= code.len() as u64 {
+        return refuse(Refusal::OutOfRange, out);
+    }
+    write_lines(&code[(at - base) as usize..], at as u32, count as u8, out)
+}

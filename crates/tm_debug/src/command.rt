@@ -1,0 +1,142 @@
+//! Commands as they are read.
+
+ghost use Rattle.std.specs.Prelude.{◌≡◌};
+ghost use Rattle.tm_debug.specs.Commands.{command_named, command_of, name_of, one_number, two_numbers};
+
+use crate::number::number;
+use crate::refusal::Refusal;
+use crate::words::split_word;
+
+/// The name of a command.
+#[derive(Clone, Copy, PartialEq, Eq, Debug)]
+pub enum Name {
+    Step,
+    Run,
+    Break,
+    Clear,
+    Regs,
+    Mem,
+    Sets,
+    List,
+    Quit,
+}
+
+/// A command with its numbers, of which none is in its range for sure.
+#[derive(Clone, Copy, PartialEq, Eq, Debug)]
+pub enum Command {
+    /// A step of this core.
+    Step(u64),
+    /// So many steps, round by round.
+    Run(u64),
+    /// Sets a breakpoint at this address.
+    Break(u64),
+    /// Takes the breakpoint at this address away.
+    Clear(u64),
+    /// The state of this core.
+    Regs(u64),
+    /// Bytes of memory: the address of the first, and how many.
+    Mem(u64, u64),
+    /// The read set and the write set of this core.
+    Sets(u64),
+    /// A listing: the address of its first line, and how many lines.
+    List(u64, u64),
+    /// The end of the session.
+    Quit,
+}
+
+#[tactic(auto, unfolding(crate::specs::Commands::name_of))]
+fn name_of(word: &[u8]) -> Option<Name>
+    ensures { result ≡ name_of word.now }
+{
+    if word == b"step".as_slice() {
+        Some(Name::Step)
+    } else if word == b"run".as_slice() {
+        Some(Name::Run)
+    } else if word == b"break".as_slice() {
+        Some(Name::Break)
+    } else if word == b"clear".as_slice() {
+        Some(Name::Clear)
+    } else if word == b"regs".as_slice() {
+        Some(Name::Regs)
+    } else if word == b"mem".as_slice() {
+        Some(Name::Mem)
+    } else if word == b"sets".as_slice() {
+        Some(Name::Sets)
+    } else if word == b"list".as_slice() {
+        Some(Name::List)
+    } else if word == b"quit".as_slice() {
+        Some(Name::Quit)
+    } else {
+        None
+    }
+}
+
+// The one number that is given.
+fn one(first: &[u8], second: &[u8]) -> Result<u64, Refusal>
+    ensures { result ≡ one_number first.now second.now }
+{
+    if !second.is_empty() {
+        return Err(Refusal::BadArgument);
+    }
+    match number(first) {
+        Some(value) => Ok(value),
+        None => Err(Refusal::BadArgument),
+    }
+}
+
+// The two numbers that are given.
+fn two(first: &[u8], second: &[u8], third: &[u8]) -> Result<(u64, u64), Refusal>
+    ensures { result ≡ two_numbers first.now second.now third.now }
+{
+    if !third.is_empty() {
+        return Err(Refusal::BadArgument);
+    }
+    match (number(first), number(second)) {
+        (Some(a), Some(b)) => Ok((a, b)),
+        _ => Err(Refusal::BadArgument),
+    }
+}
+
+// The command of this name with these words behind it.
+fn command_named(name: Name, first: &[u8], second: &[u8], third: &[u8]) -> Result<Command, Refusal>
+    ensures { result ≡ command_named name first.now second.now third.now }
+{
+    match name {
+        Name::Step => Ok(Command::Step(one(first, second)?)),
+        Name::Run => Ok(Command::Run(one(first, second)?)),
+        Name::Break => Ok(Command::Break(one(first, second)?)),
+        Name::Clear => Ok(Command::Clear(one(first, second)?)),
+        Name::Regs => Ok(Command::Regs(one(first, second)?)),
+        Name::Sets => Ok(Command::Sets(one(first, second)?)),
+        Name::Mem => {
+            let (at, count) = two(first, second, third)?;
+            Ok(Command::Mem(at, count))
+        }
+        Name::List => {
+            let (at, count) = two(first, second, third)?;
+            Ok(Command::List(at, count))
+        }
+        Name::Quit => {
+            if first.is_empty() {
+                Ok(Command::Quit)
+            } else {
+                Err(Refusal::BadArgument)
+            }
+        }
+    }
+}
+
+/// The command of a line that is not blank.
+#[tactic(auto, unfolding(crate::specs::Commands::command_of))]
+pub fn read_command(line: &[u8]) -> Result<Command, Refusal>
+    ensures { result ≡ command_of line.now }
+{
+    let (word, rest) = split_word(line);
+    let Some(name) = name_of(word) else {
+        return Err(Refusal::UnknownCommand);
+    };
+    let (first, rest) = split_word(rest);
+    let (second, rest) = split_word(rest);
+    let (third, _) = split_word(rest);
+    command_named(name, first, second, third)
+}

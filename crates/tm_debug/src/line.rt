@@ -1,0 +1,142 @@
+//! Lines of the input.
+
+ghost use Rattle.std.specs.Prelude.{◌≡◌, ◌++◌, ◌∷◌, ℕ, List, [], IfOk, OnErr, OnOk, Option, Some, None, if◌then◌else◌, option_to_list};
+ghost use Rattle.ia_lex.specs.Lines.{without_cr};
+ghost use Rattle.ia_text.specs.Writing.{Rose};
+ghost use Rattle.tm_debug.specs.Serving.{IsKept, IsLast, IsLine, ReadsLine};
+
+use crate::input::In;
+use arrayvec::ArrayVec;
+use ia_text::Failed;
+use std::sync::Wait;
+
+/// The most bytes that a line of a command has, without its end.
+pub const MOST_BYTES: usize = 256;
+
+/// The bytes of a line, with room for a carriage return.
+pub type Bytes = ArrayVec<u8, 257>;
+
+/// A line of the input, without its end.
+#[derive(Clone, Debug, Drop)]
+pub enum Line {
+    /// There is none: the input is at its end.
+    End,
+    /// At most 256 bytes.
+    Text(Bytes),
+    /// More than 256 bytes.
+    Long,
+}
+
+/// The beginning of a line: its bytes, and whether there are more than have room.
+#[derive(Drop)]
+pub struct Start {
+    row: Bytes,
+    long: bool,
+}
+
+// A line without the carriage return that may end it.
+#[tactic(auto, using(ia_lex::proofs::Ends::ends_in_cr, ia_lex::proofs::Ends::ends_otherwise, ia_lex::proofs::Ends::ends_nowhere))]
+fn without_return(line: &[u8]) -> &[u8]
+    ensures { result.now ≡ without_cr line.now }
+{
+    let long = line.len();
+    if long == 0 {
+        return line;
+    }
+    if line[long - 1] == b'\r' {
+        &line[..long - 1]
+    } else {
+        line
+    }
+}
+
+// A line of these bytes.
+fn line_of(bytes: &[u8]) -> Line
+    ensures { IsLine bytes.now result }
+{
+    if bytes.len() > MOST_BYTES {
+        return Line::Long;
+    }
+    let mut row = Bytes::new();
+    let _ = row.try_extend_from_slice(bytes);
+    Line::Text(row)
+}
+
+impl Start {
+    fn new() -> Start
+        ensures { IsKept [] result }
+    {
+        Start {
+            row: Bytes::new(),
+            long: false,
+        }
+    }
+
+    // Adds the next byte.
+    fn add(&mut self, byte: u8)
+        ensures { (taken : List ℕ) → IsKept taken self.old → IsKept (taken ++ byte ∷ []) self.new }
+    {
+        if self.row.is_full() {
+            self.long = true;
+        } else {
+            self.row.push(byte);
+        }
+    }
+
+    // The line, where the end of the input follows.
+    fn at_end(&self) -> Line
+        ensures { (taken : List ℕ) → IsKept taken self.now → IsLast taken result }
+    {
+        if self.long {
+            Line::Long
+        } else if self.row.is_empty() {
+            Line::End
+        } else {
+            line_of(self.row.as_slice())
+        }
+    }
+
+    // The line, where a line feed follows.
+    #[tactic(auto, using(crate::proofs::Feeds::still_long))]
+    fn at_feed(&self) -> Line
+        ensures { (taken : List ℕ) → IsKept taken self.now → IsLine (without_cr taken) result }
+    {
+        if self.long {
+            Line::Long
+        } else {
+            line_of(without_return(self.row.as_slice()))
+        }
+    }
+}
+
+// The next byte, or nothing at the end.
+fn next_byte<I: In>(input: &mut I) -> Result<Option<u8>, Failed>
+    ensures byte { IfOk result (λ byte. (xs : List ℕ) → I.remaining input.old ≡ Some xs → (ys : List ℕ) × (I.remaining input.new ≡ Some ys) × (xs ≡ option_to_list byte ++ ys) × (byte ≡ None → ys ≡ [])) }
+    ensures kept { OnOk result (I.failed input.new ≡ I.failed input.old) }
+    ensures err { OnErr result (Rose (I.failed input.old) (I.failed input.new)) }
+{
+    let mut byte = [0];
+    let count = input.get(&mut byte)?;
+    Ok(if count == 0 { None } else { Some(byte[0]) })
+}
+
+/// The next line, which is read a byte at a time, so that nothing behind it is taken.
+pub fn read_line<W: Wait, I: In>(rt: &W, input: &mut I) -> Result<Line, Failed>
+    ensures line { IfOk result (λ line. (xs : List ℕ) → I.remaining input.old ≡ Some xs → (ys : List ℕ) × (I.remaining input.new ≡ Some ys) × ReadsLine line xs ys) }
+    ensures kept { OnOk result (I.failed input.new ≡ I.failed input.old) }
+    ensures err { OnErr result (Rose (I.failed input.old) (I.failed input.new)) }
+{
+    let mut start = Start::new();
+    'bytes: for _ in rt.forever() {
+        let found = next_byte(input)?;
+        let byte = match found {
+            Some(byte) => byte,
+            None => return Ok(start.at_end()),
+        };
+        if byte == b'\n' {
+            return Ok(start.at_feed());
+        }
+        start.add(byte);
+    }
+    unreachable!()
+}

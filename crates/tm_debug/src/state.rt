@@ -1,0 +1,141 @@
+//! What a session keeps between two lines.
+
+ghost use Rattle.std.specs.Prelude.{◌≡◌, ◌↔◌, ℕ, ◌+◌, ◌<◌, ◌≤◌, ◌^◌, ◌++◌, ◌∷◌, [], Err, IfOk, IfSome, OnErr, is_some, length};
+ghost use Rattle.tm_hist.specs.Board.{IsFull, stop_shown};
+ghost use Rattle.tm_hist.specs.Machine.{shown_regs, shown_state};
+ghost use Rattle.tm_debug.specs.Session.{Stepped, is_stopped, place_of, running, running_from, start, turn_of};
+
+use arrayvec::ArrayVec;
+use tm_core::{CoreState, Outcome};
+use tm_hist::{Board, StepFault};
+
+/// The most breakpoints that are set at once.
+pub const MOST_BREAKPOINTS: usize = 64;
+
+/// A board, its breakpoints, and the number behind that of the core that was stepped last.
+#[derive(Drop)]
+pub struct State {
+    pub board: Board,
+    pub breakpoints: ArrayVec<u32, MOST_BREAKPOINTS>,
+    pub next: u8,
+}
+
+/// What the tests before a step of a run come to.
+#[derive(Clone, Copy, PartialEq, Eq, Debug)]
+pub enum Turn {
+    /// All cores have stopped.
+    AllStopped,
+    /// The history is full.
+    Full,
+    /// This core is at this breakpoint.
+    AtBreakpoint(u8, u32),
+    /// This core steps.
+    Go(u8),
+}
+
+/// How many cores there are.
+pub fn core_count(board: &Board) -> u8
+    ensures program { result ≡ length board.now.program.entries }
+    ensures machine { result ≡ length board.now.machine.views }
+    ensures some { 0 < result }
+    ensures most { result ≤ 16 }
+{
+    let _count = board.program().cores();
+    board.cores()
+}
+
+// Whether a core has stopped.
+fn is_stopped(board: &Board, core: u8) -> bool
+    requires { core < length board.now.machine.views }
+    ensures { result ≡ is_stopped board.now core }
+{
+    match board.machine().state(core) {
+        Ok(state) => matches!(state, CoreState::Stopped(_)),
+        Err(_) => unreachable!(),
+    }
+}
+
+// The first core from this number on that has not stopped, of so many that are asked.
+fn running_from(board: &Board, core: u32, left: u8) -> Option<u8>
+    requires { core + left < 2 ^ 32 }
+    ensures first { result ≡ running_from board.now core left }
+    ensures exists { IfSome result (λ c. c < length board.now.machine.views) }
+    ensures known { IfSome result (λ c. c < length board.now.program.entries) }
+{
+    if left == 0 {
+        return None;
+    }
+    let found = (core % u32::from(core_count(board))) as u8;
+    if is_stopped(board, found) {
+        running_from(board, core + 1, left - 1)
+    } else {
+        Some(found)
+    }
+}
+
+impl State {
+    /// A session's state before its first line.
+    pub fn new(board: Board) -> State
+        ensures { place_of result ≡ start board }
+    {
+        State {
+            board,
+            breakpoints: ArrayVec::new(),
+            next: 0,
+        }
+    }
+
+    // The core whose turn it is.
+    fn running(&self) -> Option<u8>
+        ensures first { result ≡ running (place_of self.now) }
+        ensures exists { IfSome result (λ c. c < length self.now.board.machine.views) }
+        ensures known { IfSome result (λ c. c < length self.now.board.program.entries) }
+    {
+        running_from(&self.board, u32::from(self.next), core_count(&self.board))
+    }
+
+    // The address that a core shows.
+    fn eip(&self, core: u8) -> u32
+        requires { core < length self.now.board.machine.views }
+        ensures { result ≡ (shown_regs self.now.board.machine core).eip }
+    {
+        match self.board.machine().regs(core) {
+            Ok(regs) => regs.eip,
+            Err(_) => unreachable!(),
+        }
+    }
+
+    /// The tests before a step of a run.
+    #[tactic(auto, unfolding(crate::specs::Session::turn_of))]
+    pub fn turn(&self, first: bool) -> Turn
+        ensures turn { result ≡ turn_of (place_of self.now) first }
+        ensures room { (core : ℕ) → result ≡ Turn.Go core → (core < length self.now.board.program.entries) × (IsFull self.now.board → ⊥) }
+    {
+        let Some(core) = self.running() else {
+            return Turn::AllStopped;
+        };
+        if self.board.made() == self.board.limit() {
+            return Turn::Full;
+        }
+        let eip = self.eip(core);
+        if !first && self.breakpoints.contains(&eip) {
+            Turn::AtBreakpoint(core, eip)
+        } else {
+            Turn::Go(core)
+        }
+    }
+
+    /// One step of a core.
+    pub fn step(&mut self, core: u8) -> Result<Outcome, StepFault>
+        ensures none { result ≡ Err StepFault.NoSuchCore ↔ (length self.old.board.program.entries ≤ core) }
+        ensures full { result ≡ Err StepFault.LimitReached ↔ ((core < length self.old.board.program.entries) × IsFull self.old.board) }
+        ensures ok { IfOk result (λ outcome. Stepped (place_of self.old) core outcome (place_of self.new)) }
+        ensures err { OnErr result (place_of self.new ≡ place_of self.old) }
+    {
+        let _count = core_count(&self.board);
+        let outcome = self.board.step(core)?;
+        self.board.is_run();
+        self.next = core + 1;
+        Ok(outcome)
+    }
+}
