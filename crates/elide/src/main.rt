@@ -1,23 +1,10 @@
 //! `elide` simulates a multicore IA-32 machine with Intel Restricted Transactional Memory.
 //!
-//! `main` hands in the arguments, the files and the standard streams; the rest is [`command`].
+//! `main` hands in the arguments, the files and the standard streams; the rest is [`elide_command::command`].
 #![tactic(auto)]
 
-mod command;
-mod dis;
-mod fault;
-mod number;
-mod options;
-mod page;
-mod paths;
-mod plan;
-mod program;
-mod run;
-mod settings;
-
-use command::command;
+use elide_command::{HostPaths, command};
 use ia_text::ToWriter;
-use paths::HostPaths;
 use std::process::ExitCode;
 use std::{env, io};
 use tm_debug::FromReader;

@@ -1,8 +1,8 @@
 //! `elide dis`.
 
 use crate::fault::{Fault, Refusal};
+use crate::file::{ProgramFile, read_text};
 use crate::paths::Paths;
-use crate::program::read_file;
 use clap::ArgMatches;
 use ia_image::LoadFault;
 use ia_text::{Out, disassemble};
@@ -15,11 +15,12 @@ pub fn dis<P: Paths, O: Out>(
     paths: &mut P,
     out: &mut O,
 ) -> Result<(), Refusal> {
-    let image = read_file(alloc, options, paths)?;
-    let code_len = image.code_len as usize;
-    if code_len > image.bytes.len() {
+    let text = read_text(options, paths)?;
+    let file = ProgramFile::read(alloc, text.as_slice())?;
+    let code_len = file.code_len as usize;
+    if code_len > file.bytes.len() {
         return Err(Refusal::Fault(Fault::Load(LoadFault::CodeTooLong)));
     }
-    disassemble(&image.bytes.as_slice()[..code_len], image.base, out)?;
+    disassemble(&file.bytes.as_slice()[..code_len], file.base, out)?;
     Ok(())
 }

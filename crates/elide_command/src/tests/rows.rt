@@ -1,7 +1,6 @@
 //! Commands over files and devices in memory.
 
-use super::command;
-use crate::paths::Paths;
+use crate::{Paths, command};
 use ia_text::{Failed, ToVec, ToWriter};
 use std::alloc::{AllocError, Global};
 use std::io;

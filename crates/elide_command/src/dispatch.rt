@@ -2,11 +2,15 @@
 
 ghost use Rattle.std.specs.Prelude.{◌≤◌};
 
+use crate::asm::asm;
+use crate::debug::debug;
 use crate::dis::dis;
 use crate::fault::Refusal;
 use crate::options::command_line;
 use crate::paths::Paths;
+use crate::replay::replay;
 use crate::run::run;
+use crate::threads::threads;
 use ia_text::Out;
 use std::alloc::{AllocError, Global};
 use std::sync::Wait;
@@ -29,9 +33,19 @@ pub fn command<R: Threads + Wait + Sync + AllocGlobal, P: Paths, I: In, O: Out, 
     ensures { result ≤ 2 }
 {
     match dispatch(rt, words, paths, input, out) {
-        Ok(()) => 0,
+        Ok(Answer::Done) => 0,
+        Ok(Answer::Differs) => 1,
         Err(refusal) => tell(rt.alloc(), &refusal, out, err),
     }
+}
+
+/// What a command that was not refused came to.
+#[derive(Clone, Copy, PartialEq, Eq, Debug)]
+pub enum Answer {
+    /// It did what it was asked.
+    Done,
+    /// A history that was run again ended otherwise.
+    Differs,
 }
 
 // Tells why a command ended, and gives its status.
@@ -75,17 +89,19 @@ fn dispatch<R: Threads + Wait + Sync + AllocGlobal, P: Paths, I: In, O: Out>(
     rt: &R,
     words: &[String],
     paths: &mut P,
-    _input: &mut I,
+    input: &mut I,
     out: &mut O,
-) -> Result<(), Refusal> {
+) -> Result<Answer, Refusal> {
     let alloc = rt.alloc();
     let matches = command_line(alloc)?.try_get_matches_from(words)?;
     match matches.subcommand() {
-        Some(("dis", options)) => dis(alloc, options, paths, out),
-        Some(("run", options)) => run(alloc, options, paths, out),
-        _ => Ok(()),
+        Some(("asm", options)) => asm(alloc, options, paths, out)?,
+        Some(("dis", options)) => dis(alloc, options, paths, out)?,
+        Some(("run", options)) => run(alloc, options, paths, out)?,
+        Some(("threads", options)) => threads(rt, options, paths, out)?,
+        Some(("replay", options)) => return replay(alloc, options, paths, out),
+        Some(("debug", options)) => debug(rt, alloc, options, paths, input, out)?,
+        _ => {}
     }
+    Ok(Answer::Done)
 }
-
-#[cfg(test)]
-mod tests;

@@ -4,6 +4,7 @@ use crate::fault::Refusal;
 use crate::number::{is_name, word32};
 use clap::ArgMatches;
 use std::alloc::{AllocError, Global};
+use tm_core::Limits;
 
 /// Where a core begins.
 #[derive(Clone, Copy, Debug)]
@@ -57,6 +58,16 @@ impl<'a> Settings<'a> {
             writes,
             dump,
         })
+    }
+}
+
+impl Settings<'_> {
+    /// How many lines a transaction can touch.
+    pub fn limits(&self) -> Limits {
+        Limits {
+            read_lines: self.reads,
+            write_lines: self.writes,
+        }
     }
 }
 

@@ -1,11 +1,14 @@
 //! Why a command ends without its answer.
 
+use ia_asm::AsmFault;
 use ia_image::{ImageFault, LoadFault};
 use ia_text::{Failed, WriteFault};
 use std::alloc::AllocError;
 use thiserror::Error;
 use tm_core::{MachineFault, RunFault};
-use tm_hist::ScheduleFault;
+use tm_debug::SessionFault;
+use tm_hist::{BoardFault, ScheduleFault, SerialFault, StepFault};
+use tm_work::WorkFault;
 
 /// A fault with a number, told on one line.
 #[derive(Debug, Drop, Error)]
@@ -13,6 +16,9 @@ pub enum Fault {
     /// An output device failed.
     #[error("{0}")]
     Write(#[from] WriteFault),
+    /// FILE is a source that is not assembled.
+    #[error("{0}")]
+    Assemble(#[from] AsmFault),
     /// FILE is no image text.
     #[error("{0}")]
     Image(#[from] ImageFault),
@@ -28,12 +34,30 @@ pub enum Fault {
     /// The schedule is no schedule text.
     #[error("{0}")]
     Schedule(#[from] ScheduleFault),
+    /// The board is not made.
+    #[error("{0}")]
+    Board(#[from] BoardFault),
+    /// A step of the board is not made.
+    #[error("{0}")]
+    Step(#[from] StepFault),
+    /// The history is not run again.
+    #[error("{0}")]
+    Serial(#[from] SerialFault),
+    /// The workers did not all run.
+    #[error("{0}")]
+    Work(#[from] WorkFault),
+    /// The session with the debugger ended early.
+    #[error("{0}")]
+    Session(#[from] SessionFault),
     /// A part of memory passes the memory's end.
     #[error("OutOfRange")]
     OutOfRange,
     /// A file cannot be read.
     #[error("Input")]
     Input,
+    /// A file cannot be written.
+    #[error("Output")]
+    Output,
 }
 
 impl Fault {
@@ -41,19 +65,27 @@ impl Fault {
     pub fn code(&self) -> u8 {
         match self {
             Fault::Write(fault) => fault.code(),
+            Fault::Assemble(fault) => fault.code(),
             Fault::Image(fault) => fault.code(),
             Fault::Load(fault) => fault.code(),
             Fault::Machine(fault) => fault.code(),
             Fault::Run(fault) => fault.code(),
             Fault::Schedule(fault) => fault.code(),
+            Fault::Board(fault) => fault.code(),
+            Fault::Step(fault) => fault.code(),
+            Fault::Serial(fault) => fault.code(),
+            Fault::Work(fault) => fault.code(),
+            Fault::Session(fault) => fault.code(),
             Fault::OutOfRange => 73,
             Fault::Input => 80,
+            Fault::Output => 81,
         }
     }
 
     /// The line of the text that is at fault, from 1.
     pub fn line(&self) -> Option<usize> {
         match self {
+            Fault::Assemble(fault) => fault.line().map(|line| line as usize),
             Fault::Image(fault) => fault.line(),
             Fault::Schedule(ScheduleFault::BadSchedule(line)) => Some(*line),
             _ => None,

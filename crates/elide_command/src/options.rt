@@ -1,0 +1,170 @@
+//! The command line.
+
+use clap::{Arg, ArgAction, Command};
+use std::alloc::{AllocError, Global};
+
+/// The whole command line, for words without the program's name.
+pub fn command_line<'a>(alloc: Global) -> Result<Command<'a>, AllocError> {
+    Command::new(alloc, "elide")
+        .about("Simulates a multicore IA-32 machine with Intel Restricted Transactional Memory.")
+        .version("0.2.0")
+        .bin_name("elide")?
+        .no_binary_name(true)
+        .subcommand_required(true)
+        .after_help(
+            "Example: elide run examples/increment.img --cores 2 --steps \"0 1 0 1 0 1 0 1\" --dump 0x1000:4",
+        )
+        .subcommand(asm_line(alloc)?)?
+        .subcommand(dis_line(alloc)?)?
+        .subcommand(run_line(alloc)?)?
+        .subcommand(threads_line(alloc)?)?
+        .subcommand(replay_line(alloc)?)?
+        .subcommand(debug_line(alloc)?)
+}
+
+// A subcommand on a file.
+fn file_line<'a>(alloc: Global, name: &'a str, help: &'a str) -> Result<Command<'a>, AllocError> {
+    Command::new(alloc, name).arg(Arg::new(alloc, "FILE").required(true).help(help))
+}
+
+// A subcommand on a program.
+fn program_line<'a>(alloc: Global, name: &'a str) -> Result<Command<'a>, AllocError> {
+    file_line(
+        alloc,
+        name,
+        "A program: image text, whose first line is `image 1 BASE CODE`, or else an assembler source",
+    )
+}
+
+fn asm_line<'a>(alloc: Global) -> Result<Command<'a>, AllocError> {
+    let list = Arg::new(alloc, "list")
+        .long("list")
+        .action(ArgAction::SetTrue)
+        .help("Prints the listing in place of the image text");
+    file_line(alloc, "asm", "An assembler source, in NASM's syntax")?
+        .about("Assembles a source and prints its image text")
+        .after_help("Example: elide asm examples/elision.asm --list")
+        .arg(list)
+}
+
+fn dis_line<'a>(alloc: Global) -> Result<Command<'a>, AllocError> {
+    Ok(
+        program_line(alloc, "dis")?
+            .about("Prints the instructions of a program's code")
+            .after_help("Example: elide dis examples/increment.img"),
+    )
+}
+
+// A subcommand that makes a machine.
+fn machine_line<'a>(alloc: Global, name: &'a str) -> Result<Command<'a>, AllocError> {
+    program_line(alloc, name)?
+        .arg(cores(alloc))?
+        .arg(mem(alloc))?
+        .arg(entry(alloc))?
+        .arg(reads(alloc))?
+        .arg(writes(alloc))?
+        .arg(dump(alloc))
+}
+
+fn cores<'a>(alloc: Global) -> Arg<'a> {
+    option(alloc, "cores", "N")
+        .default_value("1")
+        .help("Number of cores, 1 to 16")
+}
+
+fn mem<'a>(alloc: Global) -> Arg<'a> {
+    option(alloc, "mem", "BYTES").default_value("65536").help(
+        "Memory size: a multiple of 4096, at least 4096 * (cores + 1), at most 67108864",
+    )
+}
+
+fn entry<'a>(alloc: Global) -> Arg<'a> {
+    option(alloc, "entry", "AT[,AT..]").help(
+        "Where the cores begin: an address or a source's symbol, one for all or one a core [default: the base]",
+    )
+}
+
+fn reads<'a>(alloc: Global) -> Arg<'a> {
+    option(alloc, "reads", "LINES")
+        .default_value("512")
+        .help("Lines of 64 bytes that a transaction can read, 1 to 4096")
+}
+
+fn writes<'a>(alloc: Global) -> Arg<'a> {
+    option(alloc, "writes", "LINES").default_value("512").help(
+        "Lines of 64 bytes that a transaction can write, 1 to 4096",
+    )
+}
+
+fn dump<'a>(alloc: Global) -> Arg<'a> {
+    option(alloc, "dump", "ADDRESS:BYTES").help("Prints this part of memory after the cores")
+}
+
+fn steps<'a>(alloc: Global) -> Arg<'a> {
+    option(alloc, "steps", "LIST").help("The schedule: core numbers, as \"0 1 0 1\"")
+}
+
+fn schedule<'a>(alloc: Global) -> Arg<'a> {
+    option(alloc, "schedule", "PATH").help("The schedule: a file whose first line is `schedule 1`")
+}
+
+fn run_line<'a>(alloc: Global) -> Result<Command<'a>, AllocError> {
+    let trace = Arg::new(alloc, "trace")
+        .long("trace")
+        .action(ArgAction::SetTrue)
+        .help("Prints the outcome of each step before the state");
+    machine_line(alloc, "run")?
+        .about("Runs a schedule of core steps and prints the state")
+        .after_help(
+            "Example: elide run examples/increment.img --cores 2 --steps \"0 1 0 1 0 1 0 1\" --dump 0x1000:4",
+        )
+        .arg(steps(alloc))?
+        .arg(schedule(alloc))?
+        .arg(trace)
+}
+
+fn threads_line<'a>(alloc: Global) -> Result<Command<'a>, AllocError> {
+    let budget = option(alloc, "budget", "N").required(true).help(
+        "The most steps of each core: cores times N is 1 to 16777216",
+    );
+    let record = option(alloc, "record", "PATH").help(
+        "Writes the schedule that came about to this file, before the state is printed",
+    );
+    machine_line(alloc, "threads")?
+        .about("Runs each core on a thread of its own and prints the state")
+        .after_help(
+            "Example: elide threads examples/elision.asm --cores 4 --budget 1000000 --record schedule.txt",
+        )
+        .arg(budget)?
+        .arg(record)
+}
+
+fn replay_line<'a>(alloc: Global) -> Result<Command<'a>, AllocError> {
+    machine_line(alloc, "replay")?
+        .about(
+            "Runs a schedule, compares it with a serial run on one memory, and prints the state and `agree` or `differ`",
+        )
+        .after_help(
+            "Example: elide replay examples/conflict.img --cores 2 --steps \"0 0 1 1 0 0 0 1\"",
+        )
+        .arg(steps(alloc))?
+        .arg(schedule(alloc))
+}
+
+fn debug_line<'a>(alloc: Global) -> Result<Command<'a>, AllocError> {
+    Ok(
+        machine_line(alloc, "debug")?
+            .about(
+                "Answers commands that are read from standard input: step, run, break, clear, regs, mem, sets, list, quit",
+            )
+            .after_help("Example: elide debug examples/conflict.img --cores 2"),
+    )
+}
+
+// An option with a value.
+fn option<'a>(alloc: Global, name: &'a str, value: &'a str) -> Arg<'a> {
+    Arg::new(alloc, name)
+        .long(name)
+        .value_name(value)
+        .action(ArgAction::Set)
+}

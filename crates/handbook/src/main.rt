@@ -1,0 +1,61 @@
+//! Runs each `elide` command that the documents show, and tells where it prints something else than they say.
+//!
+//! A document's commands are the lines `$ ./elide ..` and `$ cat ..` of its code blocks. What has to be printed stands below
+//! a command, up to the next one or the block's end; a line `...` there stands for any lines.
+#![tactic(auto)]
+
+mod document;
+mod exercise;
+mod printed;
+mod words;
+
+use document::exercises;
+use exercise::{Verdict, run};
+use std::io::Write;
+use std::process::ExitCode;
+use std::rt::Files;
+use std::sync::Wait;
+use std::thread::Threads;
+use std::{fs, io};
+
+/// The documents whose commands are run, in this order, so that a later one may read what an earlier one wrote.
+const DOCUMENTS: [&str; 3] = ["README.md", "docs/TUTORIAL.md", "examples/README.md"];
+
+fn main(rt: HostRuntime) -> io::Result<ExitCode> {
+    let mut out = io::writer(&rt);
+    let mut wrong = 0usize;
+    for path in DOCUMENTS {
+        wrong = wrong.saturating_add(check(&rt, path, &mut out)?);
+    }
+    Ok(if wrong == 0 {
+        ExitCode::SUCCESS
+    } else {
+        ExitCode::FAILURE
+    })
+}
+
+// Runs the commands of one document, and answers how many print something else.
+fn check<R: Threads + Wait + Sync + AllocGlobal + Files, W: Write>(
+    rt: &R,
+    path: &str,
+    out: &mut W,
+) -> io::Result<usize> {
+    let text = fs::read_to_string(rt, path)?;
+    let exercises = exercises(rt.alloc(), &text)?;
+    let mut wrong = 0usize;
+    for exercise in &exercises {
+        match run(rt, exercise)? {
+            Verdict::AsShown => {}
+            Verdict::Otherwise(said) => {
+                wrong = wrong.saturating_add(1);
+                writeln!(out, "{path}: {} prints\n{said}", exercise.command)?;
+            }
+        }
+    }
+    writeln!(
+        out,
+        "{path}: {} commands, {wrong} print something else",
+        exercises.len()
+    )?;
+    Ok(wrong)
+}
