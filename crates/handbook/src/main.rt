@@ -19,7 +19,7 @@ use std::thread::Threads;
 use std::{fs, io};
 
 /// The documents whose commands are run, in this order, so that a later one may read what an earlier one wrote.
-const DOCUMENTS: [&str; 3] = ["README.md", "docs/TUTORIAL.md", "examples/README.md"];
+const DOCUMENTS: [&str; 2] = ["docs/TUTORIAL.md", "examples/README.md"];
 
 fn main(rt: HostRuntime) -> io::Result<ExitCode> {
     let mut out = io::writer(&rt);
