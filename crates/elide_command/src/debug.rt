@@ -10,7 +10,7 @@ use clap::ArgMatches;
 use ia_text::Out;
 use std::alloc::Global;
 use std::sync::Wait;
-use tm_debug::{In, Session};
+use tm_debug::{In, serve};
 use tm_hist::Board;
 
 /// How many steps a session can make.
@@ -33,8 +33,6 @@ pub fn debug<R: Wait, P: Paths, I: In, O: Out>(
     let limits = settings.limits();
     let board = Board::new(alloc, &program, limits, MOST_STEPS).map_err(Fault::Board)?;
     part_of(board.machine().view(), settings.dump)?;
-    Session::new(board, input, out)
-        .serve(rt, alloc)
-        .map_err(Fault::Session)?;
+    serve(rt, alloc, board, input, out).map_err(Fault::Session)?;
     Ok(())
 }
