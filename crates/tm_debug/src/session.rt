@@ -19,18 +19,34 @@ use crate::trouble::{Trouble, with_trouble};
 use crate::words::split_word;
 use ia_text::{Out, WriteFault};
 use std::alloc::Global;
+use std::fmt;
 use std::sync::Wait;
+use thiserror::Error;
 use tm_hist::Board;
 
 /// Why a session ended before its input did. Each gives the board back, after the steps that were made.
-#[derive(Drop)]
+#[derive(Drop, Error)]
 pub enum SessionFault {
     /// The device that commands come from failed (76).
+    #[error("Read")]
     Read(Board),
     /// The device that answers go to failed (77). A beginning of the answers was written.
+    #[error("Write")]
     Write(Board),
     /// There was no memory for an answer (78).
+    #[error("NoMemory")]
     NoMemory(Board),
+}
+
+/// The fault's name, without the board.
+impl fmt::Debug for SessionFault {
+    fn fmt<W: fmt::Write>(&self, f: &mut fmt::Formatter<W>) -> fmt::Result {
+        match self {
+            SessionFault::Read(_) => f.write_str("Read(..)"),
+            SessionFault::Write(_) => f.write_str("Write(..)"),
+            SessionFault::NoMemory(_) => f.write_str("NoMemory(..)"),
+        }
+    }
 }
 
 impl SessionFault {
