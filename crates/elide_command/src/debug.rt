@@ -1,10 +1,9 @@
 //! `elide debug`.
 
 use crate::fault::{Fault, Refusal};
-use crate::file::{ProgramFile, read_text};
 use crate::paths::Paths;
-use crate::program::{entries_of, program_of};
 use crate::settings::Settings;
+use crate::setup::prepared;
 use crate::show::part_of;
 use clap::ArgMatches;
 use ia_text::Out;
@@ -26,13 +25,10 @@ pub fn debug<R: Wait, P: Paths, I: In, O: Out>(
     out: &mut O,
 ) -> Result<(), Refusal> {
     let settings = Settings::read(alloc, options)?;
-    let text = read_text(options, paths)?;
-    let file = ProgramFile::read(alloc, text.as_slice())?;
-    let entries = entries_of(alloc, &settings, &file)?;
-    let program = program_of(alloc, &file, &settings, entries.as_slice())?;
-    let limits = settings.limits();
-    let board = Board::new(alloc, &program, limits, MOST_STEPS).map_err(Fault::Board)?;
-    part_of(board.machine().view(), settings.dump)?;
+    let setup = prepared(alloc, options, &settings, paths)?;
+    let board = Board::new(alloc, &setup.program, setup.limits, MOST_STEPS);
+    let board = board.map_err(Fault::Board)?;
+    part_of(board.machine().view(), setup.dump)?;
     serve(rt, alloc, board, input, out).map_err(Fault::Session)?;
     Ok(())
 }

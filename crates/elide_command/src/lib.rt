@@ -16,6 +16,7 @@ mod program;
 mod replay;
 mod run;
 mod settings;
+mod setup;
 mod show;
 mod threads;
 

@@ -2,18 +2,15 @@
 
 use crate::dispatch::Answer;
 use crate::fault::{Fault, Refusal};
-use crate::file::{ProgramFile, read_text};
 use crate::page::hand_on;
 use crate::paths::Paths;
-use crate::plan::Plan;
-use crate::program::{entries_of, program_of};
-use crate::settings::Settings;
+use crate::setup::{Setup, scheduled};
 use crate::show::{part_of, show};
 use clap::ArgMatches;
 use ia_text::{Out, ToVec};
 use std::alloc::Global;
 use tm_core::{CoreState, Machine, RunFault};
-use tm_hist::{Board, Serial, serial};
+use tm_hist::{Board, Serial};
 use tm_rule::Stop;
 
 /// Runs a schedule on a board, and its history again on one memory; prints the state, the dump, and whether both ended
@@ -24,24 +21,25 @@ pub fn replay<P: Paths, O: Out>(
     paths: &mut P,
     out: &mut O,
 ) -> Result<Answer, Refusal> {
-    let settings = Settings::read(alloc, options)?;
-    let plan = Plan::read(alloc, options)?;
-    let text = read_text(options, paths)?;
-    let file = ProgramFile::read(alloc, text.as_slice())?;
-    let entries = entries_of(alloc, &settings, &file)?;
-    let steps = plan.steps(alloc, paths)?;
-    let program = program_of(alloc, &file, &settings, entries.as_slice())?;
-    let limit = (steps.len() as u64).max(1);
-    let mut board = Board::new(alloc, &program, settings.limits(), limit).map_err(Fault::Board)?;
-    step_all(&mut board, steps.as_slice())?;
-    let part = part_of(board.machine().view(), settings.dump)?;
-    let again = serial(alloc, &program, board.history()).map_err(Fault::Serial)?;
+    let (setup, steps) = scheduled(alloc, options, paths)?;
+    let board = replayed(alloc, &setup, steps.as_slice())?;
+    let part = part_of(board.machine().view(), setup.dump)?;
+    let again = board.replay(alloc).map_err(Fault::Serial)?;
     let agree = agrees(&board, &again);
     let mut page = ToVec::new(Vec::new(alloc));
     show(board.machine(), part, &mut page, out)?;
     page.put(if agree { b"agree\n" } else { b"differ\n" })?;
     hand_on(&mut page, 0, out)?;
     Ok(if agree { Answer::Done } else { Answer::Differs })
+}
+
+// A board after these steps.
+fn replayed(alloc: Global, setup: &Setup, steps: &[u8]) -> Result<Board, Refusal> {
+    let limit = (steps.len() as u64).max(1);
+    let board = Board::new(alloc, &setup.program, setup.limits, limit);
+    let mut board = board.map_err(Fault::Board)?;
+    step_all(&mut board, steps)?;
+    Ok(board)
 }
 
 // One step of each core of the list, none where a number is no core's.

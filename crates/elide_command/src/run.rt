@@ -1,12 +1,9 @@
 //! `elide run`.
 
 use crate::fault::{Fault, Refusal};
-use crate::file::{ProgramFile, read_text};
 use crate::page::{PIECE, hand_on};
 use crate::paths::Paths;
-use crate::plan::Plan;
-use crate::program::{entries_of, program_of};
-use crate::settings::Settings;
+use crate::setup::scheduled;
 use crate::show::{part_of, show};
 use clap::ArgMatches;
 use ia_text::{Out, ToVec, WriteFault};
@@ -21,16 +18,11 @@ pub fn run<P: Paths, O: Out>(
     paths: &mut P,
     out: &mut O,
 ) -> Result<(), Refusal> {
-    let settings = Settings::read(alloc, options)?;
-    let plan = Plan::read(alloc, options)?;
-    let text = read_text(options, paths)?;
-    let file = ProgramFile::read(alloc, text.as_slice())?;
-    let entries = entries_of(alloc, &settings, &file)?;
-    let steps = plan.steps(alloc, paths)?;
-    let program = program_of(alloc, &file, &settings, entries.as_slice())?;
-    let mut machine = Machine::new(alloc, &program, settings.limits()).map_err(Fault::Machine)?;
+    let (setup, steps) = scheduled(alloc, options, paths)?;
+    let machine = Machine::new(alloc, &setup.program, setup.limits);
+    let mut machine = machine.map_err(Fault::Machine)?;
     let outcomes = machine.run(alloc, steps.as_slice()).map_err(Fault::Run)?;
-    let part = part_of(machine.view(), settings.dump)?;
+    let part = part_of(machine.view(), setup.dump)?;
     let mut page = ToVec::new(Vec::new(alloc));
     if options.get_flag("trace") {
         write_trace(steps.as_slice(), outcomes.as_slice(), &mut page, out)?;

@@ -1,11 +1,10 @@
 //! `elide threads`.
 
 use crate::fault::{Fault, Refusal};
-use crate::file::{ProgramFile, read_text};
 use crate::page::hand_on;
 use crate::paths::Paths;
-use crate::program::{entries_of, program_of};
-use crate::settings::{Settings, number};
+use crate::settings::{Dump, Settings, number};
+use crate::setup::prepared;
 use crate::show::{part_of, show};
 use clap::ArgMatches;
 use ia_text::{Out, ToVec};
@@ -36,21 +35,32 @@ pub fn threads<R: Threads + Wait + Sync + AllocGlobal, P: Paths, O: Out>(
     let alloc = rt.alloc();
     let settings = Settings::read(alloc, options)?;
     let budget = number(options, "budget", "--budget")?;
-    let text = read_text(options, paths)?;
-    let file = ProgramFile::read(alloc, text.as_slice())?;
-    let entries = entries_of(alloc, &settings, &file)?;
-    let program = program_of(alloc, &file, &settings, entries.as_slice())?;
-    let limit = u64::from(program.cores()) * u64::from(budget);
-    let board = Board::new(alloc, &program, settings.limits(), limit).map_err(Fault::Board)?;
-    part_of(board.machine().view(), settings.dump)?;
-    let budgets = vec![in alloc; budget; usize::from(program.cores())]?;
+    let setup = prepared(alloc, options, &settings, paths)?;
+    let cores = setup.program.cores();
+    let limit = u64::from(cores) * u64::from(budget);
+    let board = Board::new(alloc, &setup.program, setup.limits, limit);
+    let board = board.map_err(Fault::Board)?;
+    part_of(board.machine().view(), setup.dump)?;
+    let budgets = vec![in alloc; budget; usize::from(cores)]?;
     let report = run_workers(rt, alloc, board, budgets.as_slice(), &NoGate).map_err(Fault::Work)?;
+    tell(alloc, &report.board, options, setup.dump, paths, out)
+}
+
+// Records the schedule where it is asked for, and prints the state and the dump.
+fn tell<P: Paths, O: Out>(
+    alloc: Global,
+    board: &Board,
+    options: &ArgMatches<'_>,
+    dump: Option<Dump>,
+    paths: &mut P,
+    out: &mut O,
+) -> Result<(), Refusal> {
     if let Some(path) = options.get_str("record") {
-        record(alloc, &report.board, path, paths)?;
+        record(alloc, board, path, paths)?;
     }
-    let part = part_of(report.board.machine().view(), settings.dump)?;
+    let part = part_of(board.machine().view(), dump)?;
     let mut page = ToVec::new(Vec::new(alloc));
-    show(report.board.machine(), part, &mut page, out)?;
+    show(board.machine(), part, &mut page, out)?;
     Ok(hand_on(&mut page, 0, out)?)
 }
 
