@@ -5,26 +5,35 @@ use std::alloc::{AllocError, Global};
 /// Whether lines are those that are wanted, where `...` stands for any lines.
 pub fn is_as_shown(alloc: Global, wanted: &[&str], said: &str) -> Result<bool, AllocError> {
     let lines: Vec<&str> = said.lines().collect(alloc)?;
-    Ok(matches(wanted, lines.as_slice()))
+    Ok(is_same(wanted, lines.as_slice()))
 }
 
-fn matches(wanted: &[&str], said: &[&str]) -> bool {
-    match wanted.split_first() {
-        None => said.is_empty(),
-        Some((&"...", rest)) => matches_behind(rest, said),
-        Some((first, rest)) => match said.split_first() {
-            Some((line, more)) => first == line && matches(rest, more),
-            None => false,
-        },
-    }
-}
-
-// Whether some end of the lines is as wanted.
-fn matches_behind(wanted: &[&str], said: &[&str]) -> bool {
-    for start in 0..said.len() + 1 {
-        if matches(wanted, &said[start..]) {
-            return true;
+fn is_same(wanted: &[&str], said: &[&str]) -> bool {
+    let mut place = 0usize;
+    let mut skips = false;
+    for line in wanted {
+        if *line == "..." {
+            skips = true;
+        } else {
+            match behind(said, place, line, skips) {
+                Some(next) => place = next,
+                None => return false,
+            }
+            skips = false;
         }
     }
-    false
+    skips || place == said.len()
+}
+
+// The place behind a line: at this place, or at the first one from there on, where lines may be skipped.
+fn behind(said: &[&str], place: usize, line: &str, skips: bool) -> Option<usize> {
+    for index in place..said.len() {
+        if said[index] == line {
+            return index.checked_add(1);
+        }
+        if !skips {
+            return None;
+        }
+    }
+    None
 }
