@@ -29,12 +29,21 @@ impl<'a> Disk<'a> {
 
 impl Paths for Disk<'_> {
     fn read(&mut self, path: &str) -> Result<Vec<u8>, Failed> {
-        let bytes = match path {
-            "p" => self.program.as_bytes(),
-            "out" => self.written.as_slice(),
-            _ => return Err(Failed),
-        };
-        bytes.to_vec(self.alloc).map_err(|_| Failed)
+        if path == "p" {
+            return self
+                .program
+                .as_bytes()
+                .to_vec(self.alloc)
+                .map_err(|_| Failed);
+        }
+        if path == "out" {
+            return self
+                .written
+                .as_slice()
+                .to_vec(self.alloc)
+                .map_err(|_| Failed);
+        }
+        Err(Failed)
     }
 
     fn write(&mut self, path: &str, bytes: &[u8]) -> Result<(), Failed> {
