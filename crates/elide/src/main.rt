@@ -5,6 +5,7 @@
 
 use elide_command::{HostPaths, command};
 use ia_text::ToWriter;
+use std::io::BufReader;
 use std::process::ExitCode;
 use std::{env, io};
 use tm_debug::FromReader;
@@ -12,7 +13,8 @@ use tm_debug::FromReader;
 fn main(rt: HostRuntime) -> io::Result<ExitCode> {
     let words: Vec<String> = env::args(&rt)?.skip(1).collect(rt.alloc())?;
     let mut paths = HostPaths::new(&rt);
-    let mut input = FromReader::new(rt.reader());
+    // A debugger's answer is written before more of the input is awaited, since a read takes what is there.
+    let mut input = FromReader::new(BufReader::new(rt.alloc(), rt.reader())?);
     let mut out = ToWriter::new(io::writer(&rt));
     let stderr = rt.stderr();
     let mut err = ToWriter::new(&stderr);

@@ -1,5 +1,6 @@
 //! `elide asm`.
 
+use crate::dispatch::Answer;
 use crate::fault::{Fault, Refusal};
 use crate::file::read_text;
 use crate::paths::Paths;
@@ -15,7 +16,7 @@ pub fn asm<P: Paths, O: Out>(
     options: &ArgMatches<'_>,
     paths: &mut P,
     out: &mut O,
-) -> Result<(), Refusal> {
+) -> Result<Answer, Refusal> {
     let text = read_text(options, paths)?;
     let unit = assemble(alloc, text.as_slice()).map_err(Fault::Assemble)?;
     if options.get_flag("list") {
@@ -23,5 +24,5 @@ pub fn asm<P: Paths, O: Out>(
     } else {
         write_image(unit.image.as_slice(), unit.base, unit.code_len, out)?;
     }
-    Ok(())
+    Ok(Answer::Done)
 }

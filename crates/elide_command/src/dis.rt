@@ -1,5 +1,6 @@
 //! `elide dis`.
 
+use crate::dispatch::Answer;
 use crate::fault::{Fault, Refusal};
 use crate::file::{ProgramFile, read_text};
 use crate::paths::Paths;
@@ -14,7 +15,7 @@ pub fn dis<P: Paths, O: Out>(
     options: &ArgMatches<'_>,
     paths: &mut P,
     out: &mut O,
-) -> Result<(), Refusal> {
+) -> Result<Answer, Refusal> {
     let text = read_text(options, paths)?;
     let file = ProgramFile::read(alloc, text.as_slice())?;
     let code_len = file.code_len as usize;
@@ -22,5 +23,5 @@ pub fn dis<P: Paths, O: Out>(
         return Err(Refusal::Fault(Fault::Load(LoadFault::CodeTooLong)));
     }
     disassemble(&file.bytes.as_slice()[..code_len], file.base, out)?;
-    Ok(())
+    Ok(Answer::Done)
 }

@@ -5,12 +5,13 @@ ghost use Rattle.std.specs.Prelude.{◌≤◌};
 use crate::asm::asm;
 use crate::debug::debug;
 use crate::dis::dis;
-use crate::fault::Refusal;
+use crate::fault::{Fault, Refusal};
 use crate::options::command_line;
 use crate::paths::Paths;
 use crate::replay::replay;
 use crate::run::run;
 use crate::threads::threads;
+use clap::ArgMatches;
 use ia_text::Out;
 use std::alloc::{AllocError, Global};
 use std::sync::Wait;
@@ -32,10 +33,18 @@ pub fn command<R: Threads + Wait + Sync + AllocGlobal, P: Paths, I: In, O: Out, 
 ) -> u8
     ensures { result ≤ 2 }
 {
-    match dispatch(rt, words, paths, input, out) {
-        Ok(Answer::Done) => 0,
-        Ok(Answer::Differs) => 1,
-        Err(refusal) => tell(rt.alloc(), &refusal, out, err),
+    let alloc = rt.alloc();
+    let line = match command_line(alloc) {
+        Ok(line) => line,
+        Err(refused) => return tell(alloc, Refusal::from(refused), err),
+    };
+    match line.try_get_matches_from(words) {
+        Ok(matches) => match obey(rt, &matches, paths, input, out) {
+            Ok(Answer::Done) => 0,
+            Ok(Answer::Differs) => 1,
+            Err(refusal) => tell(alloc, refusal, err),
+        },
+        Err(error) => tell_clap(alloc, &error, out, err),
     }
 }
 
@@ -48,33 +57,62 @@ pub enum Answer {
     Differs,
 }
 
+// Does what the words say.
+fn obey<R: Threads + Wait + Sync + AllocGlobal, P: Paths, I: In, O: Out>(
+    rt: &R,
+    matches: &ArgMatches<'_>,
+    paths: &mut P,
+    input: &mut I,
+    out: &mut O,
+) -> Result<Answer, Refusal> {
+    let alloc = rt.alloc();
+    match matches.subcommand() {
+        Some(("asm", options)) => asm(alloc, options, paths, out),
+        Some(("dis", options)) => dis(alloc, options, paths, out),
+        Some(("run", options)) => run(alloc, options, paths, out),
+        Some(("threads", options)) => threads(rt, options, paths, out),
+        Some(("replay", options)) => replay(alloc, options, paths, out),
+        Some(("debug", options)) => debug(rt, alloc, options, paths, input, out),
+        _ => Ok(Answer::Done),
+    }
+}
+
 // Tells why a command ended, and gives its status.
-fn tell<O: Out, E: Out>(alloc: Global, refusal: &Refusal, out: &mut O, err: &mut E) -> u8
+fn tell<E: Out>(alloc: Global, refusal: Refusal, err: &mut E) -> u8
     ensures { result ≤ 2 }
 {
     match refusal {
         Refusal::Fault(fault) => {
-            let text = match fault.line() {
-                None => format!(in alloc; "fault {} {fault}\n", fault.code()),
-                Some(line) => format!(in alloc; "fault {} {fault} line {line}\n", fault.code()),
-            };
-            put_text(text, err);
+            put_text(fault_line(alloc, fault), err);
             1
         }
         Refusal::Usage(name) => {
             put_text(format!(in alloc; "usage: {name}\n"), err);
             2
         }
-        Refusal::Clap(error) => {
-            let text = format!(in alloc; "{error}");
-            if error.use_stderr() {
-                put_text(text, err);
-                2
-            } else {
-                put_text(text, out);
-                0
-            }
-        }
+    }
+}
+
+// The line that tells a fault.
+fn fault_line(alloc: Global, fault: Fault) -> Result<String, AllocError> {
+    let code = fault.code();
+    match fault.line() {
+        None => format!(in alloc; "fault {code} {fault}\n"),
+        Some(line) => format!(in alloc; "fault {code} {fault} line {line}\n"),
+    }
+}
+
+// Tells what clap says of the words: a refusal, or the help or version that was asked for.
+fn tell_clap<O: Out, E: Out>(alloc: Global, error: &clap::Error, out: &mut O, err: &mut E) -> u8
+    ensures { result ≤ 2 }
+{
+    let text = format!(in alloc; "{error}");
+    if error.use_stderr() {
+        put_text(text, err);
+        2
+    } else {
+        put_text(text, out);
+        0
     }
 }
 
@@ -83,25 +121,4 @@ fn put_text<O: Out>(text: Result<String, AllocError>, out: &mut O) {
     if let Ok(text) = text {
         let _ = out.put(text.as_bytes());
     }
-}
-
-fn dispatch<R: Threads + Wait + Sync + AllocGlobal, P: Paths, I: In, O: Out>(
-    rt: &R,
-    words: &[String],
-    paths: &mut P,
-    input: &mut I,
-    out: &mut O,
-) -> Result<Answer, Refusal> {
-    let alloc = rt.alloc();
-    let matches = command_line(alloc)?.try_get_matches_from(words)?;
-    match matches.subcommand() {
-        Some(("asm", options)) => asm(alloc, options, paths, out)?,
-        Some(("dis", options)) => dis(alloc, options, paths, out)?,
-        Some(("run", options)) => run(alloc, options, paths, out)?,
-        Some(("threads", options)) => threads(rt, options, paths, out)?,
-        Some(("replay", options)) => return replay(alloc, options, paths, out),
-        Some(("debug", options)) => debug(rt, alloc, options, paths, input, out)?,
-        _ => {}
-    }
-    Ok(Answer::Done)
 }

@@ -10,45 +10,54 @@ use tm_debug::SessionFault;
 use tm_hist::{BoardFault, ScheduleFault, SerialFault, StepFault};
 use tm_work::WorkFault;
 
-/// A fault with a number, told on one line.
-#[derive(Debug, Drop, Error)]
+/// A fault with a number, told on one line. It owns nothing, so that it goes through `?` at no cost.
+#[derive(Clone, Copy, Debug, Error)]
 pub enum Fault {
     /// An output device failed.
     #[error("{0}")]
-    Write(#[from] WriteFault),
+    Write(WriteFault),
     /// FILE is a source that is not assembled.
     #[error("{0}")]
-    Assemble(#[from] AsmFault),
+    Assemble(AsmFault),
     /// FILE is no image text.
     #[error("{0}")]
-    Image(#[from] ImageFault),
+    Image(ImageFault),
     /// The program is not loaded.
     #[error("{0}")]
-    Load(#[from] LoadFault),
+    Load(LoadFault),
     /// The machine is not made.
     #[error("{0}")]
-    Machine(#[from] MachineFault),
+    Machine(MachineFault),
     /// The schedule is not run.
     #[error("{0}")]
-    Run(#[from] RunFault),
+    Run(RunFault),
     /// The schedule is no schedule text.
     #[error("{0}")]
-    Schedule(#[from] ScheduleFault),
+    Schedule(ScheduleFault),
     /// The board is not made.
     #[error("{0}")]
-    Board(#[from] BoardFault),
+    Board(BoardFault),
     /// A step of the board is not made.
     #[error("{0}")]
-    Step(#[from] StepFault),
+    Step(StepFault),
     /// The history is not run again.
     #[error("{0}")]
-    Serial(#[from] SerialFault),
-    /// The workers did not all run.
-    #[error("{0}")]
-    Work(#[from] WorkFault),
-    /// The session with the debugger ended early.
-    #[error("{0}")]
-    Session(#[from] SessionFault),
+    Serial(SerialFault),
+    /// A worker's thread is not started.
+    #[error("SpawnRefused")]
+    SpawnRefused,
+    /// The workers have no memory.
+    #[error("NoMemory")]
+    NoWorkers,
+    /// The input of a session failed.
+    #[error("Read")]
+    SessionRead,
+    /// The output of a session failed.
+    #[error("Write")]
+    SessionWrite,
+    /// A session has no memory.
+    #[error("NoMemory")]
+    NoSession,
     /// A part of memory passes the memory's end.
     #[error("OutOfRange")]
     OutOfRange,
@@ -61,8 +70,25 @@ pub enum Fault {
 }
 
 impl Fault {
+    /// Why the workers did not all run. The board that comes with it is not asked for.
+    pub fn of_workers(fault: &WorkFault) -> Fault {
+        match fault {
+            WorkFault::SpawnRefused(_, _) => Fault::SpawnRefused,
+            WorkFault::NoMemory(_) => Fault::NoWorkers,
+        }
+    }
+
+    /// Why a session ended early. The board that comes with it is not asked for.
+    pub fn of_session(fault: &SessionFault) -> Fault {
+        match fault {
+            SessionFault::Read(_) => Fault::SessionRead,
+            SessionFault::Write(_) => Fault::SessionWrite,
+            SessionFault::NoMemory(_) => Fault::NoSession,
+        }
+    }
+
     /// The fault's number.
-    pub fn code(&self) -> u8 {
+    pub fn code(self) -> u8 {
         match self {
             Fault::Write(fault) => fault.code(),
             Fault::Assemble(fault) => fault.code(),
@@ -74,31 +100,33 @@ impl Fault {
             Fault::Board(fault) => fault.code(),
             Fault::Step(fault) => fault.code(),
             Fault::Serial(fault) => fault.code(),
-            Fault::Work(fault) => fault.code(),
-            Fault::Session(fault) => fault.code(),
+            Fault::SpawnRefused => 60,
+            Fault::NoWorkers => 61,
             Fault::OutOfRange => 73,
+            Fault::SessionRead => 76,
+            Fault::SessionWrite => 77,
+            Fault::NoSession => 78,
             Fault::Input => 80,
             Fault::Output => 81,
         }
     }
 
     /// The line of the text that is at fault, from 1.
-    pub fn line(&self) -> Option<usize> {
+    pub fn line(self) -> Option<usize> {
         match self {
             Fault::Assemble(fault) => fault.line().map(|line| line as usize),
             Fault::Image(fault) => fault.line(),
-            Fault::Schedule(ScheduleFault::BadSchedule(line)) => Some(*line),
+            Fault::Schedule(ScheduleFault::BadSchedule(line)) => Some(line),
             _ => None,
         }
     }
 }
 
-/// Why a command ends: a fault, an option that was misused, or clap's refusal.
-#[derive(Debug, Drop)]
+/// Why a command whose words clap took ends: a fault, or an option that was misused.
+#[derive(Clone, Copy, Debug)]
 pub enum Refusal {
     Fault(Fault),
     Usage(&'static str),
-    Clap(clap::Error),
 }
 
 impl From<Fault> for Refusal {
@@ -122,11 +150,5 @@ impl From<Failed> for Refusal {
 impl From<WriteFault> for Refusal {
     fn from(fault: WriteFault) -> Refusal {
         Refusal::Fault(Fault::Write(fault))
-    }
-}
-
-impl From<clap::Error> for Refusal {
-    fn from(error: clap::Error) -> Refusal {
-        Refusal::Clap(error)
     }
 }

@@ -5,7 +5,7 @@ use crate::fault::{Fault, Refusal};
 use crate::page::hand_on;
 use crate::paths::Paths;
 use crate::setup::{Setup, scheduled};
-use crate::show::{part_of, show};
+use crate::show::{Part, part_of, show};
 use clap::ArgMatches;
 use ia_text::{Out, ToVec};
 use std::alloc::Global;
@@ -25,7 +25,17 @@ pub fn replay<P: Paths, O: Out>(
     let board = replayed(alloc, &setup, steps.as_slice())?;
     let part = part_of(board.machine().view(), setup.dump)?;
     let again = board.replay(alloc).map_err(Fault::Serial)?;
-    let agree = agrees(&board, &again);
+    tell(alloc, &board, part, agrees(&board, &again), out)
+}
+
+// Prints the state, the dump, and whether both runs ended alike.
+fn tell<O: Out>(
+    alloc: Global,
+    board: &Board,
+    part: Option<Part<'_>>,
+    agree: bool,
+    out: &mut O,
+) -> Result<Answer, Refusal> {
     let mut page = ToVec::new(Vec::new(alloc));
     show(board.machine(), part, &mut page, out)?;
     page.put(if agree { b"agree\n" } else { b"differ\n" })?;

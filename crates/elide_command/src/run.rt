@@ -1,10 +1,11 @@
 //! `elide run`.
 
+use crate::dispatch::Answer;
 use crate::fault::{Fault, Refusal};
 use crate::page::{PIECE, hand_on};
 use crate::paths::Paths;
-use crate::setup::scheduled;
-use crate::show::{part_of, show};
+use crate::setup::{Setup, scheduled};
+use crate::show::{Part, part_of, show};
 use clap::ArgMatches;
 use ia_text::{Out, ToVec, WriteFault};
 use std::alloc::Global;
@@ -17,18 +18,43 @@ pub fn run<P: Paths, O: Out>(
     options: &ArgMatches<'_>,
     paths: &mut P,
     out: &mut O,
-) -> Result<(), Refusal> {
+) -> Result<Answer, Refusal> {
     let (setup, steps) = scheduled(alloc, options, paths)?;
-    let machine = Machine::new(alloc, &setup.program, setup.limits);
-    let mut machine = machine.map_err(Fault::Machine)?;
-    let outcomes = machine.run(alloc, steps.as_slice()).map_err(Fault::Run)?;
-    let part = part_of(machine.view(), setup.dump)?;
+    let ran = Ran::of(alloc, &setup, steps.as_slice())?;
+    let part = part_of(ran.machine.view(), setup.dump)?;
     let mut page = ToVec::new(Vec::new(alloc));
     if options.get_flag("trace") {
-        write_trace(steps.as_slice(), outcomes.as_slice(), &mut page, out)?;
+        write_trace(steps.as_slice(), ran.outcomes.as_slice(), &mut page, out)?;
     }
-    show(&machine, part, &mut page, out)?;
-    Ok(hand_on(&mut page, 0, out)?)
+    ran.tell(part, &mut page, out)
+}
+
+// A machine after a schedule, and what came of each step.
+#[derive(Drop)]
+struct Ran {
+    machine: Machine,
+    outcomes: Vec<Outcome>,
+}
+
+impl Ran {
+    fn of(alloc: Global, setup: &Setup, steps: &[u8]) -> Result<Ran, Refusal> {
+        let machine = Machine::new(alloc, &setup.program, setup.limits);
+        let mut machine = machine.map_err(Fault::Machine)?;
+        let outcomes = machine.run(alloc, steps).map_err(Fault::Run)?;
+        Ok(Ran { machine, outcomes })
+    }
+
+    // Prints the state and the dump.
+    fn tell<O: Out>(
+        &self,
+        part: Option<Part<'_>>,
+        page: &mut ToVec,
+        out: &mut O,
+    ) -> Result<Answer, Refusal> {
+        show(&self.machine, part, page, out)?;
+        hand_on(page, 0, out)?;
+        Ok(Answer::Done)
+    }
 }
 
 // One outcome line a step.

@@ -1,15 +1,17 @@
 //! What the commands that make a machine begin with.
 
-use crate::fault::Refusal;
+use crate::fault::{Fault, Refusal};
 use crate::file::{ProgramFile, read_text};
 use crate::paths::Paths;
 use crate::plan::Plan;
 use crate::program::{entries_of, program_of};
 use crate::settings::{Dump, Settings};
+use crate::show::part_of;
 use clap::ArgMatches;
 use ia_image::Program;
 use std::alloc::Global;
 use tm_core::Limits;
+use tm_hist::Board;
 
 /// A program, and what the options say of its machine.
 #[derive(Drop)]
@@ -44,11 +46,30 @@ pub fn scheduled<P: Paths>(
     let settings = Settings::read(alloc, options)?;
     let plan = Plan::read(alloc, options)?;
     let text = read_text(options, paths)?;
-    let file = ProgramFile::read(alloc, text.as_slice())?;
-    let entries = entries_of(alloc, &settings, &file)?;
+    planned(alloc, &settings, plan, text.as_slice(), paths)
+}
+
+// A program by the text of FILE, and its steps.
+fn planned<P: Paths>(
+    alloc: Global,
+    settings: &Settings<'_>,
+    plan: Plan<'_>,
+    text: &[u8],
+    paths: &mut P,
+) -> Result<(Setup, Vec<u8>), Refusal> {
+    let file = ProgramFile::read(alloc, text)?;
+    let entries = entries_of(alloc, settings, &file)?;
     let steps = plan.steps(alloc, paths)?;
-    let setup = loaded(alloc, &settings, &file, entries.as_slice())?;
+    let setup = loaded(alloc, settings, &file, entries.as_slice())?;
     Ok((setup, steps))
+}
+
+/// A board of the program with room for so many steps, where what is to be printed of memory is there.
+pub fn new_board(alloc: Global, setup: &Setup, limit: u64) -> Result<Board, Refusal> {
+    let board = Board::new(alloc, &setup.program, setup.limits, limit);
+    let board = board.map_err(Fault::Board)?;
+    part_of(board.machine().view(), setup.dump)?;
+    Ok(board)
 }
 
 fn loaded(

@@ -1,10 +1,11 @@
 //! `elide threads`.
 
+use crate::dispatch::Answer;
 use crate::fault::{Fault, Refusal};
 use crate::page::hand_on;
 use crate::paths::Paths;
 use crate::settings::{Dump, Settings, number};
-use crate::setup::prepared;
+use crate::setup::{new_board, prepared};
 use crate::show::{part_of, show};
 use clap::ArgMatches;
 use ia_text::{Out, ToVec};
@@ -31,19 +32,29 @@ pub fn threads<R: Threads + Wait + Sync + AllocGlobal, P: Paths, O: Out>(
     options: &ArgMatches<'_>,
     paths: &mut P,
     out: &mut O,
-) -> Result<(), Refusal> {
+) -> Result<Answer, Refusal> {
     let alloc = rt.alloc();
     let settings = Settings::read(alloc, options)?;
     let budget = number(options, "budget", "--budget")?;
     let setup = prepared(alloc, options, &settings, paths)?;
-    let cores = setup.program.cores();
-    let limit = u64::from(cores) * u64::from(budget);
-    let board = Board::new(alloc, &setup.program, setup.limits, limit);
-    let board = board.map_err(Fault::Board)?;
-    part_of(board.machine().view(), setup.dump)?;
-    let budgets = vec![in alloc; budget; usize::from(cores)]?;
-    let report = run_workers(rt, alloc, board, budgets.as_slice(), &NoGate).map_err(Fault::Work)?;
-    tell(alloc, &report.board, options, setup.dump, paths, out)
+    let limit = u64::from(setup.program.cores()) * u64::from(budget);
+    let board = new_board(alloc, &setup, limit)?;
+    let board = worked(rt, board, budget)?;
+    tell(alloc, &board, options, setup.dump, paths, out)
+}
+
+// The board after each core made so many steps on a thread of its own.
+fn worked<R: Threads + Wait + Sync + AllocGlobal>(
+    rt: &R,
+    board: Board,
+    budget: u32,
+) -> Result<Board, Refusal> {
+    let alloc = rt.alloc();
+    let budgets = vec![in alloc; budget; usize::from(board.cores())]?;
+    match run_workers(rt, alloc, board, budgets.as_slice(), &NoGate) {
+        Ok(report) => Ok(report.board),
+        Err(fault) => Err(Refusal::Fault(Fault::of_workers(&fault))),
+    }
 }
 
 // Records the schedule where it is asked for, and prints the state and the dump.
@@ -54,14 +65,15 @@ fn tell<P: Paths, O: Out>(
     dump: Option<Dump>,
     paths: &mut P,
     out: &mut O,
-) -> Result<(), Refusal> {
+) -> Result<Answer, Refusal> {
     if let Some(path) = options.get_str("record") {
         record(alloc, board, path, paths)?;
     }
     let part = part_of(board.machine().view(), dump)?;
     let mut page = ToVec::new(Vec::new(alloc));
     show(board.machine(), part, &mut page, out)?;
-    Ok(hand_on(&mut page, 0, out)?)
+    hand_on(&mut page, 0, out)?;
+    Ok(Answer::Done)
 }
 
 // Writes the schedule of a board's steps to a file.

@@ -2,14 +2,13 @@
 
 use crate::document::Exercise;
 use crate::printed::is_as_shown;
+use crate::reply::reply_to;
 use crate::words::{Line, line_of};
-use elide_command::{HostPaths, command};
-use ia_text::ToVec;
+use elide_command::HostPaths;
 use std::rt::Files;
 use std::sync::Wait;
 use std::thread::Threads;
 use std::{fs, io};
-use tm_debug::FromReader;
 
 /// What came of a command.
 #[derive(Debug, Drop)]
@@ -53,26 +52,17 @@ fn elide<R: Threads + Wait + Sync + AllocGlobal + Files>(
     words: &[String],
     line: &Line,
 ) -> io::Result<String> {
-    let alloc = rt.alloc();
     let given = match &line.input {
         Some(path) => fs::read(rt, path.as_str())?,
-        None => Vec::new(alloc),
+        None => Vec::new(rt.alloc()),
     };
-    let mut input = FromReader::new(given.as_slice());
-    let mut out = ToVec::new(Vec::new(alloc));
-    let mut err = ToVec::new(Vec::new(alloc));
-    command(
-        rt,
-        words,
-        &mut HostPaths::new(rt),
-        &mut input,
-        &mut out,
-        &mut err,
-    );
+    let mut paths = HostPaths::new(rt);
+    let told = reply_to(rt, words, &mut paths, given.as_slice(), usize::MAX)?;
+    let mut said = told.out;
     if let Some(path) = &line.output {
-        fs::write(rt, path.as_str(), out.bytes.as_slice())?;
-        out.bytes.clear();
+        fs::write(rt, path.as_str(), said.as_str())?;
+        said.clear();
     }
-    out.bytes.extend_from_slice(err.bytes.as_slice())?;
-    Ok(String::from_utf8_lossy(alloc, out.bytes.as_slice())?)
+    said.push_str(told.err.as_str())?;
+    Ok(said)
 }

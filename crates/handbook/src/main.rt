@@ -1,25 +1,37 @@
-//! Runs each `elide` command that the documents show, and tells where it prints something else than they say.
+//! Runs each `elide` command that the documents and the table of worked rows show, and tells where it comes to something
+//! else than they say.
 //!
 //! A document's commands are the lines `$ ./elide ..` and `$ cat ..` of its code blocks. What has to be printed stands below
-//! a command, up to the next one or the block's end; a line `...` there stands for any lines.
+//! a command, up to the next one or the block's end; a line `...` there stands for any lines. The table, `rows.txt`, says
+//! its form at its head; its commands run over files in memory, and status, standard output and standard error are compared.
 #![tactic(auto)]
 
 mod document;
 mod exercise;
+mod memory;
 mod printed;
+mod reply;
+mod rows;
+mod table;
+mod wanted;
 mod words;
 
 use document::exercises;
 use exercise::{Verdict, run};
+use rows::Course;
 use std::io::Write;
 use std::process::ExitCode;
 use std::rt::Files;
 use std::sync::Wait;
 use std::thread::Threads;
 use std::{fs, io};
+use table::parts;
 
 /// The documents whose commands are run, in this order, so that a later one may read what an earlier one wrote.
 const DOCUMENTS: [&str; 2] = ["docs/TUTORIAL.md", "examples/README.md"];
+
+/// The table of worked rows.
+const TABLE: &str = "rows.txt";
 
 fn main(rt: HostRuntime) -> io::Result<ExitCode> {
     let mut out = io::writer(&rt);
@@ -27,6 +39,7 @@ fn main(rt: HostRuntime) -> io::Result<ExitCode> {
     for path in DOCUMENTS {
         wrong = wrong.saturating_add(check(&rt, path, &mut out)?);
     }
+    wrong = wrong.saturating_add(check_rows(&rt, TABLE, &mut out)?);
     Ok(if wrong == 0 {
         ExitCode::SUCCESS
     } else {
@@ -58,4 +71,29 @@ fn check<R: Threads + Wait + Sync + AllocGlobal + Files, W: Write>(
         exercises.len()
     )?;
     Ok(wrong)
+}
+
+// Runs the commands of the table, and answers how many come to something else.
+fn check_rows<R: Threads + Wait + Sync + AllocGlobal + Files, W: Write>(
+    rt: &R,
+    path: &str,
+    out: &mut W,
+) -> io::Result<usize> {
+    let text = fs::read_to_string(rt, path)?;
+    let parts = parts(rt.alloc(), &text)?;
+    let mut course = Course::new(rt.alloc());
+    for part in &parts {
+        course.take(rt, part, out)?;
+    }
+    let Course {
+        rows,
+        commands,
+        wrong,
+        ..
+    } = &course;
+    writeln!(
+        out,
+        "{path}: {commands} commands in {rows} rows, {wrong} come to something else"
+    )?;
+    Ok(course.wrong)
 }

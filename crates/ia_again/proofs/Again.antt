@@ -15,6 +15,7 @@ use Rattle.ia_source.specs.Forms.{by_op, op_of}
 use Rattle.ia_source.specs.Operands.{Operands, no_operands}
 use Rattle.ia_source.specs.Statements.{add_some, code_item, with_flags, in_next_line}
 use Rattle.ia_source.specs.Source.{or_bad, head_onto, tokens_onto, line_onto}
+use Rattle.ia_asm.proofs.Fills.{number_encodable, number_lockable, place_encodable, place_lockable, insn_encodable}
 use Rattle.ia_again.specs.Operands.{operands_for, args_of}
 use Rattle.ia_again.specs.Mnemonics.{mnemonic_for}
 use Rattle.ia_again.specs.Filled.{filled}
@@ -23,7 +24,6 @@ use Rattle.ia_again.specs.Again.{IsReadAs, ReadsAgain}
 use Rattle.ia_again.proofs.Printed.{text_is_tokens}
 use Rattle.ia_again.proofs.Operands.{operands_are_read}
 use Rattle.ia_again.proofs.Heads.{head_is_read}
-use Rattle.ia_again.proofs.Fits.{number_encodable, number_lockable, place_encodable, place_lockable, insn_encodable}
 use Rattle.ia_again.proofs.Places.{two}
 use Rattle.ia_again.proofs.Forms.{args_fit, bare, again}
 use Rattle.ia_again.proofs.Plain.{Plain, plain_operands, written_same}

@@ -4,7 +4,6 @@ pub mod Printed
 pub mod Places
 pub mod Operands
 pub mod Heads
-pub mod Fits
 pub mod Fields
 pub mod Forms
 pub mod Plain
@@ -12,3 +11,5 @@ pub mod Again
 pub mod Lines
 pub mod Program
 pub mod Sums
+pub mod Agreed
+pub mod Bytes

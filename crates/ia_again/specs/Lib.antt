@@ -7,3 +7,4 @@ pub mod Forms
 pub mod Again
 pub mod Program
 pub mod Sums
+pub mod Bytes

@@ -8,6 +8,7 @@ ghost use Rattle.ia_again.specs.Forms.{FormIsRead};
 ghost use Rattle.ia_again.specs.Again.{ReadsAgain};
 ghost use Rattle.ia_again.specs.Program.{SourceReadsAgain};
 ghost use Rattle.ia_again.specs.Sums.{SumsAgree};
+ghost use Rattle.ia_again.specs.Bytes.{LineAssemblesAgain, AssemblesAgain};
 
 /// The text of an instruction takes one line, at the end of a source or before a line feed.
 pub fn text_is_line()
@@ -57,4 +58,18 @@ pub fn source_reads_again()
 /// are: it has no fault of its own there, and leaves its field as short as it is.
 pub fn sums_agree()
     ensures { SumsAgree }
+{}
+
+/// The text of an encodable instruction at an address is read as one instruction wherever it stands in a source, and placed
+/// at that address it has exactly the bytes that `ia_encode::encode` gives for the printed one, and no fault but that it
+/// may end too far from the base or past 2^32. No symbol of the source changes that.
+pub fn line_assembles_again()
+    ensures { LineAssemblesAgain }
+{}
+
+/// A source that puts the text of an encodable instruction at an address by `org`, from which it ends at or below 2^32,
+/// assembles to exactly the bytes that `ia_encode::encode` gives for the instruction, at that base: `ia_asm::assemble`
+/// answers this image, or that memory was refused, and nothing else.
+pub fn assembles_again()
+    ensures { AssemblesAgain }
 {}

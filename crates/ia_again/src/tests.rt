@@ -1,15 +1,21 @@
-//! Printed instructions read by `ia_source::entries`, by example. And each law once.
+//! Printed instructions read by `ia_source::entries` and assembled by `ia_asm::assemble`, by example; lines that nasm has
+//! assembled too. And each law once.
+
+mod nasm_table;
 
 use crate::{
-    form_is_read, head_is_read, operand_is_read, operands_are_read, reads_again,
-    source_reads_again, sums_agree, text_is_line, text_is_tokens,
+    assembles_again, form_is_read, head_is_read, line_assembles_again, operand_is_read,
+    operands_are_read, reads_again, source_reads_again, sums_agree, text_is_line, text_is_tokens,
 };
+use ia_asm::assemble;
+use ia_decode::decode;
 use ia_insn::{Insn, Mem, Op, Operand};
 use ia_item::Item;
 use ia_source::entries;
-use ia_text::{ToVec, write_insn};
+use ia_text::{Out, ToVec, write_insn};
 use ia_word::{AluOp, Condition, Width};
 use std::alloc::Global;
+use std::test::Fail;
 
 /// The instruction that a text asks for, with its numbers left out.
 fn read(alloc: Global, text: &[u8]) -> Option<Insn> {
@@ -31,6 +37,18 @@ fn again(alloc: Global, insn: &Insn, at: u32) -> Option<Insn> {
     match write_insn(insn, at, &mut out) {
         Err(_) => None,
         Ok(()) => read(alloc, out.bytes.as_slice()),
+    }
+}
+
+/// Whether a source that puts the text of an instruction where `org` says gives an image of these bytes.
+fn gives(alloc: Global, org: &[u8], insn: &Insn, at: u32, bytes: &[u8]) -> bool {
+    let mut out = ToVec::new(Vec::new(alloc));
+    if out.put(org).is_err() || write_insn(insn, at, &mut out).is_err() {
+        return false;
+    }
+    match assemble(alloc, out.bytes.as_slice()) {
+        Err(_) => false,
+        Ok(unit) => unit.base == at && unit.image.as_slice() == bytes,
     }
 }
 
@@ -62,6 +80,76 @@ fn a_short_jump(rt: HostRuntime) {
 }
 
 #[test]
+fn images(rt: HostRuntime) -> Result<(), Fail> {
+    let addition = Insn {
+        lock: true,
+        op: Op::Alu(AluOp::Add, Width::B, place(0x20), Operand::Imm(0xff)),
+    };
+    let jump = Insn {
+        lock: false,
+        op: Op::JccShort(Condition::BelowOrEqual, 0xffff_ff80),
+    };
+    assert!(rt;
+        gives(
+            rt.alloc(),
+            b"org 0\n",
+            &addition,
+            0,
+            b"\xf0\x80\x44\xec\x20\xff"
+        )
+    );
+    assert!(rt; gives(rt.alloc(), b"org 0x100\n", &jump, 0x100, b"\x76\x80"));
+    // It ends at 2^32.
+    assert!(rt;
+        gives(
+            rt.alloc(),
+            b"org 0xfffffffe\n",
+            &jump,
+            0xffff_fffe,
+            b"\x76\x80"
+        )
+    );
+    Ok(())
+}
+
+/// The instruction that some bytes are, all of them.
+fn only(bytes: &[u8]) -> Option<Insn> {
+    match decode(bytes) {
+        Ok((insn, length)) if usize::from(length) == bytes.len() => Some(insn),
+        _ => None,
+    }
+}
+
+/// Whether a line assembles to these bytes, or to another spelling of the instruction that they are.
+fn agrees(alloc: Global, line: &[u8], bytes: &[u8]) -> bool {
+    match assemble(alloc, line) {
+        Err(_) => false,
+        Ok(unit) => {
+            let ours = unit.image.as_slice();
+            ours == bytes || (only(bytes).is_some() && only(ours) == only(bytes))
+        }
+    }
+}
+
+/// Whether a line agrees with the bytes in hex that stand behind its last semicolon.
+fn row_agrees(alloc: Global, row: &str) -> bool {
+    match row.rsplit_once(';') {
+        None => false,
+        Some((line, digits)) => match hex::decode(alloc, digits.trim()) {
+            Err(_) => false,
+            Ok(bytes) => agrees(alloc, line.as_bytes(), bytes.as_slice()),
+        },
+    }
+}
+
+#[test]
+fn nasm(rt: HostRuntime) {
+    for row in nasm_table::LINES.lines() {
+        assert!(rt; row_agrees(rt.alloc(), row), "{row}");
+    }
+}
+
+#[test]
 fn laws() {
     text_is_line();
     text_is_tokens();
@@ -72,4 +160,6 @@ fn laws() {
     reads_again();
     source_reads_again();
     sums_agree();
+    line_assembles_again();
+    assembles_again();
 }

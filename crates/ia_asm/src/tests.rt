@@ -224,6 +224,11 @@ fn ranges(rt: HostRuntime) -> Result<(), Fail> {
         fault(alloc, b"dd 99999999999999999999\n"),
         Some(AsmFault::Range(1))
     );
+    // A line that cannot be read is told first, though it stands below.
+    assert_eq!(rt;
+        fault(alloc, b"db 256\nfoo bar\n"),
+        Some(AsmFault::NotInSubset(2))
+    );
     Ok(())
 }
 
@@ -238,6 +243,11 @@ fn short_jumps(rt: HostRuntime) -> Result<(), Fail> {
     assert_eq!(rt;
         fault(alloc, b"a: resb 127\nnop\nloop a\n"),
         Some(AsmFault::ShortJumpTooFar(3))
+    );
+    // A line that cannot be read is told first, though it stands below.
+    assert_eq!(rt;
+        fault(alloc, b"jmp short a\nresb 128\na: nop\nadd eax\n"),
+        Some(AsmFault::BadOperand(4))
     );
     assert_eq!(rt; AsmFault::ShortJumpTooFar(3).code(), 16);
     assert_eq!(rt; AsmFault::ShortJumpTooFar(3).line(), Some(3));

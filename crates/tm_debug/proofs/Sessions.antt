@@ -18,7 +18,7 @@ use Rattle.std.proofs.lemmas.Bool.{lt-ltb}
 use Rattle.tm_debug.specs.declared.trouble.Trouble.{Trouble}
 use Rattle.tm_debug.specs.declared.trouble.Trouble.TheVariants as trouble
 use Rattle.tm_debug.specs.Session.{Ends, Place, bye_line}
-use Rattle.tm_debug.specs.Serving.{IsLine, ReadsLine, Replies, RepliesPart, Serves, ServesPart, Went, ending_of, first_wish, wish_by, wish_of}
+use Rattle.tm_debug.specs.Serving.{IsLine, ReadsLine, Replies, RepliesPart, Serves, ServesBefore, ServesPart, WantsMemory, Went, ending_of, first_wish, wish_by, wish_of}
 use Rattle.tm_debug.proofs.Bytewise.{GivesLine}
 
 went_more : (front : List (List ℕ)) (line : List ℕ) (p q s : Place) (told answer : List ℕ) → Went front p told q → Replies (wish_of line) q answer s → Went (front ++ line ∷ []) p (told ++ answer) s
@@ -208,3 +208,29 @@ never_read trouble.NoMemory e = cc
 pub reply_write : {a b : Option (List ℕ)} {f g : ℕ} {d0 d1 : Device} (d2 : Device) (p q s : Place) (wish : Wish) (t : Trouble) → Serving a b f g p q d0 d1 → Ends (Replies wish q) (RepliesPart wish q) d1 d2 q s (Err t) → ending_of t ≡ ending.Write → Rose d0.failures d2.failures
 reply_write d2 p q s wish trouble.Write so_far ends e = rose_after so_far.failures ends.2.failures
 reply_write d2 p q s wish trouble.NoMemory so_far ends e = cc
+
+-- the parting word takes no memory
+pub leaves_without : {X : Type 0} (old new : Device) (r : Result (Unit {0}) Ending) → MatchResult r (λ _. Wrote old new bye_line) (λ fault. (fault ≡ ending.Write) × Stopped old new bye_line) → r ≡ Err ending.NoMemory → X
+leaves_without old new (Ok done) told e = cc
+leaves_without old new (Err ending.Read) told e = cc
+leaves_without old new (Err ending.Write) told e = cc
+leaves_without old new (Err ending.NoMemory) told e = let is = told.0 in cc
+
+-- the answer to a line wanted memory
+pub wanted : {a b c : Option (List ℕ)} {f g : ℕ} {d0 d1 : Device} (d2 : Device) (p q s : Place) (line : Line) (wish : Wish) (t : Trouble) → Serving a b f g p q d0 d1 → GivesLine b c line → Wishes wish line →
+    (t ≡ trouble.NoMemory → WantsMemory wish) → Ends (Replies wish q) (RepliesPart wish q) d1 d2 q s (Err t) → ending_of t ≡ ending.NoMemory →
+    (xs : List ℕ) → a ≡ Some xs → (text : List ℕ) × ServesBefore (lines_of xs) p text s × Wrote d0 d2 text
+wanted d2 p q s line wish trouble.Write so_far gives wishes wants ends is xs e = cc
+wanted {a} {b} {c} {f} {g} {d0} {d1} d2 p q s line wish trouble.NoMemory so_far gives wishes wants ends is xs e =
+    let k = so_far.known xs e in
+    let next = gives k.rest k.is_left in (
+      k.told,
+      record {
+        front = k.front;
+        left = lines_of k.rest;
+        split = k.split;
+        went = subst (λ (x : Place). Went k.front p k.told x) (sym ends.0) k.went;
+        wants = subst (λ (w : Wish). WantsMemory w) (sym (left_wish k.rest next.0 line wish next.2 wishes)) (wants refl);
+      },
+      subst (λ (l : List ℕ). Wrote d0 d2 l) (append-nil k.told) (wrote_then k.wrote ends.1),
+    )

@@ -1,6 +1,8 @@
 -- What a session answers to all lines of its input, one after another (docs/FORMATS.md, "Debugger").
-use Rattle.std.specs.Prelude.{◌≡◌, ◌⊎◌, ℕ, ◌==◌, ◌<◌, ◌≤◌, Bool, true, false, List, [], ◌∷◌, ◌++◌, length, nat_lt, Result, Ok, Err}
+use Rattle.std.specs.Prelude.{⊤, ◌≡◌, ◌⊎◌, ℕ, ◌==◌, ◌<◌, ◌≤◌, Bool, true, false, List, [], ◌∷◌, ◌++◌, length, nat_lt, Option, Some, Result, Ok, Err}
 use Rattle.ia_lex.specs.Lines.{lines_of}
+use Rattle.ia_text.specs.Writing.{AppendsFront, Device, Wrote}
+use Rattle.tm_hist.specs.Board.{Shown as Board}
 use Rattle.tm_debug.specs.declared.command.Command.{Command}
 use Rattle.tm_debug.specs.declared.command.Command.TheVariants.{Quit}
 use Rattle.tm_debug.specs.declared.command.Command.TheVariants as command
@@ -94,6 +96,45 @@ pub record ServesPart (lines : List (List ℕ)) (p : Place) (text : List ℕ) (q
   pub last : List ℕ
   pub begins : ((last ≡ []) × (q ≡ between)) ⊎ RepliesPart (first_wish left) between last q
   pub whole : text ≡ told ++ last
+
+-- a session that went to its end, where the input tells its bytes: the answers to all its lines were written, and this board is the one after the steps that they tell
+abbrev pub Served : Option (List ℕ) → Place → Device → Device → Board → Type 0
+Served input p old new board = (xs : List ℕ) → input ≡ Some xs → (text : List ℕ) × (q : Place) × Serves (lines_of xs) p text q × (q.board ≡ board) × Wrote old new text
+
+-- the same of a session that was broken off: a beginning of the answers so far was written
+abbrev pub BrokenOff : Option (List ℕ) → Place → Device → Device → Board → Type 0
+BrokenOff input p old new board =
+    (xs : List ℕ) → input ≡ Some xs → (text : List ℕ) × (q : Place) × ServesPart (lines_of xs) p text q × (q.board ≡ board) × AppendsFront old.contents new.contents text
+
+-- the commands whose answer takes memory: that of a core's sets alone does
+abbrev pub TakesMemory : Command → Type 0
+TakesMemory (command.Sets core) = ⊤
+TakesMemory (command.Step core) = ⊥
+TakesMemory (command.Run n) = ⊥
+TakesMemory (command.Break address) = ⊥
+TakesMemory (command.Clear address) = ⊥
+TakesMemory (command.Regs core) = ⊥
+TakesMemory (command.Mem at n) = ⊥
+TakesMemory (command.List at n) = ⊥
+TakesMemory command.Quit = ⊥
+
+abbrev pub WantsMemory : Wish → Type 0
+WantsMemory (Do command) = TakesMemory command
+WantsMemory Leave = ⊥
+WantsMemory Nothing = ⊥
+WantsMemory (Refuse refusal) = ⊥
+
+-- the lines before one whose answer takes memory were answered
+pub record ServesBefore (lines : List (List ℕ)) (p : Place) (text : List ℕ) (q : Place) : Type 0 where
+  pub front : List (List ℕ)
+  pub left : List (List ℕ)
+  pub split : lines ≡ front ++ left
+  pub went : Went front p text q
+  pub wants : WantsMemory (first_wish left)
+
+-- a session that found no memory for the answer to a line: the answers to those before it were written
+abbrev pub FoundNoMemory : Option (List ℕ) → Place → Device → Device → Board → Type 0
+FoundNoMemory input p old new board = (xs : List ℕ) → input ≡ Some xs → (text : List ℕ) × (q : Place) × ServesBefore (lines_of xs) p text q × (q.board ≡ board) × Wrote old new text
 
 -- ---- lines as they are read
 

@@ -4,7 +4,7 @@ ghost use Rattle.std.specs.Prelude.{◌≡◌, ◌⊎◌, ◌≤◌, length, [],
 ghost use Rattle.ia_lex.specs.Lines.{lines_of};
 ghost use Rattle.ia_text.specs.Writing.{AppendsFront, Rose, Stopped, Writes, Wrote};
 ghost use Rattle.tm_debug.specs.Session.{Answers, AnswersPart, Ends, Place, bye_line, place_of, start};
-ghost use Rattle.tm_debug.specs.Serving.{IsLine, Replies, RepliesPart, Serves, ServesPart, ending_of, wish_of};
+ghost use Rattle.tm_debug.specs.Serving.{BrokenOff, FoundNoMemory, IsLine, Replies, RepliesPart, Served, Serves, ServesBefore, ServesPart, TakesMemory, WantsMemory, ending_of, wish_of};
 ghost use Rattle.tm_debug.specs.Faults.{session_board, session_code};
 
 use crate::answer::{clear_breakpoint, list, mem, refuse, regs, set_breakpoint, step};
@@ -33,7 +33,7 @@ pub enum SessionFault {
     /// The device that answers go to failed (77). A beginning of the answers was written.
     #[error("Write")]
     Write(Board),
-    /// There was no memory for an answer (78).
+    /// There was no memory for the answer to `sets` (78). The answers before it were written.
     #[error("NoMemory")]
     NoMemory(Board),
 }
@@ -120,7 +120,8 @@ fn act<O: Out>(
     command: Command,
     out: &mut O,
 ) -> Result<(), Trouble>
-    ensures { Ends (Answers command (place_of state.old)) (AnswersPart command (place_of state.old)) (O.device out.old) (O.device out.new) (place_of state.old) (place_of state.new) result }
+    ensures answer { Ends (Answers command (place_of state.old)) (AnswersPart command (place_of state.old)) (O.device out.old) (O.device out.new) (place_of state.old) (place_of state.new) result }
+    ensures memory { result ≡ Err Trouble.NoMemory → TakesMemory command }
 {
     match command {
         Command::Step(core) => with_trouble(step(state, core, out)),
@@ -146,7 +147,8 @@ fn part<O: Out>(out: &mut O) -> Result<(), WriteFault>
 // Answers a line, and tells whether the session goes on.
 fn reply<O: Out>(alloc: Global, state: &mut State, wish: Wish, out: &mut O) -> Result<(), Trouble>
     requires { wish ≡ Wish.Leave → ⊥ }
-    ensures { Ends (Replies wish (place_of state.old)) (RepliesPart wish (place_of state.old)) (O.device out.old) (O.device out.new) (place_of state.old) (place_of state.new) result }
+    ensures answer { Ends (Replies wish (place_of state.old)) (RepliesPart wish (place_of state.old)) (O.device out.old) (O.device out.new) (place_of state.old) (place_of state.new) result }
+    ensures memory { result ≡ Err Trouble.NoMemory → WantsMemory wish }
 {
     match wish {
         Wish::Leave => unreachable!(),
@@ -199,6 +201,7 @@ fn serve_lines<W: Wait, I: In, O: Out>(
     ensures err { OnErr result ((xs : List ℕ) → I.remaining input.old ≡ Some xs → (text : List ℕ) × ServesPart (lines_of xs) (place_of state.old) text (place_of state.new) × AppendsFront (O.device out.old).contents (O.device out.new).contents text) }
     ensures read { result ≡ Err Ending.Read → Rose (I.failed input.old) (I.failed input.new) }
     ensures write { result ≡ Err Ending.Write → Rose (O.device out.old).failures (O.device out.new).failures }
+    ensures memory { result ≡ Err Ending.NoMemory → (xs : List ℕ) → I.remaining input.old ≡ Some xs → (text : List ℕ) × ServesBefore (lines_of xs) (place_of state.old) text (place_of state.new) × Wrote (O.device out.old) (O.device out.new) text }
 {
     'lines: for _ in rt.forever() {
         let line = match read_line(rt, input) {
@@ -226,10 +229,11 @@ fn serve_from<W: Wait, I: In, O: Out>(
     input: &mut I,
     out: &mut O,
 ) -> Result<Board, SessionFault>
-    ensures ok { IfOk result (λ board. (xs : List ℕ) → I.remaining input.old ≡ Some xs → (text : List ℕ) × (q : Place) × Serves (lines_of xs) (place_of state) text q × (q.board ≡ board) × Wrote (O.device out.old) (O.device out.new) text) }
-    ensures err { IfErr result (λ fault. (xs : List ℕ) → I.remaining input.old ≡ Some xs → (text : List ℕ) × (q : Place) × ServesPart (lines_of xs) (place_of state) text q × (q.board ≡ session_board fault) × AppendsFront (O.device out.old).contents (O.device out.new).contents text) }
+    ensures ok { IfOk result (Served (I.remaining input.old) (place_of state) (O.device out.old) (O.device out.new)) }
+    ensures err { IfErr result (λ fault. BrokenOff (I.remaining input.old) (place_of state) (O.device out.old) (O.device out.new) (session_board fault)) }
     ensures read { IfErr result (λ fault. session_code fault ≡ 76 → Rose (I.failed input.old) (I.failed input.new)) }
     ensures write { IfErr result (λ fault. session_code fault ≡ 77 → Rose (O.device out.old).failures (O.device out.new).failures) }
+    ensures memory { IfErr result (λ fault. session_code fault ≡ 78 → FoundNoMemory (I.remaining input.old) (place_of state) (O.device out.old) (O.device out.new) (session_board fault)) }
 {
     let mut state = state;
     match serve_lines(rt, alloc, &mut state, input, out) {
@@ -240,11 +244,44 @@ fn serve_from<W: Wait, I: In, O: Out>(
     }
 }
 
-/// Answers the lines of an input with a board, up to `quit` or the input's end, and gives the board back after the steps
-/// that were made. Waits for its input only.
-///
-/// [`SessionFault`] tells what ended the session before: then a beginning of the answers was written, and the board has made
-/// the steps that these tell, and at most one more.
+/// A session of commands over a board.
+pub struct Session<'a, I: In, O: Out, B = Board> {
+    input: &'a mut I,
+    out: &'a mut O,
+    // Its type is a parameter so that the clauses of a call that takes the session can speak of the devices that it left:
+    // they cannot where a field's declared type owns memory.
+    board: B,
+}
+
+impl<'a, I: In, O: Out> Session<'a, I, O> {
+    /// A session that reads commands from one device and writes answers to another. Takes no memory.
+    pub fn new(board: Board, input: &'a mut I, out: &'a mut O) -> Session<'a, I, O>
+        ensures board { result.board ≡ board }
+        ensures input { result.input ≡ input.entry }
+        ensures out { result.out ≡ out.entry }
+    {
+        Session { input, out, board }
+    }
+
+    /// Answers the lines of the input, up to `quit` or the input's end, and gives the board back after the steps that were
+    /// made. Waits for its input only.
+    ///
+    /// [`SessionFault`] tells what ended the session before: then a beginning of the answers was written, and the board has
+    /// made the steps that these tell, the last of which may not stand there whole.
+    // `self.exit.0` is the input that the call left, and `self.exit.1.0` the device for answers.
+    pub fn serve<W: Wait>(self, rt: &W, alloc: Global) -> Result<Board, SessionFault>
+        ensures ok { IfOk result (Served (I.remaining self.entry.input.now) (start self.entry.board) (O.device self.entry.out.now) (O.device self.exit.1.0.now)) }
+        ensures err { IfErr result (λ fault. BrokenOff (I.remaining self.entry.input.now) (start self.entry.board) (O.device self.entry.out.now) (O.device self.exit.1.0.now) (session_board fault)) }
+        ensures read { IfErr result (λ fault. session_code fault ≡ 76 → Rose (I.failed self.entry.input.now) (I.failed self.exit.0.now)) }
+        ensures write { IfErr result (λ fault. session_code fault ≡ 77 → Rose (O.device self.entry.out.now).failures (O.device self.exit.1.0.now).failures) }
+        ensures memory { IfErr result (λ fault. session_code fault ≡ 78 → FoundNoMemory (I.remaining self.entry.input.now) (start self.entry.board) (O.device self.entry.out.now) (O.device self.exit.1.0.now) (session_board fault)) }
+    {
+        let Session { input, out, board } = self;
+        serve_from(rt, alloc, State::new(board), input, out)
+    }
+}
+
+/// Answers the lines of an input with a board, as [`Session::serve`] of these three does.
 pub fn serve<W: Wait, I: In, O: Out>(
     rt: &W,
     alloc: Global,
@@ -252,41 +289,11 @@ pub fn serve<W: Wait, I: In, O: Out>(
     input: &mut I,
     out: &mut O,
 ) -> Result<Board, SessionFault>
-    ensures ok { IfOk result (λ end. (xs : List ℕ) → I.remaining input.old ≡ Some xs → (text : List ℕ) × (q : Place) × Serves (lines_of xs) (start board) text q × (q.board ≡ end) × Wrote (O.device out.old) (O.device out.new) text) }
-    ensures err { IfErr result (λ fault. (xs : List ℕ) → I.remaining input.old ≡ Some xs → (text : List ℕ) × (q : Place) × ServesPart (lines_of xs) (start board) text q × (q.board ≡ session_board fault) × AppendsFront (O.device out.old).contents (O.device out.new).contents text) }
+    ensures ok { IfOk result (Served (I.remaining input.old) (start board) (O.device out.old) (O.device out.new)) }
+    ensures err { IfErr result (λ fault. BrokenOff (I.remaining input.old) (start board) (O.device out.old) (O.device out.new) (session_board fault)) }
     ensures read { IfErr result (λ fault. session_code fault ≡ 76 → Rose (I.failed input.old) (I.failed input.new)) }
     ensures write { IfErr result (λ fault. session_code fault ≡ 77 → Rose (O.device out.old).failures (O.device out.new).failures) }
+    ensures memory { IfErr result (λ fault. session_code fault ≡ 78 → FoundNoMemory (I.remaining input.old) (start board) (O.device out.old) (O.device out.new) (session_board fault)) }
 {
-    serve_from(rt, alloc, State::new(board), input, out)
-}
-
-/// A session of commands over a board.
-pub struct Session<'a, I: In, O: Out> {
-    input: &'a mut I,
-    out: &'a mut O,
-    state: State,
-}
-
-impl<'a, I: In, O: Out> Session<'a, I, O> {
-    /// A session that reads commands from one device and writes answers to another. Takes no memory.
-    pub fn new(board: Board, input: &'a mut I, out: &'a mut O) -> Session<'a, I, O>
-        ensures place { place_of result.state ≡ start board }
-        ensures input { result.input ≡ input.entry }
-        ensures out { result.out ≡ out.entry }
-    {
-        Session {
-            input,
-            out,
-            state: State::new(board),
-        }
-    }
-
-    /// Answers the lines of the input ([`serve`]).
-    pub fn serve<W: Wait>(self, rt: &W, alloc: Global) -> Result<Board, SessionFault>
-        ensures ok { IfOk result (λ board. (xs : List ℕ) → I.remaining self.entry.input.now ≡ Some xs → (text : List ℕ) × (q : Place) × Serves (lines_of xs) (place_of self.entry.state) text q × (q.board ≡ board)) }
-        ensures err { IfErr result (λ fault. (xs : List ℕ) → I.remaining self.entry.input.now ≡ Some xs → (text : List ℕ) × (q : Place) × ServesPart (lines_of xs) (place_of self.entry.state) text q × (q.board ≡ session_board fault)) }
-    {
-        let Session { input, out, state } = self;
-        serve_from(rt, alloc, state, input, out)
-    }
+    Session::new(board, input, out).serve(rt, alloc)
 }

@@ -1,12 +1,15 @@
 //! Sessions, each as it is to be answered. Code lies from 100h on, in a memory of 65,536 bytes.
 
-use crate::{FromReader, Session, SessionFault};
+mod broken;
+
+use crate::{FromReader, In, MOST_BREAKPOINTS, Refusal, Session, SessionFault, serve};
 use ia_image::load;
 use ia_text::ToVec;
 use std::alloc::Global;
 use std::io::Cursor;
 use std::process::Abort;
 use std::sync::Wait;
+use std::test::Fail;
 use tm_core::Limits;
 use tm_hist::Board;
 
@@ -74,10 +77,43 @@ fn refusals(rt: HostRuntime) {
         &rt,
         rt.alloc(),
         board(&rt, rt.alloc(), &[0x100], 1),
-        b"\n   \r\nSTEP 0\nstep\nstep x\nstep 0 0\nquit 1\nstep 1\nrun 0\nrun 100001\nbreak 0x100000000\nmem 0 0\nmem 0 257\nmem 65535 2\nmem 65536 1\nlist 0ffh 1\nlist 116h 1\nlist 100h 65\nregs 1\nsets 99999999999999999999\nstep 0\nstep 0\nrun 2",
-        b"error 70\nerror 71\nerror 71\nerror 71\nerror 71\nerror 72\nerror 73\nerror 73\nerror 73\nerror 73\nerror 73\nerror 73\nerror 73\nerror 73\nerror 73\nerror 73\nerror 72\nerror 72\n0 begun\nerror 74\nerror 74\nbye\n",
+        b"\n   \r\nSTEP 0\nstep\nstep x\nstep 0 0\nquit 1\nrun x\nbreak\nclear 1 2\nregs 0b2\nmem 0\nmem 0 1 2\nsets -1\nlist 100h\nstep 1\nrun 0\nrun 100001\nbreak 0x100000000\nclear 100000000h\nmem 0 0\nmem 0 257\nmem 65535 2\nmem 65536 1\nlist 0ffh 1\nlist 116h 1\nlist 100h 65\nregs 1\nsets 99999999999999999999\nstep 0\nstep 0\nrun 2",
+        b"error 70\nerror 71\nerror 71\nerror 71\nerror 71\nerror 71\nerror 71\nerror 71\nerror 71\nerror 71\nerror 71\nerror 71\nerror 71\nerror 72\nerror 73\nerror 73\nerror 73\nerror 73\nerror 73\nerror 73\nerror 73\nerror 73\nerror 73\nerror 73\nerror 73\nerror 72\nerror 72\n0 begun\nerror 74\nerror 74\nbye\n",
         1,
     );
+}
+
+#[test]
+fn a_run_goes_on_behind_the_last_step(rt: HostRuntime) {
+    answers(
+        &rt,
+        rt.alloc(),
+        board(&rt, rt.alloc(), &[0x100, 0x100, 0x114], 4),
+        b"step 1\nrun 2\nrun 2\nrun 1\n",
+        b"1 begun\n2 stopped HLT\n0 begun\n1 inside\nerror 74\nerror 74\nbye\n",
+        4,
+    );
+}
+
+#[test]
+fn ranges_that_are_met(rt: HostRuntime) -> Result<(), Fail> {
+    let mut text = Vec::from_slice(rt.alloc(), b"ok\nok\n")?;
+    for row in 0..16_u8 {
+        let line = format!(in rt.alloc(); "0000ff{row:x}0 {:032}\n", 0_u8)?;
+        text.extend_from_slice(line.as_bytes())?;
+    }
+    text.extend_from_slice(
+        b"00000115  f4                        hlt\n0 stopped HLT\nall stopped\nbye\n",
+    )?;
+    answers(
+        &rt,
+        rt.alloc(),
+        board(&rt, rt.alloc(), &[0x114], 100),
+        b"break 0xffffffff\nclear 0ffffffffh\nmem 65280 256\nlist 0x115 64\nrun 100000\n",
+        text.as_slice(),
+        1,
+    );
+    Ok(())
 }
 
 #[test]
@@ -90,6 +126,21 @@ fn what_is_shown(rt: HostRuntime) {
         b"core 1 run eax=00000001 ecx=00000002 edx=00000000 ebx=00000000 esp=0000f000 ebp=00000000 esi=00000000 edi=00000000 eip=00000115 flags=000\n00000100 c7f80f000000a10010000040a3001000\n00000110 00\n00000100  c7f80f000000              xbegin 0x115\n00000106  a100100000                mov eax, dword [0x1000]\n00000114  f4                        hlt\n00000115  f4                        hlt\nok\n0 begun\n1 stopped HLT\n0 inside\nsets 1 stop:HLT reads - writes -\n0 inside\nbye\n",
         4,
     );
+}
+
+#[test]
+fn the_input_ends_in_a_line(rt: HostRuntime) {
+    let cases: [(&[u8], &[u8], u64); 5] = [
+        (b"", b"bye\n", 0),
+        (b"step 0\nquit", b"0 begun\nbye\n", 1),
+        (b"step 0\nstep 0", b"0 begun\n0 inside\nbye\n", 2),
+        (b"step 0\nste", b"0 begun\nerror 70\nbye\n", 1),
+        (b"step 0\n  ", b"0 begun\nbye\n", 1),
+    ];
+    for (lines, text, made) in cases {
+        let board = board(&rt, rt.alloc(), &[0x100], 100);
+        answers(&rt, rt.alloc(), board, lines, text, made);
+    }
 }
 
 // Writes a line of spaces and a command, of so many bytes.
@@ -147,9 +198,52 @@ fn sixty_four_breakpoints(rt: HostRuntime) {
 }
 
 #[test]
-fn faults(rt: HostRuntime) {
+fn lent_devices(rt: HostRuntime) {
+    let mut input = FromReader::new(b"step 0\nquit\nleft".as_slice());
+    let mut out = ToVec::new(Vec::new(rt.alloc()));
     let board = board(&rt, rt.alloc(), &[0x100], 100);
-    let fault = SessionFault::Write(board);
-    assert_eq!(rt; fault.code(), 77);
-    assert_eq!(rt; fault.board().made(), 0);
+    let board = serve(&rt, rt.alloc(), board, &mut input, &mut out).expect(&rt, "it is served");
+    assert_eq!(rt; board.made(), 1);
+    assert_eq!(rt; out.bytes.as_slice(), b"0 begun\nbye\n".as_slice());
+    let mut rest = [0; 9];
+    assert_eq!(rt; input.get(&mut rest), Ok(4));
+    assert_eq!(rt; &rest[..4], b"left".as_slice());
+    assert_eq!(rt; input.get(&mut rest), Ok(0));
+    assert_eq!(rt; input.failures(), 0);
+}
+
+#[test]
+fn refusals_have_numbers(rt: HostRuntime) -> Result<(), Fail> {
+    let cases = [
+        (Refusal::UnknownCommand, 70, "UnknownCommand"),
+        (Refusal::BadArgument, 71, "BadArgument"),
+        (Refusal::NoSuchCore, 72, "NoSuchCore"),
+        (Refusal::OutOfRange, 73, "OutOfRange"),
+        (Refusal::LimitReached, 74, "LimitReached"),
+        (Refusal::TooManyBreakpoints, 75, "TooManyBreakpoints"),
+    ];
+    for (refusal, number, name) in cases {
+        assert_eq!(rt; refusal.code(), number);
+        let text = format!(in rt.alloc(); "{refusal}")?;
+        assert_eq!(rt; text.as_str(), name);
+    }
+    assert_eq!(rt; MOST_BREAKPOINTS, 64);
+    Ok(())
+}
+
+#[test]
+fn faults_have_numbers(rt: HostRuntime) -> Result<(), Fail> {
+    let board = || board(&rt, rt.alloc(), &[0x100], 100);
+    let cases = [
+        (SessionFault::Read(board()), 76, "Read Read(..)"),
+        (SessionFault::Write(board()), 77, "Write Write(..)"),
+        (SessionFault::NoMemory(board()), 78, "NoMemory NoMemory(..)"),
+    ];
+    for (fault, number, names) in cases {
+        assert_eq!(rt; fault.code(), number);
+        let text = format!(in rt.alloc(); "{fault} {fault:?}")?;
+        assert_eq!(rt; text.as_str(), names);
+        assert_eq!(rt; fault.board().made(), 0);
+    }
+    Ok(())
 }

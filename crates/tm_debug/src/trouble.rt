@@ -1,6 +1,6 @@
 //! What keeps a command from being answered.
 
-ghost use Rattle.std.specs.Prelude.{◌≡◌};
+ghost use Rattle.std.specs.Prelude.{◌≡◌, Err};
 ghost use Rattle.tm_debug.specs.Session.{with_trouble};
 
 use ia_text::WriteFault;
@@ -16,7 +16,8 @@ pub enum Trouble {
 
 /// The same result with the trouble that a fault in writing is.
 pub fn with_trouble(told: Result<(), WriteFault>) -> Result<(), Trouble>
-    ensures { result ≡ with_trouble told }
+    ensures same { result ≡ with_trouble told }
+    ensures not_memory { result ≡ Err Trouble.NoMemory → ⊥ }
 {
     match told {
         Ok(()) => Ok(()),

@@ -1,7 +1,7 @@
 use Rattle.std.proofs.Common.{◌≡◌, ◌∙◌, inl, inr, sym}
 use Rattle.tm_debug.specs.declared.session.Ending.TheVariants as ending
 use Rattle.tm_debug.specs.Session.{place_of}
-use Rattle.tm_debug.proofs.Sessions.{broken_between, broken_reply, left_err, left_ok, never_read, reply_write, serving_more, serving_new}
+use Rattle.tm_debug.proofs.Sessions.{broken_between, broken_reply, left_err, left_ok, leaves_without, never_read, reply_write, serving_more, serving_new, wanted}
 use Rattle.tm_debug.proofs.session.serve_lines.Goals as goal
 
 pub lines-init : goal.lines-init
@@ -20,6 +20,9 @@ returns-in-Leave-clause-err g c =
     left_err (g.O.Out.device c.leave.new.out) (place_of c.args.state.now) (place_of c.lines.state) c.in-Ok.line c.line_wish-wish.result c.leave.result c.lines.invariant.2 c.in-Ok.ensures.line
     (c.line_wish-wish.ensures.text, c.line_wish-wish.ensures.end) c.in-Leave.is c.leave.ensures
 
+pub returns-in-Leave-clause-memory : goal.returns-in-Leave-clause-memory
+returns-in-Leave-clause-memory g c = leaves_without _ _ c.leave.result c.leave.ensures
+
 pub lines-preserved : goal.lines-preserved
 lines-preserved g c = (
   tt,
@@ -27,17 +30,21 @@ lines-preserved g c = (
   serving_more (place_of c.args.state.now) (place_of c.lines.state) (place_of c.reply.new.state) c.in-Ok.line c.line_wish-wish.result c.lines.invariant.2 c.in-Ok.ensures.line c.in-Ok.ensures.kept
       (c.line_wish-wish.ensures.text, c.line_wish-wish.ensures.end)
       (λ leave. elim c.in-Nothing.is [ inl e ↦ cc | inr t ↦ elim t [ inl e ↦ let h = e.1 in cc | inr e ↦ let h = e.1 in cc ] ])
-      c.in-Ok-reply.ensures,
+      c.in-Ok-reply.ensures.answer,
 )
 
 pub returns-in-Err-reply : goal.returns-in-Err-reply
 returns-in-Err-reply g c = record {
   ok = tt;
   err = broken_reply (g.O.Out.device c.reply.new.out) (place_of c.args.state.now) (place_of c.lines.state) (place_of c.reply.new.state) c.in-Ok.line c.line_wish-wish.result c.in-Err-reply.trouble
-      c.lines.invariant.2 c.in-Ok.ensures.line (c.line_wish-wish.ensures.text, c.line_wish-wish.ensures.end) c.in-Err-reply.ensures;
+      c.lines.invariant.2 c.in-Ok.ensures.line (c.line_wish-wish.ensures.text, c.line_wish-wish.ensures.end) c.in-Err-reply.ensures.answer;
   read = λ e. let e2 : c.as_ending.result ≡ ending.Read = cc in never_read c.in-Err-reply.trouble (sym c.as_ending.ensures ∙ e2);
   write = λ e.
       let e2 : c.as_ending.result ≡ ending.Write = cc in
       reply_write (g.O.Out.device c.reply.new.out) (place_of c.args.state.now) (place_of c.lines.state) (place_of c.reply.new.state) c.line_wish-wish.result c.in-Err-reply.trouble
-      c.lines.invariant.2 c.in-Err-reply.ensures (sym c.as_ending.ensures ∙ e2);
+      c.lines.invariant.2 c.in-Err-reply.ensures.answer (sym c.as_ending.ensures ∙ e2);
+  memory = λ e.
+      let e2 : c.as_ending.result ≡ ending.NoMemory = cc in
+      wanted (g.O.Out.device c.reply.new.out) (place_of c.args.state.now) (place_of c.lines.state) (place_of c.reply.new.state) c.in-Ok.line c.line_wish-wish.result c.in-Err-reply.trouble
+      c.lines.invariant.2 c.in-Ok.ensures.line (c.line_wish-wish.ensures.text, c.line_wish-wish.ensures.end) (λ is. c.in-Err-reply.ensures.memory cc) c.in-Err-reply.ensures.answer (sym c.as_ending.ensures ∙ e2);
 }
