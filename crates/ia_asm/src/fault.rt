@@ -42,7 +42,7 @@ pub enum AsmFault {
     /// The distance of a short jump, LOOP or JECXZ is not from -128 to 127.
     #[error("ShortJumpTooFar")]
     ShortJumpTooFar(u32),
-    /// Memory was refused. That of an image of more than 2^61 bytes is refused before anything is placed in it.
+    /// Memory was refused, or the items take more than 2^61 bytes, which no memory has.
     #[error("NoMemory")]
     NoMemory,
 }

@@ -8,13 +8,10 @@ ghost use Rattle.ia_asm.specs.Placement.{org_value, base_or, base_of, start, aft
 ghost use Rattle.ia_asm.specs.Seen.{seen, state, IsGood, or_base};
 
 use crate::symbols::Table;
-use crate::walk::{Spot, Walk, gap, refusal};
+use crate::walk::{Spot, Walk, gap};
 use ia_item::{Entry, Item};
 use indexmap::IndexMap;
 use std::alloc::{AllocError, Global};
-
-/// An address that no image reaches, and half as far as a walk goes, so that the data behind the code is in its reach.
-const NEAR: u64 = 1 << 61;
 
 fn org_value(number: Option<u64>) -> u32
     ensures { result ≡ org_value number }
@@ -58,8 +55,8 @@ pub fn text_end<'a>(alloc: Global, base: u32, entries: &[Entry<'a>]) -> Result<u
     for entry in entries {
         walk.place(entry)?;
     }
-    if walk.text > NEAR {
-        return Err(refusal(alloc, NEAR));
+    if walk.text > 1 << 61 {
+        return Err(AllocError);
     }
     Ok(walk.text)
 }

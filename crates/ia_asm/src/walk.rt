@@ -37,7 +37,6 @@ pub struct Spot<'a, 'b> {
 /// A walk over entries.
 #[derive(Drop)]
 pub struct Walk<'a> {
-    alloc: Global,
     /// The `equ` symbols so far.
     pub above: Table<'a>,
     /// Where the next item of the code goes.
@@ -63,12 +62,6 @@ fn settled(above: &Table, item: &Item) -> Worth
             fault: None,
         },
     }
-}
-
-/// The refusal of an image that reaches so far: its memory is asked for, and no machine has it.
-pub fn refusal(alloc: Global, end: u64) -> AllocError {
-    let image: Result<Vec<u8>, AllocError> = Vec::with_capacity(alloc, end as usize);
-    image.err().unwrap_or(AllocError)
 }
 
 /// How far it is from an address to the next multiple.
@@ -134,7 +127,6 @@ impl<'a> Walk<'a> {
         ensures { state result ≡ start base tail }
     {
         Walk {
-            alloc,
             above: Table {
                 values: IndexMap::new(alloc),
             },
@@ -168,8 +160,7 @@ impl<'a> Walk<'a> {
         }
     }
 
-    /// Places an entry behind the one before. Where it ends more than 2^62 bytes from 0, memory for an image that long is
-    /// asked for, which no machine has.
+    /// Places an entry behind the one before. Memory is refused also where it ends more than 2^62 bytes from 0.
     pub fn place<'b>(&mut self, entry: &'b Entry<'a>) -> Result<Spot<'a, 'b>, AllocError>
         requires fits { FitsEntry entry.now }
         requires text { self.old.text ≤ 2 ^ 62 }
@@ -184,7 +175,7 @@ impl<'a> Walk<'a> {
         let worth = settled(&self.above, &entry.item);
         let size = size_of(at, worth.value, &entry.item);
         if size > FAR - at {
-            return Err(refusal(self.alloc, FAR));
+            return Err(AllocError);
         }
         define_equ(&mut self.above, worth.value, &entry.item)?;
         self.advance(entry.section, size);
