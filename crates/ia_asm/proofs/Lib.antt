@@ -1,6 +1,7 @@
 pub mod Fills
 pub mod Sizes
 pub mod Powers
+pub mod Integers
 pub mod Walks
 pub mod Tellings
 pub mod Ends

@@ -41,10 +41,10 @@ fn push_copies(out: &mut Vec<u8>, count: u64, byte: u8) -> Result<(), AllocError
 fn push_code(
     out: &mut Vec<u8>,
     symbols: &Table,
-    at: u64,
+    at: u128,
     template: &Template,
 ) -> Result<(), AllocError>
-    requires near { at ≤ 2 ^ 62 }
+    requires near { at ≤ 2 ^ 126 }
     requires fits { Fits template.now }
     ensures { OnOk result (out.new.items ≡ out.old.items ++ code_bytes (known symbols.now.values.entries) at template.now) }
 {

@@ -42,7 +42,7 @@ pub enum AsmFault {
     /// The distance of a short jump, LOOP or JECXZ is not from -128 to 127.
     #[error("ShortJumpTooFar")]
     ShortJumpTooFar(u32),
-    /// Memory was refused, or the items take more than 2^61 bytes, which no memory has.
+    /// Memory was refused.
     #[error("NoMemory")]
     NoMemory,
 }

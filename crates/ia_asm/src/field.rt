@@ -58,11 +58,11 @@ pub fn high_of(field: Field) -> i64
 }
 
 /// The distance to a target from so many bytes behind an address, modulo 2^32.
-pub fn distance(at: u64, long: u8, target: u32) -> u32
-    requires { at ≤ 2 ^ 62 }
+pub fn distance(at: u128, long: u8, target: u32) -> u32
+    requires { at ≤ 2 ^ 126 }
     ensures { result ≡ distance at long target }
 {
-    let from = (at + u64::from(long)) % (1 << 32);
+    let from = ((at + u128::from(long)) % (1 << 32)) as u64;
     ((u64::from(target) + (1 << 32) - from) % (1 << 32)) as u32
 }
 
@@ -92,8 +92,8 @@ fn modulo_byte(value: i64) -> u32
     }
 }
 
-fn short_distance(at: u64, long: u8, target: u32) -> u32
-    requires { at ≤ 2 ^ 62 }
+fn short_distance(at: u128, long: u8, target: u32) -> u32
+    requires { at ≤ 2 ^ 126 }
     ensures value { result ≡ stored (Field.Short long) at (pos target) }
     ensures fits { IsTrue (fits_short result) }
 {
@@ -102,8 +102,8 @@ fn short_distance(at: u64, long: u8, target: u32) -> u32
 }
 
 /// What goes into a field at an address for a value that it takes.
-pub fn stored(field: Field, at: u64, value: i64) -> u32
-    requires near { at ≤ 2 ^ 62 }
+pub fn stored(field: Field, at: u128, value: i64) -> u32
+    requires near { at ≤ 2 ^ 126 }
     requires low { low_of field ≤ℤ value }
     requires high { value ≤ℤ high_of field }
     ensures value { result ≡ stored field at value }
@@ -119,8 +119,8 @@ pub fn stored(field: Field, at: u64, value: i64) -> u32
 }
 
 /// Whether a short jump's target is too far.
-pub fn far_fault(field: Field, at: u64, value: i64) -> Option<PlaceFault>
-    requires near { at ≤ 2 ^ 62 }
+pub fn far_fault(field: Field, at: u128, value: i64) -> Option<PlaceFault>
+    requires near { at ≤ 2 ^ 126 }
     requires low { low_of field ≤ℤ value }
     requires high { value ≤ℤ high_of field }
     ensures { result ≡ far_fault field at value }

@@ -115,8 +115,8 @@ pub struct FieldWorth {
 }
 
 /// What a sum puts into a field at an address.
-pub fn field_worth<S: Symbols>(symbols: &S, at: u64, field: Field, sum: &Sum) -> FieldWorth
-    requires near { at ≤ 2 ^ 62 }
+pub fn field_worth<S: Symbols>(symbols: &S, at: u128, field: Field, sum: &Sum) -> FieldWorth
+    requires near { at ≤ 2 ^ 126 }
     requires sum { FitsSum sum.now }
     ensures number { result.number ≡ field_value (S.env symbols.now) at field sum.now }
     ensures holds { Holds field result.number }
@@ -137,8 +137,8 @@ struct FilledOp {
 }
 
 #[tactic(auto, using(crate::proofs::Fills::number_encodable, crate::proofs::Fills::number_lockable))]
-fn numbered<S: Symbols>(symbols: &S, at: u64, number: &Option<Sum>, op: &Op) -> FilledOp
-    requires near { at ≤ 2 ^ 62 }
+fn numbered<S: Symbols>(symbols: &S, at: u128, number: &Option<Sum>, op: &Op) -> FilledOp
+    requires near { at ≤ 2 ^ 126 }
     requires sum { FitsAnySum number.now }
     ensures op { result.op ≡ numbered (S.env symbols.now) at number.now op.now }
     ensures fault { result.fault ≡ any_fault (S.env symbols.now) at (field_of op.now) number.now }
@@ -161,8 +161,8 @@ fn numbered<S: Symbols>(symbols: &S, at: u64, number: &Option<Sum>, op: &Op) -> 
 }
 
 #[tactic(auto, using(crate::proofs::Fills::place_encodable, crate::proofs::Fills::place_lockable))]
-fn displaced<S: Symbols>(symbols: &S, at: u64, place: &Option<Sum>, op: &Op) -> FilledOp
-    requires near { at ≤ 2 ^ 62 }
+fn displaced<S: Symbols>(symbols: &S, at: u128, place: &Option<Sum>, op: &Op) -> FilledOp
+    requires near { at ≤ 2 ^ 126 }
     requires sum { FitsAnySum place.now }
     ensures op { result.op ≡ displaced (S.env symbols.now) at place.now op.now }
     ensures fault { result.fault ≡ any_fault (S.env symbols.now) at Field.Long place.now }
@@ -193,8 +193,8 @@ pub struct Filled {
 
 /// The instruction at an address with the symbols replaced by their values.
 #[tactic(auto, unfolding(crate::specs::Items::filled, crate::specs::Items::template_fault))]
-pub fn fill<S: Symbols>(symbols: &S, at: u64, template: &Template) -> Filled
-    requires near { at ≤ 2 ^ 62 }
+pub fn fill<S: Symbols>(symbols: &S, at: u128, template: &Template) -> Filled
+    requires near { at ≤ 2 ^ 126 }
     requires fits { Fits template.now }
     ensures insn { result.insn ≡ filled (S.env symbols.now) at template.now }
     ensures fault { result.fault ≡ template_fault (S.env symbols.now) at template.now }

@@ -4,6 +4,7 @@
 #![tactic(auto)]
 
 mod bytes;
+mod exact;
 mod fault;
 mod field;
 mod fill;

@@ -20,7 +20,7 @@ use std::alloc::{AllocError, Global};
 #[derive(Clone, Copy)]
 pub struct Row {
     pub line: u32,
-    pub at: u64,
+    pub at: u128,
 }
 
 /// A listing in the making: the lines so far, and a line of `db` or `dd` that may go on, with its bytes so far.
@@ -45,7 +45,7 @@ fn is_datum(item: &Item) -> bool
 }
 
 /// Writes an address and at most 12 bytes.
-fn write_bytes(out: &mut Vec<u8>, at: u64, bytes: &[u8]) -> Result<(), AllocError>
+fn write_bytes(out: &mut Vec<u8>, at: u128, bytes: &[u8]) -> Result<(), AllocError>
     ensures { OnOk result (out.new.items ≡ out.old.items ++ bytes_line at bytes.now) }
 {
     let mut page = Page::new();
@@ -57,7 +57,7 @@ fn write_bytes(out: &mut Vec<u8>, at: u64, bytes: &[u8]) -> Result<(), AllocErro
 }
 
 /// Writes the line of an instruction.
-fn write_insn(out: &mut ToVec, at: u64, bytes: &[u8]) -> Result<(), AllocError>
+fn write_insn(out: &mut ToVec, at: u128, bytes: &[u8]) -> Result<(), AllocError>
     ensures { OnOk result (out.new.bytes.items ≡ out.old.bytes.items ++ listing_line bytes.now (at % 2 ^ 32)) }
 {
     match write_line(bytes, (at % (1 << 32)) as u32, out) {

@@ -1,6 +1,6 @@
 //! The place of each entry, and the symbols.
 
-ghost use Rattle.std.specs.Prelude.{◌≡◌, ℕ, ◌≤◌, ◌<◌, ◌+◌, ◌^◌, [], ◌∷◌, ◌++◌, map, IfOk, OnOk, All};
+ghost use Rattle.std.specs.Prelude.{◌≡◌, ℕ, ◌≤◌, ◌<◌, ◌+◌, ◌^◌, [], ◌∷◌, ◌++◌, map, length, IfOk, OnOk, All};
 ghost use Rattle.indexmap.specs.IndexMap.{insert_all};
 ghost use Rattle.ia_item.specs.Names.{same_name};
 ghost use Rattle.ia_item.specs.Fits.{AllFit};
@@ -12,6 +12,7 @@ use crate::walk::{Spot, Walk, gap};
 use ia_item::{Entry, Item};
 use indexmap::IndexMap;
 use std::alloc::{AllocError, Global};
+use std::mem::{size_of, size_of_val};
 
 fn org_value(number: Option<u64>) -> u32
     ensures { result ≡ org_value number }
@@ -45,29 +46,35 @@ pub fn base_of(entries: &[Entry]) -> u32
     0x100
 }
 
-/// Where the code ends.
-pub fn text_end<'a>(alloc: Global, base: u32, entries: &[Entry<'a>]) -> Result<u64, AllocError>
-    requires fits { AllFit entries.now }
-    ensures end { IfOk result (λ end. end ≡ (after (start base 0) entries.now).text) }
-    ensures near { IfOk result (λ end. end ≤ 2 ^ 61) }
+/// How many entries there are. A row of them takes fewer than 2^64 bytes, so there are fewer than 2^58.
+pub fn entry_count(entries: &[Entry]) -> usize
+    ensures count { result ≡ length entries.now }
+    ensures few { length entries.now < 2 ^ 58 }
 {
-    let mut walk = Walk::new(alloc, u64::from(base), 0);
+    size_of_val(entries) / size_of::<Entry>()
+}
+
+/// Where the code ends.
+pub fn text_end<'a>(alloc: Global, base: u32, entries: &[Entry<'a>]) -> Result<u128, AllocError>
+    requires fits { AllFit entries.now }
+    requires few { length entries.now < 2 ^ 58 }
+    ensures end { IfOk result (λ end. end ≡ (after (start base 0) entries.now).text) }
+    ensures near { IfOk result (λ end. end ≤ 2 ^ 123) }
+{
+    let mut walk = Walk::new(alloc, u128::from(base), 0);
     for entry in entries {
         walk.place(entry)?;
-    }
-    if walk.text > 1 << 61 {
-        return Err(AllocError);
     }
     Ok(walk.text)
 }
 
 /// Where the data begins.
-pub fn tail_base(text_end: u64) -> u64
-    requires { text_end ≤ 2 ^ 61 }
+pub fn tail_base(text_end: u128) -> u128
+    requires { text_end ≤ 2 ^ 123 }
     ensures value { result ≡ tail_base text_end }
-    ensures near { result ≤ 2 ^ 62 }
+    ensures near { result ≤ 2 ^ 124 }
 {
-    text_end + gap(64, text_end)
+    text_end + u128::from(gap(64, text_end))
 }
 
 fn push<T: Drop>(items: &mut Vec<T>, item: T) -> Result<(), AllocError>
@@ -83,16 +90,18 @@ fn push<T: Drop>(items: &mut Vec<T>, item: T) -> Result<(), AllocError>
 pub fn places<'a, 'b>(
     alloc: Global,
     base: u32,
-    tail: u64,
+    tail: u128,
+    count: usize,
     entries: &'b [Entry<'a>],
 ) -> Result<Vec<Spot<'a, 'b>>, AllocError>
     requires fits { AllFit entries.now }
-    requires near { tail ≤ 2 ^ 62 }
+    requires few { length entries.now < 2 ^ 58 }
+    requires near { tail ≤ 2 ^ 124 }
     ensures places { IfOk result (λ v. map seen v.items ≡ places (start base tail) entries.now) }
     ensures good { IfOk result (λ v. All IsGood v.items) }
 {
-    let mut spots = Vec::new(alloc);
-    let mut walk = Walk::new(alloc, u64::from(base), tail);
+    let mut spots = Vec::with_capacity(alloc, count)?;
+    let mut walk = Walk::new(alloc, u128::from(base), tail);
     for entry in entries {
         let spot = walk.place(entry)?;
         push(&mut spots, spot)?;
@@ -107,11 +116,11 @@ fn define<'a>(table: &mut Table<'a>, spot: &Spot<'a, '_>) -> Result<(), AllocErr
     ensures { OnOk result (table.new.values.entries ≡ insert_all same_name table.old.values.entries (definition (seen spot.now))) }
 {
     match &spot.entry.item {
-        Item::Label(name) => match table.values.insert(*name, spot.at as i64) {
+        Item::Label(name) => match table.values.insert(*name, spot.at as i128) {
             Ok(_) => Ok(()),
             Err(_) => Err(AllocError),
         },
-        Item::Equ(name, _) => match table.values.insert(*name, spot.settled) {
+        Item::Equ(name, _) => match table.values.insert(*name, i128::from(spot.settled)) {
             Ok(_) => Ok(()),
             Err(_) => Err(AllocError),
         },

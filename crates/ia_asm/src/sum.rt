@@ -1,11 +1,12 @@
 //! What sums are worth.
 
-ghost use Rattle.std.specs.Prelude.{◌≡◌, ◌≤◌, ◌+◌, ◌-◌, ◌*◌, ◌^◌, Option, Some, ℕ, ℤ, pos, negsuc, neg_ℤ, ◌≤ℤ◌, ◌-ℤ◌, ◌+ℤ◌, if◌then◌else◌, length, IsTrue};
+ghost use Rattle.std.specs.Prelude.{◌≡◌, ◌≤◌, ◌-◌, ◌*◌, ◌^◌, pos, neg_ℤ, ◌≤ℤ◌, length};
 ghost use Rattle.ia_item.specs.Sums.{is_unknown, is_huge, value_in, any_unknown, any_huge, any_symbol, is_symbol, sum_from};
-ghost use Rattle.ia_item.specs.Fields.{within};
 ghost use Rattle.ia_asm.specs.Values.{sum_fault, taken, total};
 ghost use Rattle.ia_asm.specs.Items.{wide};
+ghost use Rattle.ia_asm.specs.Seen.{whole, IsNear};
 
+use crate::exact::Exact;
 use crate::fault::PlaceFault;
 use crate::symbols::Symbols;
 use ia_item::{Part, Sum, Value};
@@ -15,62 +16,52 @@ use ia_item::{Part, Sum, Value};
 struct Total {
     unknown: bool,
     huge: bool,
-    value: i128,
+    value: Exact,
 }
 
 fn part_total<S: Symbols>(symbols: &S, value: &Value) -> Total
     ensures unknown { result.unknown ≡ is_unknown (S.env symbols.now) value.now }
     ensures huge { result.huge ≡ is_huge value.now }
-    ensures value { result.value ≡ value_in (S.env symbols.now) value.now }
-    ensures low { negsuc (2 ^ 64 - 1) ≤ℤ result.value }
-    ensures high { result.value ≤ℤ pos (2 ^ 64) }
+    ensures value { whole result.value ≡ value_in (S.env symbols.now) value.now }
+    ensures near { IsNear (2 ^ 64) result.value }
 {
     match value {
         Value::Number(Some(n)) => Total {
             unknown: false,
             huge: false,
-            value: i128::from(*n),
+            value: Exact::of(i128::from(*n)),
         },
         Value::Number(None) => Total {
             unknown: false,
             huge: true,
-            value: 0,
+            value: Exact::zero(),
         },
         Value::Symbol(name) => match symbols.get(name) {
             Some(v) => Total {
                 unknown: false,
                 huge: false,
-                value: i128::from(v),
+                value: Exact::of(v),
             },
             None => Total {
                 unknown: true,
                 huge: false,
-                value: 0,
+                value: Exact::zero(),
             },
         },
     }
 }
 
-fn plus(sum: i128, negative: bool, value: i128) -> i128
-    requires low { negsuc (2 ^ 100) ≤ℤ sum }
-    requires high { sum ≤ℤ pos (2 ^ 100) }
-    requires value_low { negsuc (2 ^ 64 - 1) ≤ℤ value }
-    requires value_high { value ≤ℤ pos (2 ^ 64) }
-    ensures value { result ≡ (if negative then sum -ℤ value else sum +ℤ value) }
-    ensures low { (sum -ℤ pos (2 ^ 64)) ≤ℤ result }
-    ensures high { result ≤ℤ (sum +ℤ pos (2 ^ 64)) }
-{
-    if negative { sum - value } else { sum + value }
-}
-
 /// A sum and parts.
-fn total_from<S: Symbols>(symbols: &S, sum: i128, parts: &[Part]) -> Total
+fn total_from<S: Symbols>(symbols: &S, sum: Exact, parts: &[Part]) -> Total
     requires short { length parts.now ≤ 16 }
-    requires low { neg_ℤ (pos (2 ^ 64 * (16 - length parts.now))) ≤ℤ sum }
-    requires high { sum ≤ℤ pos (2 ^ 64 * (16 - length parts.now)) }
+    requires high_low { neg_ℤ (pos (2 ^ 64 * (16 - length parts.now))) ≤ℤ sum.high }
+    requires high_high { sum.high ≤ℤ pos (2 ^ 64 * (16 - length parts.now)) }
+    requires low_low { neg_ℤ (pos (2 ^ 64 * (16 - length parts.now))) ≤ℤ sum.low }
+    requires low_high { sum.low ≤ℤ pos (2 ^ 64 * (16 - length parts.now)) }
     ensures unknown { result.unknown ≡ any_unknown (S.env symbols.now) parts.now }
     ensures huge { result.huge ≡ any_huge parts.now }
-    ensures value { result.value ≡ sum_from (S.env symbols.now) sum parts.now }
+    ensures value { whole result.value ≡ sum_from (S.env symbols.now) (whole sum) parts.now }
+    ensures near { IsNear (2 ^ 68) result.value }
 {
     match parts.split_first() {
         None => Total {
@@ -80,7 +71,7 @@ fn total_from<S: Symbols>(symbols: &S, sum: i128, parts: &[Part]) -> Total
         },
         Some((part, rest)) => {
             let first = part_total(symbols, &part.value);
-            let more = total_from(symbols, plus(sum, part.negative, first.value), rest);
+            let more = total_from(symbols, sum.plus(part.negative, first.value), rest);
             Total {
                 unknown: first.unknown || more.unknown,
                 huge: first.huge || more.huge,
@@ -97,14 +88,6 @@ pub struct Worth {
     pub fault: Option<PlaceFault>,
 }
 
-fn is_within(low: i64, high: i64, value: i128) -> bool
-    ensures test { result ≡ within low high value }
-    ensures low { IsTrue result → low ≤ℤ value }
-    ensures high { IsTrue result → value ≤ℤ high }
-{
-    i128::from(low) <= value && value <= i128::from(high)
-}
-
 /// The value of a sum that has to be from low to high; with a fault it counts as 0.
 #[tactic(auto, unfolding(crate::specs::Values::sum_fault, crate::specs::Values::taken))]
 pub fn sum_worth<S: Symbols>(symbols: &S, low: i64, high: i64, sum: &Sum) -> Worth
@@ -116,22 +99,19 @@ pub fn sum_worth<S: Symbols>(symbols: &S, low: i64, high: i64, sum: &Sum) -> Wor
     ensures low { low ≤ℤ result.value }
     ensures high { result.value ≤ℤ high }
 {
-    let total = total_from(symbols, 0, sum.parts.as_slice());
+    let total = total_from(symbols, Exact::zero(), sum.parts.as_slice());
     if total.unknown {
         return Worth {
             value: 0,
             fault: Some(PlaceFault::UnknownSymbol),
         };
     }
-    if total.huge || !is_within(low, high, total.value) {
-        return Worth {
+    match total.value.from_to(low, high) {
+        Some(value) if !total.huge => Worth { value, fault: None },
+        _ => Worth {
             value: 0,
             fault: Some(PlaceFault::Range),
-        };
-    }
-    Worth {
-        value: total.value as i64,
-        fault: None,
+        },
     }
 }
 

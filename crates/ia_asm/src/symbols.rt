@@ -13,7 +13,7 @@ pub trait Symbols {
     ghost env: { Self → NameOf → Option ℤ };
 
     /// The value of a symbol.
-    fn get(&self, name: &Name) -> Option<i64>
+    fn get(&self, name: &Name) -> Option<i128>
         ensures { result ≡ env self.now name.now };
 }
 
@@ -24,7 +24,7 @@ pub struct NoSymbols;
 impl Symbols for NoSymbols {
     ghost env = { λ _ _. None };
 
-    fn get(&self, _name: &Name) -> Option<i64> {
+    fn get(&self, _name: &Name) -> Option<i128> {
         None
     }
 }
@@ -32,13 +32,13 @@ impl Symbols for NoSymbols {
 /// Symbols in the order in which they are defined.
 #[derive(Drop)]
 pub struct Table<'a> {
-    pub values: IndexMap<Name<'a>, i64>,
+    pub values: IndexMap<Name<'a>, i128>,
 }
 
 impl Symbols for Table<'_> {
     ghost env = { λ t. known t.values.entries };
 
-    fn get(&self, name: &Name) -> Option<i64> {
+    fn get(&self, name: &Name) -> Option<i128> {
         self.values.get(name).copied()
     }
 }

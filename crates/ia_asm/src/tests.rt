@@ -255,6 +255,27 @@ fn short_jumps(rt: HostRuntime) -> Result<(), Fail> {
 }
 
 #[test]
+fn far_symbols(rt: HostRuntime) -> Result<(), Fail> {
+    let alloc = rt.alloc();
+    // The difference of two labels may be in range where the labels are not.
+    assert_eq!(rt;
+        fault(
+            alloc,
+            b"dd b - a\nresb 4294967295\nresb 4294967295\na: db 1\nb: db 2\n"
+        ),
+        Some(AsmFault::Range(2))
+    );
+    assert_eq!(rt;
+        fault(
+            alloc,
+            b"nop\ndd b\nresb 4294967295\nresb 4294967295\na: db 1\nb: db 2\n"
+        ),
+        Some(AsmFault::Range(2))
+    );
+    Ok(())
+}
+
+#[test]
 fn laws(_rt: HostRuntime) -> Result<(), Fail> {
     crate::code_is_spelt();
     crate::sizes_are_settled();

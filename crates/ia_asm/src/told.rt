@@ -13,10 +13,10 @@ use crate::walk::Spot;
 use ia_item::{Field, Item};
 
 /// Whether an item ends more than 2^26 bytes from the base, or past 2^32.
-fn end_fault(base: u32, end: u64) -> Option<PlaceFault>
+fn end_fault(base: u32, end: u128) -> Option<PlaceFault>
     ensures { result ≡ end_fault base end }
 {
-    if end > u64::from(base) + (1 << 26) || end > 1 << 32 {
+    if end > u128::from(base) + (1 << 26) || end > 1 << 32 {
         Some(PlaceFault::Range)
     } else {
         None
@@ -44,7 +44,7 @@ fn place_fault(symbols: &Table, base: u32, spot: &Spot) -> Option<PlaceFault>
     requires { IsGood spot.now }
     ensures { result ≡ place_fault (known symbols.now.values.entries) base (seen spot.now) }
 {
-    let end = end_fault(base, spot.at + spot.size);
+    let end = end_fault(base, spot.at + u128::from(spot.size));
     match &spot.entry.item {
         Item::Label(_) => None,
         Item::Equ(_, _) => spot.fault,

@@ -11,7 +11,7 @@ ghost use Rattle.ia_asm.specs.Assembled.{shown, shown_symbol, known_as, Tells};
 use crate::bytes::{join, section_bytes};
 use crate::fault::{AsmFault, at_line};
 use crate::listing::listing;
-use crate::place::{base_of, places, symbols, tail_base, text_end};
+use crate::place::{base_of, entry_count, places, symbols, tail_base, text_end};
 use crate::told::told;
 use crate::walk::{Spot, gap};
 use ia_item::{Entry, Item, Name, Section};
@@ -34,12 +34,12 @@ pub struct Unit<'a> {
 }
 
 /// A symbol's value modulo 2^32.
-fn shown(value: i64) -> u32
+fn shown(value: i128) -> u32
     requires { negsuc (2 ^ 31 - 1) ≤ℤ value }
     ensures { result ≡ shown value }
 {
     if value >= 0 {
-        (value as u64 % (1 << 32)) as u32
+        (value as u128 % (1 << 32)) as u32
     } else {
         (value + (1 << 32)) as u32
     }
@@ -48,7 +48,7 @@ fn shown(value: i64) -> u32
 fn insert<'a>(
     table: &mut IndexMap<Name<'a>, u32>,
     name: Name<'a>,
-    value: i64,
+    value: i128,
 ) -> Result<(), AllocError>
     requires { negsuc (2 ^ 31 - 1) ≤ℤ value }
     ensures { OnOk result (table.new.entries ≡ insert_all same_name table.old.entries (map shown_symbol ((name.entry, value) ∷ []))) }
@@ -66,8 +66,8 @@ fn define<'a>(table: &mut IndexMap<Name<'a>, u32>, spot: &Spot<'a, '_>) -> Resul
     ensures { OnOk result (table.new.entries ≡ insert_all same_name table.old.entries (map shown_symbol (definition (seen spot.now)))) }
 {
     match &spot.entry.item {
-        Item::Label(name) => insert(table, *name, spot.at as i64),
-        Item::Equ(name, _) => insert(table, *name, spot.settled),
+        Item::Label(name) => insert(table, *name, spot.at as i128),
+        Item::Equ(name, _) => insert(table, *name, i128::from(spot.settled)),
         _ => Ok(()),
     }
 }
@@ -100,12 +100,12 @@ impl<'a> Unit<'a> {
     }
 }
 
-fn code_length(base: u32, end: u64) -> u32
+fn code_length(base: u32, end: u128) -> u32
     requires begins { base ≤ end }
     requires short { end ≤ base + 2 ^ 26 }
     ensures { base + result ≡ end }
 {
-    (end - u64::from(base)) as u32
+    (end - u128::from(base)) as u32
 }
 
 /// Places entries, as docs/FORMATS.md says under "Source": an image that each item fits into with the values of the symbols,
@@ -115,8 +115,9 @@ pub fn place_all<'a>(alloc: Global, entries: &[Entry<'a>]) -> Result<Unit<'a>, A
     ensures { Tells entries.now result }
 {
     let base = base_of(entries);
+    let count = entry_count(entries);
     let end = text_end(alloc, base, entries)?;
-    let spots = places(alloc, base, tail_base(end), entries)?;
+    let spots = places(alloc, base, tail_base(end), count, entries)?;
     let placed = spots.as_slice();
     let table = symbols(alloc, placed)?;
     if let Some((fault, line)) = told(&table, base, placed) {

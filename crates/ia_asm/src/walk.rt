@@ -16,16 +16,13 @@ use ia_item::{Entry, Item, Section, Template};
 use indexmap::IndexMap;
 use std::alloc::{AllocError, Global};
 
-/// An address that no image reaches, and from which sums of addresses are far below 2^64.
-const FAR: u64 = 1 << 62;
-
 /// The place of an entry.
 #[derive(Clone, Copy)]
 pub struct Spot<'a, 'b> {
     /// The entry.
     pub entry: &'b Entry<'a>,
-    /// Its address.
-    pub at: u64,
+    /// Its address, exact however far it lies.
+    pub at: u128,
     /// How many bytes it takes.
     pub size: u64,
     /// The value of `equ`, or the count of `resb`.
@@ -40,9 +37,9 @@ pub struct Walk<'a> {
     /// The `equ` symbols so far.
     pub above: Table<'a>,
     /// Where the next item of the code goes.
-    pub text: u64,
+    pub text: u128,
     /// Where the next item of the data goes.
-    pub tail: u64,
+    pub tail: u128,
 }
 
 /// The value of `equ`, or the count of `resb`, by the `equ` symbols above.
@@ -65,18 +62,19 @@ fn settled(above: &Table, item: &Item) -> Worth
 }
 
 /// How far it is from an address to the next multiple.
-pub fn gap(multiple: u32, at: u64) -> u64
+pub fn gap(multiple: u32, at: u128) -> u64
     requires { 0 < multiple }
     ensures value { result ≡ gap multiple at }
     ensures small { result < multiple }
 {
     let n = u64::from(multiple);
-    (n - at % n) % n
+    let over = (at % u128::from(multiple)) as u64;
+    (n - over) % n
 }
 
 #[tactic(auto, unfolding(crate::specs::Items::code_bytes))]
-fn code_size(at: u64, template: &Template) -> u64
-    requires near { at ≤ 2 ^ 62 }
+fn code_size(at: u128, template: &Template) -> u64
+    requires near { at ≤ 2 ^ 126 }
     requires fits { Fits template.now }
     ensures { result ≡ length (code_bytes nowhere at template.now) }
 {
@@ -87,8 +85,8 @@ fn code_size(at: u64, template: &Template) -> u64
 
 /// How many bytes an item takes at an address.
 #[tactic(auto, using(crate::proofs::Powers::power_some), unfolding(crate::specs::Placement::size_of))]
-fn size_of(at: u64, value: i64, item: &Item) -> u64
-    requires near { at ≤ 2 ^ 62 }
+fn size_of(at: u128, value: i64, item: &Item) -> u64
+    requires near { at ≤ 2 ^ 126 }
     requires fits { FitsItem item.now }
     requires low { negsuc (2 ^ 31 - 1) ≤ℤ value }
     requires high { value ≤ℤ pos (2 ^ 32 - 1) }
@@ -113,7 +111,7 @@ fn define_equ<'a>(above: &mut Table<'a>, value: i64, item: &Item<'a>) -> Result<
     ensures { OnOk result (above.new.values.entries ≡ above_next above.old.values.entries value item.now) }
 {
     match item {
-        Item::Equ(name, _) => match above.values.insert(*name, value) {
+        Item::Equ(name, _) => match above.values.insert(*name, i128::from(value)) {
             Ok(_) => Ok(()),
             Err(_) => Err(AllocError),
         },
@@ -123,7 +121,7 @@ fn define_equ<'a>(above: &mut Table<'a>, value: i64, item: &Item<'a>) -> Result<
 
 impl<'a> Walk<'a> {
     /// A walk that puts the code and the data there.
-    pub fn new(alloc: Global, base: u64, tail: u64) -> Walk<'a>
+    pub fn new(alloc: Global, base: u128, tail: u128) -> Walk<'a>
         ensures { state result ≡ start base tail }
     {
         Walk {
@@ -135,7 +133,7 @@ impl<'a> Walk<'a> {
         }
     }
 
-    fn at(&self, section: Section) -> u64
+    fn at(&self, section: Section) -> u128
         ensures { result ≡ at_in section (state self.now) }
     {
         match section {
@@ -145,38 +143,32 @@ impl<'a> Walk<'a> {
     }
 
     fn advance(&mut self, section: Section, size: u64)
-        requires text { self.old.text ≤ 2 ^ 62 }
-        requires tail { self.old.tail ≤ 2 ^ 62 }
-        requires near { at_in section (state self.old) + size ≤ 2 ^ 62 }
+        requires text { self.old.text ≤ 2 ^ 125 }
+        requires tail { self.old.tail ≤ 2 ^ 125 }
         ensures above { self.new.above ≡ self.old.above }
         ensures text { self.new.text ≡ text_next section self.old.text size }
         ensures tail { self.new.tail ≡ tail_next section self.old.tail size }
-        ensures text_near { self.new.text ≤ 2 ^ 62 }
-        ensures tail_near { self.new.tail ≤ 2 ^ 62 }
     {
         match section {
-            Section::Text => self.text += size,
-            Section::Data => self.tail += size,
+            Section::Text => self.text += u128::from(size),
+            Section::Data => self.tail += u128::from(size),
         }
     }
 
-    /// Places an entry behind the one before. Memory is refused also where it ends more than 2^62 bytes from 0.
+    /// Places an entry behind the one before.
     pub fn place<'b>(&mut self, entry: &'b Entry<'a>) -> Result<Spot<'a, 'b>, AllocError>
         requires fits { FitsEntry entry.now }
-        requires text { self.old.text ≤ 2 ^ 62 }
-        requires tail { self.old.tail ≤ 2 ^ 62 }
+        requires text { self.old.text ≤ 2 ^ 125 }
+        requires tail { self.old.tail ≤ 2 ^ 125 }
         ensures place { IfOk result (λ s. seen s ≡ place_at (state self.old) entry.now) }
         ensures next { OnOk result (state self.new ≡ next (state self.old) entry.now) }
-        ensures text_near { OnOk result (self.new.text ≤ 2 ^ 62) }
-        ensures tail_near { OnOk result (self.new.tail ≤ 2 ^ 62) }
+        ensures text_near { OnOk result (self.new.text ≤ self.old.text + 2 ^ 64) }
+        ensures tail_near { OnOk result (self.new.tail ≤ self.old.tail + 2 ^ 64) }
         ensures good { IfOk result IsGood }
     {
         let at = self.at(entry.section);
         let worth = settled(&self.above, &entry.item);
         let size = size_of(at, worth.value, &entry.item);
-        if size > FAR - at {
-            return Err(AllocError);
-        }
         define_equ(&mut self.above, worth.value, &entry.item)?;
         self.advance(entry.section, size);
         Ok(Spot {

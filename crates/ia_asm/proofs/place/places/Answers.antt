@@ -1,4 +1,4 @@
-use Rattle.std.proofs.Common.{◌≡◌, ◌+◌, ◌<◌, List, [], ◌∷◌, ◌++◌, sym, ◌∙◌, ap, subst, length, drop, map}
+use Rattle.std.proofs.Common.{◌≡◌, ◌+◌, ◌<◌, List, [], ◌∷◌, ◌++◌, sym, ◌∙◌, ap, subst, length, drop, map, arith}
 use Rattle.std.specs.Prelude.{All}
 use Rattle.ia_item.specs.declared.item.Entry.{Entry}
 use Rattle.ia_item.specs.Fits.{FitsEntry}
@@ -23,8 +23,8 @@ loop-entry-preserved c =
     ∙ ap (λ (l : List Place). map seen out ++ l) (sym step) ∙ c.loop-entry.invariant.whole in
     record {
       fits = all_from FitsEntry es (i + 1) c.requires.fits;
-      text = c.in_ok-spot.ensures.text_near;
-      tail = c.in_ok-spot.ensures.tail_near;
+      text = omega (arith, h, c.loop-entry.invariant.text, c.in_ok-spot.ensures.text_near);
+      tail = omega (arith, h, c.loop-entry.invariant.tail, c.in_ok-spot.ensures.tail_near);
       good = subst (All IsGood) (sym c.in_ok-push.ensures) (all_push IsGood out spot c.loop-entry.invariant.good c.in_ok-spot.ensures.good);
       whole = ap (λ (l : List _). map seen l ++ places (state c.place.new.self) rest) c.in_ok-push.ensures
           ∙ ap (λ (t : State). map seen (out ++ spot ∷ []) ++ places t rest) c.in_ok-spot.ensures.next ∙ whole;

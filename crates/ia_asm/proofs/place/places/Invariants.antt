@@ -1,4 +1,4 @@
-use Rattle.std.proofs.Common.{◌≡◌, ◌≤◌, ◌^◌, ◌++◌, drop, map}
+use Rattle.std.proofs.Common.{◌≡◌, ◌≤◌, ◌+◌, ◌-◌, ◌*◌, ◌^◌, ◌++◌, length, drop, map}
 use Rattle.std.specs.Prelude.{All}
 use Rattle.ia_item.specs.Fits.{AllFit}
 use Rattle.ia_asm.specs.Placement.{places, start}
@@ -8,8 +8,8 @@ use Rattle.ia_asm.proofs.place.places.Given as goal
 abbrev pub invariant-loop-entry : goal.invariant-loop-entry
 invariant-loop-entry l = record {
   fits : AllFit (drop l.entry-index l.entries);
-  text : l.walk.text ≤ 2 ^ 62;
-  tail : l.walk.tail ≤ 2 ^ 62;
+  text : l.walk.text + (length l.entries - l.entry-index) * 2 ^ 64 ≤ 2 ^ 125;
+  tail : l.walk.tail + (length l.entries - l.entry-index) * 2 ^ 64 ≤ 2 ^ 125;
   good : All IsGood l.spots.items;
   whole : map seen l.spots.items ++ places (state l.walk) (drop l.entry-index l.entries) ≡ places (start l.base l.tail) l.entries;
 }

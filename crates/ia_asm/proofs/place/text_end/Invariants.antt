@@ -1,4 +1,4 @@
-use Rattle.std.proofs.Common.{◌≡◌, ◌≤◌, ◌^◌, drop}
+use Rattle.std.proofs.Common.{◌≡◌, ◌≤◌, ◌+◌, ◌-◌, ◌*◌, ◌^◌, length, drop}
 use Rattle.ia_item.specs.Fits.{AllFit}
 use Rattle.ia_asm.specs.Placement.{after, start}
 use Rattle.ia_asm.specs.Seen.{state}
@@ -7,7 +7,7 @@ use Rattle.ia_asm.proofs.place.text_end.Given as goal
 abbrev pub invariant-loop-entry : goal.invariant-loop-entry
 invariant-loop-entry l = record {
   fits : AllFit (drop l.entry-index l.entries);
-  text : l.walk.text ≤ 2 ^ 62;
-  tail : l.walk.tail ≤ 2 ^ 62;
+  text : l.walk.text + (length l.entries - l.entry-index) * 2 ^ 64 ≤ 2 ^ 123;
+  tail : l.walk.tail + (length l.entries - l.entry-index) * 2 ^ 64 ≤ 2 ^ 123;
   end : after (state l.walk) (drop l.entry-index l.entries) ≡ after (start l.base 0) l.entries;
 }
