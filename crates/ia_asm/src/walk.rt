@@ -21,10 +21,10 @@ use std::alloc::{AllocError, Global};
 pub struct Spot<'a, 'b> {
     /// The entry.
     pub entry: &'b Entry<'a>,
-    /// Its address, exact however far it lies.
-    pub at: u128,
     /// How many bytes it takes.
     pub size: u64,
+    /// Its address, exact however far it lies.
+    pub at: u128,
     /// The value of `equ`, or the count of `resb`.
     pub settled: i64,
     /// What is wrong with these.
