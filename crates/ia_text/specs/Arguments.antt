@@ -13,12 +13,12 @@ use Rattle.ia_text.specs.declared.arg.Arg.{Arg}
 use Rattle.ia_text.specs.declared.arg.Arg.TheVariants as arg
 
 abbrev pub operand_arg : Width → Operand → Arg
-operand_arg w (operand.Reg r) = arg.Register w r
-operand_arg w (operand.Mem m) = arg.Place w m
-operand_arg w (operand.Imm n) = arg.Number n
+operand_arg width (operand.Reg register) = arg.Register width register
+operand_arg width (operand.Mem place) = arg.Place width place
+operand_arg width (operand.Imm number) = arg.Number number
 
 abbrev pub count_arg : Count → Arg
-count_arg (count.Imm n) = arg.Number n
+count_arg (count.Imm number) = arg.Number number
 count_arg count.Cl = arg.Cl
 
 -- where a jump of so many bytes at an address goes
@@ -26,58 +26,58 @@ abbrev pub target : ℕ → ℕ → ℕ → ℕ
 target at long distance = (at + long + distance) % 2 ^ 32
 
 abbrev pub first_arg : Op → ℕ → Option Arg
-first_arg (op.Alu k w m s) at = Some (operand_arg w m)
-first_arg (op.Mov w m s) at = Some (operand_arg w m)
-first_arg (op.Lea r m) at = Some (arg.Register D r)
-first_arg (op.Xchg w m r) at = Some (operand_arg w m)
-first_arg (op.Inc w m) at = Some (operand_arg w m)
-first_arg (op.Dec w m) at = Some (operand_arg w m)
-first_arg (op.Test w m s) at = Some (operand_arg w m)
-first_arg (op.Unary k m) at = Some (operand_arg D m)
-first_arg (op.Imul r m) at = Some (arg.Register D r)
-first_arg (op.ImulImm r m n) at = Some (arg.Register D r)
-first_arg (op.Shift k m n) at = Some (operand_arg D m)
-first_arg (op.Push m) at = Some (operand_arg D m)
-first_arg (op.Pop m) at = Some (operand_arg D m)
-first_arg (op.Call d) at = Some (arg.Number (target at 5 d))
-first_arg (op.CallTo m) at = Some (operand_arg D m)
-first_arg (op.RetPop n) at = Some (arg.Number n)
-first_arg (op.Jmp d) at = Some (arg.Number (target at 5 d))
-first_arg (op.JmpShort d) at = Some (arg.Short (target at 2 d))
-first_arg (op.JmpTo m) at = Some (operand_arg D m)
-first_arg (op.Jcc c d) at = Some (arg.Number (target at 6 d))
-first_arg (op.JccShort c d) at = Some (arg.Short (target at 2 d))
-first_arg (op.Setcc c m) at = Some (operand_arg B m)
-first_arg (op.Cmovcc c r m) at = Some (arg.Register D r)
-first_arg (op.Loop d) at = Some (arg.Number (target at 2 d))
-first_arg (op.Jecxz d) at = Some (arg.Number (target at 2 d))
-first_arg (op.Movzx r m) at = Some (arg.Register D r)
-first_arg (op.Movsx r m) at = Some (arg.Register D r)
-first_arg (op.Cmpxchg m r) at = Some (operand_arg D m)
-first_arg (op.Xadd m r) at = Some (operand_arg D m)
-first_arg (op.Bit k m n) at = Some (operand_arg D m)
-first_arg (op.NopOf m) at = Some (operand_arg D m)
-first_arg (op.Xbegin d) at = Some (arg.Number (target at 6 d))
-first_arg (op.Xabort n) at = Some (arg.Number n)
+first_arg (op.Alu kind width operand from) at = Some (operand_arg width operand)
+first_arg (op.Mov width operand from) at = Some (operand_arg width operand)
+first_arg (op.Lea register place) at = Some (arg.Register D register)
+first_arg (op.Xchg width operand register) at = Some (operand_arg width operand)
+first_arg (op.Inc width operand) at = Some (operand_arg width operand)
+first_arg (op.Dec width operand) at = Some (operand_arg width operand)
+first_arg (op.Test width operand from) at = Some (operand_arg width operand)
+first_arg (op.Unary kind operand) at = Some (operand_arg D operand)
+first_arg (op.Imul register operand) at = Some (arg.Register D register)
+first_arg (op.ImulImm register operand number) at = Some (arg.Register D register)
+first_arg (op.Shift kind operand number) at = Some (operand_arg D operand)
+first_arg (op.Push operand) at = Some (operand_arg D operand)
+first_arg (op.Pop operand) at = Some (operand_arg D operand)
+first_arg (op.Call distance) at = Some (arg.Number (target at 5 distance))
+first_arg (op.CallTo operand) at = Some (operand_arg D operand)
+first_arg (op.RetPop number) at = Some (arg.Number number)
+first_arg (op.Jmp distance) at = Some (arg.Number (target at 5 distance))
+first_arg (op.JmpShort distance) at = Some (arg.Short (target at 2 distance))
+first_arg (op.JmpTo operand) at = Some (operand_arg D operand)
+first_arg (op.Jcc condition distance) at = Some (arg.Number (target at 6 distance))
+first_arg (op.JccShort condition distance) at = Some (arg.Short (target at 2 distance))
+first_arg (op.Setcc condition operand) at = Some (operand_arg B operand)
+first_arg (op.Cmovcc condition register operand) at = Some (arg.Register D register)
+first_arg (op.Loop distance) at = Some (arg.Number (target at 2 distance))
+first_arg (op.Jecxz distance) at = Some (arg.Number (target at 2 distance))
+first_arg (op.Movzx register operand) at = Some (arg.Register D register)
+first_arg (op.Movsx register operand) at = Some (arg.Register D register)
+first_arg (op.Cmpxchg operand register) at = Some (operand_arg D operand)
+first_arg (op.Xadd operand register) at = Some (operand_arg D operand)
+first_arg (op.Bit kind operand number) at = Some (operand_arg D operand)
+first_arg (op.NopOf operand) at = Some (operand_arg D operand)
+first_arg (op.Xbegin distance) at = Some (arg.Number (target at 6 distance))
+first_arg (op.Xabort number) at = Some (arg.Number number)
 first_arg _ at = None
 
 abbrev pub second_arg : Op → Option Arg
-second_arg (op.Alu k w m s) = Some (operand_arg w s)
-second_arg (op.Mov w m s) = Some (operand_arg w s)
-second_arg (op.Lea r m) = Some (arg.Address m)
-second_arg (op.Xchg w m r) = Some (arg.Register w r)
-second_arg (op.Test w m s) = Some (operand_arg w s)
-second_arg (op.Imul r m) = Some (operand_arg D m)
-second_arg (op.ImulImm r m n) = Some (operand_arg D m)
-second_arg (op.Shift k m n) = Some (count_arg n)
-second_arg (op.Cmovcc c r m) = Some (operand_arg D m)
-second_arg (op.Movzx r m) = Some (operand_arg B m)
-second_arg (op.Movsx r m) = Some (operand_arg B m)
-second_arg (op.Cmpxchg m r) = Some (arg.Register D r)
-second_arg (op.Xadd m r) = Some (arg.Register D r)
-second_arg (op.Bit k m n) = Some (arg.Number n)
+second_arg (op.Alu kind width operand from) = Some (operand_arg width from)
+second_arg (op.Mov width operand from) = Some (operand_arg width from)
+second_arg (op.Lea register place) = Some (arg.Address place)
+second_arg (op.Xchg width operand register) = Some (arg.Register width register)
+second_arg (op.Test width operand from) = Some (operand_arg width from)
+second_arg (op.Imul register operand) = Some (operand_arg D operand)
+second_arg (op.ImulImm register operand number) = Some (operand_arg D operand)
+second_arg (op.Shift kind operand number) = Some (count_arg number)
+second_arg (op.Cmovcc condition register operand) = Some (operand_arg D operand)
+second_arg (op.Movzx register operand) = Some (operand_arg B operand)
+second_arg (op.Movsx register operand) = Some (operand_arg B operand)
+second_arg (op.Cmpxchg operand register) = Some (arg.Register D register)
+second_arg (op.Xadd operand register) = Some (arg.Register D register)
+second_arg (op.Bit kind operand number) = Some (arg.Number number)
 second_arg _ = None
 
 abbrev pub third_arg : Op → Option Arg
-third_arg (op.ImulImm r m n) = Some (arg.Number n)
+third_arg (op.ImulImm register operand number) = Some (arg.Number number)
 third_arg _ = None

@@ -1,7 +1,7 @@
 //! The operands of an instruction at an address, as they are printed.
 
-ghost use Rattle.std.specs.Prelude.{◌≡◌};
-ghost use Rattle.ia_text.specs.Parts.{operand_arg, count_arg, target, first_arg, second_arg, third_arg};
+ghost use Rattle.std.specs.Prelude.{◌≡◌, Some, None};
+ghost use Rattle.ia_text.specs.Arguments.{operand_arg, count_arg, target, first_arg, second_arg, third_arg};
 
 use crate::arg::Arg;
 use ia_insn::{Count, Op, Operand};
@@ -33,77 +33,105 @@ fn target(at: u32, long: u32, distance: u32) -> u32
     at.wrapping_add(long).wrapping_add(distance)
 }
 
-/// The first operand.
-pub fn first(op: &Op, at: u32) -> Option<Arg>
-    ensures { result ≡ first_arg op.now at }
+/// The operands of an operation in their order: none, one, two or three.
+#[derive(Clone, Copy, Debug, PartialEq, Eq)]
+pub struct Arguments {
+    /// The destination, where there is one.
+    pub first: Option<Arg>,
+    /// The source.
+    pub second: Option<Arg>,
+    /// The number of IMUL with three operands.
+    pub third: Option<Arg>,
+}
+
+fn none() -> Arguments
+    ensures { result ≡ record { first = None; second = None; third = None } }
 {
-    match *op {
-        Op::Alu(_, width, place, _) => Some(operand(width, place)),
-        Op::Mov(width, place, _) => Some(operand(width, place)),
-        Op::Lea(register, _) => Some(Arg::Register(Width::D, register)),
-        Op::Xchg(width, place, _) => Some(operand(width, place)),
-        Op::Inc(width, place) => Some(operand(width, place)),
-        Op::Dec(width, place) => Some(operand(width, place)),
-        Op::Test(width, place, _) => Some(operand(width, place)),
-        Op::Unary(_, place) => Some(operand(Width::D, place)),
-        Op::Imul(register, _) => Some(Arg::Register(Width::D, register)),
-        Op::ImulImm(register, _, _) => Some(Arg::Register(Width::D, register)),
-        Op::Shift(_, place, _) => Some(operand(Width::D, place)),
-        Op::Push(place) => Some(operand(Width::D, place)),
-        Op::Pop(place) => Some(operand(Width::D, place)),
-        Op::Call(distance) => Some(Arg::Number(target(at, 5, distance))),
-        Op::CallTo(place) => Some(operand(Width::D, place)),
-        Op::RetPop(number) => Some(Arg::Number(u32::from(number))),
-        Op::Jmp(distance) => Some(Arg::Number(target(at, 5, distance))),
-        Op::JmpShort(distance) => Some(Arg::Short(target(at, 2, distance))),
-        Op::JmpTo(place) => Some(operand(Width::D, place)),
-        Op::Jcc(_, distance) => Some(Arg::Number(target(at, 6, distance))),
-        Op::JccShort(_, distance) => Some(Arg::Short(target(at, 2, distance))),
-        Op::Setcc(_, place) => Some(operand(Width::B, place)),
-        Op::Cmovcc(_, register, _) => Some(Arg::Register(Width::D, register)),
-        Op::Loop(distance) => Some(Arg::Number(target(at, 2, distance))),
-        Op::Jecxz(distance) => Some(Arg::Number(target(at, 2, distance))),
-        Op::Movzx(register, _) => Some(Arg::Register(Width::D, register)),
-        Op::Movsx(register, _) => Some(Arg::Register(Width::D, register)),
-        Op::Cmpxchg(place, _) => Some(operand(Width::D, place)),
-        Op::Xadd(place, _) => Some(operand(Width::D, place)),
-        Op::Bit(_, place, _) => Some(operand(Width::D, place)),
-        Op::NopOf(place) => Some(operand(Width::D, place)),
-        Op::Xbegin(distance) => Some(Arg::Number(target(at, 6, distance))),
-        Op::Xabort(number) => Some(Arg::Number(u32::from(number))),
-        _ => None,
+    Arguments {
+        first: None,
+        second: None,
+        third: None,
     }
 }
 
-/// The second operand.
-pub fn second(op: &Op) -> Option<Arg>
-    ensures { result ≡ second_arg op.now }
+fn one(first: Arg) -> Arguments
+    ensures { result ≡ record { first = Some first; second = None; third = None } }
 {
-    match *op {
-        Op::Alu(_, width, _, source) => Some(operand(width, source)),
-        Op::Mov(width, _, source) => Some(operand(width, source)),
-        Op::Lea(_, place) => Some(Arg::Address(place)),
-        Op::Xchg(width, _, register) => Some(Arg::Register(width, register)),
-        Op::Test(width, _, source) => Some(operand(width, source)),
-        Op::Imul(_, place) => Some(operand(Width::D, place)),
-        Op::ImulImm(_, place, _) => Some(operand(Width::D, place)),
-        Op::Shift(_, _, number) => Some(count(number)),
-        Op::Cmovcc(_, _, place) => Some(operand(Width::D, place)),
-        Op::Movzx(_, place) => Some(operand(Width::B, place)),
-        Op::Movsx(_, place) => Some(operand(Width::B, place)),
-        Op::Cmpxchg(_, register) => Some(Arg::Register(Width::D, register)),
-        Op::Xadd(_, register) => Some(Arg::Register(Width::D, register)),
-        Op::Bit(_, _, number) => Some(Arg::Number(u32::from(number))),
-        _ => None,
+    Arguments {
+        first: Some(first),
+        second: None,
+        third: None,
     }
 }
 
-/// The third operand.
-pub fn third(op: &Op) -> Option<Arg>
-    ensures { result ≡ third_arg op.now }
+fn two(first: Arg, second: Arg) -> Arguments
+    ensures { result ≡ record { first = Some first; second = Some second; third = None } }
+{
+    Arguments {
+        first: Some(first),
+        second: Some(second),
+        third: None,
+    }
+}
+
+fn three(first: Arg, second: Arg, third: Arg) -> Arguments
+    ensures { result ≡ record { first = Some first; second = Some second; third = Some third } }
+{
+    Arguments {
+        first: Some(first),
+        second: Some(second),
+        third: Some(third),
+    }
+}
+
+fn register(number: u8) -> Arg
+    ensures { result ≡ Arg.Register Width.D number }
+{
+    Arg::Register(Width::D, number)
+}
+
+/// The operands of an operation at an address.
+pub fn arguments_of(op: &Op, at: u32) -> Arguments
+    ensures first { result.first ≡ first_arg op.now at }
+    ensures second { result.second ≡ second_arg op.now }
+    ensures third { result.third ≡ third_arg op.now }
 {
     match *op {
-        Op::ImulImm(_, _, number) => Some(Arg::Number(number)),
-        _ => None,
+        Op::Alu(_, width, to, from) => two(operand(width, to), operand(width, from)),
+        Op::Mov(width, to, from) => two(operand(width, to), operand(width, from)),
+        Op::Lea(to, place) => two(register(to), Arg::Address(place)),
+        Op::Xchg(width, place, with) => two(operand(width, place), Arg::Register(width, with)),
+        Op::Inc(width, place) => one(operand(width, place)),
+        Op::Dec(width, place) => one(operand(width, place)),
+        Op::Test(width, left, right) => two(operand(width, left), operand(width, right)),
+        Op::Unary(_, place) => one(operand(Width::D, place)),
+        Op::Imul(to, from) => two(register(to), operand(Width::D, from)),
+        Op::ImulImm(to, from, number) => {
+            three(register(to), operand(Width::D, from), Arg::Number(number))
+        }
+        Op::Shift(_, place, number) => two(operand(Width::D, place), count(number)),
+        Op::Push(from) => one(operand(Width::D, from)),
+        Op::Pop(to) => one(operand(Width::D, to)),
+        Op::Call(distance) => one(Arg::Number(target(at, 5, distance))),
+        Op::CallTo(place) => one(operand(Width::D, place)),
+        Op::RetPop(number) => one(Arg::Number(u32::from(number))),
+        Op::Jmp(distance) => one(Arg::Number(target(at, 5, distance))),
+        Op::JmpShort(distance) => one(Arg::Short(target(at, 2, distance))),
+        Op::JmpTo(place) => one(operand(Width::D, place)),
+        Op::Jcc(_, distance) => one(Arg::Number(target(at, 6, distance))),
+        Op::JccShort(_, distance) => one(Arg::Short(target(at, 2, distance))),
+        Op::Setcc(_, to) => one(operand(Width::B, to)),
+        Op::Cmovcc(_, to, from) => two(register(to), operand(Width::D, from)),
+        Op::Loop(distance) => one(Arg::Number(target(at, 2, distance))),
+        Op::Jecxz(distance) => one(Arg::Number(target(at, 2, distance))),
+        Op::Movzx(to, from) => two(register(to), operand(Width::B, from)),
+        Op::Movsx(to, from) => two(register(to), operand(Width::B, from)),
+        Op::Cmpxchg(place, from) => two(operand(Width::D, place), register(from)),
+        Op::Xadd(place, from) => two(operand(Width::D, place), register(from)),
+        Op::Bit(_, place, number) => two(operand(Width::D, place), Arg::Number(u32::from(number))),
+        Op::NopOf(place) => one(operand(Width::D, place)),
+        Op::Xbegin(distance) => one(Arg::Number(target(at, 6, distance))),
+        Op::Xabort(number) => one(Arg::Number(u32::from(number))),
+        _ => none(),
     }
 }
