@@ -1,6 +1,8 @@
 //! Addresses of operands in memory, and what an instruction loads.
 //!
-//! Both are decided by the registers before the instruction. Takes no memory.
+//! Promises the address of each operand, modulo 2^32, and for each instruction the one access that it reads, or that it
+//! reads none. Both are decided by the registers before the instruction. Stands on `ia_insn` and `ia_regs`; takes no
+//! memory.
 #![tactic(auto)]
 
 mod address;
@@ -18,6 +20,3 @@ pub struct Access {
     /// How many bytes: 1 or 4.
     pub width: Width,
 }
-
-#[cfg(test)]
-mod tests;

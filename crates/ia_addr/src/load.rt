@@ -9,7 +9,7 @@ use crate::Access;
 use crate::address::address_of;
 use ia_insn::{Insn, Op, Operand};
 use ia_regs::Regs;
-use ia_word::Width;
+use ia_word::{EBP, ESP, Width};
 
 /// What an instruction loads at these registers: nothing, or one byte or doubleword. The access may wrap past 2^32 - 1.
 #[tactic(auto, unfolding(crate::specs::Load::load_of))]
@@ -38,10 +38,10 @@ fn op_load(op: &Op, regs: &Regs) -> Option<Access>
         Op::ImulImm(_, operand, _) => read(Width::D, operand, regs),
         Op::Shift(_, operand, _) => read(Width::D, operand, regs),
         Op::Push(operand) => read(Width::D, operand, regs),
-        Op::Pop(_) => popped(4, regs),
-        Op::Leave => popped(5, regs),
-        Op::Ret => popped(4, regs),
-        Op::RetPop(_) => popped(4, regs),
+        Op::Pop(_) => popped(ESP, regs),
+        Op::Leave => popped(EBP, regs),
+        Op::Ret => popped(ESP, regs),
+        Op::RetPop(_) => popped(ESP, regs),
         Op::CallTo(operand) => read(Width::D, operand, regs),
         Op::JmpTo(operand) => read(Width::D, operand, regs),
         Op::Cmovcc(_, _, operand) => read(Width::D, operand, regs),

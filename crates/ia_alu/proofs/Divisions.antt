@@ -6,7 +6,7 @@ use Rattle.std.proofs.Math.Nat.{div-le_self}
 use Rattle.std.proofs.lemmas.Int.{ints}
 use Rattle.std.proofs.lemmas.Bool.Decides.{nat_tests}
 use Rattle.ia_word.specs.declared.width.Width.TheVariants.{D}
-use Rattle.ia_alu.specs.Numbers.{overflows, signed}
+use Rattle.ia_alu.specs.Numbers.{overflows, signed_value}
 
 abs_neg : (n : ℕ) → unsigned_abs (neg_ℤ (pos n)) ≡ n
 abs_neg zero = refl
@@ -31,6 +31,6 @@ unfolding overflows
 wrapped_is (pos n) h o = grind (arith, nat_tests)
 wrapped_is (negsuc n) h o = grind (arith, nat_tests)
 
-pub signed_nonzero : (n : ℕ) → n < 2 ^ 32 → n ≢ 0 → signed D n ≢ pos 0
-unfolding signed
+pub signed_nonzero : (n : ℕ) → n < 2 ^ 32 → n ≢ 0 → signed_value D n ≢ pos 0
+unfolding signed_value
 signed_nonzero n h ne = grind (arith, nat_tests, ints)

@@ -7,7 +7,7 @@ use Rattle.ia_word.specs.Width.{bits_of}
 use Rattle.ia_regs.specs.declared.flags.Flags.{Flags}
 use Rattle.ia_regs.specs.Flags.{has_carry, has_parity, has_adjust, has_zero, has_sign, has_overflow, with_carry, with_overflow}
 use Rattle.ia_regs.proofs.Laws.{carry_of, parity_of, adjust_of, zero_of, sign_of, overflow_of}
-use Rattle.ia_alu.specs.Numbers.{signed, overflows, IsOutside}
+use Rattle.ia_alu.specs.Numbers.{signed_value, overflows, IsOutside}
 use Rattle.ia_alu.specs.Products.{product_flags, signed_product_flags}
 use Rattle.ia_word.specs.declared.width.Width.TheVariants.{D}
 use Rattle.ia_alu.specs.Sums.{sum_flags, difference_flags}
@@ -30,7 +30,7 @@ pub sum_adjust : (w : Width) (a b c : ℕ) → has_adjust (sum_flags w a b c) �
 unfolding sum_flags
 sum_adjust w a b c = adjust_of _ _ _ _ _ _
 
-pub sum_overflow : (w : Width) (a b c : ℕ) → has_overflow (sum_flags w a b c) ≡ overflows w (signed w a +ℤ signed w b +ℤ pos c)
+pub sum_overflow : (w : Width) (a b c : ℕ) → has_overflow (sum_flags w a b c) ≡ overflows w (signed_value w a +ℤ signed_value w b +ℤ pos c)
 unfolding sum_flags
 sum_overflow w a b c = overflow_of _ _ _ _ _ _
 
@@ -45,7 +45,7 @@ pub difference_adjust : (w : Width) (a b c : ℕ) → has_adjust (difference_fla
 unfolding difference_flags
 difference_adjust w a b c = adjust_of _ _ _ _ _ _
 
-pub difference_overflow : (w : Width) (a b c : ℕ) → has_overflow (difference_flags w a b c) ≡ overflows w (signed w a -ℤ signed w b -ℤ pos c)
+pub difference_overflow : (w : Width) (a b c : ℕ) → has_overflow (difference_flags w a b c) ≡ overflows w (signed_value w a -ℤ signed_value w b -ℤ pos c)
 unfolding difference_flags
 difference_overflow w a b c = overflow_of _ _ _ _ _ _
 
@@ -73,17 +73,17 @@ pub product_overflow : (a b : ℕ) (f : Flags) → has_overflow (product_flags a
 unfolding product_flags
 product_overflow a b f = overflow_written _ _ _
 
-pub signed_product_carry : (a b : ℕ) (f : Flags) → has_carry (signed_product_flags a b f) ≡ overflows D (signed D a *ℤ signed D b)
+pub signed_product_carry : (a b : ℕ) (f : Flags) → has_carry (signed_product_flags a b f) ≡ overflows D (signed_value D a *ℤ signed_value D b)
 unfolding signed_product_flags
 signed_product_carry a b f = carry_written _ _ _
 
-pub signed_product_overflow : (a b : ℕ) (f : Flags) → has_overflow (signed_product_flags a b f) ≡ overflows D (signed D a *ℤ signed D b)
+pub signed_product_overflow : (a b : ℕ) (f : Flags) → has_overflow (signed_product_flags a b f) ≡ overflows D (signed_value D a *ℤ signed_value D b)
 unfolding signed_product_flags
 signed_product_overflow a b f = overflow_written _ _ _
 
 -- 0 less a number: it overflows for the least number alone
-pub negation_overflows : (n : ℕ) → n < 2 ^ 32 → IsOutside D (signed D 0 -ℤ signed D n -ℤ pos 0) ↔ n ≡ 2 ^ 31
-unfolding signed
+pub negation_overflows : (n : ℕ) → n < 2 ^ 32 → IsOutside D (signed_value D 0 -ℤ signed_value D n -ℤ pos 0) ↔ n ≡ 2 ^ 31
+unfolding signed_value
 negation_overflows n h = grind (arith, nat_tests, ints)
 
 pub through : (A B C : Type 0) → A ↔ B → B ↔ C → A ↔ C

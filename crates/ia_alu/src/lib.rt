@@ -1,4 +1,8 @@
-//! Results and flags of the arithmetic and logic instructions.
+//! Results and flags of the arithmetic and logic instructions, on numbers alone.
+//!
+//! Promises for each of them the result, all six flags by the definitions in `specs/`, and each flag once more as a fact
+//! on whole numbers: a carry is a sum that does not fit, an overflow a signed one. What Intel's manual leaves undefined is
+//! kept as it was. Stands on `ia_regs` and `ia_word`; takes no memory.
 #![tactic(auto)]
 
 mod bits;
@@ -11,10 +15,7 @@ mod sums;
 
 pub use bits::bit;
 pub use divide::Divide;
-pub use ops::{StepOp, alu, incdec, neg};
+pub use ops::{IncDecOp, alu, incdec, neg};
 pub use products::{div, idiv, imul, imul_low, mul};
 pub use shifts::shift;
 pub use sums::{add, sub};
-
-#[cfg(test)]
-mod tests;

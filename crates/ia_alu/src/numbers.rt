@@ -1,9 +1,9 @@
 //! Operands as signed whole numbers.
 
-ghost use Rattle.std.specs.Prelude.{◌≡◌, ◌<◌, ◌^◌, ◌≤◌, ◌<ℤ◌, ◌≤ℤ◌, pos, neg_ℤ};
+ghost use Rattle.std.specs.Prelude.{◌≡◌, ◌<◌, ◌^◌, ◌≤◌, ◌%◌, ◌<ℤ◌, ◌≤ℤ◌, ◌↔◌, IsTrue, count_ones, pos, neg_ℤ};
 ghost use Rattle.ia_word.specs.Width.{bits_of};
-ghost use Rattle.ia_regs.specs.Flags.{flags_of};
-ghost use Rattle.ia_alu.specs.Numbers.{signed, overflows, half_of, flags_from, modulo};
+ghost use Rattle.ia_regs.specs.Flags.{flags_of, has_carry, has_parity, has_adjust, has_zero, has_sign, has_overflow};
+ghost use Rattle.ia_alu.specs.Numbers.{signed_value, overflows, half_of, flags_from, modulo};
 
 use ia_regs::Flags;
 use ia_word::{Width, parity_even};
@@ -19,10 +19,10 @@ pub(crate) fn half(width: Width) -> u64
 }
 
 /// The signed number that an operand stands for.
-#[tactic(auto, unfolding(crate::specs::Numbers::signed))]
+#[tactic(auto, unfolding(crate::specs::Numbers::signed_value))]
 pub(crate) fn as_signed(width: Width, operand: u32) -> i64
     requires { operand < 2 ^ bits_of width }
-    ensures value { result ≡ signed width operand }
+    ensures value { result ≡ signed_value width operand }
     ensures low { neg_ℤ (pos (2 ^ 31)) ≤ℤ result }
     ensures high { result <ℤ pos (2 ^ 31) }
 {
@@ -70,7 +70,15 @@ pub(crate) fn result_flags(
     adjust: bool,
     overflow: bool,
 ) -> Flags
-    ensures { result ≡ flags_from width value carry adjust overflow }
+    ensures flags { result ≡ flags_from width value carry adjust overflow }
+
+    // The flags one by one.
+    ensures cf { has_carry result ≡ carry }
+    ensures pf { IsTrue (has_parity result) ↔ count_ones (value % 256) % 2 ≡ 0 }
+    ensures af { has_adjust result ≡ adjust }
+    ensures zf { IsTrue (has_zero result) ↔ value ≡ 0 }
+    ensures sf { IsTrue (has_sign result) ↔ half_of width ≤ value }
+    ensures of { has_overflow result ≡ overflow }
 {
     let parity = parity_even((value % 0x100) as u8);
     Flags::of(

@@ -4,7 +4,7 @@ ghost use Rattle.std.specs.Prelude.{◌≡◌, ◌≢◌, ◌<◌, ◌≤◌, �
 ghost use Rattle.ia_word.specs.Width.{bits_of};
 ghost use Rattle.ia_regs.specs.Flags.{has_carry, has_parity, has_adjust, has_zero, has_sign, has_overflow, with_carry};
 ghost use Rattle.ia_alu.specs.Numbers.{half_of};
-ghost use Rattle.ia_alu.specs.Ops.{alu_value, alu_flags, step_value, step_flags, logic_flags, carry_in, AluCarries, AluAdjusts, AluOverflows, StepAdjusts, StepOverflows};
+ghost use Rattle.ia_alu.specs.Ops.{alu_value, alu_flags, inc_dec_value, inc_dec_flags, logic_flags, carry_in, AluCarries, AluAdjusts, AluOverflows, IncDecAdjusts, IncDecOverflows};
 ghost use Rattle.ia_alu.specs.Sums.{difference_of, difference_flags};
 ghost use Rattle.ia_word.specs.declared.width.Width.TheVariants.{D};
 
@@ -13,9 +13,9 @@ use crate::sums::{add, sub};
 use ia_regs::Flags;
 use ia_word::{AluOp, Width};
 
-/// A step by one (SDM volume 2, INC, DEC).
+/// One more or one less (SDM volume 2, INC, DEC).
 #[derive(Clone, Copy, PartialEq, Eq, Debug)]
-pub enum StepOp {
+pub enum IncDecOp {
     /// Adds 1.
     Inc,
     /// Takes 1 away.
@@ -73,24 +73,24 @@ fn logic(width: Width, value: u32, flags: Flags) -> (u32, Flags)
 }
 
 /// An operand with 1 added or taken away, modulo 2^8 or 2^32. The carry flag is kept (SDM volume 2, INC, DEC).
-#[tactic(auto, unfolding(crate::specs::Ops::step_value, crate::specs::Ops::step_flags))]
-pub fn incdec(op: StepOp, width: Width, a: u32, flags: Flags) -> (u32, Flags)
+#[tactic(auto, unfolding(crate::specs::Ops::inc_dec_value, crate::specs::Ops::inc_dec_flags))]
+pub fn incdec(op: IncDecOp, width: Width, a: u32, flags: Flags) -> (u32, Flags)
     requires { a < 2 ^ bits_of width }
-    ensures value { result.0 ≡ step_value op width a }
-    ensures flags { result.1 ≡ step_flags op width a flags }
+    ensures value { result.0 ≡ inc_dec_value op width a }
+    ensures flags { result.1 ≡ inc_dec_flags op width a flags }
     ensures fits { result.0 < 2 ^ bits_of width }
 
     // The flags one by one: CF is kept.
     ensures cf { has_carry result.1 ≡ has_carry flags }
     ensures pf { IsTrue (has_parity result.1) ↔ count_ones (result.0 % 256) % 2 ≡ 0 }
-    ensures af { IsTrue (has_adjust result.1) ↔ StepAdjusts op a }
+    ensures af { IsTrue (has_adjust result.1) ↔ IncDecAdjusts op a }
     ensures zf { IsTrue (has_zero result.1) ↔ result.0 ≡ 0 }
     ensures sf { IsTrue (has_sign result.1) ↔ half_of width ≤ result.0 }
-    ensures of { IsTrue (has_overflow result.1) ↔ StepOverflows op width a }
+    ensures of { IsTrue (has_overflow result.1) ↔ IncDecOverflows op width a }
 {
     match op {
-        StepOp::Inc => keep_carry(add(width, a, 1, false), flags),
-        StepOp::Dec => keep_carry(sub(width, a, 1, false), flags),
+        IncDecOp::Inc => keep_carry(add(width, a, 1, false), flags),
+        IncDecOp::Dec => keep_carry(sub(width, a, 1, false), flags),
     }
 }
 

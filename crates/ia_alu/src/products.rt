@@ -1,7 +1,7 @@
 //! Products and quotients of doublewords.
 
 ghost use Rattle.std.specs.Prelude.{◌≡◌, ◌<◌, ◌^◌, ◌%◌, ◌/◌, ◌*◌, ◌+◌, ◌*ℤ◌, Ok, Err, true, ◌↔◌, IsErr, IsTrue, IfOk, ◌≤◌, ◌≢◌, pos, int_div, int_rem};
-ghost use Rattle.ia_alu.specs.Numbers.{signed, modulo, overflows, IsOutside};
+ghost use Rattle.ia_alu.specs.Numbers.{signed_value, modulo, overflows, IsOutside};
 ghost use Rattle.ia_alu.specs.Products.{product_flags, signed_product_flags, double_of, signed_double, CannotDivide, CannotDivideSigned, signed_quotient, signed_remainder, div_of, idiv_of};
 ghost use Rattle.ia_regs.specs.Flags.{has_carry, has_parity, has_adjust, has_zero, has_sign, has_overflow, with_carry, with_overflow};
 ghost use Rattle.ia_word.specs.declared.width.Width.TheVariants.{D};
@@ -38,13 +38,13 @@ pub fn mul(a: u32, b: u32, flags: Flags) -> (u32, u32, Flags)
 /// The product of two signed doublewords modulo 2^64, low half first (SDM volume 2, IMUL with one operand).
 #[tactic(auto, unfolding(crate::specs::Products::signed_product_flags))]
 pub fn imul(a: u32, b: u32, flags: Flags) -> (u32, u32, Flags)
-    ensures low { result.0 ≡ modulo (2 ^ 64) (signed D a *ℤ signed D b) % 2 ^ 32 }
-    ensures high { result.1 ≡ modulo (2 ^ 64) (signed D a *ℤ signed D b) / 2 ^ 32 }
+    ensures low { result.0 ≡ modulo (2 ^ 64) (signed_value D a *ℤ signed_value D b) % 2 ^ 32 }
+    ensures high { result.1 ≡ modulo (2 ^ 64) (signed_value D a *ℤ signed_value D b) / 2 ^ 32 }
     ensures flags { result.2 ≡ signed_product_flags a b flags }
 
     // The flags one by one: PF, AF, ZF and SF are kept.
-    ensures cf { IsTrue (has_carry result.2) ↔ IsOutside D (signed D a *ℤ signed D b) }
-    ensures of { IsTrue (has_overflow result.2) ↔ IsOutside D (signed D a *ℤ signed D b) }
+    ensures cf { IsTrue (has_carry result.2) ↔ IsOutside D (signed_value D a *ℤ signed_value D b) }
+    ensures of { IsTrue (has_overflow result.2) ↔ IsOutside D (signed_value D a *ℤ signed_value D b) }
     ensures pf { has_parity result.2 ≡ has_parity flags }
     ensures af { has_adjust result.2 ≡ has_adjust flags }
     ensures zf { has_zero result.2 ≡ has_zero flags }
@@ -58,12 +58,12 @@ pub fn imul(a: u32, b: u32, flags: Flags) -> (u32, u32, Flags)
 /// The product of two signed doublewords modulo 2^32 (SDM volume 2, IMUL with two and three operands).
 #[tactic(auto, unfolding(crate::specs::Products::signed_product_flags))]
 pub fn imul_low(a: u32, b: u32, flags: Flags) -> (u32, Flags)
-    ensures value { result.0 ≡ modulo (2 ^ 32) (signed D a *ℤ signed D b) }
+    ensures value { result.0 ≡ modulo (2 ^ 32) (signed_value D a *ℤ signed_value D b) }
     ensures flags { result.1 ≡ signed_product_flags a b flags }
 
     // The flags one by one: PF, AF, ZF and SF are kept.
-    ensures cf { IsTrue (has_carry result.1) ↔ IsOutside D (signed D a *ℤ signed D b) }
-    ensures of { IsTrue (has_overflow result.1) ↔ IsOutside D (signed D a *ℤ signed D b) }
+    ensures cf { IsTrue (has_carry result.1) ↔ IsOutside D (signed_value D a *ℤ signed_value D b) }
+    ensures of { IsTrue (has_overflow result.1) ↔ IsOutside D (signed_value D a *ℤ signed_value D b) }
     ensures pf { has_parity result.1 ≡ has_parity flags }
     ensures af { has_adjust result.1 ≡ has_adjust flags }
     ensures zf { has_zero result.1 ≡ has_zero flags }

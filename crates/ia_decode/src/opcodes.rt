@@ -11,7 +11,7 @@ use crate::rows_a0::row_a0;
 use crate::rows_c0::row_c0;
 use ia_insn::{DecodeFault, Op, Operand};
 use ia_modrm::{byte, long};
-use ia_word::{AluOp, Width};
+use ia_word::{AluOp, EAX, Width};
 
 /// The opcodes 8n to 8n+5, by what to add to 8n.
 #[tactic(auto, unfolding(ia_insn::specs::Table::alu_row))]
@@ -39,12 +39,12 @@ fn alu_row(kind: AluOp, place: u8, bytes: &[u8]) -> Result<(Op, &[u8]), DecodeFa
         4 => {
             let (number, rest) = byte(bytes)?;
             let number = Operand::Imm(u32::from(number));
-            Ok((Op::Alu(kind, Width::B, Operand::Reg(0), number), rest))
+            Ok((Op::Alu(kind, Width::B, Operand::Reg(EAX), number), rest))
         }
         5 => {
             let (number, rest) = long(bytes)?;
             let number = Operand::Imm(number);
-            Ok((Op::Alu(kind, Width::D, Operand::Reg(0), number), rest))
+            Ok((Op::Alu(kind, Width::D, Operand::Reg(EAX), number), rest))
         }
         _ => Err(DecodeFault::NotInSubset),
     }

@@ -6,9 +6,10 @@ ghost use Rattle.ia_insn.specs.Reading.{Gives, form_at};
 
 use ia_insn::{DecodeFault, Mem, Op, Operand};
 use ia_modrm::{byte, long};
-use ia_word::Width;
+use ia_word::{EAX, Width};
 
-const EAX: Operand = Operand::Reg(0);
+/// AL or EAX, as an operand.
+const ACCUMULATOR: Operand = Operand::Reg(EAX);
 
 /// The place at an address.
 fn at(address: u32) -> Operand
@@ -30,29 +31,29 @@ pub fn row_a0(opcode: u8, bytes: &[u8]) -> Result<(Op, &[u8]), DecodeFault>
     match opcode {
         0xa0 => {
             let (address, rest) = long(bytes)?;
-            Ok((Op::Mov(Width::B, EAX, at(address)), rest))
+            Ok((Op::Mov(Width::B, ACCUMULATOR, at(address)), rest))
         }
         0xa1 => {
             let (address, rest) = long(bytes)?;
-            Ok((Op::Mov(Width::D, EAX, at(address)), rest))
+            Ok((Op::Mov(Width::D, ACCUMULATOR, at(address)), rest))
         }
         0xa2 => {
             let (address, rest) = long(bytes)?;
-            Ok((Op::Mov(Width::B, at(address), EAX), rest))
+            Ok((Op::Mov(Width::B, at(address), ACCUMULATOR), rest))
         }
         0xa3 => {
             let (address, rest) = long(bytes)?;
-            Ok((Op::Mov(Width::D, at(address), EAX), rest))
+            Ok((Op::Mov(Width::D, at(address), ACCUMULATOR), rest))
         }
         0xa8 => {
             let (number, rest) = byte(bytes)?;
             let number = Operand::Imm(u32::from(number));
-            Ok((Op::Test(Width::B, EAX, number), rest))
+            Ok((Op::Test(Width::B, ACCUMULATOR, number), rest))
         }
         0xa9 => {
             let (number, rest) = long(bytes)?;
             let number = Operand::Imm(number);
-            Ok((Op::Test(Width::D, EAX, number), rest))
+            Ok((Op::Test(Width::D, ACCUMULATOR, number), rest))
         }
         0xb0..=0xb7 => {
             let (number, rest) = byte(bytes)?;

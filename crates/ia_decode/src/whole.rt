@@ -4,7 +4,7 @@ ghost use Rattle.std.specs.Prelude.{◌≡◌, ◌++◌, ◌+◌, ◌≤◌, ◌
 ghost use Rattle.ia_insn.specs.declared.op.Insn.{Insn};
 ghost use Rattle.ia_insn.specs.Spelling.{Spells, IsShort, IsLockFault, IsOther};
 ghost use Rattle.ia_insn.specs.Encoding.{is_encodable};
-ghost use Rattle.ia_insn.specs.Reading.{Gives, op_at, insn_at, decoded};
+ghost use Rattle.ia_insn.specs.Reading.{Gives, op_at, insn_at, decoding_of};
 
 use crate::opcodes::one_byte;
 use crate::two_byte::{behind_0f, behind_f3};
@@ -49,9 +49,9 @@ fn insn(bytes: &[u8]) -> Result<(Insn, &[u8]), DecodeFault>
 }
 
 /// An instruction, and how many bytes it takes.
-#[tactic(auto, unfolding(ia_insn::specs::Reading::decoded))]
+#[tactic(auto, unfolding(ia_insn::specs::Reading::decoding_of))]
 fn measured(bytes: &[u8]) -> Result<(Insn, u8), DecodeFault>
-    ensures { result ≡ decoded bytes.now }
+    ensures { result ≡ decoding_of bytes.now }
 {
     let (found, rest) = insn(bytes)?;
     Ok((found, (bytes.len() - rest.len()) as u8))
@@ -62,7 +62,7 @@ fn measured(bytes: &[u8]) -> Result<(Insn, u8), DecodeFault>
 /// `NotInSubset`. Takes no memory, and reads no byte behind the one that decides.
 pub fn decode(bytes: &[u8]) -> Result<(Insn, u8), DecodeFault>
     // It is what reading from left to right gives.
-    ensures value { result ≡ decoded bytes.now }
+    ensures value { result ≡ decoding_of bytes.now }
     // What is answered stands in front.
     ensures found { IfOk result (λ x. (x.1 ≤ length bytes.now) × Spells (take x.1 bytes.now) x.0) }
     // It has registers below 8, scales 1, 2, 4 or 8, and numbers that fit.

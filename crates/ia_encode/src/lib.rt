@@ -1,4 +1,7 @@
-//! The bytes of an instruction. Takes no memory.
+//! The bytes of an instruction.
+//!
+//! Promises for each encodable instruction the one spelling that is written, that it spells the instruction, and that it
+//! is read again as the same instruction and as many bytes. Stands on `ia_insn` and `ia_modrm`; takes no memory.
 #![tactic(auto)]
 
 mod kinds;
@@ -8,6 +11,3 @@ mod wide;
 mod writing;
 
 pub use whole::{encode, encode_with};
-
-#[cfg(test)]
-mod tests;

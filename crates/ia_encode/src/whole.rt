@@ -3,14 +3,14 @@
 ghost use Rattle.std.specs.Prelude.{◌≡◌, ◌≤◌, ◌++◌, IsTrue, List, ℕ, Ok, length};
 ghost use Rattle.arrayvec.specs.ArrayVec.{array_vec_len};
 ghost use Rattle.ia_insn.specs.Spelling.{Spells};
-ghost use Rattle.ia_insn.specs.Reading.{decoded};
+ghost use Rattle.ia_insn.specs.Reading.{decoding_of};
 ghost use Rattle.ia_insn.specs.Encoding.{encodable, op_bytes, is_encodable, insn_bytes, insn_bytes_with};
 
 use crate::kinds::{unary_number, width_bit};
 use crate::parts::{put_bytes, put_form, put_near, put_short};
 use crate::wide::Wide;
 use crate::writing::{
-    put_alu, put_bit, put_imul, put_mov, put_pop, put_push, put_ret, put_shift, put_step, put_test,
+    put_alu, put_bit, put_imul, put_mov, put_pop, put_push, put_ret, put_shift, put_inc_dec, put_test,
 };
 use arrayvec::ArrayVec;
 use ia_insn::{Insn, Op, Operand};
@@ -34,8 +34,8 @@ fn put_op(out: &mut Bytes, wide: Wide, op: &Op)
             *reg,
             operand,
         ),
-        Op::Inc(width, operand) => put_step(out, wide, *width, 0x40, 0, operand),
-        Op::Dec(width, operand) => put_step(out, wide, *width, 0x48, 1, operand),
+        Op::Inc(width, operand) => put_inc_dec(out, wide, *width, 0x40, 0, operand),
+        Op::Dec(width, operand) => put_inc_dec(out, wide, *width, 0x48, 1, operand),
         Op::Test(width, left, right) => put_test(out, wide, *width, left, right),
         Op::Unary(kind, operand) => put_form(out, wide, &[0xf7], unary_number(*kind), operand),
         Op::Imul(reg, operand) => put_form(out, wide, &[0x0f, 0xaf], *reg, operand),
@@ -122,7 +122,7 @@ pub fn encode(insn: &Insn) -> Bytes
     // They spell the instruction.
     ensures spelling { Spells result.items insn.now }
     // Read with any bytes behind them they are the instruction, and as many bytes as were written.
-    ensures again { (more : List ℕ) → decoded (result.items ++ more) ≡ Ok (insn.now, length result.items) }
+    ensures again { (more : List ℕ) → decoding_of (result.items ++ more) ≡ Ok (insn.now, length result.items) }
 {
     encode_with(insn, false, false)
 }
@@ -136,7 +136,7 @@ pub fn encode_with(insn: &Insn, number_wide: bool, place_wide: bool) -> Bytes
     // They spell the instruction.
     ensures spelling { Spells result.items insn.now }
     // Read with any bytes behind them they are the instruction, and as many bytes as were written.
-    ensures again { (more : List ℕ) → decoded (result.items ++ more) ≡ Ok (insn.now, length result.items) }
+    ensures again { (more : List ℕ) → decoding_of (result.items ++ more) ≡ Ok (insn.now, length result.items) }
 {
     let wide = Wide {
         number: number_wide,

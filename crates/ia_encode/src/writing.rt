@@ -4,7 +4,7 @@ ghost use Rattle.std.specs.Prelude.{◌≡◌, ◌<◌, ◌≤◌, ◌+◌, ◌+
 ghost use Rattle.arrayvec.specs.ArrayVec.{array_vec_len};
 ghost use Rattle.ia_insn.specs.Operands.{word};
 ghost use Rattle.ia_insn.specs.Writing.{fits_operand};
-ghost use Rattle.ia_insn.specs.Encoding.{fits_pair, fits_test, encodable, op_bytes, alu_bytes, mov_bytes, test_bytes, step_bytes, shift_bytes, push_bytes, pop_bytes};
+ghost use Rattle.ia_insn.specs.Encoding.{fits_pair, fits_test, encodable, op_bytes, alu_bytes, mov_bytes, test_bytes, inc_dec_bytes, shift_bytes, push_bytes, pop_bytes};
 
 use crate::kinds::{alu_number, bit_number, shift_number, width_bit};
 use crate::parts::{put_form, put_imm, put_near, put_short};
@@ -74,13 +74,13 @@ pub fn put_mov(out: &mut Bytes, wide: Wide, width: Width, to: &Operand, from: &O
 }
 
 /// INC and DEC: of a doubleword the opcode of a register, else FE or FF with a digit.
-#[tactic(auto, unfolding(ia_insn::specs::Encoding::step_bytes))]
-pub fn put_step(out: &mut Bytes, wide: Wide, width: Width, base: u8, digit: u8, operand: &Operand)
+#[tactic(auto, unfolding(ia_insn::specs::Encoding::inc_dec_bytes))]
+pub fn put_inc_dec(out: &mut Bytes, wide: Wide, width: Width, base: u8, digit: u8, operand: &Operand)
     requires operand { IsTrue (fits_operand operand.now) }
     requires base { base ≤ 0x48 }
     requires digit { digit < 8 }
     requires room { array_vec_len out.old ≤ 1 }
-    ensures { out.new.items ≡ out.old.items ++ step_bytes wide.place width base digit operand.now }
+    ensures { out.new.items ≡ out.old.items ++ inc_dec_bytes wide.place width base digit operand.now }
 {
     match (width, operand) {
         (Width::D, Operand::Reg(reg)) => out.push(base + *reg),

@@ -2,7 +2,9 @@
 //!
 //! `specs/Table.antt` has one row a mnemonic, to be laid beside its page in Intel's SDM, volume 2. The table is decided by
 //! the instruction and its length, the registers, what was loaded and the depth of transactions. It loads and stores
-//! nothing itself: `load_of` says what is to be loaded, and `Done` what is to be stored. Takes no memory.
+//! nothing itself: `load_of` says what is to be loaded, and `Done` what is to be stored. Two laws hold of every row:
+//! faults and halts come only outside of transactions, ends and aborts only inside, and what is given as loaded counts
+//! only where the instruction loads. Stands on `ia_alu`, `ia_addr` and `ia_insn`; takes no memory.
 #![tactic(auto)]
 
 mod arithmetic;
@@ -17,6 +19,3 @@ pub use done::{AbortKind, Done, Effect, Exception, Store};
 pub use ia_addr::{Access, load_of};
 pub use laws::{each_outcome_is_lawful, loaded_counts_only_where_there_is_a_load};
 pub use table::{fallback, finish};
-
-#[cfg(test)]
-mod tests;

@@ -3,16 +3,16 @@
 ghost use Rattle.std.specs.Prelude.{◌≡◌, ◌≤◌, ◌<◌, IsTrue, Result};
 ghost use Rattle.ia_insn.specs.Encoding.{encodable, is_encodable};
 ghost use Rattle.ia_exec.specs.Laws.{fallback_of};
-ghost use Rattle.ia_exec.specs.Table.{finish_of, done_of, went, by_depth, divided_of, begun_of, tested_of, cpuid_of, four};
+ghost use Rattle.ia_exec.specs.Table.{finish_of, done_of, goes_on, by_depth, divide_of, xbegin_of, xtest_of, cpuid_of, with_four_registers};
 
-use crate::arithmetic::{doubled, effect};
+use crate::arithmetic::{with_edx_eax, effect};
 use crate::control::{at, sum};
 use crate::done::{AbortKind, Done, Effect, Exception};
-use crate::operand::{kept, value};
+use crate::operand::{without_store, value};
 use ia_alu::{Divide, div, idiv};
 use ia_insn::{Insn, Op};
 use ia_regs::{Flags, Regs};
-use ia_word::{UnaryOp, Width};
+use ia_word::{EAX, EBX, ECX, EDX, UnaryOp, Width};
 
 /// What an instruction of `len` bytes comes to at these registers, whose EIP stands at the instruction. `loaded` is what
 /// stands where `load_of` points, and counts only where it points somewhere. `depth` is that of transactions: 0 outside.
@@ -38,22 +38,22 @@ fn done(op: &Op, regs: &Regs, loaded: u32, depth: u8) -> Done
     match op {
         Op::Unary(UnaryOp::Div, by) => {
             let divisor = value(Width::D, by, regs, loaded);
-            divided(depth, div(regs.get(2), regs.get(0), divisor), regs)
+            divide(depth, div(regs.get(EDX), regs.get(EAX), divisor), regs)
         }
         Op::Unary(UnaryOp::Idiv, by) => {
             let divisor = value(Width::D, by, regs, loaded);
-            divided(depth, idiv(regs.get(2), regs.get(0), divisor), regs)
+            divide(depth, idiv(regs.get(EDX), regs.get(EAX), divisor), regs)
         }
-        Op::Pause => by_depth(depth, went(kept(*regs)), AbortKind::Other),
+        Op::Pause => by_depth(depth, goes_on(without_store(*regs)), AbortKind::Other),
         Op::Hlt => by_depth(depth, Done::Halt, AbortKind::Other),
         Op::Int3 => by_depth(depth, Done::Fault(Exception::Breakpoint), AbortKind::Debug),
         Op::Ud2 => by_depth(depth, Done::Fault(Exception::Undefined), AbortKind::Other),
-        Op::Cpuid => by_depth(depth, went(kept(cpuid(regs))), AbortKind::Other),
-        Op::Xbegin(distance) => begun(sum(regs.eip, *distance), depth),
-        Op::Xabort(code) => by_depth(depth, went(kept(*regs)), AbortKind::Explicit(*code)),
-        Op::Xend => ended(depth),
-        Op::Xtest => went(kept(tested(depth, regs))),
-        _ => went(effect(op, regs, loaded)),
+        Op::Cpuid => by_depth(depth, goes_on(without_store(cpuid(regs))), AbortKind::Other),
+        Op::Xbegin(distance) => xbegin(sum(regs.eip, *distance), depth),
+        Op::Xabort(code) => by_depth(depth, goes_on(without_store(*regs)), AbortKind::Explicit(*code)),
+        Op::Xend => xend(depth),
+        Op::Xtest => goes_on(without_store(xtest(depth, regs))),
+        _ => goes_on(effect(op, regs, loaded)),
     }
 }
 
@@ -70,8 +70,8 @@ pub fn fallback(insn: &Insn, len: u8, regs: &Regs) -> u32
 }
 
 // The instruction goes on.
-fn went(effect: Effect) -> Done
-    ensures { result ≡ went effect }
+fn goes_on(effect: Effect) -> Done
+    ensures { result ≡ goes_on effect }
 {
     Done::Go(effect.regs, effect.store)
 }
@@ -88,18 +88,18 @@ fn by_depth(depth: u8, outside: Done, inside: AbortKind) -> Done
 }
 
 // DIV and IDIV.
-fn divided(depth: u8, quotient: Result<(u32, u32), Divide>, regs: &Regs) -> Done
-    ensures { result ≡ divided_of depth quotient regs.now }
+fn divide(depth: u8, quotient: Result<(u32, u32), Divide>, regs: &Regs) -> Done
+    ensures { result ≡ divide_of depth quotient regs.now }
 {
     match quotient {
-        Ok((quotient, remainder)) => { went(kept(doubled(quotient, remainder, regs.flags, regs))) }
+        Ok((quotient, remainder)) => { goes_on(without_store(with_edx_eax(quotient, remainder, regs.flags, regs))) }
         Err(_) => by_depth(depth, Done::Fault(Exception::Divide), AbortKind::Other),
     }
 }
 
 // XBEGIN: at most 7 levels.
-fn begun(fallback: u32, depth: u8) -> Done
-    ensures { result ≡ begun_of fallback depth }
+fn xbegin(fallback: u32, depth: u8) -> Done
+    ensures { result ≡ xbegin_of fallback depth }
 {
     if depth < 7 {
         Done::Begin(fallback)
@@ -109,7 +109,7 @@ fn begun(fallback: u32, depth: u8) -> Done
 }
 
 // XEND.
-fn ended(depth: u8) -> Done
+fn xend(depth: u8) -> Done
     ensures { result ≡ by_depth depth (Done.Fault Exception.Protection) Done.End }
 {
     if depth == 0 {
@@ -120,8 +120,8 @@ fn ended(depth: u8) -> Done
 }
 
 // XTEST: ZF is set outside of transactions, and no other flag.
-fn tested(depth: u8, regs: &Regs) -> Regs
-    ensures { result ≡ tested_of depth regs.now }
+fn xtest(depth: u8, regs: &Regs) -> Regs
+    ensures { result ≡ xtest_of depth regs.now }
 {
     Regs {
         flags: Flags::of(false, false, false, depth == 0, false, false),
@@ -134,24 +134,24 @@ fn tested(depth: u8, regs: &Regs) -> Regs
 fn cpuid(regs: &Regs) -> Regs
     ensures { result ≡ cpuid_of regs.now }
 {
-    let leaf = regs.get(0);
+    let leaf = regs.get(EAX);
     if leaf == 0 {
-        four(7, 0x756e_6547, 0x6c65_746e, 0x4965_6e69, regs)
-    } else if leaf == 7 && regs.get(1) == 0 {
-        four(0, 0x800, 0, 0, regs)
+        with_four_registers(7, 0x756e_6547, 0x6c65_746e, 0x4965_6e69, regs)
+    } else if leaf == 7 && regs.get(ECX) == 0 {
+        with_four_registers(0, 0x800, 0, 0, regs)
     } else {
-        four(0, 0, 0, 0, regs)
+        with_four_registers(0, 0, 0, 0, regs)
     }
 }
 
 // EAX, EBX, ECX and EDX written.
-fn four(eax: u32, ebx: u32, ecx: u32, edx: u32, regs: &Regs) -> Regs
-    ensures { result ≡ four eax ebx ecx edx regs.now }
+fn with_four_registers(eax: u32, ebx: u32, ecx: u32, edx: u32, regs: &Regs) -> Regs
+    ensures { result ≡ with_four_registers eax ebx ecx edx regs.now }
 {
     let mut new = *regs;
-    new.set(0, eax);
-    new.set(1, ecx);
-    new.set(2, edx);
-    new.set(3, ebx);
+    new.set(EAX, eax);
+    new.set(ECX, ecx);
+    new.set(EDX, edx);
+    new.set(EBX, ebx);
     new
 }

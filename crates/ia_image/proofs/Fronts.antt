@@ -1,4 +1,4 @@
--- Digits in front of a text, step by step.
+-- Hex digits in front of a text.
 use Rattle.std.proofs.Common.{◌≡◌, ℕ, ◌+◌, ◌*◌, ◌^◌, ◌<◌, ◌≤◌, Bool, true, false, ◌&&◌, List, [], ◌∷◌, refl, sym, ◌∙◌, ap, take, drop, length, get_or, arith, zero, suc}
 use Rattle.std.specs.List.{prefix_len, list_all}
 use Rattle.std.specs.Char.{digit_value}
@@ -9,21 +9,7 @@ use Rattle.std.proofs.lemmas.Bool.{false≢true}
 use Rattle.std.proofs.lemmas.List.{length-take, take_all}
 use Rattle.std.proofs.lemmas.List.Folds.{list_all_at}
 use Rattle.std.proofs.Math.Nat.{pow-le-pow_right}
-use Rattle.std.proofs.lemmas.List.{at_drop_more, at_drop_all}
 use Rattle.ia_image.specs.ImageText.{is_hex}
-
-pub prefix_step : (p : ℕ → Bool) (xs : List ℕ) (i : ℕ) → i < length xs → p (get_or xs i 0) ≡ true → prefix_len p (drop i xs) ≡ 1 + prefix_len p (drop (i + 1) xs)
-prefix_step p xs i h e =
-    let more : prefix_len p (drop i xs) ≡ prefix_len p (get_or xs i 0 ∷ drop (i + 1) xs) = at_drop_more (prefix_len p) xs i 0 h in
-    rw more (rw e refl)
-
-pub prefix_stop : (p : ℕ → Bool) (xs : List ℕ) (i : ℕ) → i < length xs → p (get_or xs i 0) ≡ false → prefix_len p (drop i xs) ≡ 0
-prefix_stop p xs i h e =
-    let more : prefix_len p (drop i xs) ≡ prefix_len p (get_or xs i 0 ∷ drop (i + 1) xs) = at_drop_more (prefix_len p) xs i 0 h in
-    rw more (rw e refl)
-
-pub prefix_end : (p : ℕ → Bool) (xs : List ℕ) (i : ℕ) → length xs ≤ i → prefix_len p (drop i xs) ≡ 0
-prefix_end p xs i h = at_drop_all (prefix_len p) xs i h
 
 front_passes : (p : ℕ → Bool) (xs : List ℕ) → list_all p (take (prefix_len p xs) xs) ≡ true
 front_passes p [] = refl

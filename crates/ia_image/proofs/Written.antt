@@ -9,27 +9,9 @@ use Rattle.std.specs.Char.{digit_char, digit_value}
 use Rattle.std.specs.Int.Digits.{digits_of, number_from_digits}
 use Rattle.std.specs.Str.Parse.{digits_value}
 use Rattle.ia_text.specs.Number.{hex_digits}
+use Rattle.ia_text.proofs.Digits.{glyph_value}
 use Rattle.ia_image.specs.ImageText.{is_hex, number_in_front}
 use Rattle.ia_image.proofs.Fronts.{both}
-
-glyph_value : (d : ℕ) → d < 16 → digit_value (digit_char d) ≡ d
-glyph_value zero h = refl
-glyph_value (suc zero) h = refl
-glyph_value (suc (suc zero)) h = refl
-glyph_value (suc (suc (suc zero))) h = refl
-glyph_value (suc (suc (suc (suc zero)))) h = refl
-glyph_value (suc (suc (suc (suc (suc zero))))) h = refl
-glyph_value (suc (suc (suc (suc (suc (suc zero)))))) h = refl
-glyph_value (suc (suc (suc (suc (suc (suc (suc zero))))))) h = refl
-glyph_value (suc (suc (suc (suc (suc (suc (suc (suc zero)))))))) h = refl
-glyph_value (suc (suc (suc (suc (suc (suc (suc (suc (suc zero))))))))) h = refl
-glyph_value (suc (suc (suc (suc (suc (suc (suc (suc (suc (suc zero)))))))))) h = refl
-glyph_value (suc (suc (suc (suc (suc (suc (suc (suc (suc (suc (suc zero))))))))))) h = refl
-glyph_value (suc (suc (suc (suc (suc (suc (suc (suc (suc (suc (suc (suc zero)))))))))))) h = refl
-glyph_value (suc (suc (suc (suc (suc (suc (suc (suc (suc (suc (suc (suc (suc zero))))))))))))) h = refl
-glyph_value (suc (suc (suc (suc (suc (suc (suc (suc (suc (suc (suc (suc (suc (suc zero)))))))))))))) h = refl
-glyph_value (suc (suc (suc (suc (suc (suc (suc (suc (suc (suc (suc (suc (suc (suc (suc zero))))))))))))))) h = refl
-glyph_value (suc (suc (suc (suc (suc (suc (suc (suc (suc (suc (suc (suc (suc (suc (suc (suc n)))))))))))))))) h = absurd (omega arith)
 
 abbrev Below : List ℕ → Type 0
 Below ds = AllByRecursion (λ d. d < 16) ds

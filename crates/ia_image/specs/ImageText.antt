@@ -44,7 +44,8 @@ code_len_of base text None = None
 abbrev pub numbers_of : List ℕ → Option (ℕ × ℕ) → Option (ℕ × ℕ)
 numbers_of text (Some number) =
     let rest = drop number.1 text in
-    if starts_with ◌==◌ rest (codes " ") then code_len_of number.0 (drop 1 rest) (number_in_front (drop 1 rest)) else None
+    if starts_with ◌==◌ rest (codes " ") then code_len_of number.0 (drop 1 rest) (number_in_front (drop 1 rest))
+    else None
 numbers_of text None = None
 
 -- base and code length of the first line
@@ -88,7 +89,8 @@ Tells {A} read f = (f ≡ fault.NoMemory) ⊎ ((line : ℕ) × (read ≡ Err lin
 
 -- the bytes of these lines were added, or the fault is told
 abbrev pub Adds : List ℕ → List ℕ → Result (List ℕ) ℕ → Result Unit ImageFault → Type 0
-Adds old new read result = MatchResult result (λ _. (more : List ℕ) × (read ≡ Ok more) × (new ≡ old ++ more)) (Tells read)
+Adds old new read result =
+    MatchResult result (λ _. (more : List ℕ) × (read ≡ Ok more) × (new ≡ old ++ more)) (Tells read)
 
 -- ---- the text that is written
 

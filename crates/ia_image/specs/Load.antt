@@ -3,7 +3,7 @@ use Rattle.std.specs.Prelude.{◌≡◌, Result, Err, MatchResult, ℕ, ◌+◌,
 use Rattle.std.specs.List.{list_any}
 use Rattle.ia_image.specs.declared.fault.LoadFault.{LoadFault}
 use Rattle.ia_image.specs.declared.fault.LoadFault.TheVariants as fault
-use Rattle.ia_image.specs.Program.{Shown}
+use Rattle.ia_image.specs.Program.{ProgramValue}
 
 -- the numbers of the faults
 abbrev pub fault_number : LoadFault → ℕ
@@ -39,6 +39,6 @@ load_refusal bytes base code_len mem_size entries =
     else None
 
 -- the first test that fails is told; where none does, the program is what was given, unless there is no memory for it
-abbrev pub Loads : Option LoadFault → Shown → Result Shown LoadFault → Type 0
+abbrev pub Loads : Option LoadFault → ProgramValue → Result ProgramValue LoadFault → Type 0
 Loads (Some f) p result = result ≡ Err f
 Loads None p result = MatchResult result (λ q. q ≡ p) (λ f. f ≡ fault.NoMemory)

@@ -1,4 +1,8 @@
 //! Programs that a machine can start: images, the tests of the loader, and image text.
+//!
+//! Promises that a program which loads is sound (each core has an entry in the code and a stack, and the image lies in
+//! memory), that of several faults the first in a fixed order is told, and that an image text that was written is read
+//! back. Stands on `ia_text` for writing and `ia_lex` for lines; takes memory for the image alone.
 #![tactic(auto)]
 
 mod fault;
@@ -12,6 +16,3 @@ pub use loader::load;
 pub use program::Program;
 pub use text::{ImageText, read_image};
 pub use write::write_image;
-
-#[cfg(test)]
-mod tests;

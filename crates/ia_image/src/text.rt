@@ -30,7 +30,7 @@ fn is_hex(byte: u8) -> bool
 }
 
 // How many hex digits stand in front.
-#[tactic(auto, using(crate::proofs::Fronts::prefix_step, crate::proofs::Fronts::prefix_stop, crate::proofs::Fronts::prefix_end))]
+#[tactic(auto, using(ia_lex::proofs::Fronts::prefix_step, ia_lex::proofs::Fronts::prefix_stop, ia_lex::proofs::Fronts::prefix_end))]
 fn digits_in_front(text: &[u8]) -> usize
     ensures count { result ≡ prefix_len is_hex text.now }
     ensures within { result ≤ length text.now }

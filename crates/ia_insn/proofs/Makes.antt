@@ -16,7 +16,7 @@ use Rattle.ia_insn.specs.declared.operand.Operand.{Operand}
 use Rattle.ia_insn.specs.declared.operand.Operand.TheVariants.{Reg, Imm, Mem as Memory}
 use Rattle.ia_insn.specs.Operands.{Head, head_of, index_of, scale_of, SpellsDisp, no_disp, disp8, disp32, SpellsBase, no_base, base, SpellsMem, plain as plain_mem, sib, SpellsOperand, register, memory}
 use Rattle.ia_insn.specs.Form.{Tail, done, ib, ibs, iw, id, Form, none, plain, modrm, group, r_memory, SpellsTail, nothing, byte, signed_byte, two_bytes, four_bytes, SpellsForm, alone, operand, chosen, place}
-use Rattle.ia_insn.specs.Table.{Row, row, look_up, alu_rows, rows_40, rows_80, rows_A0, rows_C0, two_byte_rows, one_byte, alu_row, row_40, row_80, row_A0, row_C0, two_byte, behind_f3, alu_of, shift_of, bit_of, unary_of, ff_of, SpellsOp, one, two, with_f3}
+use Rattle.ia_insn.specs.Table.{OpcodeRow, row, look_up, alu_rows, rows_40, rows_80, rows_A0, rows_C0, two_byte_rows, one_byte, alu_row, row_40, row_80, row_A0, row_C0, two_byte, behind_f3, alu_of, shift_of, bit_of, unary_of, ff_of, SpellsOp, one, two, with_f3}
 use Rattle.ia_insn.specs.Spelling.{lockable, Spells, unlocked, locked}
 use Rattle.ia_insn.specs.Writing.{fits_base, fits_index, fits_mem, fits_operand, is_signed_byte}
 use Rattle.ia_insn.specs.Encoding.{fits_imm, fits_short, fits_pair, encodable, is_encodable}
@@ -128,11 +128,11 @@ makes_form (place {b = b} {m = m} lt ne h) k = k (b / 8 % 8) m (omega arith) (me
 
 -- ---- rows
 
-abbrev MakesRows : List Row → Type 0
+abbrev MakesRows : List OpcodeRow → Type 0
 MakesRows [] = Unit {0}
 MakesRows (r ∷ rs) = ((k : ℕ) → k < r.many → Makes (r.form k)) × MakesRows rs
 
-row_go : (r : Row) (rs : List Row) (b : ℕ) (t : Bool) → (nat_le r.first b && nat_lt b (r.first + r.many)) ≡ t → ((k : ℕ) → k < r.many → Makes (r.form k)) → Makes (look_up rs b) → Makes (cond t (r.form (b - r.first)) (look_up rs b))
+row_go : (r : OpcodeRow) (rs : List OpcodeRow) (b : ℕ) (t : Bool) → (nat_le r.first b && nat_lt b (r.first + r.many)) ≡ t → ((k : ℕ) → k < r.many → Makes (r.form k)) → Makes (look_up rs b) → Makes (cond t (r.form (b - r.first)) (look_up rs b))
 row_go r rs b true e here rest =
     let p = both (nat_le r.first b) (nat_lt b (r.first + r.many)) e in
     let le : r.first ≤ b = leb-true _ _ p.0 in
@@ -140,7 +140,7 @@ row_go r rs b true e here rest =
     here (b - r.first) (omega arith)
 row_go r rs b false e here rest = rest
 
-makes_rows : (rs : List Row) → MakesRows rs → (b : ℕ) → Makes (look_up rs b)
+makes_rows : (rs : List OpcodeRow) → MakesRows rs → (b : ℕ) → Makes (look_up rs b)
 makes_rows [] k b = tt
 makes_rows (r ∷ rs) k b = row_go r rs b (nat_le r.first b && nat_lt b (r.first + r.many)) refl k.0 (makes_rows rs k.1 b)
 

@@ -5,11 +5,11 @@ use Rattle.std.proofs.lemmas.Bool.{leb-true, le-leb, lt-ltb, le-ltb}
 use Rattle.ia_word.specs.declared.operation.AluOp.{AluOp}
 use Rattle.ia_word.specs.declared.operation.AluOp.TheVariants as alu
 use Rattle.ia_insn.specs.Form.{Form}
-use Rattle.ia_insn.specs.Table.{Row, look_up, alu_of, alu_rows, alu_row, rows_40, rows_80, rows_A0, rows_C0, row_40, row_80, row_A0, row_C0, one_byte, two_byte_rows, two_byte}
+use Rattle.ia_insn.specs.Table.{OpcodeRow, look_up, alu_of, alu_rows, alu_row, rows_40, rows_80, rows_A0, rows_C0, row_40, row_80, row_A0, row_C0, one_byte, two_byte_rows, two_byte}
 use Rattle.ia_insn.specs.Encoding.{alu_number}
 use Rattle.ia_insn.specs.Order.{IsReached}
 
-abbrev in_order : ℕ → ℕ → List Row → Bool
+abbrev in_order : ℕ → ℕ → List OpcodeRow → Bool
 in_order from end [] = nat_le from end
 in_order from end (r ∷ rs) = nat_le from r.first && in_order (r.first + r.many) end rs
 
@@ -25,29 +25,29 @@ and_false : (a b : Bool) → b ≡ false → (a && b) ≡ false
 and_false true b q = q
 and_false false b q = refl
 
-order_le : (rs : List Row) (from end : ℕ) → in_order from end rs ≡ true → from ≤ end
+order_le : (rs : List OpcodeRow) (from end : ℕ) → in_order from end rs ≡ true → from ≤ end
 order_le [] from end e = leb-true _ _ e
 order_le (r ∷ rs) from end e =
     let p = both (nat_le from r.first) (in_order (r.first + r.many) end rs) e in
     omega (arith, leb-true from r.first p.0, order_le rs (r.first + r.many) end p.1)
 
-first_row : (r : Row) (rs : List Row) (j : ℕ) → j < r.many → look_up (r ∷ rs) (r.first + j) ≡ r.form j
+first_row : (r : OpcodeRow) (rs : List OpcodeRow) (j : ℕ) → j < r.many → look_up (r ∷ rs) (r.first + j) ≡ r.form j
 first_row r rs j lt =
     let t = and_true (nat_le r.first (r.first + j)) (nat_lt (r.first + j) (r.first + r.many)) (le-leb r.first (r.first + j) (omega arith)) (lt-ltb (r.first + j) (r.first + r.many) (omega arith)) in
     let m : r.first + j - r.first ≡ j = omega arith in
     ap (λ (z : Bool). cond z (r.form (r.first + j - r.first)) (look_up rs (r.first + j))) t ∙ ap r.form m
 
-later_row : (r : Row) (rs : List Row) (b : ℕ) → r.first + r.many ≤ b → look_up (r ∷ rs) b ≡ look_up rs b
+later_row : (r : OpcodeRow) (rs : List OpcodeRow) (b : ℕ) → r.first + r.many ≤ b → look_up (r ∷ rs) b ≡ look_up rs b
 later_row r rs b le =
     let t = and_false (nat_le r.first b) (nat_lt b (r.first + r.many)) (le-ltb b (r.first + r.many) le) in
     ap (λ (z : Bool). cond z (r.form (b - r.first)) (look_up rs b)) t
 
-record Within (look : ℕ → Form) (from end : ℕ) (r : Row) : Type 0 where
+record Within (look : ℕ → Form) (from end : ℕ) (r : OpcodeRow) : Type 0 where
   low : from ≤ r.first
   high : r.first + r.many ≤ end
   here : IsReached look r
 
-reached : (rs : List Row) (from end : ℕ) → in_order from end rs ≡ true → (k : ℕ) (d : Row) → k < length rs → Within (look_up rs) from end (slice_index_or rs k d)
+reached : (rs : List OpcodeRow) (from end : ℕ) → in_order from end rs ≡ true → (k : ℕ) (d : OpcodeRow) → k < length rs → Within (look_up rs) from end (slice_index_or rs k d)
 reached [] from end e k d lt = absurd (omega arith)
 reached (r ∷ rs) from end e zero d lt =
     let p = both (nat_le from r.first) (in_order (r.first + r.many) end rs) e in
@@ -59,7 +59,7 @@ reached (r ∷ rs) from end e (suc k) d lt =
     record { low = omega (arith, leb-true from r.first p.0, w.low); high = w.high; here = λ j lj. later_row r rs (x.first + j) (omega (arith, w.low)) ∙ w.here j lj }
 
 -- the rows of a block are reached where the map is the block's
-in_block : (map : ℕ → Form) (rs : List Row) (from end : ℕ) → in_order from end rs ≡ true → ((b : ℕ) → from ≤ b → b < end → map b ≡ look_up rs b) → All (IsReached map) rs
+in_block : (map : ℕ → Form) (rs : List OpcodeRow) (from end : ℕ) → in_order from end rs ≡ true → ((b : ℕ) → from ≤ b → b < end → map b ≡ look_up rs b) → All (IsReached map) rs
 in_block map rs from end e same k d lt j lj =
     let w = reached rs from end e k d lt in
     let x = slice_index_or rs k d in

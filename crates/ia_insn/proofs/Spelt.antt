@@ -29,7 +29,7 @@ use Rattle.ia_insn.specs.Table.{one_byte, alu_row, row_40, row_80, row_A0, row_C
 use Rattle.ia_insn.specs.Spelling.{lockable, Spells, unlocked, locked}
 use Rattle.ia_insn.specs.Writing.{fits_mem, fits_operand, is_signed_byte, operand_bytes}
 use Rattle.ia_insn.proofs.Written.{extended}
-use Rattle.ia_insn.specs.Encoding.{alu_number, shift_number, bit_number, unary_number, width_bit, fits_pair, fits_test, fits_count, encodable, by_size, alu_bytes, mov_bytes, test_bytes, step_bytes, shift_bytes, push_bytes, pop_bytes, op_bytes, is_encodable, insn_bytes_with}
+use Rattle.ia_insn.specs.Encoding.{alu_number, shift_number, bit_number, unary_number, width_bit, fits_pair, fits_test, fits_count, encodable, by_size, alu_bytes, mov_bytes, test_bytes, inc_dec_bytes, shift_bytes, push_bytes, pop_bytes, op_bytes, is_encodable, insn_bytes_with}
 use Rattle.ia_insn.proofs.Templates.{form_m, form_m0, form_g, form_g0, form_p, below8}
 
 both : (a b : Bool) → (a && b) ≡ true → (a ≡ true) × (b ≡ true)
@@ -169,15 +169,15 @@ pop_r r lt = below8 (λ r. one_byte (0x58 + r) ≡ plain (done (op.Pop (Reg r)))
 plain_r : (b : ℕ) (i : Op) → b < 256 → one_byte b ≡ plain (done i) → SpellsOp (b ∷ []) i
 plain_r b i lt e = one lt (subst (at_form [] i) (sym e) (alone nothing))
 
-inc_spelt : (place : Bool) (w : Width) (m : Operand) → fits_operand m ≡ true → SpellsOp (step_bytes place w 0x40 0 m) (op.Inc w m)
-unfolding step_bytes one_byte row_C0
+inc_spelt : (place : Bool) (w : Width) (m : Operand) → fits_operand m ≡ true → SpellsOp (inc_dec_bytes place w 0x40 0 m) (op.Inc w m)
+unfolding inc_dec_bytes one_byte row_C0
 inc_spelt place D (Reg r) e = let lt : r < 8 = ltb-true _ _ e in plain_r (0x40 + r) (op.Inc D (Reg r)) (omega arith) (inc_r r lt)
 inc_spelt place D (Memory m) e = one (omega arith) (form_g0 place 0 (Memory m) (λ m. done (op.Inc D m)) (λ h z. rw z refl) (omega arith) e nothing)
 inc_spelt place D (Imm n) e = absurd cc
 inc_spelt place B m e = one (omega arith) (form_g0 place 0 m (λ m. done (op.Inc B m)) (λ h z. rw z refl) (omega arith) e nothing)
 
-dec_spelt : (place : Bool) (w : Width) (m : Operand) → fits_operand m ≡ true → SpellsOp (step_bytes place w 0x48 1 m) (op.Dec w m)
-unfolding step_bytes one_byte row_C0
+dec_spelt : (place : Bool) (w : Width) (m : Operand) → fits_operand m ≡ true → SpellsOp (inc_dec_bytes place w 0x48 1 m) (op.Dec w m)
+unfolding inc_dec_bytes one_byte row_C0
 dec_spelt place D (Reg r) e = let lt : r < 8 = ltb-true _ _ e in plain_r (0x48 + r) (op.Dec D (Reg r)) (omega arith) (dec_r r lt)
 dec_spelt place D (Memory m) e = one (omega arith) (form_g0 place 1 (Memory m) (λ m. done (op.Dec D m)) (λ h z. rw z refl) (omega arith) e nothing)
 dec_spelt place D (Imm n) e = absurd cc

@@ -37,7 +37,8 @@ pub data SpellsDisp : ℕ → List ℕ → ℕ → Type 0 where
 -- A base and a displacement, where rm or SIB names register r as the base: mod 0 with 5 is disp32 and no base.
 pub data SpellsBase : ℕ → ℕ → List ℕ → Option ℕ → ℕ → Type 0 where
   no_base : {n : ℕ} → n < 2 ^ 32 → SpellsBase 0 5 (long_bytes n) None n
-  base : {mode r disp : ℕ} {bytes : List ℕ} → (mode ≡ 0 → r ≢ 5) → SpellsDisp mode bytes disp → SpellsBase mode r bytes (Some r) disp
+  base : {mode r disp : ℕ} {bytes : List ℕ} → (mode ≡ 0 → r ≢ 5) → SpellsDisp mode bytes disp
+      → SpellsBase mode r bytes (Some r) disp
 
 -- what stands behind a ModRM byte with mod below 3
 pub data SpellsMem : ℕ → ℕ → List ℕ → Mem → Type 0 where

@@ -13,36 +13,37 @@ use Rattle.ia_insn.specs.declared.operand.Operand.TheVariants.{Mem as Memory}
 use Rattle.ia_insn.specs.Table.{SpellsOp}
 
 -- ADD OR ADC SBB AND SUB XOR
-abbrev pub writes : AluOp → Bool
-writes alu.Cmp = false
-writes _ = true
+abbrev pub writes_destination : AluOp → Bool
+writes_destination alu.Cmp = false
+writes_destination _ = true
 
 -- BTS BTR BTC
-abbrev pub sets : BitOp → Bool
-sets bit.Bt = false
-sets _ = true
+abbrev pub sets_bit : BitOp → Bool
+sets_bit bit.Bt = false
+sets_bit _ = true
 
 abbrev pub is_place : Operand → Bool
-is_place (Memory m) = true
+is_place (Memory operand) = true
 is_place _ = false
 
 -- F0 may stand in front: SDM vol. 2A, "LOCK—Assert LOCK# Signal Prefix"
 abbrev pub lockable : Op → Bool
-lockable (op.Alu k w (Memory m) s) = writes k
-lockable (op.Inc w m) = is_place m
-lockable (op.Dec w m) = is_place m
-lockable (op.Unary unary.Not m) = is_place m
-lockable (op.Unary unary.Neg m) = is_place m
-lockable (op.Xchg w m r) = is_place m
-lockable (op.Xadd m r) = is_place m
-lockable (op.Cmpxchg m r) = is_place m
-lockable (op.Bit k (Memory m) n) = sets k
+lockable (op.Alu kind width (Memory operand) from) = writes_destination kind
+lockable (op.Inc width operand) = is_place operand
+lockable (op.Dec width operand) = is_place operand
+lockable (op.Unary unary.Not operand) = is_place operand
+lockable (op.Unary unary.Neg operand) = is_place operand
+lockable (op.Xchg width operand register) = is_place operand
+lockable (op.Xadd operand register) = is_place operand
+lockable (op.Cmpxchg operand register) = is_place operand
+lockable (op.Bit kind (Memory operand) n) = sets_bit kind
 lockable _ = false
 
 -- the bytes of an instruction, with F0 once in front or without
 pub data Spells : List ℕ → Insn → Type 0 where
   unlocked : {bytes : List ℕ} {i : Op} → SpellsOp bytes i → Spells bytes (record { lock = false; op = i })
-  locked : {bytes : List ℕ} {i : Op} → SpellsOp bytes i → IsTrue (lockable i) → Spells (0xF0 ∷ bytes) (record { lock = true; op = i })
+  locked : {bytes : List ℕ} {i : Op} → SpellsOp bytes i → IsTrue (lockable i)
+      → Spells (0xF0 ∷ bytes) (record { lock = true; op = i })
 
 -- the bytes are a spelling's beginning, and not all of it
 abbrev pub IsFront : List ℕ → Type 0
@@ -50,15 +51,19 @@ IsFront bytes = (x : ℕ) × (more : List ℕ) × (i : Insn) × Spells (bytes ++
 
 -- the bytes are F0 and a beginning of the bytes of an instruction without F0, lockable or not
 abbrev pub IsLockedFront : List ℕ → Type 0
-IsLockedFront bytes = (back : List ℕ) × (x : ℕ) × (more : List ℕ) × (i : Op) × (bytes ≡ 0xF0 ∷ back) × SpellsOp (back ++ x ∷ more) i
+IsLockedFront bytes =
+    (back : List ℕ) × (x : ℕ) × (more : List ℕ) × (i : Op) × (bytes ≡ 0xF0 ∷ back) × SpellsOp (back ++ x ∷ more) i
 
 abbrev pub IsShort : List ℕ → Type 0
 IsShort bytes = IsFront bytes ⊎ IsLockedFront bytes
 
 -- F0 stands before an instruction that is not lockable
 abbrev pub IsLockFault : List ℕ → Type 0
-IsLockFault bytes = (front : List ℕ) × (rest : List ℕ) × (i : Op) × SpellsOp front i × (lockable i ≡ false) × (bytes ≡ 0xF0 ∷ (front ++ rest))
+IsLockFault bytes =
+    (front : List ℕ) × (rest : List ℕ) × (i : Op) × SpellsOp front i × (lockable i ≡ false) × (bytes ≡ 0xF0 ∷ (front ++ rest))
 
 -- no spelling stands in front, and the bytes are none of the above
 abbrev pub IsOther : List ℕ → Type 0
-IsOther bytes = ((front rest : List ℕ) (i : Insn) → Spells front i → bytes ≡ front ++ rest → ⊥) × (IsShort bytes → ⊥) × (IsLockFault bytes → ⊥)
+IsOther bytes =
+    ((front rest : List ℕ) (i : Insn) → Spells front i → bytes ≡ front ++ rest → ⊥)
+    × (IsShort bytes → ⊥) × (IsLockFault bytes → ⊥)

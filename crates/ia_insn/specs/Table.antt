@@ -11,6 +11,7 @@ use Rattle.ia_word.specs.declared.operation.BitOp.TheVariants as bit
 use Rattle.ia_word.specs.declared.operation.UnaryOp.TheVariants as unary
 use Rattle.ia_word.specs.declared.width.Width.TheVariants.{B, D}
 use Rattle.ia_word.specs.Condition.{condition_of}
+use Rattle.ia_word.specs.Register.{EAX}
 use Rattle.ia_insn.specs.declared.op.Op.{Op}
 use Rattle.ia_insn.specs.declared.op.Op.TheVariants as op
 use Rattle.ia_insn.specs.declared.operand.Operand.{Operand}
@@ -40,7 +41,7 @@ abbrev pub bare : (Operand → Op) → Operand → Tail
 bare f m = done (f m)
 
 abbrev pub eax : Operand
-eax = Reg 0
+eax = Reg EAX
 
 -- [id]
 abbrev pub at : ℕ → Operand
@@ -49,39 +50,44 @@ at n = Memory (record { base = None; index = None; scale = 1; disp = n })
 -- ---- operations by number
 
 abbrev pub alu_of : ℕ → AluOp
-alu_of n = slice_index_or (alu.Add ∷ alu.Or ∷ alu.Adc ∷ alu.Sbb ∷ alu.And ∷ alu.Sub ∷ alu.Xor ∷ alu.Cmp ∷ []) n alu.Add
+alu_of number = slice_index_or (
+    alu.Add ∷ alu.Or ∷ alu.Adc ∷ alu.Sbb ∷ alu.And ∷ alu.Sub ∷ alu.Xor ∷ alu.Cmp ∷ []) number alu.Add
 
 -- /0 /1 /4 /5 /7
 abbrev pub shift_of : ℕ → Option ShiftOp
-shift_of n = slice_index_or (Some shift.Rol ∷ Some shift.Ror ∷ None ∷ None ∷ Some shift.Shl ∷ Some shift.Shr ∷ None ∷ Some shift.Sar ∷ []) n None
+shift_of number = slice_index_or (
+    Some shift.Rol ∷ Some shift.Ror ∷ None ∷ None ∷
+    Some shift.Shl ∷ Some shift.Shr ∷ None ∷ Some shift.Sar ∷ []) number None
 
 -- /4 to /7
 abbrev pub bit_of : ℕ → Option BitOp
-bit_of n = slice_index_or (None ∷ None ∷ None ∷ None ∷ Some bit.Bt ∷ Some bit.Bts ∷ Some bit.Btr ∷ Some bit.Btc ∷ []) n None
+bit_of number = slice_index_or (
+    None ∷ None ∷ None ∷ None ∷
+    Some bit.Bt ∷ Some bit.Bts ∷ Some bit.Btr ∷ Some bit.Btc ∷ []) number None
 
 -- ---- rows
 
 -- the opcodes from first on, so many, each with its form by the distance to first
-pub record Row : Type 0 where
+pub record OpcodeRow : Type 0 where
   pub first : ℕ
   pub many : ℕ
   pub form : ℕ → Form
 
-abbrev pub row : ℕ → Form → Row
+abbrev pub row : ℕ → Form → OpcodeRow
 row b f = record { first = b; many = 1; form = λ _. f }
 
-abbrev pub rows : ℕ → ℕ → (ℕ → Form) → Row
+abbrev pub rows : ℕ → ℕ → (ℕ → Form) → OpcodeRow
 rows b n f = record { first = b; many = n; form = f }
 
-abbrev pub look_up : List Row → ℕ → Form
+abbrev pub look_up : List OpcodeRow → ℕ → Form
 look_up [] b = none
 look_up (r ∷ rs) b = if nat_le r.first b && nat_lt b (r.first + r.many) then r.form (b - r.first) else look_up rs b
 
 -- ---- the map of one-byte opcodes
 
--- 8n to 8n+5. SDM vol. 2A "ADC—Add With Carry", "ADD—Add", "AND—Logical AND", "CMP—Compare Two Operands"; vol. 2B "OR—Logical
--- Inclusive OR", "SBB—Integer Subtraction With Borrow", "SUB—Subtract"; vol. 2D "XOR—Logical Exclusive OR"
-abbrev pub alu_rows : AluOp → List Row
+-- 8n to 8n+5. SDM vol. 2A "ADC—Add With Carry", "ADD—Add", "AND—Logical AND", "CMP—Compare Two Operands"; vol. 2B
+-- "OR—Logical Inclusive OR", "SBB—Integer Subtraction With Borrow", "SUB—Subtract"; vol. 2D "XOR—Logical Exclusive OR"
+abbrev pub alu_rows : AluOp → List OpcodeRow
 alu_rows k =
     row 0 (m_r (λ m r. op.Alu k B m (Reg r))) ∷
     row 1 (m_r (λ m r. op.Alu k D m (Reg r))) ∷
@@ -93,8 +99,8 @@ alu_rows k =
 unfoldable pub alu_row : AluOp → ℕ → Form
 alu_row k b = look_up (alu_rows k) b
 
--- F7 /n. SDM vol. 2B "TEST—Logical Compare", "NOT—One's Complement Negation", "NEG—Two's Complement Negation", "MUL—Unsigned
--- Multiply"; vol. 2A "IMUL—Signed Multiply", "DIV—Unsigned Divide", "IDIV—Signed Divide"
+-- F7 /n. SDM vol. 2B "TEST—Logical Compare", "NOT—One's Complement Negation", "NEG—Two's Complement Negation",
+-- "MUL—Unsigned Multiply"; vol. 2A "IMUL—Signed Multiply", "DIV—Unsigned Divide", "IDIV—Signed Divide"
 abbrev pub unary_of : ℕ → Option (Operand → Tail)
 unary_of n = slice_index_or (
     Some (λ m. id (λ i. op.Test D m (Imm i))) ∷
@@ -106,8 +112,8 @@ unary_of n = slice_index_or (
     Some (λ m. done (op.Unary unary.Div m)) ∷
     Some (λ m. done (op.Unary unary.Idiv m)) ∷ []) n None
 
--- FF /n. SDM vol. 2A "INC—Increment by 1", "DEC—Decrement by 1", "CALL—Call Procedure", "JMP—Jump"; vol. 2B "PUSH—Push Word,
--- Doubleword, or Quadword Onto the Stack"
+-- FF /n. SDM vol. 2A "INC—Increment by 1", "DEC—Decrement by 1", "CALL—Call Procedure", "JMP—Jump"; vol. 2B
+-- "PUSH—Push Word, Doubleword, or Quadword Onto the Stack"
 abbrev pub ff_of : ℕ → Option (Operand → Tail)
 ff_of n = slice_index_or (
     Some (λ m. done (op.Inc D m)) ∷
@@ -120,9 +126,10 @@ ff_of n = slice_index_or (
 
 -- C6 and C7: /0, or mod 3 /7 rm 0 (the byte F8) in front of x
 abbrev pub mov_or : (Operand → Tail) → Tail → Form
-mov_or f x = group (λ h. if h.reg == 0 then Some f else if h.mode == 3 && h.reg == 7 && h.rm == 0 then Some (λ m. x) else None)
+mov_or f x =
+    group (λ h. if h.reg == 0 then Some f else if h.mode == 3 && h.reg == 7 && h.rm == 0 then Some (λ m. x) else None)
 
-abbrev pub rows_40 : List Row
+abbrev pub rows_40 : List OpcodeRow
 rows_40 =
     -- vol. 2A "INC—Increment by 1", "DEC—Decrement by 1"
     rows 0x40 8 (λ r. plain (done (op.Inc D (Reg r)))) ∷
@@ -141,7 +148,7 @@ rows_40 =
 unfoldable pub row_40 : ℕ → Form
 row_40 b = look_up rows_40 b
 
-abbrev pub rows_80 : List Row
+abbrev pub rows_80 : List OpcodeRow
 rows_80 =
     -- /n as in alu_of: the pages of the opcodes 8n to 8n+5
     row 0x80 (modrm (λ n m. ib (λ i. op.Alu (alu_of n) B m (Imm i)))) ∷
@@ -164,16 +171,16 @@ rows_80 =
     row 0x8F (only 0 (bare (λ m. op.Pop m))) ∷
     -- vol. 2B "NOP—No Operation"; vol. 2D "XCHG—Exchange Register/Memory With Register"
     row 0x90 (plain (done op.Nop)) ∷
-    rows 0x91 7 (λ r. plain (done (op.Xchg D (Reg (r + 1)) 0))) ∷
-    -- vol. 2A "CBW/CWDE/CDQE—Convert Byte to Word/Convert Word to Doubleword/Convert Doubleword to Quadword", "CWD/CDQ/CQO—Convert
-    -- Word to Doubleword/Convert Doubleword to Quadword"
+    rows 0x91 7 (λ r. plain (done (op.Xchg D (Reg (r + 1)) EAX))) ∷
+    -- vol. 2A "CBW/CWDE/CDQE—Convert Byte to Word/Convert Word to Doubleword/Convert Doubleword to Quadword",
+    -- "CWD/CDQ/CQO—Convert Word to Doubleword/Convert Doubleword to Quadword"
     row 0x98 (plain (done op.Cwde)) ∷
     row 0x99 (plain (done op.Cdq)) ∷ []
 
 unfoldable pub row_80 : ℕ → Form
 row_80 b = look_up rows_80 b
 
-abbrev pub rows_A0 : List Row
+abbrev pub rows_A0 : List OpcodeRow
 rows_A0 =
     -- vol. 2B "MOV—Move"
     row 0xA0 (plain (id (λ n. op.Mov B eax (at n)))) ∷
@@ -190,7 +197,7 @@ rows_A0 =
 unfoldable pub row_A0 : ℕ → Form
 row_A0 b = look_up rows_A0 b
 
-abbrev pub rows_C0 : List Row
+abbrev pub rows_C0 : List OpcodeRow
 rows_C0 =
     -- vol. 2B "RCL/RCR/ROL/ROR—Rotate", "SAL/SAR/SHL/SHR—Shift"
     row 0xC1 (digit (λ n. option_map (λ k m. ib (λ i. op.Shift k m (count.Imm i))) (shift_of n))) ∷
@@ -223,7 +230,10 @@ rows_C0 =
     row 0xF8 (plain (done op.Clc)) ∷
     row 0xF9 (plain (done op.Stc)) ∷
     -- vol. 2A "INC—Increment by 1", "DEC—Decrement by 1", and the pages of ff_of
-    row 0xFE (digit (λ n. if n == 0 then Some (bare (λ m. op.Inc B m)) else if n == 1 then Some (bare (λ m. op.Dec B m)) else None)) ∷
+    row 0xFE (digit (λ n.
+        if n == 0 then Some (bare (λ m. op.Inc B m))
+        else if n == 1 then Some (bare (λ m. op.Dec B m))
+        else None)) ∷
     row 0xFF (digit ff_of) ∷ []
 
 unfoldable pub row_C0 : ℕ → Form
@@ -239,10 +249,13 @@ one_byte b =
 
 -- ---- the map behind 0F
 
-abbrev pub two_byte_rows : List Row
+abbrev pub two_byte_rows : List OpcodeRow
 two_byte_rows =
     -- vol. 2D "XEND—Transactional End", "XTEST—Test if in Transactional Execution": the bytes D5 and D6
-    row 0x01 (group (λ h. if h.mode == 3 && h.reg == 2 && h.rm == 5 then Some (bare (λ m. op.Xend)) else if h.mode == 3 && h.reg == 2 && h.rm == 6 then Some (bare (λ m. op.Xtest)) else None)) ∷
+    row 0x01 (group (λ h.
+        if h.mode == 3 && h.reg == 2 && h.rm == 5 then Some (bare (λ m. op.Xend))
+        else if h.mode == 3 && h.reg == 2 && h.rm == 6 then Some (bare (λ m. op.Xtest))
+        else None)) ∷
     -- vol. 2B "UD—Undefined Instruction", "NOP—No Operation"
     row 0x0B (plain (done op.Ud2)) ∷
     row 0x1F (only 0 (bare (λ m. op.NopOf m))) ∷
@@ -253,7 +266,11 @@ two_byte_rows =
     -- vol. 2A "CPUID—CPU Identification"
     row 0xA2 (plain (done op.Cpuid)) ∷
     -- vol. 2A "LFENCE—Load Fence"; vol. 2B "MFENCE—Memory Fence", "SFENCE—Store Fence": the bytes E8, F0 and F8
-    row 0xAE (group (λ h. if h.mode == 3 && h.rm == 0 then slice_index_or (None ∷ None ∷ None ∷ None ∷ None ∷ Some (bare (λ m. op.Lfence)) ∷ Some (bare (λ m. op.Mfence)) ∷ Some (bare (λ m. op.Sfence)) ∷ []) h.reg None else None)) ∷
+    row 0xAE (group (λ h.
+        if h.mode == 3 && h.rm == 0 then slice_index_or (
+            None ∷ None ∷ None ∷ None ∷ None ∷
+            Some (bare (λ m. op.Lfence)) ∷ Some (bare (λ m. op.Mfence)) ∷ Some (bare (λ m. op.Sfence)) ∷ []) h.reg None
+        else None)) ∷
     -- vol. 2A "IMUL—Signed Multiply", "CMPXCHG—Compare and Exchange"; vol. 2B "MOVZX—Move With Zero-Extend"
     row 0xAF (r_m (λ r m. op.Imul r m)) ∷
     row 0xB1 (m_r (λ m r. op.Cmpxchg m r)) ∷
@@ -273,7 +290,8 @@ two_byte b = look_up two_byte_rows b
 unfoldable pub behind_f3 : ℕ → Form
 behind_f3 b = look_up (row 0x90 (plain (done op.Pause)) ∷ []) b
 
--- the bytes of an instruction without F0: an opcode of one byte, or one behind 0F (SDM vol. 2A, "Opcode Maps"), or behind F3
+-- the bytes of an instruction without F0: an opcode of one byte, or one behind 0F (SDM vol. 2A, "Opcode Maps"), or
+-- behind F3
 pub data SpellsOp : List ℕ → Op → Type 0 where
   one : {b : ℕ} {bytes : List ℕ} {i : Op} → b < 256 → SpellsForm (one_byte b) bytes i → SpellsOp (b ∷ bytes) i
   two : {b : ℕ} {bytes : List ℕ} {i : Op} → b < 256 → SpellsForm (two_byte b) bytes i → SpellsOp (0x0F ∷ b ∷ bytes) i

@@ -1,6 +1,7 @@
 -- The one spelling of an operand that is written.
 use Rattle.std.specs.Prelude.{ℕ, ◌+◌, ◌-◌, ◌*◌, ◌%◌, ◌^◌, Bool, true, false, not, List, [], ◌∷◌, Option, Some, None, if◌then◌else◌, nat_lt, nat_le, ◌==◌, ◌&&◌, ◌||◌}
 use Rattle.ia_word.specs.Bytes.{long_bytes}
+use Rattle.ia_word.specs.Register.{ESP}
 use Rattle.ia_insn.specs.declared.operand.Mem.{Mem}
 use Rattle.ia_insn.specs.declared.operand.Operand.{Operand}
 use Rattle.ia_insn.specs.declared.operand.Operand.TheVariants.{Reg, Imm, Mem as Memory}
@@ -13,7 +14,7 @@ fits_base (Some r) = nat_lt r 8
 
 abbrev pub fits_index : Option ℕ → ℕ → Bool
 fits_index None scale = scale == 1
-fits_index (Some r) scale = nat_lt r 8 && not (r == 4) && (scale == 1 || scale == 2 || scale == 4 || scale == 8)
+fits_index (Some r) scale = nat_lt r 8 && not (r == ESP) && (scale == 1 || scale == 2 || scale == 4 || scale == 8)
 
 abbrev pub fits_mem : Mem → Bool
 fits_mem m = fits_base m.base && fits_index m.index m.scale && nat_lt m.disp (2 ^ 32)
@@ -50,7 +51,8 @@ place_bytes wide reg None (Some i) scale disp = three 0 reg 4 ∷ three (scale_b
 place_bytes wide reg (Some b) None scale disp =
     if b == 4 then three (mode_for wide b disp) reg 4 ∷ three 0 4 4 ∷ disp_bytes (mode_for wide b disp) disp
     else three (mode_for wide b disp) reg b ∷ disp_bytes (mode_for wide b disp) disp
-place_bytes wide reg (Some b) (Some i) scale disp = three (mode_for wide b disp) reg 4 ∷ three (scale_bits scale) i b ∷ disp_bytes (mode_for wide b disp) disp
+place_bytes wide reg (Some b) (Some i) scale disp =
+    three (mode_for wide b disp) reg 4 ∷ three (scale_bits scale) i b ∷ disp_bytes (mode_for wide b disp) disp
 
 -- a ModRM byte with this reg field, and what stands behind it
 unfoldable pub operand_bytes : Bool → ℕ → Operand → List ℕ

@@ -9,7 +9,7 @@ use crate::kinds::Count;
 use crate::lockable::op_lockable;
 use crate::op::{Insn, Op};
 use crate::operand::{Mem, Operand};
-use ia_word::Width;
+use ia_word::{ESP, Width};
 
 /// Whether a number is a byte, sign-extended.
 pub fn is_signed_byte(number: u32) -> bool
@@ -32,7 +32,7 @@ fn index_fits(index: Option<u8>, scale: u8) -> bool
 {
     match index {
         None => scale == 1,
-        Some(reg) => reg < 8 && reg != 4 && matches!(scale, 1 | 2 | 4 | 8),
+        Some(reg) => reg < 8 && reg != ESP && matches!(scale, 1 | 2 | 4 | 8),
     }
 }
 

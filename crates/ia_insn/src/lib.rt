@@ -2,7 +2,10 @@
 //!
 //! `specs/Table.antt` is the table to lay beside the opcode pages of Intel's SDM, volume 2: one row an opcode.
 //! `specs/Spelling.antt` says when bytes spell an instruction, `specs/Reading.antt` what reading bytes from left to right
-//! gives, and `specs/Encoding.antt` which instructions have a spelling and which one is written. Takes no memory.
+//! gives, and `specs/Encoding.antt` which instructions have a spelling and which one is written.
+//!
+//! Promises that no spelling begins another or spells two instructions, that each row of the opcode maps is reached, and
+//! that an instruction is encodable exactly where some bytes spell it. Stands on `ia_word`; takes no memory.
 #![tactic(auto)]
 
 mod encodable;
@@ -20,6 +23,3 @@ pub use laws::{no_spelling_begins_another, one_instruction, rows_are_reached};
 pub use lockable::is_lockable;
 pub use op::{Insn, Op};
 pub use operand::{Mem, Operand};
-
-#[cfg(test)]
-mod tests;

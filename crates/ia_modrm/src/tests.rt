@@ -18,7 +18,7 @@ fn numbers(rt: HostRuntime) {
 }
 
 /// A ModRM byte, its reg field, whether the displacement is held at 32 bits, what stands behind the byte, and the operand.
-type Row = (u8, u8, bool, &'static [u8], Operand);
+type OperandRow = (u8, u8, bool, &'static [u8], Operand);
 
 macro_rules! mem {
     ($base:expr, $index:expr, $scale:expr, $disp:expr) => {
@@ -31,7 +31,7 @@ macro_rules! mem {
     };
 }
 
-const ROWS: [Row; 16] = [
+const ROWS: [OperandRow; 16] = [
     (0xc0, 0, false, &[], Operand::Reg(0)),
     (0xfa, 7, false, &[], Operand::Reg(2)),
     (0x03, 0, false, &[], mem!(Some(3), None, 1, 0)),

@@ -3,15 +3,15 @@ use Rattle.std.proofs.Common.{◌≡◌, ℕ, ◌+◌, ◌-◌, ◌%◌, ◌^◌
 use Rattle.std.proofs.lemmas.List.{drop-drop}
 use Rattle.ia_text.proofs.Writing.{rest_is}
 use Rattle.std.proofs.Math.ListN.{drop_of_length-le}
-use Rattle.ia_insn.specs.Reading.{decoded}
+use Rattle.ia_insn.specs.Reading.{decoding_of}
 use Rattle.ia_text.specs.Listing.{count_of, line_text, listing_from, listing_line, shown_bytes}
 
-pub line_is : (code : List ℕ) (at : ℕ) → 0 < length code → listing_line code at ≡ line_text (decoded code) code at
+pub line_is : (code : List ℕ) (at : ℕ) → 0 < length code → listing_line code at ≡ line_text (decoding_of code) code at
 unfolding listing_line
 line_is [] at h = absurd (omega arith)
 line_is (byte ∷ bytes) at h = refl
 
-pub shown_is : (code : List ℕ) → 0 < length code → shown_bytes code ≡ count_of (decoded code)
+pub shown_is : (code : List ℕ) → 0 < length code → shown_bytes code ≡ count_of (decoding_of code)
 unfolding shown_bytes
 shown_is [] h = absurd (omega arith)
 shown_is (byte ∷ bytes) h = refl

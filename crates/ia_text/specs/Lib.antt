@@ -1,6 +1,6 @@
 pub mod Writing
 pub mod Number
 pub mod Names
-pub mod Parts
+pub mod Arguments
 pub mod Text
 pub mod Listing

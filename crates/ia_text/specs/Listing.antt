@@ -3,7 +3,7 @@ use Rattle.std.specs.Prelude.{ℕ, ◌+◌, ◌-◌, ◌*◌, ◌%◌, ◌^◌, 
 use Rattle.hex.specs.Hex.{encode_lower}
 use Rattle.ia_insn.specs.declared.fault.DecodeFault.{DecodeFault}
 use Rattle.ia_insn.specs.declared.op.Insn.{Insn}
-use Rattle.ia_insn.specs.Reading.{decoded}
+use Rattle.ia_insn.specs.Reading.{decoding_of}
 use Rattle.ia_text.specs.Number.{eight_digits, number}
 use Rattle.ia_text.specs.Text.{insn_text}
 
@@ -28,16 +28,17 @@ line_text found code at = eight_digits at ++ codes "  " ++ in_places (take (coun
 -- the first line of some code at an address, and how many bytes it shows
 unfoldable pub listing_line : List ℕ → ℕ → List ℕ
 listing_line [] at = []
-listing_line (byte ∷ bytes) at = line_text (decoded (byte ∷ bytes)) (byte ∷ bytes) at
+listing_line (byte ∷ bytes) at = line_text (decoding_of (byte ∷ bytes)) (byte ∷ bytes) at
 
 unfoldable pub shown_bytes : List ℕ → ℕ
 shown_bytes [] = 0
-shown_bytes (byte ∷ bytes) = count_of (decoded (byte ∷ bytes))
+shown_bytes (byte ∷ bytes) = count_of (decoding_of (byte ∷ bytes))
 
 -- the lines behind so many bytes that are shown already; addresses count modulo 2^32
 unfoldable pub listing_from : ℕ → List ℕ → ℕ → List ℕ
 listing_from shown [] at = []
-listing_from zero (byte ∷ bytes) at = listing_line (byte ∷ bytes) at ++ listing_from (shown_bytes (byte ∷ bytes) - 1) bytes ((at + 1) % 2 ^ 32)
+listing_from zero (byte ∷ bytes) at =
+    listing_line (byte ∷ bytes) at ++ listing_from (shown_bytes (byte ∷ bytes) - 1) bytes ((at + 1) % 2 ^ 32)
 listing_from (suc shown) (byte ∷ bytes) at = listing_from shown bytes ((at + 1) % 2 ^ 32)
 
 -- the listing of some code at an address

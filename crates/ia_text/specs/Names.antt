@@ -17,8 +17,12 @@ use Rattle.ia_insn.specs.declared.op.Op.TheVariants as op
 
 -- the registers by number
 abbrev pub register_name : Width → ℕ → List ℕ
-register_name D r = slice_index_or (codes "eax" ∷ codes "ecx" ∷ codes "edx" ∷ codes "ebx" ∷ codes "esp" ∷ codes "ebp" ∷ codes "esi" ∷ []) r (codes "edi")
-register_name B r = slice_index_or (codes "al" ∷ codes "cl" ∷ codes "dl" ∷ codes "bl" ∷ codes "ah" ∷ codes "ch" ∷ codes "dh" ∷ []) r (codes "bh")
+register_name D number = slice_index_or (
+    codes "eax" ∷ codes "ecx" ∷ codes "edx" ∷ codes "ebx" ∷
+    codes "esp" ∷ codes "ebp" ∷ codes "esi" ∷ []) number (codes "edi")
+register_name B number = slice_index_or (
+    codes "al" ∷ codes "cl" ∷ codes "dl" ∷ codes "bl" ∷
+    codes "ah" ∷ codes "ch" ∷ codes "dh" ∷ []) number (codes "bh")
 
 abbrev pub size_name : Width → List ℕ
 size_name D = codes "dword"
@@ -76,45 +80,45 @@ unary_name unary.Idiv = codes "idiv"
 
 -- the mnemonic, up to a condition
 abbrev pub stem : Op → List ℕ
-stem (op.Alu k w m s) = alu_name k
-stem (op.Mov w m s) = codes "mov"
-stem (op.Lea r m) = codes "lea"
-stem (op.Xchg w m r) = codes "xchg"
-stem (op.Inc w m) = codes "inc"
-stem (op.Dec w m) = codes "dec"
-stem (op.Test w m s) = codes "test"
-stem (op.Unary k m) = unary_name k
-stem (op.Imul r m) = codes "imul"
-stem (op.ImulImm r m n) = codes "imul"
-stem (op.Shift k m n) = shift_name k
-stem (op.Push m) = codes "push"
-stem (op.Pop m) = codes "pop"
+stem (op.Alu kind _ _ _) = alu_name kind
+stem (op.Mov _ _ _) = codes "mov"
+stem (op.Lea _ _) = codes "lea"
+stem (op.Xchg _ _ _) = codes "xchg"
+stem (op.Inc _ _) = codes "inc"
+stem (op.Dec _ _) = codes "dec"
+stem (op.Test _ _ _) = codes "test"
+stem (op.Unary kind _) = unary_name kind
+stem (op.Imul _ _) = codes "imul"
+stem (op.ImulImm _ _ _) = codes "imul"
+stem (op.Shift kind _ _) = shift_name kind
+stem (op.Push _) = codes "push"
+stem (op.Pop _) = codes "pop"
 stem op.Leave = codes "leave"
-stem (op.Call d) = codes "call"
-stem (op.CallTo m) = codes "call"
+stem (op.Call _) = codes "call"
+stem (op.CallTo _) = codes "call"
 stem op.Ret = codes "ret"
-stem (op.RetPop n) = codes "ret"
-stem (op.Jmp d) = codes "jmp"
-stem (op.JmpShort d) = codes "jmp"
-stem (op.JmpTo m) = codes "jmp"
-stem (op.Jcc c d) = codes "j"
-stem (op.JccShort c d) = codes "j"
-stem (op.Setcc c m) = codes "set"
-stem (op.Cmovcc c r m) = codes "cmov"
-stem (op.Loop d) = codes "loop"
-stem (op.Jecxz d) = codes "jecxz"
-stem (op.Movzx r m) = codes "movzx"
-stem (op.Movsx r m) = codes "movsx"
-stem (op.Cmpxchg m r) = codes "cmpxchg"
-stem (op.Xadd m r) = codes "xadd"
-stem (op.Bit k m n) = bit_name k
+stem (op.RetPop _) = codes "ret"
+stem (op.Jmp _) = codes "jmp"
+stem (op.JmpShort _) = codes "jmp"
+stem (op.JmpTo _) = codes "jmp"
+stem (op.Jcc _ _) = codes "j"
+stem (op.JccShort _ _) = codes "j"
+stem (op.Setcc _ _) = codes "set"
+stem (op.Cmovcc _ _ _) = codes "cmov"
+stem (op.Loop _) = codes "loop"
+stem (op.Jecxz _) = codes "jecxz"
+stem (op.Movzx _ _) = codes "movzx"
+stem (op.Movsx _ _) = codes "movsx"
+stem (op.Cmpxchg _ _) = codes "cmpxchg"
+stem (op.Xadd _ _) = codes "xadd"
+stem (op.Bit kind _ _) = bit_name kind
 stem op.Cdq = codes "cdq"
 stem op.Cwde = codes "cwde"
 stem op.Clc = codes "clc"
 stem op.Stc = codes "stc"
 stem op.Cmc = codes "cmc"
 stem op.Nop = codes "nop"
-stem (op.NopOf m) = codes "nop"
+stem (op.NopOf _) = codes "nop"
 stem op.Pause = codes "pause"
 stem op.Hlt = codes "hlt"
 stem op.Int3 = codes "int3"
@@ -123,15 +127,15 @@ stem op.Cpuid = codes "cpuid"
 stem op.Lfence = codes "lfence"
 stem op.Mfence = codes "mfence"
 stem op.Sfence = codes "sfence"
-stem (op.Xbegin d) = codes "xbegin"
-stem (op.Xabort n) = codes "xabort"
+stem (op.Xbegin _) = codes "xbegin"
+stem (op.Xabort _) = codes "xabort"
 stem op.Xend = codes "xend"
 stem op.Xtest = codes "xtest"
 
 -- the condition of the mnemonic
 abbrev pub condition : Op → List ℕ
-condition (op.Jcc c d) = condition_name c
-condition (op.JccShort c d) = condition_name c
-condition (op.Setcc c m) = condition_name c
-condition (op.Cmovcc c r m) = condition_name c
+condition (op.Jcc kind _) = condition_name kind
+condition (op.JccShort kind _) = condition_name kind
+condition (op.Setcc kind _) = condition_name kind
+condition (op.Cmovcc kind _ _) = condition_name kind
 condition _ = []

@@ -9,11 +9,11 @@ use Rattle.ia_text.specs.declared.arg.Arg.{Arg}
 use Rattle.ia_text.specs.declared.arg.Arg.TheVariants as arg
 use Rattle.ia_text.specs.Number.{number}
 use Rattle.ia_text.specs.Names.{register_name, size_name, stem, condition}
-use Rattle.ia_text.specs.Parts.{first_arg, second_arg, third_arg}
+use Rattle.ia_text.specs.Arguments.{first_arg, second_arg, third_arg}
 
 -- a + where something stands before
 abbrev pub plus : Bool → List ℕ
-plus b = if b then codes "+" else []
+plus before = if before then codes "+" else []
 
 abbrev pub base_text : Option ℕ → List ℕ
 base_text None = []
@@ -21,7 +21,8 @@ base_text (Some r) = register_name D r
 
 -- 1, 2, 4 or 8
 abbrev pub scale_text : ℕ → List ℕ
-scale_text s = if s == 1 then codes "1" else if s == 2 then codes "2" else if s == 4 then codes "4" else codes "8"
+scale_text scale =
+    if scale == 1 then codes "1" else if scale == 2 then codes "2" else if scale == 4 then codes "4" else codes "8"
 
 abbrev pub index_text : Bool → Option ℕ → ℕ → List ℕ
 index_text before None scale = []
@@ -32,13 +33,13 @@ disp_text before disp = if before && (disp == 0) then [] else (plus before ++ nu
 
 -- [base+index*scale+disp]
 unfoldable pub mem_text : Mem → List ℕ
-mem_text m = codes "[" ++ base_text m.base ++ index_text (is_some m.base) m.index m.scale
-    ++ disp_text (is_some m.base || is_some m.index) m.disp ++ codes "]"
+mem_text place = codes "[" ++ base_text place.base ++ index_text (is_some place.base) place.index place.scale
+    ++ disp_text (is_some place.base || is_some place.index) place.disp ++ codes "]"
 
 abbrev pub arg_text : Arg → List ℕ
-arg_text (arg.Register w r) = register_name w r
-arg_text (arg.Place w m) = size_name w ++ codes " " ++ mem_text m
-arg_text (arg.Address m) = mem_text m
+arg_text (arg.Register width r) = register_name width r
+arg_text (arg.Place width place) = size_name width ++ codes " " ++ mem_text place
+arg_text (arg.Address place) = mem_text place
 arg_text (arg.Number n) = number n
 arg_text (arg.Short n) = codes "short " ++ number n
 arg_text arg.Cl = codes "cl"
@@ -46,11 +47,11 @@ arg_text arg.Cl = codes "cl"
 -- an operand behind what separates it
 abbrev pub behind : List ℕ → Option Arg → List ℕ
 behind gap None = []
-behind gap (Some a) = gap ++ arg_text a
+behind gap (Some argument) = gap ++ arg_text argument
 
 unfoldable pub op_text : Op → ℕ → List ℕ
-op_text o at = stem o ++ condition o ++ behind (codes " ") (first_arg o at)
-    ++ behind (codes ", ") (second_arg o) ++ behind (codes ", ") (third_arg o)
+op_text op at = stem op ++ condition op ++ behind (codes " ") (first_arg op at)
+    ++ behind (codes ", ") (second_arg op) ++ behind (codes ", ") (third_arg op)
 
 unfoldable pub insn_text : Insn → ℕ → List ℕ
-insn_text i at = (if i.lock then codes "lock " else []) ++ op_text i.op at
+insn_text insn at = (if insn.lock then codes "lock " else []) ++ op_text insn.op at

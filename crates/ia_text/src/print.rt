@@ -9,7 +9,7 @@ use crate::arg::Arg;
 use crate::names::{condition_part, mnemonic, register, size};
 use crate::out::{Out, WriteFault};
 use crate::page::{Page, push, push_number};
-use crate::parts::{first, second, third};
+use crate::arguments::arguments_of;
 use ia_insn::{Insn, Mem, Op};
 use ia_word::Width;
 
@@ -130,9 +130,10 @@ fn push_op(page: &mut Page, op: &Op, at: u32)
 {
     push(page, mnemonic(op));
     push(page, condition_part(op));
-    push_behind(page, b" ", &first(op, at));
-    push_behind(page, b", ", &second(op));
-    push_behind(page, b", ", &third(op));
+    let shown = arguments_of(op, at);
+    push_behind(page, b" ", &shown.first);
+    push_behind(page, b", ", &shown.second);
+    push_behind(page, b", ", &shown.third);
 }
 
 /// The text of an instruction at an address.

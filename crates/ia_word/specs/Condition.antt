@@ -1,4 +1,5 @@
--- The sixteen conditions and their numbers in an opcode (SDM volume 2, appendix B, encoding of the conditional test field).
+-- The sixteen conditions and their numbers in an opcode (SDM volume 2, appendix B, encoding of the conditional test
+-- field).
 use Rattle.std.specs.Prelude.{ℕ, [], ◌∷◌, slice_index_or}
 use Rattle.ia_word.specs.declared.condition.Condition.{Condition}
 use Rattle.ia_word.specs.declared.condition.Condition.TheVariants as is
@@ -23,5 +24,8 @@ condition_number is.Greater = 15
 
 -- the condition of a number from 0 to 15
 abbrev pub condition_of : ℕ → Condition
-condition_of n = slice_index_or (
-    is.Overflow ∷ is.NotOverflow ∷ is.Below ∷ is.AboveOrEqual ∷ is.Equal ∷ is.NotEqual ∷ is.BelowOrEqual ∷ is.Above ∷ is.Sign ∷ is.NotSign ∷ is.ParityEven ∷ is.ParityOdd ∷ is.Less ∷ is.GreaterOrEqual ∷ is.LessOrEqual ∷ is.Greater ∷ []) n is.Greater
+condition_of number = slice_index_or (
+    is.Overflow ∷ is.NotOverflow ∷ is.Below ∷ is.AboveOrEqual ∷
+    is.Equal ∷ is.NotEqual ∷ is.BelowOrEqual ∷ is.Above ∷
+    is.Sign ∷ is.NotSign ∷ is.ParityEven ∷ is.ParityOdd ∷
+    is.Less ∷ is.GreaterOrEqual ∷ is.LessOrEqual ∷ is.Greater ∷ []) number is.Greater

@@ -3,3 +3,4 @@ pub mod Condition
 pub mod Bytes
 pub mod Line
 pub mod Operand
+pub mod Register

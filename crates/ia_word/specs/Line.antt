@@ -9,8 +9,9 @@ line address = address / 64
 
 -- the line of the last byte of an access
 abbrev pub last_line : ℕ → Width → ℕ
-last_line address w = line (address + (bytes_of w - 1))
+last_line address width = line (address + (bytes_of width - 1))
 
 -- the lines of an access: one, or two where it crosses a line's end
 abbrev pub lines : ℕ → Width → List ℕ
-lines address w = line address ∷ (if last_line address w == line address then [] else last_line address w ∷ [])
+lines address width =
+    line address ∷ (if last_line address width == line address then [] else last_line address width ∷ [])

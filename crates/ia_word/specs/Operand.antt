@@ -15,6 +15,6 @@ operand_of B bytes = slice_index bytes 0
 operand_of D bytes = long_of bytes
 
 -- the bytes of a store, each with its address
-abbrev pub placed : ℕ → List ℕ → List (ℕ × ℕ)
-placed address [] = []
-placed address (b ∷ bs) = (address, b) ∷ placed (address + 1) bs
+abbrev pub placed_bytes : ℕ → List ℕ → List (ℕ × ℕ)
+placed_bytes address [] = []
+placed_bytes address (byte ∷ bytes) = (address, byte) ∷ placed_bytes (address + 1) bytes

@@ -24,10 +24,10 @@ pub fn lines_of(address: u32, width: Width) -> ArrayVec<u32, 2>
 {
     let first = line_of(address);
     let last = line_of(address + (width.bytes() - 1));
-    let mut touched = ArrayVec::new();
-    touched.push(first);
+    let mut lines = ArrayVec::new();
+    lines.push(first);
     if last != first {
-        touched.push(last);
+        lines.push(last);
     }
-    touched
+    lines
 }
