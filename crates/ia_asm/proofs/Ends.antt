@@ -3,22 +3,22 @@ use Rattle.std.proofs.Common.{◌≡◌, ℕ, ◌+◌, ◌≤◌, ◌^◌, Bool,
 use Rattle.std.specs.Prelude.{ℤ, nat_lt, option_map}
 use Rattle.std.proofs.lemmas.List.{length-replicate}
 use Rattle.std.proofs.lemmas.Bool.{ltb-false}
-use Rattle.ia_item.specs.Sums.{Env}
+use Rattle.ia_item.specs.Expressions.{Env}
 use Rattle.ia_item.specs.Fields.{modulo_long}
 use Rattle.ia_item.specs.declared.item.Entry.{Entry}
 use Rattle.ia_item.specs.declared.item.Section.{Section}
 use Rattle.ia_item.specs.declared.item.Section.TheVariants.{Text as InText, Data as InData}
 use Rattle.ia_item.specs.declared.item.Item.{Item}
 use Rattle.ia_item.specs.declared.item.Item.TheVariants as item
-use Rattle.ia_asm.specs.declared.fault.PlaceFault.{PlaceFault}
-use Rattle.ia_asm.specs.declared.fault.PlaceFault.TheVariants.{Range}
-use Rattle.ia_asm.specs.Items.{field_value, field_fault, template_fault}
+use Rattle.ia_resolve.specs.declared.place_fault.PlaceFault.{PlaceFault}
+use Rattle.ia_resolve.specs.declared.place_fault.PlaceFault.TheVariants.{Range}
+use Rattle.ia_resolve.specs.Items.{field_value, field_fault, template_fault}
 use Rattle.ia_item.specs.declared.item.Field.TheVariants as field
-use Rattle.ia_asm.specs.Faults.{first_of}
-use Rattle.ia_asm.specs.Placement.{State, Place, nowhere, settled, gap, size_of, at_in, place_at, text_next, next, places, after, pad, bytes_at, item_bytes, part_of, section_bytes, in_section, end_fault, item_fault, place_fault, fault_on, by_first, told, base_of, text_end, tail_base, start, all_places, values}
-use Rattle.ia_asm.specs.Assembled.{code_of, told_of}
-use Rattle.ia_asm.proofs.Sizes.{code_length, long_length}
-use Rattle.ia_asm.proofs.Tellings.{first_some}
+use Rattle.ia_resolve.specs.PlaceFaults.{first_of}
+use Rattle.ia_layout.specs.Placement.{LayoutState, EntryPlace, nowhere, critical_value, gap, size_of, at_in, place_at, text_next, next, places, after, pad, bytes_at, item_bytes, part_of, section_bytes, in_section, end_fault, item_fault, place_fault, fault_on, by_first, first_fault, base_of, text_end, tail_base, start, all_places, values}
+use Rattle.ia_asm.specs.Assembled.{code_of, fault_of}
+use Rattle.ia_resolve.proofs.Sizes.{code_length, long_length}
+use Rattle.ia_asm.proofs.FaultLemmas.{first_some}
 
 bytes_length : (env : Env) (at : ℕ) (v : ℤ) (s : Section) (i : Item) → length (bytes_at env at v s i) ≡ size_of at v i
 unfolding bytes_at size_of
@@ -32,39 +32,39 @@ bytes_length env at v s (item.Reserve e) = length-replicate (modulo_long v) 0
 bytes_length env at v s (item.Align n) = length-replicate (gap n at) (pad s)
 bytes_length env at v s (item.Org n) = refl
 
-part_length : (env : Env) (s : State) (e : Entry) → s.text + length (part_of InText env (place_at s e)) ≡ (next s e).text
+part_length : (env : Env) (s : LayoutState) (e : Entry) → s.text + length (part_of InText env (place_at s e)) ≡ (next s e).text
 part_length env s e = by e.section refl
   where
-    p : Place
+    p : EntryPlace
     p = place_at s e
 
     by : (x : Section) → e.section ≡ x → s.text + length (cond (in_section InText e.section) (item_bytes env p) []) ≡ text_next e.section s.text p.size
-    by InText is = rw is (ap (λ n. s.text + n) (bytes_length env s.text (settled s.above e.item) InText e.item))
+    by InText is = rw is (ap (λ n. s.text + n) (bytes_length env s.text (critical_value s.above e.item) InText e.item))
     by InData is = rw is (omega arith)
 
 -- the code ends where the addresses say
-pub code_end : (env : Env) (s : State) (es : List Entry) → s.text + length (section_bytes InText env (places s es)) ≡ (after s es).text
+pub code_end : (env : Env) (s : LayoutState) (es : List Entry) → s.text + length (section_bytes InText env (places s es)) ≡ (after s es).text
 code_end env s [] = omega arith
 code_end env s (e ∷ es) =
     let here = part_length env s e in
     let later = code_end env (next s e) es in
-    let parts = length-append (part_of InText env (place_at s e)) (section_bytes InText env (places (next s e) es)) in
-    omega (arith, here, later, parts)
+    let terms = length-append (part_of InText env (place_at s e)) (section_bytes InText env (places (next s e) es)) in
+    omega (arith, here, later, terms)
 
 -- ---- the addresses of the code depend on no address of the data
 
-same_next : (x : Section) (s t : State) (n : ℕ) (v : ℤ) (i : Item) → s.text ≡ t.text → text_next x s.text (size_of (at_in x s) v i) ≡ text_next x t.text (size_of (at_in x t) v i)
+same_next : (x : Section) (s t : LayoutState) (n : ℕ) (v : ℤ) (i : Item) → s.text ≡ t.text → text_next x s.text (size_of (at_in x s) v i) ≡ text_next x t.text (size_of (at_in x t) v i)
 same_next InText s t n v i e = ap (λ u. u + size_of u v i) e
 same_next InData s t n v i e = e
 
 pub text_alone : (a : List _) (t m n : ℕ) (es : List Entry) → (after (record { above = a; text = t; tail = m }) es).text ≡ (after (record { above = a; text = t; tail = n }) es).text
 text_alone a t m n [] = refl
 text_alone a t m n (e ∷ es) =
-    let s : State = record { above = a; text = t; tail = m } in
-    let r : State = record { above = a; text = t; tail = n } in
-    let x : State = next s e in
-    let y : State = next r e in
-    let same : x.text ≡ y.text = same_next e.section s r 0 (settled a e.item) e.item refl in
+    let s : LayoutState = record { above = a; text = t; tail = m } in
+    let r : LayoutState = record { above = a; text = t; tail = n } in
+    let x : LayoutState = next s e in
+    let y : LayoutState = next r e in
+    let same : x.text ≡ y.text = same_next e.section s r 0 (critical_value a e.item) e.item refl in
     ap (λ u. (after (record { above = x.above; text = u; tail = x.tail }) es).text) same ∙ text_alone y.above y.text x.tail y.tail es
 
 -- ---- a source without fault
@@ -93,7 +93,7 @@ end_none base end e = by (nat_lt (base + 2 ^ 26) end) refl
         absurd cc
     by false is = ltb-false _ _ is
 
-ends : (env : Env) (base : ℕ) (p : Place) (i : Item) → p.size ≡ size_of p.at p.settled i → item_fault env base p i ≡ None → (p.size ≡ 0) ⊎ (p.at + p.size ≤ base + 2 ^ 26)
+ends : (env : Env) (base : ℕ) (p : EntryPlace) (i : Item) → p.size ≡ size_of p.at p.critical_value i → item_fault env base p i ≡ None → (p.size ≡ 0) ⊎ (p.at + p.size ≤ base + 2 ^ 26)
 unfolding item_fault size_of
 ends env base p (item.Label n) s e = inl s
 ends env base p (item.Equ n x) s e = inl s
@@ -105,10 +105,10 @@ ends env base p (item.Reserve x) s e = inr (end_none base (p.at + p.size) (first
 ends env base p (item.Align n) s e = inr (end_none base (p.at + p.size) e)
 ends env base p (item.Org n) s e = inl s
 
-next_short : (env : Env) (base : ℕ) (s : State) (e : Entry) → s.text ≤ base + 2 ^ 26 → place_fault env base (place_at s e) ≡ None → (next s e).text ≤ base + 2 ^ 26
+next_short : (env : Env) (base : ℕ) (s : LayoutState) (e : Entry) → s.text ≤ base + 2 ^ 26 → place_fault env base (place_at s e) ≡ None → (next s e).text ≤ base + 2 ^ 26
 next_short env base s e h none = by e.section refl
   where
-    p : Place
+    p : EntryPlace
     p = place_at s e
 
     go : p.at ≡ s.text → (p.size ≡ 0) ⊎ (p.at + p.size ≤ base + 2 ^ 26) → s.text + p.size ≤ base + 2 ^ 26
@@ -118,15 +118,15 @@ next_short env base s e h none = by e.section refl
     by : (x : Section) → e.section ≡ x → text_next e.section s.text p.size ≤ base + 2 ^ 26
     by InText is =
         let at : p.at ≡ s.text = ap (λ x. at_in x s) is in
-        let size : size_of s.text (settled s.above e.item) e.item ≡ p.size = ap (λ a. size_of a (settled s.above e.item) e.item) (sym at) in
+        let size : size_of s.text (critical_value s.above e.item) e.item ≡ p.size = ap (λ a. size_of a (critical_value s.above e.item) e.item) (sym at) in
         rw is (subst (λ n. s.text + n ≤ base + 2 ^ 26) (sym size) (go at (ends env base p e.item refl none)))
     by InData is = rw is h
 
 -- the code ends at most 2^26 bytes from the base
-pub code_short : (env : Env) (base : ℕ) (s : State) (es : List Entry) → s.text ≤ base + 2 ^ 26 → told env base (places s es) ≡ None → (after s es).text ≤ base + 2 ^ 26
+pub code_short : (env : Env) (base : ℕ) (s : LayoutState) (es : List Entry) → s.text ≤ base + 2 ^ 26 → first_fault env base (places s es) ≡ None → (after s es).text ≤ base + 2 ^ 26
 code_short env base s [] h e = h
 code_short env base s (x ∷ es) h e =
-    let (none, later) = no_first (place_fault env base (place_at s x)) x.line (fault_on x.line env base (places (next s x) es)) (told env base (places (next s x) es)) e in
+    let (none, later) = no_first (place_fault env base (place_at s x)) x.line (fault_on x.line env base (places (next s x) es)) (first_fault env base (places (next s x) es)) e in
     code_short env base (next s x) es (next_short env base s x h none) later
 
 -- ---- all entries
@@ -134,7 +134,7 @@ code_short env base s (x ∷ es) h e =
 pub code_fits : (es : List Entry) → base_of es + length (code_of es) ≡ text_end es
 code_fits es = code_end (values (all_places es)) (start (base_of es) (tail_base (text_end es))) es ∙ text_alone [] (base_of es) (tail_base (text_end es)) 0 es
 
-pub code_near : (es : List Entry) → told_of es ≡ None → text_end es ≤ base_of es + 2 ^ 26
+pub code_near : (es : List Entry) → fault_of es ≡ None → text_end es ≤ base_of es + 2 ^ 26
 code_near es e =
     let near = code_short (values (all_places es)) (base_of es) (start (base_of es) (tail_base (text_end es))) es (omega arith) e in
     omega (arith, near, text_alone [] (base_of es) (tail_base (text_end es)) 0 es)

@@ -1,10 +1,5 @@
-pub mod Fills
-pub mod Sizes
-pub mod Powers
-pub mod Integers
-pub mod Walks
-pub mod Tellings
+pub mod FaultLemmas
 pub mod Ends
-pub mod Shown
+pub mod SymbolValues
+pub mod ProgramLayouts
 pub mod Refusals
-pub mod Spelt

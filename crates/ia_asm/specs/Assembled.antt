@@ -8,19 +8,20 @@ use Rattle.ia_item.specs.declared.item.Entry.{Entry}
 use Rattle.ia_item.specs.declared.item.Section.TheVariants.{Text as InText, Data as InData}
 use Rattle.ia_asm.specs.declared.fault.AsmFault.{AsmFault}
 use Rattle.ia_asm.specs.declared.fault.AsmFault.TheVariants.{NoMemory}
-use Rattle.ia_asm.specs.declared.fault.PlaceFault.{PlaceFault}
-use Rattle.ia_asm.specs.declared.unit.Unit.{Unit as Assembly}
+use Rattle.ia_resolve.specs.declared.place_fault.PlaceFault.{PlaceFault}
+use Rattle.ia_asm.specs.declared.assembly.Unit.{Unit as Assembly}
+use Rattle.ia_asm.specs.declared.assembly.ProgramImage.{ProgramImage}
 use Rattle.ia_asm.specs.Faults.{at_line}
-use Rattle.ia_asm.specs.Listed.{listing_text}
-use Rattle.ia_asm.specs.Placement.{base_of, text_end, all_places, symbols, values, section_bytes, gap, joined, told}
+use Rattle.ia_asm.specs.ListingText.{listing_text}
+use Rattle.ia_layout.specs.Placement.{base_of, text_end, all_places, symbols, values, section_bytes, gap, joined, first_fault}
 
 -- a symbol's value modulo 2^32; none is below -2^31
-abbrev pub shown : ℤ → ℕ
-shown (pos n) = n % 2 ^ 32
-shown (negsuc n) = 2 ^ 32 - 1 - n
+abbrev pub value_modulo : ℤ → ℕ
+value_modulo (pos n) = n % 2 ^ 32
+value_modulo (negsuc n) = 2 ^ 32 - 1 - n
 
-abbrev pub shown_symbol : Name × ℤ → Name × ℕ
-shown_symbol s = (s.0, shown s.1)
+abbrev pub symbol_modulo : Name × ℤ → Name × ℕ
+symbol_modulo s = (s.0, value_modulo s.1)
 
 -- the value beside a whole name
 abbrev pub known_as : List ℕ → List (Name × ℕ) → Option ℕ
@@ -32,22 +33,39 @@ code_of es = section_bytes InText (values (all_places es)) (all_places es)
 abbrev pub tail_of : List Entry → List ℕ
 tail_of es = section_bytes InData (values (all_places es)) (all_places es)
 
-abbrev pub told_of : List Entry → Option (PlaceFault × ℕ)
-told_of es = told (values (all_places es)) (base_of es) (all_places es)
+abbrev pub fault_of : List Entry → Option (PlaceFault × ℕ)
+fault_of es = first_fault (values (all_places es)) (base_of es) (all_places es)
 
 -- the image, the symbols and the listing fit the entries, none of which has a fault
 pub record Assembled (es : List Entry) (u : Assembly) : Type 0 where
-  pub faultless : told_of es ≡ None
+  pub faultless : fault_of es ≡ None
   pub base : u.base ≡ base_of es
   pub image : u.image.items ≡ joined (code_of es) (gap 64 (text_end es)) (tail_of es)
   pub code_len : u.code_len ≡ length (code_of es)
   -- the code ends where its items do, so that the data stands at its addresses
   pub end : base_of es + length (code_of es) ≡ text_end es
-  pub symbols : u.symbols.entries ≡ map shown_symbol (symbols (all_places es))
+  pub symbols : u.symbols.entries ≡ map symbol_modulo (symbols (all_places es))
   pub listing : u.listing.items ≡ listing_text (values (all_places es)) (all_places es)
 
+-- the same of an image without a listing
+pub record IsImage (es : List Entry) (p : ProgramImage) : Type 0 where
+  pub faultless : fault_of es ≡ None
+  pub base : p.base ≡ base_of es
+  pub image : p.image.items ≡ joined (code_of es) (gap 64 (text_end es)) (tail_of es)
+  pub code_len : p.code_len ≡ length (code_of es)
+  pub end : base_of es + length (code_of es) ≡ text_end es
+  pub symbols : p.symbols.entries ≡ map symbol_modulo (symbols (all_places es))
+
+-- memory was refused, or this is the first line of the entries that has a fault, and its first fault
+abbrev pub TellsFault : List Entry → AsmFault → Type 0
+TellsFault es NoMemory = Unit {0}
+TellsFault es f = option_map (λ t. at_line t.0 t.1) (fault_of es) ≡ Some f
+
 -- the entries are placed, or this is the first line that has a fault
-abbrev pub Tells : List Entry → Result Assembly AsmFault → Type 0
-Tells es (Ok u) = Assembled es u
-Tells es (Err NoMemory) = Unit {0}
-Tells es (Err f) = option_map (λ t. at_line t.0 t.1) (told_of es) ≡ Some f
+abbrev pub PlacesAll : List Entry → Result Assembly AsmFault → Type 0
+PlacesAll es (Ok u) = Assembled es u
+PlacesAll es (Err f) = TellsFault es f
+
+abbrev pub PlacesImage : List Entry → Result ProgramImage AsmFault → Type 0
+PlacesImage es (Ok p) = IsImage es p
+PlacesImage es (Err f) = TellsFault es f

@@ -1,40 +1,38 @@
 -- The faults that assembling tells, and their numbers.
-use Rattle.std.specs.Prelude.{ℕ, Option, Some, None}
+use Rattle.std.specs.Prelude.{ℕ, ◌==◌, if◌then◌else◌, Option, Some, None, option_map}
+use Rattle.ia_resolve.specs.PlaceFaults.{first_of}
 use Rattle.ia_asm.specs.declared.fault.AsmFault.{AsmFault}
-use Rattle.ia_asm.specs.declared.fault.AsmFault.TheVariants as told
-use Rattle.ia_asm.specs.declared.fault.PlaceFault.{PlaceFault}
-use Rattle.ia_asm.specs.declared.fault.PlaceFault.TheVariants.{UnknownSymbol, Range, ShortJumpTooFar}
+use Rattle.ia_asm.specs.declared.fault.AsmFault.TheVariants as asm
+use Rattle.ia_resolve.specs.declared.place_fault.PlaceFault.{PlaceFault}
+use Rattle.ia_resolve.specs.declared.place_fault.PlaceFault.TheVariants.{UnknownSymbol, Range, ShortJumpTooFar}
 
 abbrev pub fault_number : AsmFault → ℕ
-fault_number (told.BadToken l) = 10
-fault_number (told.BadOperand l) = 11
-fault_number (told.UnknownSymbol l) = 12
-fault_number (told.SymbolTwice l) = 13
-fault_number (told.Range l) = 14
-fault_number (told.NotInSubset l) = 15
-fault_number (told.ShortJumpTooFar l) = 16
-fault_number told.NoMemory = 17
+fault_number (asm.BadToken l) = 10
+fault_number (asm.BadOperand l) = 11
+fault_number (asm.UnknownSymbol l) = 12
+fault_number (asm.SymbolTwice l) = 13
+fault_number (asm.Range l) = 14
+fault_number (asm.NotInSubset l) = 15
+fault_number (asm.ShortJumpTooFar l) = 16
+fault_number asm.NoMemory = 17
 
 abbrev pub fault_line : AsmFault → Option ℕ
-fault_line (told.BadToken l) = Some l
-fault_line (told.BadOperand l) = Some l
-fault_line (told.UnknownSymbol l) = Some l
-fault_line (told.SymbolTwice l) = Some l
-fault_line (told.Range l) = Some l
-fault_line (told.NotInSubset l) = Some l
-fault_line (told.ShortJumpTooFar l) = Some l
-fault_line told.NoMemory = None
+fault_line (asm.BadToken l) = Some l
+fault_line (asm.BadOperand l) = Some l
+fault_line (asm.UnknownSymbol l) = Some l
+fault_line (asm.SymbolTwice l) = Some l
+fault_line (asm.Range l) = Some l
+fault_line (asm.NotInSubset l) = Some l
+fault_line (asm.ShortJumpTooFar l) = Some l
+fault_line asm.NoMemory = None
 
 abbrev pub at_line : PlaceFault → ℕ → AsmFault
-at_line UnknownSymbol l = told.UnknownSymbol l
-at_line Range l = told.Range l
-at_line ShortJumpTooFar l = told.ShortJumpTooFar l
+at_line UnknownSymbol l = asm.UnknownSymbol l
+at_line Range l = asm.Range l
+at_line ShortJumpTooFar l = asm.ShortJumpTooFar l
 
--- of two faults of one line: an unknown symbol before a range, and that before a short jump
-abbrev pub first_of : Option PlaceFault → Option PlaceFault → Option PlaceFault
-first_of None b = b
-first_of (Some UnknownSymbol) b = Some UnknownSymbol
-first_of (Some Range) (Some UnknownSymbol) = Some UnknownSymbol
-first_of (Some Range) b = Some Range
-first_of (Some ShortJumpTooFar) None = Some ShortJumpTooFar
-first_of (Some ShortJumpTooFar) (Some f) = Some f
+-- the fault found so far and its line, after one more fault of a line
+abbrev pub with_next : Option (PlaceFault × ℕ) → Option PlaceFault → ℕ → Option (PlaceFault × ℕ)
+with_next None None line = None
+with_next None (Some f) line = Some (f, line)
+with_next (Some (f, at)) g line = if line == at then option_map (λ h. (h, at)) (first_of (Some f) g) else Some (f, at)

@@ -1,10 +1,6 @@
 pub mod Faults
-pub mod Symbols
-pub mod Values
-pub mod Items
-pub mod Placement
-pub mod Seen
-pub mod Listed
+pub mod ListingText
 pub mod Lister
 pub mod Assembled
+pub mod LaidOut
 pub mod Assembles

@@ -1,22 +1,12 @@
-//! Why a source is refused.
+//! Why a source is refused, and the faults' numbers.
 
 ghost use Rattle.std.specs.Prelude.{◌≡◌};
-ghost use Rattle.ia_asm.specs.Faults.{first_of, at_line, fault_number, fault_line};
+ghost use Rattle.ia_asm.specs.Faults.{at_line, fault_number, fault_line};
 ghost use Rattle.ia_asm.specs.declared.fault.AsmFault.TheVariants.{NoMemory};
 
+use ia_resolve::PlaceFault;
 use std::alloc::{AllocError, AllocFailed};
 use thiserror::Error;
-
-/// Why an item cannot be placed as it is written. Of several on a line, the first in the order of these cases is told.
-#[derive(Clone, Copy, Debug, PartialEq, Eq)]
-pub enum PlaceFault {
-    /// A symbol is defined nowhere; for `equ` and `resb`, above by no `equ`.
-    UnknownSymbol,
-    /// A number or a value is outside its range, or the item ends too far from the base or past 2^32.
-    Range,
-    /// The distance of a short jump, LOOP or JECXZ is not from -128 to 127.
-    ShortJumpTooFar,
-}
 
 /// Why a source is refused, and the line, counted from 1.
 #[derive(Clone, Copy, Debug, PartialEq, Eq, Error)]
@@ -94,20 +84,6 @@ impl<T: Drop> From<AllocFailed<T>> for AsmFault {
 
     fn from(_error: AllocFailed<T>) -> Self {
         AsmFault::NoMemory
-    }
-}
-
-/// The first of two faults of one line, in the order in which they are told.
-pub fn first_of(a: Option<PlaceFault>, b: Option<PlaceFault>) -> Option<PlaceFault>
-    ensures { result ≡ first_of a b }
-{
-    match (a, b) {
-        (None, _) => b,
-        (Some(PlaceFault::UnknownSymbol), _) => a,
-        (Some(PlaceFault::Range), Some(PlaceFault::UnknownSymbol)) => b,
-        (Some(PlaceFault::Range), _) => a,
-        (Some(PlaceFault::ShortJumpTooFar), None) => a,
-        (Some(PlaceFault::ShortJumpTooFar), Some(_)) => b,
     }
 }
 

@@ -1,27 +1,20 @@
 //! Assembles a source: places its items, and gives the image, the symbols and the listing.
 //!
 //! The syntax is NASM's (NASM manual, chapter 3, "The NASM Language"), the bytes are those of SDM volume 2.
+//!
+//! Promised by `assemble`: the lines of the source ask for entries, and image, base, code length, symbols and listing are
+//! theirs; or the source is refused for the first line that is at fault, and the first thing that is wrong with it; or
+//! memory was refused. `assemble_image` promises the same without the listing, which it does not make.
+//!
+//! It stands on `ia_source` for the entries, `ia_layout` for their places and bytes, and `ia_text` for the listing.
 #![tactic(auto)]
 
-mod bytes;
-mod exact;
+mod assembly;
 mod fault;
-mod field;
-mod fill;
-mod laws;
+mod faults;
+mod from_source;
 mod listing;
-mod place;
-mod sum;
-mod symbols;
-mod told;
-mod unit;
-mod walk;
-mod whole;
 
-pub use fault::{AsmFault, PlaceFault};
-pub use laws::{code_is_spelt, sizes_are_settled};
-pub use unit::{Unit, place_all};
-pub use whole::assemble;
-
-#[cfg(test)]
-mod tests;
+pub use assembly::{ProgramImage, Unit, place_all, place_image};
+pub use fault::AsmFault;
+pub use from_source::{assemble, assemble_image};

@@ -2,23 +2,22 @@
 
 ghost use Rattle.std.specs.Prelude.{◌≡◌, ◌≤◌, ◌+◌, ◌%◌, ◌^◌, ◌++◌, ◌∷◌, [], false, IsTrue, List, map, length, IfOk, OnOk, All};
 ghost use Rattle.ia_text.specs.Listing.{listing_line};
-ghost use Rattle.ia_asm.specs.Symbols.{known};
-ghost use Rattle.ia_asm.specs.Placement.{item_bytes, Place};
-ghost use Rattle.ia_asm.specs.Listed.{bytes_line, is_datum, own_line, goes_on, listing_text};
-ghost use Rattle.ia_asm.specs.Seen.{seen, IsGood};
-ghost use Rattle.ia_asm.specs.Lister.{row_text, row_line, listed};
+ghost use Rattle.ia_resolve.specs.Symbols.{known};
+ghost use Rattle.ia_layout.specs.Placement.{item_bytes, EntryPlace};
+ghost use Rattle.ia_asm.specs.ListingText.{bytes_line, is_datum, own_line, goes_on, listing_text};
+ghost use Rattle.ia_layout.specs.Contents.{entry_place, IsBounded};
+ghost use Rattle.ia_asm.specs.Lister.{row_text, row_line, listing_with};
 
-use crate::bytes::{push_bytes, push_item};
-use crate::symbols::Table;
-use crate::walk::Spot;
 use ia_item::Item;
+use ia_layout::{PlacedEntry, push_bytes, push_item};
+use ia_resolve::Table;
 use ia_text::page::{Page, push, push_bytes as push_hex_bytes, push_eight};
 use ia_text::{ToVec, write_line};
 use std::alloc::{AllocError, Global};
 
 /// Where a line of `db` or `dd` begins.
 #[derive(Clone, Copy)]
-pub struct Row {
+pub struct ListingRow {
     pub line: u32,
     pub at: u128,
 }
@@ -27,12 +26,12 @@ pub struct Row {
 #[derive(Drop)]
 pub struct Lister {
     pub out: ToVec,
-    pub row: Option<Row>,
+    pub row: Option<ListingRow>,
     pub bytes: Vec<u8>,
 }
 
 /// Whether an item is a part of a line of `db` or `dd`.
-#[tactic(auto, unfolding(crate::specs::Listed::is_datum))]
+#[tactic(auto, unfolding(crate::specs::ListingText::is_datum))]
 fn is_datum(item: &Item) -> bool
     ensures { result ≡ is_datum item.now }
 {
@@ -67,8 +66,8 @@ fn write_insn(out: &mut ToVec, at: u128, bytes: &[u8]) -> Result<(), AllocError>
 }
 
 /// Whether an item goes on with the row before it.
-fn goes_on(row: Option<Row>, spot: &Spot) -> bool
-    ensures { result ≡ goes_on (row_line row) (seen spot.now) }
+fn goes_on(row: Option<ListingRow>, spot: &PlacedEntry) -> bool
+    ensures { result ≡ goes_on (row_line row) (entry_place spot.now) }
 {
     match row {
         None => false,
@@ -91,11 +90,11 @@ impl Lister {
     }
 
     /// Writes the line of an item that stands alone.
-    #[tactic(auto, unfolding(crate::specs::Listed::own_line))]
-    fn write_own(&mut self, symbols: &Table, spot: &Spot) -> Result<(), AllocError>
-        requires good { IsGood spot.now }
+    #[tactic(auto, unfolding(crate::specs::ListingText::own_line))]
+    fn write_own(&mut self, symbols: &Table, spot: &PlacedEntry) -> Result<(), AllocError>
+        requires good { IsBounded spot.now }
         requires empty { self.old.bytes.items ≡ [] }
-        ensures line { OnOk result (self.new.out.bytes.items ≡ self.old.out.bytes.items ++ own_line (known symbols.now.values.entries) (seen spot.now) (seen spot.now).entry.item) }
+        ensures line { OnOk result (self.new.out.bytes.items ≡ self.old.out.bytes.items ++ own_line (known symbols.now.values.entries) (entry_place spot.now) (entry_place spot.now).entry.item) }
         ensures row { OnOk result (self.new.row ≡ self.old.row) }
     {
         match &spot.entry.item {
@@ -116,16 +115,16 @@ impl Lister {
     }
 
     /// Takes in a part of a row.
-    fn list_datum(&mut self, symbols: &Table, spot: &Spot) -> Result<(), AllocError>
-        requires good { IsGood spot.now }
+    fn list_datum(&mut self, symbols: &Table, spot: &PlacedEntry) -> Result<(), AllocError>
+        requires good { IsBounded spot.now }
         requires datum { IsTrue (is_datum spot.now.entry.now.item) }
-        ensures { OnOk result ((more : List Place) → listed (known symbols.now.values.entries) self.new more ≡ listed (known symbols.now.values.entries) self.old (seen spot.now ∷ more)) }
+        ensures { OnOk result ((more : List EntryPlace) → listing_with (known symbols.now.values.entries) self.new more ≡ listing_with (known symbols.now.values.entries) self.old (entry_place spot.now ∷ more)) }
     {
         if goes_on(self.row, spot) {
             push_item(&mut self.bytes, symbols, spot)
         } else {
             self.finish()?;
-            self.row = Some(Row {
+            self.row = Some(ListingRow {
                 line: spot.entry.line,
                 at: spot.at,
             });
@@ -134,10 +133,10 @@ impl Lister {
     }
 
     /// Takes in an item that stands alone.
-    fn list_own(&mut self, symbols: &Table, spot: &Spot) -> Result<(), AllocError>
-        requires good { IsGood spot.now }
+    fn list_own(&mut self, symbols: &Table, spot: &PlacedEntry) -> Result<(), AllocError>
+        requires good { IsBounded spot.now }
         requires own { is_datum spot.now.entry.now.item ≡ false }
-        ensures { OnOk result ((more : List Place) → listed (known symbols.now.values.entries) self.new more ≡ listed (known symbols.now.values.entries) self.old (seen spot.now ∷ more)) }
+        ensures { OnOk result ((more : List EntryPlace) → listing_with (known symbols.now.values.entries) self.new more ≡ listing_with (known symbols.now.values.entries) self.old (entry_place spot.now ∷ more)) }
     {
         self.finish()?;
         self.row = None;
@@ -147,9 +146,9 @@ impl Lister {
     }
 
     /// Takes in the next item.
-    fn list(&mut self, symbols: &Table, spot: &Spot) -> Result<(), AllocError>
-        requires { IsGood spot.now }
-        ensures { OnOk result ((more : List Place) → listed (known symbols.now.values.entries) self.new more ≡ listed (known symbols.now.values.entries) self.old (seen spot.now ∷ more)) }
+    fn list(&mut self, symbols: &Table, spot: &PlacedEntry) -> Result<(), AllocError>
+        requires { IsBounded spot.now }
+        ensures { OnOk result ((more : List EntryPlace) → listing_with (known symbols.now.values.entries) self.new more ≡ listing_with (known symbols.now.values.entries) self.old (entry_place spot.now ∷ more)) }
     {
         if is_datum(&spot.entry.item) {
             self.list_datum(symbols, spot)
@@ -160,9 +159,9 @@ impl Lister {
 }
 
 /// The lines of all items.
-fn listed(alloc: Global, symbols: &Table, spots: &[Spot]) -> Result<Lister, AllocError>
-    requires { All IsGood spots.now }
-    ensures { IfOk result (λ l. listed (known symbols.now.values.entries) l [] ≡ listing_text (known symbols.now.values.entries) (map seen spots.now)) }
+fn list_all(alloc: Global, symbols: &Table, spots: &[PlacedEntry]) -> Result<Lister, AllocError>
+    requires { All IsBounded spots.now }
+    ensures { IfOk result (λ l. listing_with (known symbols.now.values.entries) l [] ≡ listing_text (known symbols.now.values.entries) (map entry_place spots.now)) }
 {
     let mut lister = Lister {
         out: ToVec::new(Vec::new(alloc)),
@@ -176,11 +175,11 @@ fn listed(alloc: Global, symbols: &Table, spots: &[Spot]) -> Result<Lister, Allo
 }
 
 /// The listing: a line for each instruction, each line of `db` or `dd`, each `resb` and each `align`.
-pub fn listing(alloc: Global, symbols: &Table, spots: &[Spot]) -> Result<Vec<u8>, AllocError>
-    requires { All IsGood spots.now }
-    ensures { IfOk result (λ v. v.items ≡ listing_text (known symbols.now.values.entries) (map seen spots.now)) }
+pub fn listing(alloc: Global, symbols: &Table, spots: &[PlacedEntry]) -> Result<Vec<u8>, AllocError>
+    requires { All IsBounded spots.now }
+    ensures { IfOk result (λ v. v.items ≡ listing_text (known symbols.now.values.entries) (map entry_place spots.now)) }
 {
-    let mut lister = listed(alloc, symbols, spots)?;
+    let mut lister = list_all(alloc, symbols, spots)?;
     lister.finish()?;
     Ok(lister.out.bytes)
 }

@@ -55,39 +55,39 @@ with_number (op.Xbegin d) n = op.Xbegin n
 with_number (op.Xabort d) n = op.Xabort n
 with_number o n = o
 
-abbrev pub moved : Mem → ℕ → Mem
-moved m d = record { base = m.base; index = m.index; scale = m.scale; disp = d }
+abbrev pub with_disp : Mem → ℕ → Mem
+with_disp m d = record { base = m.base; index = m.index; scale = m.scale; disp = d }
 
-abbrev pub place_in : Operand → ℕ → Operand
-place_in (operand.Mem m) d = operand.Mem (moved m d)
-place_in m d = m
+abbrev pub displacement_in : Operand → ℕ → Operand
+displacement_in (operand.Mem m) d = operand.Mem (with_disp m d)
+displacement_in m d = m
 
 -- the instruction with that displacement
-abbrev pub with_place : Op → ℕ → Op
-with_place (op.Alu k w m s) d = op.Alu k w (place_in m d) (place_in s d)
-with_place (op.Mov w m s) d = op.Mov w (place_in m d) (place_in s d)
-with_place (op.Lea r m) d = op.Lea r (moved m d)
-with_place (op.Xchg w m r) d = op.Xchg w (place_in m d) r
-with_place (op.Inc w m) d = op.Inc w (place_in m d)
-with_place (op.Dec w m) d = op.Dec w (place_in m d)
-with_place (op.Test w m s) d = op.Test w (place_in m d) (place_in s d)
-with_place (op.Unary k m) d = op.Unary k (place_in m d)
-with_place (op.Imul r m) d = op.Imul r (place_in m d)
-with_place (op.ImulImm r m n) d = op.ImulImm r (place_in m d) n
-with_place (op.Shift k m n) d = op.Shift k (place_in m d) n
-with_place (op.Push m) d = op.Push (place_in m d)
-with_place (op.Pop m) d = op.Pop (place_in m d)
-with_place (op.CallTo m) d = op.CallTo (place_in m d)
-with_place (op.JmpTo m) d = op.JmpTo (place_in m d)
-with_place (op.Setcc c m) d = op.Setcc c (place_in m d)
-with_place (op.Cmovcc c r m) d = op.Cmovcc c r (place_in m d)
-with_place (op.Movzx r m) d = op.Movzx r (place_in m d)
-with_place (op.Movsx r m) d = op.Movsx r (place_in m d)
-with_place (op.Cmpxchg m r) d = op.Cmpxchg (place_in m d) r
-with_place (op.Xadd m r) d = op.Xadd (place_in m d) r
-with_place (op.Bit k m n) d = op.Bit k (place_in m d) n
-with_place (op.NopOf m) d = op.NopOf (place_in m d)
-with_place o d = o
+abbrev pub with_displacement : Op → ℕ → Op
+with_displacement (op.Alu k w m s) d = op.Alu k w (displacement_in m d) (displacement_in s d)
+with_displacement (op.Mov w m s) d = op.Mov w (displacement_in m d) (displacement_in s d)
+with_displacement (op.Lea r m) d = op.Lea r (with_disp m d)
+with_displacement (op.Xchg w m r) d = op.Xchg w (displacement_in m d) r
+with_displacement (op.Inc w m) d = op.Inc w (displacement_in m d)
+with_displacement (op.Dec w m) d = op.Dec w (displacement_in m d)
+with_displacement (op.Test w m s) d = op.Test w (displacement_in m d) (displacement_in s d)
+with_displacement (op.Unary k m) d = op.Unary k (displacement_in m d)
+with_displacement (op.Imul r m) d = op.Imul r (displacement_in m d)
+with_displacement (op.ImulImm r m n) d = op.ImulImm r (displacement_in m d) n
+with_displacement (op.Shift k m n) d = op.Shift k (displacement_in m d) n
+with_displacement (op.Push m) d = op.Push (displacement_in m d)
+with_displacement (op.Pop m) d = op.Pop (displacement_in m d)
+with_displacement (op.CallTo m) d = op.CallTo (displacement_in m d)
+with_displacement (op.JmpTo m) d = op.JmpTo (displacement_in m d)
+with_displacement (op.Setcc c m) d = op.Setcc c (displacement_in m d)
+with_displacement (op.Cmovcc c r m) d = op.Cmovcc c r (displacement_in m d)
+with_displacement (op.Movzx r m) d = op.Movzx r (displacement_in m d)
+with_displacement (op.Movsx r m) d = op.Movsx r (displacement_in m d)
+with_displacement (op.Cmpxchg m r) d = op.Cmpxchg (displacement_in m d) r
+with_displacement (op.Xadd m r) d = op.Xadd (displacement_in m d) r
+with_displacement (op.Bit k m n) d = op.Bit k (displacement_in m d) n
+with_displacement (op.NopOf m) d = op.NopOf (displacement_in m d)
+with_displacement o d = o
 
 -- ---- values
 
@@ -120,12 +120,12 @@ abbrev pub distance : ℕ → ℕ → ℕ → ℕ
 distance at long target = (target + 2 ^ 32 - (at + long) % 2 ^ 32) % 2 ^ 32
 
 -- what goes into a field at an address for a value in its range; of a distance that is too far, 0
-abbrev pub stored : Field → ℕ → ℤ → ℕ
-stored field.Byte at v = modulo_byte v
-stored field.Half at v = modulo_long v
-stored field.Long at v = modulo_long v
-stored (field.Near long) at v = distance at long (modulo_long v)
-stored (field.Short long) at v = if fits_short (distance at long (modulo_long v)) then distance at long (modulo_long v) else 0
+abbrev pub stored_number : Field → ℕ → ℤ → ℕ
+stored_number field.Byte at v = modulo_byte v
+stored_number field.Half at v = modulo_long v
+stored_number field.Long at v = modulo_long v
+stored_number (field.Near long) at v = distance at long (modulo_long v)
+stored_number (field.Short long) at v = if fits_short (distance at long (modulo_long v)) then distance at long (modulo_long v) else 0
 
 -- what a field can hold
 abbrev pub Holds : Field → ℕ → Type 0

@@ -1,4 +1,4 @@
 pub mod Names
-pub mod Sums
+pub mod Expressions
 pub mod Fields
 pub mod Fits

@@ -12,8 +12,8 @@ same_name m n = bytes_eq (whole_name m) (whole_name n)
 
 -- ---- the hash FNV-1a, by which a table finds a name
 
-unfoldable pub mixed : ℕ → ℕ → ℕ
-mixed hash byte = bit_xor hash byte * 0x0100000001b3 % 2 ^ 64
+unfoldable pub digest_step : ℕ → ℕ → ℕ
+digest_step hash byte = bit_xor hash byte * 0x0100000001b3 % 2 ^ 64
 
 unfoldable pub name_digest : List ℕ → ℕ
-name_digest bytes = fold mixed 0xcbf29ce484222325 bytes
+name_digest bytes = fold digest_step 0xcbf29ce484222325 bytes

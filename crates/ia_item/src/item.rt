@@ -1,7 +1,7 @@
 //! Items.
 
 use crate::name::Name;
-use crate::sum::Sum;
+use crate::expression::ScopedExpression;
 use ia_insn::Insn;
 
 /// What the number of an instruction goes into.
@@ -19,16 +19,16 @@ pub enum Field {
     Short(u8),
 }
 
-/// An instruction, and the sums that its number and its displacement are written as. In `insn` both stand as 0, or as
+/// An instruction, and the expressions that its number and its displacement are written as. In `insn` both stand as 0, or as
 /// what makes the instruction encodable.
 #[derive(Debug, Drop)]
 pub struct Template<'a> {
     /// The instruction.
     pub insn: Insn,
     /// Its immediate, count or target, where one is written.
-    pub number: Option<Sum<'a>>,
+    pub number: Option<ScopedExpression<'a>>,
     /// Its displacement, where one is written.
-    pub place: Option<Sum<'a>>,
+    pub displacement: Option<ScopedExpression<'a>>,
 }
 
 /// What a line, or a part of it, asks for.
@@ -36,18 +36,18 @@ pub struct Template<'a> {
 pub enum Item<'a> {
     /// A symbol whose value is the address of what follows.
     Label(Name<'a>),
-    /// A symbol whose value is a sum of numbers and of such symbols from above.
-    Equ(Name<'a>, Sum<'a>),
+    /// A symbol whose value is an expression of numbers and of such symbols from above.
+    Equ(Name<'a>, ScopedExpression<'a>),
     /// An instruction.
     Code(Template<'a>),
     /// One byte.
-    Byte(Sum<'a>),
+    Byte(ScopedExpression<'a>),
     /// Bytes between quotes.
     Text(&'a [u8]),
     /// 32 bits.
-    Long(Sum<'a>),
+    Long(ScopedExpression<'a>),
     /// So many bytes that are 0.
-    Reserve(Sum<'a>),
+    Reserve(ScopedExpression<'a>),
     /// Bytes up to the next multiple of this power of two, 1 to 4096.
     Align(u32),
     /// The base; none where the number is above u64::MAX.

@@ -6,7 +6,7 @@ ghost use Rattle.std.proofs.Common.{ap};
 ghost use Rattle.std.specs.Cmp.Lexicographic.{bytes_decides, nat_list_eq_equiv};
 ghost use Rattle.std.specs.Cmp.{partial_equiv_from_equiv, on_per, on_equiv};
 ghost use Rattle.std.specs.Str.{bytes_eq};
-ghost use Rattle.ia_item.specs.Names.{whole_name, same_name, mixed, name_digest};
+ghost use Rattle.ia_item.specs.Names.{whole_name, same_name, digest_step, name_digest};
 
 use std::hash::{Hash, Hasher};
 
@@ -44,9 +44,9 @@ fn is_same(short: &Name, long: &Name) -> bool
 }
 
 /// A number that names with few collisions have: the hash FNV-1a.
-#[tactic(auto, unfolding(crate::specs::Names::mixed))]
+#[tactic(auto, unfolding(crate::specs::Names::digest_step))]
 fn digest(seed: u64, bytes: &[u8]) -> u64
-    ensures { result ≡ fold mixed seed bytes.now }
+    ensures { result ≡ fold digest_step seed bytes.now }
 {
     let mut hash = seed;
     for byte in bytes {

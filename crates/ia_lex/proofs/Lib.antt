@@ -1,4 +1,4 @@
 pub mod Fronts
 pub mod Skips
-pub mod Parts
+pub mod TermLists
 pub mod Ends

@@ -18,7 +18,7 @@ abbrev pub find_word : {A : Type 0} → List (List ℕ × A) → List ℕ → Op
 find_word [] w = None
 find_word (r ∷ rs) w = if is_word r.0 w then Some r.1 else find_word rs w
 
--- a row of a table as it is seen
+-- a row of a table as content
 abbrev pub row : {A : Type 0} → Bor (List ℕ) × A → List ℕ × A
 row r = (r.0.now, r.1)
 

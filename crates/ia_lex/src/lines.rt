@@ -9,7 +9,7 @@ use crate::chars::quote_place;
 
 /// A line without the carriage return that may end it.
 #[tactic(auto, using(crate::proofs::Ends::ends_in_cr, crate::proofs::Ends::ends_otherwise, crate::proofs::Ends::ends_nowhere))]
-fn without_cr(line: &[u8]) -> &[u8]
+pub fn without_cr(line: &[u8]) -> &[u8]
     ensures { result.now ≡ without_cr line.now }
 {
     let long = line.len();

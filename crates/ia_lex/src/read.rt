@@ -1,16 +1,16 @@
 //! Expressions from tokens.
 
 ghost use Rattle.std.specs.Prelude.{◌≡◌, ◌≤◌, ◌-◌, length, Option, Some, None, IfSome, IfNone, map, option_map};
-ghost use Rattle.ia_lex.specs.Tokens.{seen};
-ghost use Rattle.ia_lex.specs.Terms.{part, seen_atom, atom_of, sign_of, view, parts_at, with_parts, expr_at};
+ghost use Rattle.ia_lex.specs.Tokens.{lexeme_of};
+ghost use Rattle.ia_lex.specs.Terms.{term_content, atom_content, atom_of, sign_of, expression_and_rest, terms_at, with_terms, expression_at};
 
-use crate::terms::{Atom, Expr, Term};
+use crate::terms::{Atom, Expression, Term};
 use crate::token::Token;
 use crate::words::register_of;
 
 /// Whether a token takes away what follows it, where it is a sign.
 pub fn sign(token: &Token) -> Option<bool>
-    ensures { result ≡ sign_of (seen token.now) }
+    ensures { result ≡ sign_of (lexeme_of token.now) }
 {
     match token {
         Token::Mark(b'+') => Some(false),
@@ -21,7 +21,7 @@ pub fn sign(token: &Token) -> Option<bool>
 
 /// The number or the symbol that a token is. A quoted byte is a number; a register is neither.
 pub fn atom<'a>(token: &Token<'a>) -> Option<Atom<'a>>
-    ensures { option_map seen_atom result ≡ atom_of (seen token.now) }
+    ensures { option_map atom_content result ≡ atom_of (lexeme_of token.now) }
 {
     match token {
         Token::Word(word) => match register_of(word) {
@@ -35,13 +35,13 @@ pub fn atom<'a>(token: &Token<'a>) -> Option<Atom<'a>>
 }
 
 /// What stands behind a part: a sign and parts, or nothing of this expression.
-#[cycle(parts)]
-#[tactic(auto, using(crate::proofs::Parts::parts_one, crate::proofs::Parts::parts_bad, crate::proofs::Parts::parts_full, crate::proofs::Parts::parts_stop, crate::proofs::Parts::parts_nil, crate::proofs::Parts::parts_sign))]
-fn behind_part<'a, 'b>(
-    out: Expr<'a>,
+#[cycle(terms)]
+#[tactic(auto, using(crate::proofs::TermLists::terms_one, crate::proofs::TermLists::terms_bad, crate::proofs::TermLists::terms_full, crate::proofs::TermLists::terms_stop, crate::proofs::TermLists::terms_nil, crate::proofs::TermLists::terms_sign))]
+fn behind_term<'a, 'b>(
+    out: Expression<'a>,
     tokens: &'b [Token<'a>],
-) -> Option<(Expr<'a>, &'b [Token<'a>])>
-    ensures { option_map view result ≡ with_parts (map part out.entry.items) (parts_at (16 - length out.entry.items) None (map seen tokens.now)) }
+) -> Option<(Expression<'a>, &'b [Token<'a>])>
+    ensures { option_map expression_and_rest result ≡ with_terms (map term_content out.entry.items) (terms_at (16 - length out.entry.items) None (map lexeme_of tokens.now)) }
 {
     match tokens.split_first() {
         None => Some((out, tokens)),
@@ -53,14 +53,14 @@ fn behind_part<'a, 'b>(
 }
 
 /// What stands behind a sign: a part and what follows it.
-#[cycle(parts)]
-#[tactic(auto, using(crate::proofs::Parts::parts_one, crate::proofs::Parts::parts_bad, crate::proofs::Parts::parts_full, crate::proofs::Parts::parts_stop, crate::proofs::Parts::parts_nil, crate::proofs::Parts::parts_sign))]
+#[cycle(terms)]
+#[tactic(auto, using(crate::proofs::TermLists::terms_one, crate::proofs::TermLists::terms_bad, crate::proofs::TermLists::terms_full, crate::proofs::TermLists::terms_stop, crate::proofs::TermLists::terms_nil, crate::proofs::TermLists::terms_sign))]
 fn behind_sign<'a, 'b>(
-    out: Expr<'a>,
+    out: Expression<'a>,
     negative: bool,
     tokens: &'b [Token<'a>],
-) -> Option<(Expr<'a>, &'b [Token<'a>])>
-    ensures { option_map view result ≡ with_parts (map part out.entry.items) (parts_at (16 - length out.entry.items) (Some negative) (map seen tokens.now)) }
+) -> Option<(Expression<'a>, &'b [Token<'a>])>
+    ensures { option_map expression_and_rest result ≡ with_terms (map term_content out.entry.items) (terms_at (16 - length out.entry.items) (Some negative) (map lexeme_of tokens.now)) }
 {
     let mut out = out;
     match tokens.split_first() {
@@ -73,7 +73,7 @@ fn behind_sign<'a, 'b>(
                 None => None,
                 Some(atom) => {
                     out.push(Term { negative, atom });
-                    behind_part(out, rest)
+                    behind_term(out, rest)
                 }
             }
         }
@@ -82,14 +82,14 @@ fn behind_sign<'a, 'b>(
 
 /// The sum or difference in front, of at most 16 numbers and symbols with a sign in front or none, and the tokens behind
 /// it.
-pub fn expr<'a, 'b>(tokens: &'b [Token<'a>]) -> Option<(Expr<'a>, &'b [Token<'a>])>
-    ensures { option_map view result ≡ expr_at (map seen tokens.now) }
+pub fn expression<'a, 'b>(tokens: &'b [Token<'a>]) -> Option<(Expression<'a>, &'b [Token<'a>])>
+    ensures { option_map expression_and_rest result ≡ expression_at (map lexeme_of tokens.now) }
 {
     match tokens.split_first() {
         None => None,
         Some((token, rest)) => match sign(token) {
-            None => behind_sign(Expr::new(), false, tokens),
-            Some(negative) => behind_sign(Expr::new(), negative, rest),
+            None => behind_sign(Expression::new(), false, tokens),
+            Some(negative) => behind_sign(Expression::new(), negative, rest),
         },
     }
 }

@@ -1,9 +1,9 @@
 pub mod Commas
-pub mod Places
-pub mod Sums
+pub mod MemoryOperands
+pub mod ScopedTerms
 pub mod Heads
-pub mod Added
+pub mod AddedEntries
 pub mod Powers
 pub mod Names
-pub mod Fitting
-pub mod Fitted
+pub mod FormsFit
+pub mod SourceFits

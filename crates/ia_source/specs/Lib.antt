@@ -1,8 +1,8 @@
-pub mod Seen
+pub mod Contents
 pub mod Keywords
 pub mod Forms
 pub mod Commas
-pub mod Places
+pub mod MemoryOperands
 pub mod Operands
 pub mod Heads
 pub mod Symbols

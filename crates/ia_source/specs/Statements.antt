@@ -5,79 +5,79 @@ use Rattle.std.specs.Str.{bytes_eq}
 use Rattle.ia_item.specs.declared.item.Section.{Section}
 use Rattle.ia_item.specs.declared.item.Section.TheVariants as section
 use Rattle.ia_lex.specs.Words.{register_of}
-use Rattle.ia_lex.specs.Tokens.{Tok, Word, Number, Text as Quoted}
-use Rattle.ia_lex.specs.Terms.{Part}
+use Rattle.ia_lex.specs.Tokens.{Lexeme, Word, Number, Text as Quoted}
+use Rattle.ia_lex.specs.Terms.{TermContent}
 use Rattle.ia_source.specs.declared.mnemonic.Mnemonic.{Mnemonic}
 use Rattle.ia_source.specs.declared.mnemonic.Directive.{Directive}
 use Rattle.ia_source.specs.declared.mnemonic.Directive.TheVariants as directive
-use Rattle.ia_source.specs.declared.head.What.{What}
-use Rattle.ia_source.specs.declared.head.What.TheVariants as what
-use Rattle.ia_source.specs.declared.state.State.{State}
+use Rattle.ia_source.specs.declared.head.Statement.{Statement}
+use Rattle.ia_source.specs.declared.head.Statement.TheVariants as statement
+use Rattle.ia_source.specs.declared.state.SourceState.{SourceState}
 use Rattle.ia_source.specs.declared.fault.Why.TheVariants.{BadOperand}
 use Rattle.ia_source.specs.declared.fault.SourceFault.{SourceFault}
 use Rattle.ia_source.specs.declared.fault.SourceFault.TheVariants as fault
-use Rattle.ia_source.specs.Seen.{SeenItem, SeenEntry, Equ, Code, Byte, Text, Long, Reserve, Align, Org}
+use Rattle.ia_source.specs.Contents.{ItemContent, EntryContent, Equ, Code, Byte, Text, Long, Reserve, Align, Org}
 use Rattle.ia_source.specs.Symbols.{is_local, whole_of, resolved, written}
 use Rattle.ia_source.specs.Commas.{between_commas}
 use Rattle.ia_source.specs.Forms.{instruction_of}
-use Rattle.ia_source.specs.Operands.{Operands, operands_of, sum_of}
+use Rattle.ia_source.specs.Operands.{Operands, operands_of, expression_of}
 
 -- a line's number, the last label that is not local, the section in force, and whether `org` or anything placed stood above
-pub record At : Type 0 where
+pub record StateContent : Type 0 where
   pub line : ℕ
   pub scope : List ℕ
   pub section : Section
   pub based : Bool
   pub placed : Bool
 
-abbrev pub at_start : At
-at_start = record { line = 1; scope = []; section = section.Text; based = false; placed = false }
+abbrev pub first_state : StateContent
+first_state = record { line = 1; scope = []; section = section.Text; based = false; placed = false }
 
 -- ---- entries
 
-abbrev pub add : List SeenEntry → At → SeenItem → List SeenEntry
+abbrev pub add : List EntryContent → StateContent → ItemContent → List EntryContent
 add es at i = es ++ (record { line = at.line; section = at.section; item = i }) ∷ []
 
-abbrev pub add_some : List SeenEntry → At → Option SeenItem → Option (List SeenEntry)
+abbrev pub add_some : List EntryContent → StateContent → Option ItemContent → Option (List EntryContent)
 add_some es at None = None
 add_some es at (Some i) = Some (add es at i)
 
--- the parts of a sum with the whole names of their symbols
-abbrev pub sum_in : At → List Tok → Option (List Part)
-sum_in at ts = option_map (map (resolved at.scope)) (sum_of ts)
+-- the terms of an expression with the whole names of their symbols
+abbrev pub expression_in : StateContent → List Lexeme → Option (List TermContent)
+expression_in at ts = option_map (map (resolved at.scope)) (expression_of ts)
 
--- an instruction and its sums
-abbrev pub code_item : At → Bool → Mnemonic → Option Operands → Option SeenItem
+-- an instruction and its expressions
+abbrev pub code_item : StateContent → Bool → Mnemonic → Option Operands → Option ItemContent
 code_item at lock m None = None
-code_item at lock m (Some os) = option_map (λ i. Code i (written at.scope os.number) (written at.scope os.place)) (instruction_of lock m os.shapes)
+code_item at lock m (Some os) = option_map (λ i. Code i (written at.scope os.number) (written at.scope os.displacement)) (instruction_of lock m os.shapes)
 
 -- ---- data
 
-abbrev pub byte_item : At → List Tok → Option SeenItem
+abbrev pub byte_item : StateContent → List Lexeme → Option ItemContent
 byte_item at (Quoted t ∷ []) = Some (Text t)
-byte_item at ts = option_map Byte (sum_in at ts)
+byte_item at ts = option_map Byte (expression_in at ts)
 
 -- a value of db, or of dd
-abbrev pub value_item : Bool → At → List Tok → Option SeenItem
+abbrev pub value_item : Bool → StateContent → List Lexeme → Option ItemContent
 value_item false at ts = byte_item at ts
-value_item true at ts = option_map Long (sum_in at ts)
+value_item true at ts = option_map Long (expression_in at ts)
 
-abbrev pub by_entries : Option (List SeenEntry) → (List SeenEntry → Option (List SeenEntry)) → Option (List SeenEntry)
+abbrev pub by_entries : Option (List EntryContent) → (List EntryContent → Option (List EntryContent)) → Option (List EntryContent)
 by_entries None next = None
 by_entries (Some es) next = next es
 
-abbrev pub values_onto : Bool → At → List SeenEntry → List (List Tok) → Option (List SeenEntry)
+abbrev pub values_onto : Bool → StateContent → List EntryContent → List (List Lexeme) → Option (List EntryContent)
 values_onto long at es [] = Some es
 values_onto long at es (p ∷ ps) = by_entries (add_some es at (value_item long at p)) (λ more. values_onto long at more ps)
 
 -- ---- directives
 
 -- one word, in lower case
-abbrev pub named_section : List Tok → Option Section
+abbrev pub named_section : List Lexeme → Option Section
 named_section (Word w ∷ []) = if bytes_eq w (codes ".text") then Some section.Text else if bytes_eq w (codes ".data") then Some section.Data else None
 named_section _ = None
 
-abbrev pub only_number : List Tok → Option (Option ℕ)
+abbrev pub only_number : List Lexeme → Option (Option ℕ)
 only_number (Number n ∷ []) = Some n
 only_number _ = None
 
@@ -86,7 +86,7 @@ is_32 (Some (Some n)) = n == 32
 is_32 _ = false
 
 -- a name, which no register has
-abbrev pub is_symbol : List Tok → Bool
+abbrev pub is_symbol : List Lexeme → Bool
 is_symbol (Word w ∷ []) = not (is_some (register_of w))
 is_symbol _ = false
 
@@ -95,82 +95,82 @@ abbrev pub is_power : ℕ → Bool
 is_power n = (n == 1) || (n == 2) || (n == 4) || (n == 8) || (n == 16) || (n == 32) || (n == 64) || (n == 128) || (n == 256) || (n == 512)
     || (n == 1024) || (n == 2048) || (n == 4096)
 
-abbrev pub align_item : Option (Option ℕ) → Option SeenItem
+abbrev pub align_item : Option (Option ℕ) → Option ItemContent
 align_item (Some (Some n)) = if is_power n then Some (Align n) else None
 align_item _ = None
 
 -- once, and before anything is placed
-abbrev pub org_item : At → List Tok → Option SeenItem
+abbrev pub org_item : StateContent → List Lexeme → Option ItemContent
 org_item at ts = if at.based || at.placed then None else option_map Org (only_number ts)
 
-abbrev pub equ_item : At → Option (List ℕ) → List Tok → Option SeenItem
+abbrev pub equ_item : StateContent → Option (List ℕ) → List Lexeme → Option ItemContent
 equ_item at None ts = None
-equ_item at (Some own) ts = option_map (Equ (whole_of at.scope own)) (sum_in at ts)
+equ_item at (Some own) ts = option_map (Equ (whole_of at.scope own)) (expression_in at ts)
 
-abbrev pub if_fits : Bool → List SeenEntry → Option (List SeenEntry)
+abbrev pub if_fits : Bool → List EntryContent → Option (List EntryContent)
 if_fits fits es = if fits then Some es else None
 
-unfoldable pub directive_onto : List SeenEntry → At → Option (List ℕ) → Directive → List Tok → Option (List SeenEntry)
+unfoldable pub directive_onto : List EntryContent → StateContent → Option (List ℕ) → Directive → List Lexeme → Option (List EntryContent)
 directive_onto es at label directive.Section ts = if_fits (is_some (named_section ts)) es
 directive_onto es at label directive.Org ts = add_some es at (org_item at ts)
 directive_onto es at label directive.Bits ts = if_fits (is_32 (only_number ts)) es
 directive_onto es at label directive.Global ts = if_fits (is_symbol ts) es
 directive_onto es at label directive.Db ts = values_onto false at es (between_commas ts)
 directive_onto es at label directive.Dd ts = values_onto true at es (between_commas ts)
-directive_onto es at label directive.Resb ts = add_some es at (option_map Reserve (sum_in at ts))
+directive_onto es at label directive.Resb ts = add_some es at (option_map Reserve (expression_in at ts))
 directive_onto es at label directive.Align ts = add_some es at (align_item (only_number ts))
 directive_onto es at label directive.Equ ts = add_some es at (equ_item at label ts)
 
 -- what a line asks for, behind entries; none where its operands fit no form
-abbrev pub statement_onto : List SeenEntry → At → Option (List ℕ) → What → List Tok → Option (List SeenEntry)
-statement_onto es at label what.Nothing ts = Some es
-statement_onto es at label (what.Code lock m) ts = add_some es at (code_item at lock m (operands_of ts))
-statement_onto es at label (what.Directive d) ts = directive_onto es at label d ts
-statement_onto es at label what.Unfit ts = None
+abbrev pub statement_onto : List EntryContent → StateContent → Option (List ℕ) → Statement → List Lexeme → Option (List EntryContent)
+statement_onto es at label statement.Nothing ts = Some es
+statement_onto es at label (statement.Code lock m) ts = add_some es at (code_item at lock m (operands_of ts))
+statement_onto es at label (statement.Directive d) ts = directive_onto es at label d ts
+statement_onto es at label statement.Unfit ts = None
 
 -- ---- what the next line has to know
 
 -- the name of an equ is no label that local ones belong to
-abbrev pub with_scope : At → Option (List ℕ) → At
+abbrev pub with_scope : StateContent → Option (List ℕ) → StateContent
 with_scope at None = at
 with_scope at (Some own) = if is_local own then at else record { line = at.line; scope = own; section = at.section; based = at.based; placed = at.placed }
 
-abbrev pub with_label : At → Option (List ℕ) → What → At
-with_label at label (what.Directive directive.Equ) = at
+abbrev pub with_label : StateContent → Option (List ℕ) → Statement → StateContent
+with_label at label (statement.Directive directive.Equ) = at
 with_label at label _ = with_scope at label
 
-abbrev pub in_section : At → Option Section → At
+abbrev pub in_section : StateContent → Option Section → StateContent
 in_section at s = record { line = at.line; scope = at.scope; section = unwrap_or s at.section; based = at.based; placed = at.placed }
 
-abbrev pub with_flags : At → Bool → Bool → At
+abbrev pub with_flags : StateContent → Bool → Bool → StateContent
 with_flags at based placed = record { line = at.line; scope = at.scope; section = at.section; based = at.based || based; placed = at.placed || placed }
 
-abbrev pub behind_what : At → What → List Tok → At
-behind_what at (what.Directive directive.Section) ts = in_section at (named_section ts)
-behind_what at (what.Directive directive.Org) ts = with_flags at true false
-behind_what at (what.Directive directive.Db) ts = with_flags at false true
-behind_what at (what.Directive directive.Dd) ts = with_flags at false true
-behind_what at (what.Directive directive.Resb) ts = with_flags at false true
-behind_what at (what.Directive directive.Align) ts = with_flags at false true
-behind_what at (what.Code lock m) ts = with_flags at false true
-behind_what at _ ts = at
+abbrev pub behind_statement : StateContent → Statement → List Lexeme → StateContent
+behind_statement at (statement.Directive directive.Section) ts = in_section at (named_section ts)
+behind_statement at (statement.Directive directive.Org) ts = with_flags at true false
+behind_statement at (statement.Directive directive.Db) ts = with_flags at false true
+behind_statement at (statement.Directive directive.Dd) ts = with_flags at false true
+behind_statement at (statement.Directive directive.Resb) ts = with_flags at false true
+behind_statement at (statement.Directive directive.Align) ts = with_flags at false true
+behind_statement at (statement.Code lock m) ts = with_flags at false true
+behind_statement at _ ts = at
 
 abbrev pub next_line : ℕ → ℕ
 next_line n = if nat_lt n (2 ^ 32 - 1) then n + 1 else n
 
-abbrev pub in_next_line : At → At
+abbrev pub in_next_line : StateContent → StateContent
 in_next_line at = record { line = next_line at.line; scope = at.scope; section = at.section; based = at.based; placed = at.placed }
 
-abbrev pub behind : At → What → List Tok → At
-behind at w ts = in_next_line (behind_what at w ts)
+abbrev pub behind : StateContent → Statement → List Lexeme → StateContent
+behind at w ts = in_next_line (behind_statement at w ts)
 
 -- ---- what the code's values stand for
 
-abbrev pub seen_at : State → At
-seen_at s = record { line = s.line; scope = s.scope.now; section = s.section; based = s.based; placed = s.placed }
+abbrev pub state_content : SourceState → StateContent
+state_content s = record { line = s.line; scope = s.scope.now; section = s.section; based = s.based; placed = s.placed }
 
 -- a call that adds entries told why it did not
-abbrev pub IsBad : Option (List SeenEntry) → ℕ → SourceFault → Type 0
+abbrev pub IsBad : Option (List EntryContent) → ℕ → SourceFault → Type 0
 IsBad found line (fault.Line l why) = (found ≡ None) × (l ≡ line) × (why ≡ BadOperand)
 IsBad found line fault.NoMemory = Unit {0}
 

@@ -1,6 +1,6 @@
 -- The names of symbols (NASM manual, "Local Labels"): a name that begins with a dot belongs to the label before it.
 use Rattle.std.specs.Prelude.{ℕ, Bool, false, ◌==◌, if◌then◌else◌, Option, Some, None, List, [], ◌∷◌, ◌++◌, map}
-use Rattle.ia_lex.specs.Terms.{Value, Given, Named, Part, part}
+use Rattle.ia_lex.specs.Terms.{AtomContent, NumberAtom, SymbolAtom, TermContent, term_content}
 use Rattle.ia_lex.specs.declared.terms.Term.{Term}
 
 abbrev pub is_local : List ℕ → Bool
@@ -11,20 +11,20 @@ is_local (b ∷ bs) = b == 46
 abbrev pub whole_of : List ℕ → List ℕ → List ℕ
 whole_of scope own = if is_local own then scope ++ own else own
 
-abbrev pub in_scope : List ℕ → Value → Value
-in_scope scope (Given n) = Given n
-in_scope scope (Named own) = Named (whole_of scope own)
+abbrev pub in_scope : List ℕ → AtomContent → AtomContent
+in_scope scope (NumberAtom n) = NumberAtom n
+in_scope scope (SymbolAtom own) = SymbolAtom (whole_of scope own)
 
--- a part of a sum, its symbol by the whole name
-abbrev pub resolved : List ℕ → Part → Part
-resolved scope p = record { negative = p.negative; value = in_scope scope p.value }
+-- a part of an expression, its symbol by the whole name
+abbrev pub resolved : List ℕ → TermContent → TermContent
+resolved scope p = record { negative = p.negative; atom = in_scope scope p.atom }
 
--- a sum, where there is one
-abbrev pub written : List ℕ → List Part → Option (List Part)
+-- an expression, where there is one
+abbrev pub written : List ℕ → List TermContent → Option (List TermContent)
 written scope [] = None
 written scope (p ∷ ps) = Some (map (resolved scope) (p ∷ ps))
 
 -- ---- what the code's values stand for
 
-abbrev pub scoped : List ℕ → Term → Part
-scoped scope t = resolved scope (part t)
+abbrev pub scoped : List ℕ → Term → TermContent
+scoped scope t = resolved scope (term_content t)

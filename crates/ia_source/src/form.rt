@@ -1,10 +1,10 @@
 //! The forms of instructions: which operands a mnemonic takes.
 
 ghost use Rattle.std.specs.Prelude.{◌≡◌};
-ghost use Rattle.ia_source.specs.Forms.{same_width, target, one, sized, pair, tested, exchanged, loaded, stored, numbered, shifted, addressed, multiplied, pushed, called, returned, jumped, branched, idle, with_number, bare_op, alone, op_of, instruction_of};
+ghost use Rattle.ia_source.specs.Forms.{same_width, target, one_operand, sized_operand, pair, test_form, xchg_form, load_form, store_form, number_form, shift_form, lea_form, imul_form, push_form, call_form, ret_form, jmp_form, jcc_form, nop_form, with_number, bare_op, no_operands, op_of, instruction_of};
 
 use crate::mnemonic::{Bare, Mnemonic};
-use crate::shape::{Shape, Shapes};
+use crate::shape::{OperandShape, OperandShapes};
 use ia_insn::{Count, Insn, Op, Operand, is_encodable};
 use ia_word::{Condition, ShiftOp, UnaryOp, Width};
 
@@ -15,21 +15,21 @@ fn is_same(first: Width, second: Width) -> bool
 }
 
 /// A register or a place of this width; a place may have no size word.
-fn target(width: Width, shape: Shape) -> Option<Operand>
+fn target(width: Width, shape: OperandShape) -> Option<Operand>
     ensures { result ≡ target width shape }
 {
     match shape {
-        Shape::Register(given, register) => {
+        OperandShape::Register(given, register) => {
             if is_same(width, given) {
                 Some(Operand::Reg(register))
             } else {
                 None
             }
         }
-        Shape::Place(None, place) => Some(Operand::Mem(place)),
-        Shape::Place(Some(given), place) => {
+        OperandShape::Memory(None, memory) => Some(Operand::Mem(memory)),
+        OperandShape::Memory(Some(given), memory) => {
             if is_same(width, given) {
-                Some(Operand::Mem(place))
+                Some(Operand::Mem(memory))
             } else {
                 None
             }
@@ -39,42 +39,42 @@ fn target(width: Width, shape: Shape) -> Option<Operand>
 }
 
 /// One register or place of this width.
-fn one(width: Width, shapes: Shapes) -> Option<Operand>
-    ensures { result ≡ one width shapes }
+fn one_operand(width: Width, shapes: OperandShapes) -> Option<Operand>
+    ensures { result ≡ one_operand width shapes }
 {
     match shapes {
-        Shapes::One(shape) => target(width, shape),
+        OperandShapes::One(shape) => target(width, shape),
         _ => None,
     }
 }
 
 /// One register or place, which says its width.
-fn sized(shapes: Shapes) -> Option<(Width, Operand)>
-    ensures { result ≡ sized shapes }
+fn sized_operand(shapes: OperandShapes) -> Option<(Width, Operand)>
+    ensures { result ≡ sized_operand shapes }
 {
     match shapes {
-        Shapes::One(Shape::Register(width, register)) => Some((width, Operand::Reg(register))),
-        Shapes::One(Shape::Place(Some(width), place)) => Some((width, Operand::Mem(place))),
+        OperandShapes::One(OperandShape::Register(width, register)) => Some((width, Operand::Reg(register))),
+        OperandShapes::One(OperandShape::Memory(Some(width), memory)) => Some((width, Operand::Mem(memory))),
         _ => None,
     }
 }
 
 /// A destination and a source, at least one of which says the width.
-fn pair(shapes: Shapes) -> Option<(Width, Operand, Operand)>
+fn pair(shapes: OperandShapes) -> Option<(Width, Operand, Operand)>
     ensures { result ≡ pair shapes }
 {
     match shapes {
-        Shapes::Two(Shape::Register(width, register), Shape::Number) => {
+        OperandShapes::Two(OperandShape::Register(width, register), OperandShape::Number) => {
             Some((width, Operand::Reg(register), Operand::Imm(0)))
         }
-        Shapes::Two(Shape::Place(Some(width), place), Shape::Number) => {
-            Some((width, Operand::Mem(place), Operand::Imm(0)))
+        OperandShapes::Two(OperandShape::Memory(Some(width), memory), OperandShape::Number) => {
+            Some((width, Operand::Mem(memory), Operand::Imm(0)))
         }
-        Shapes::Two(Shape::Register(width, register), from) => {
+        OperandShapes::Two(OperandShape::Register(width, register), from) => {
             let from = target(width, from)?;
             Some((width, Operand::Reg(register), from))
         }
-        Shapes::Two(to, Shape::Register(width, register)) => {
+        OperandShapes::Two(to, OperandShape::Register(width, register)) => {
             let to = target(width, to)?;
             Some((width, to, Operand::Reg(register)))
         }
@@ -83,12 +83,12 @@ fn pair(shapes: Shapes) -> Option<(Width, Operand, Operand)>
 }
 
 /// The operands of TEST: a register and a place in either order.
-fn tested(shapes: Shapes) -> Option<(Width, Operand, Operand)>
-    ensures { result ≡ tested shapes }
+fn test_form(shapes: OperandShapes) -> Option<(Width, Operand, Operand)>
+    ensures { result ≡ test_form shapes }
 {
     match shapes {
-        Shapes::Two(Shape::Register(width, register), Shape::Place(size, place)) => {
-            let left = target(width, Shape::Place(size, place))?;
+        OperandShapes::Two(OperandShape::Register(width, register), OperandShape::Memory(size, memory)) => {
+            let left = target(width, OperandShape::Memory(size, memory))?;
             Some((width, left, Operand::Reg(register)))
         }
         _ => pair(shapes),
@@ -96,15 +96,15 @@ fn tested(shapes: Shapes) -> Option<(Width, Operand, Operand)>
 }
 
 /// The operands of XCHG: a register and a place in either order, or two registers.
-fn exchanged(shapes: Shapes) -> Option<(Width, Operand, u8)>
-    ensures { result ≡ exchanged shapes }
+fn xchg_form(shapes: OperandShapes) -> Option<(Width, Operand, u8)>
+    ensures { result ≡ xchg_form shapes }
 {
     match shapes {
-        Shapes::Two(Shape::Register(width, register), Shape::Place(size, place)) => {
-            let other = target(width, Shape::Place(size, place))?;
+        OperandShapes::Two(OperandShape::Register(width, register), OperandShape::Memory(size, memory)) => {
+            let other = target(width, OperandShape::Memory(size, memory))?;
             Some((width, other, register))
         }
-        Shapes::Two(other, Shape::Register(width, register)) => {
+        OperandShapes::Two(other, OperandShape::Register(width, register)) => {
             let other = target(width, other)?;
             Some((width, other, register))
         }
@@ -113,11 +113,11 @@ fn exchanged(shapes: Shapes) -> Option<(Width, Operand, u8)>
 }
 
 /// A register of 32 bits, and a source of this width.
-fn loaded(width: Width, shapes: Shapes) -> Option<(u8, Operand)>
-    ensures { result ≡ loaded width shapes }
+fn load_form(width: Width, shapes: OperandShapes) -> Option<(u8, Operand)>
+    ensures { result ≡ load_form width shapes }
 {
     match shapes {
-        Shapes::Two(Shape::Register(Width::D, register), from) => {
+        OperandShapes::Two(OperandShape::Register(Width::D, register), from) => {
             let from = target(width, from)?;
             Some((register, from))
         }
@@ -126,11 +126,11 @@ fn loaded(width: Width, shapes: Shapes) -> Option<(u8, Operand)>
 }
 
 /// A destination of 32 bits and a register.
-fn stored(shapes: Shapes) -> Option<(Operand, u8)>
-    ensures { result ≡ stored shapes }
+fn store_form(shapes: OperandShapes) -> Option<(Operand, u8)>
+    ensures { result ≡ store_form shapes }
 {
     match shapes {
-        Shapes::Two(to, Shape::Register(Width::D, register)) => {
+        OperandShapes::Two(to, OperandShape::Register(Width::D, register)) => {
             let to = target(Width::D, to)?;
             Some((to, register))
         }
@@ -139,24 +139,24 @@ fn stored(shapes: Shapes) -> Option<(Operand, u8)>
 }
 
 /// A destination of 32 bits and a number.
-fn numbered(shapes: Shapes) -> Option<Operand>
-    ensures { result ≡ numbered shapes }
+fn number_form(shapes: OperandShapes) -> Option<Operand>
+    ensures { result ≡ number_form shapes }
 {
     match shapes {
-        Shapes::Two(to, Shape::Number) => target(Width::D, to),
+        OperandShapes::Two(to, OperandShape::Number) => target(Width::D, to),
         _ => None,
     }
 }
 
-fn shifted(kind: ShiftOp, shapes: Shapes) -> Option<Op>
-    ensures { result ≡ shifted kind shapes }
+fn shift_form(kind: ShiftOp, shapes: OperandShapes) -> Option<Op>
+    ensures { result ≡ shift_form kind shapes }
 {
     match shapes {
-        Shapes::Two(to, Shape::Number) => {
+        OperandShapes::Two(to, OperandShape::Number) => {
             let to = target(Width::D, to)?;
             Some(Op::Shift(kind, to, Count::Imm(0)))
         }
-        Shapes::Two(to, Shape::Register(Width::B, register)) => {
+        OperandShapes::Two(to, OperandShape::Register(Width::B, register)) => {
             if register == 1 {
                 let to = target(Width::D, to)?;
                 Some(Op::Shift(kind, to, Count::Cl))
@@ -168,33 +168,33 @@ fn shifted(kind: ShiftOp, shapes: Shapes) -> Option<Op>
     }
 }
 
-fn addressed(shapes: Shapes) -> Option<Op>
-    ensures { result ≡ addressed shapes }
+fn lea_form(shapes: OperandShapes) -> Option<Op>
+    ensures { result ≡ lea_form shapes }
 {
     match shapes {
-        Shapes::Two(Shape::Register(Width::D, register), Shape::Place(None, place)) => {
-            Some(Op::Lea(register, place))
+        OperandShapes::Two(OperandShape::Register(Width::D, register), OperandShape::Memory(None, memory)) => {
+            Some(Op::Lea(register, memory))
         }
         _ => None,
     }
 }
 
-fn multiplied(shapes: Shapes) -> Option<Op>
-    ensures { result ≡ multiplied shapes }
+fn imul_form(shapes: OperandShapes) -> Option<Op>
+    ensures { result ≡ imul_form shapes }
 {
     match shapes {
-        Shapes::One(shape) => {
+        OperandShapes::One(shape) => {
             let factor = target(Width::D, shape)?;
             Some(Op::Unary(UnaryOp::Imul, factor))
         }
-        Shapes::Two(Shape::Register(Width::D, register), Shape::Number) => {
+        OperandShapes::Two(OperandShape::Register(Width::D, register), OperandShape::Number) => {
             Some(Op::ImulImm(register, Operand::Reg(register), 0))
         }
-        Shapes::Two(Shape::Register(Width::D, register), shape) => {
+        OperandShapes::Two(OperandShape::Register(Width::D, register), shape) => {
             let factor = target(Width::D, shape)?;
             Some(Op::Imul(register, factor))
         }
-        Shapes::Three(Shape::Register(Width::D, register), shape, Shape::Number) => {
+        OperandShapes::Three(OperandShape::Register(Width::D, register), shape, OperandShape::Number) => {
             let factor = target(Width::D, shape)?;
             Some(Op::ImulImm(register, factor, 0))
         }
@@ -202,84 +202,84 @@ fn multiplied(shapes: Shapes) -> Option<Op>
     }
 }
 
-fn pushed(shapes: Shapes) -> Option<Op>
-    ensures { result ≡ pushed shapes }
+fn push_form(shapes: OperandShapes) -> Option<Op>
+    ensures { result ≡ push_form shapes }
 {
     match shapes {
-        Shapes::One(Shape::Number) => Some(Op::Push(Operand::Imm(0))),
+        OperandShapes::One(OperandShape::Number) => Some(Op::Push(Operand::Imm(0))),
         _ => {
-            let operand = one(Width::D, shapes)?;
+            let operand = one_operand(Width::D, shapes)?;
             Some(Op::Push(operand))
         }
     }
 }
 
-fn called(shapes: Shapes) -> Option<Op>
-    ensures { result ≡ called shapes }
+fn call_form(shapes: OperandShapes) -> Option<Op>
+    ensures { result ≡ call_form shapes }
 {
     match shapes {
-        Shapes::One(Shape::Number) => Some(Op::Call(0)),
-        Shapes::One(Shape::Near) => Some(Op::Call(0)),
+        OperandShapes::One(OperandShape::Number) => Some(Op::Call(0)),
+        OperandShapes::One(OperandShape::Near) => Some(Op::Call(0)),
         _ => {
-            let operand = one(Width::D, shapes)?;
+            let operand = one_operand(Width::D, shapes)?;
             Some(Op::CallTo(operand))
         }
     }
 }
 
-fn returned(shapes: Shapes) -> Option<Op>
-    ensures { result ≡ returned shapes }
+fn ret_form(shapes: OperandShapes) -> Option<Op>
+    ensures { result ≡ ret_form shapes }
 {
     match shapes {
-        Shapes::Nothing => Some(Op::Ret),
-        Shapes::One(Shape::Number) => Some(Op::RetPop(0)),
+        OperandShapes::Nothing => Some(Op::Ret),
+        OperandShapes::One(OperandShape::Number) => Some(Op::RetPop(0)),
         _ => None,
     }
 }
 
-fn jumped(shapes: Shapes) -> Option<Op>
-    ensures { result ≡ jumped shapes }
+fn jmp_form(shapes: OperandShapes) -> Option<Op>
+    ensures { result ≡ jmp_form shapes }
 {
     match shapes {
-        Shapes::One(Shape::Number) => Some(Op::Jmp(0)),
-        Shapes::One(Shape::Near) => Some(Op::Jmp(0)),
-        Shapes::One(Shape::Short) => Some(Op::JmpShort(0)),
+        OperandShapes::One(OperandShape::Number) => Some(Op::Jmp(0)),
+        OperandShapes::One(OperandShape::Near) => Some(Op::Jmp(0)),
+        OperandShapes::One(OperandShape::Short) => Some(Op::JmpShort(0)),
         _ => {
-            let operand = one(Width::D, shapes)?;
+            let operand = one_operand(Width::D, shapes)?;
             Some(Op::JmpTo(operand))
         }
     }
 }
 
-fn branched(condition: Condition, shapes: Shapes) -> Option<Op>
-    ensures { result ≡ branched condition shapes }
+fn jcc_form(condition: Condition, shapes: OperandShapes) -> Option<Op>
+    ensures { result ≡ jcc_form condition shapes }
 {
     match shapes {
-        Shapes::One(Shape::Number) => Some(Op::Jcc(condition, 0)),
-        Shapes::One(Shape::Near) => Some(Op::Jcc(condition, 0)),
-        Shapes::One(Shape::Short) => Some(Op::JccShort(condition, 0)),
+        OperandShapes::One(OperandShape::Number) => Some(Op::Jcc(condition, 0)),
+        OperandShapes::One(OperandShape::Near) => Some(Op::Jcc(condition, 0)),
+        OperandShapes::One(OperandShape::Short) => Some(Op::JccShort(condition, 0)),
         _ => None,
     }
 }
 
-fn idle(shapes: Shapes) -> Option<Op>
-    ensures { result ≡ idle shapes }
+fn nop_form(shapes: OperandShapes) -> Option<Op>
+    ensures { result ≡ nop_form shapes }
 {
     match shapes {
-        Shapes::Nothing => Some(Op::Nop),
+        OperandShapes::Nothing => Some(Op::Nop),
         _ => {
-            let operand = one(Width::D, shapes)?;
+            let operand = one_operand(Width::D, shapes)?;
             Some(Op::NopOf(operand))
         }
     }
 }
 
 /// An operation with one number.
-fn with_number(op: Op, shapes: Shapes) -> Option<Op>
+fn with_number(op: Op, shapes: OperandShapes) -> Option<Op>
     ensures { result ≡ with_number op shapes }
 {
     match shapes {
-        Shapes::One(Shape::Number) => Some(op),
+        OperandShapes::One(OperandShape::Number) => Some(op),
         _ => None,
     }
 }
@@ -308,18 +308,18 @@ fn bare_op(name: Bare) -> Op
 }
 
 /// An operation without operands.
-fn alone(name: Bare, shapes: Shapes) -> Option<Op>
-    ensures { result ≡ alone name shapes }
+fn no_operands(name: Bare, shapes: OperandShapes) -> Option<Op>
+    ensures { result ≡ no_operands name shapes }
 {
     match shapes {
-        Shapes::Nothing => Some(bare_op(name)),
+        OperandShapes::Nothing => Some(bare_op(name)),
         _ => None,
     }
 }
 
 /// The operation that a mnemonic and operands of these shapes write.
 #[tactic(auto, unfolding(crate::specs::Forms::op_of))]
-fn op(mnemonic: Mnemonic, shapes: Shapes) -> Option<Op>
+fn op(mnemonic: Mnemonic, shapes: OperandShapes) -> Option<Op>
     ensures { result ≡ op_of mnemonic shapes }
 {
     match mnemonic {
@@ -331,77 +331,77 @@ fn op(mnemonic: Mnemonic, shapes: Shapes) -> Option<Op>
             let (width, to, from) = pair(shapes)?;
             Some(Op::Mov(width, to, from))
         }
-        Mnemonic::Lea => addressed(shapes),
+        Mnemonic::Lea => lea_form(shapes),
         Mnemonic::Xchg => {
-            let (width, operand, register) = exchanged(shapes)?;
+            let (width, operand, register) = xchg_form(shapes)?;
             Some(Op::Xchg(width, operand, register))
         }
         Mnemonic::Inc => {
-            let (width, operand) = sized(shapes)?;
+            let (width, operand) = sized_operand(shapes)?;
             Some(Op::Inc(width, operand))
         }
         Mnemonic::Dec => {
-            let (width, operand) = sized(shapes)?;
+            let (width, operand) = sized_operand(shapes)?;
             Some(Op::Dec(width, operand))
         }
         Mnemonic::Test => {
-            let (width, left, right) = tested(shapes)?;
+            let (width, left, right) = test_form(shapes)?;
             Some(Op::Test(width, left, right))
         }
         Mnemonic::Unary(kind) => {
-            let operand = one(Width::D, shapes)?;
+            let operand = one_operand(Width::D, shapes)?;
             Some(Op::Unary(kind, operand))
         }
-        Mnemonic::Imul => multiplied(shapes),
-        Mnemonic::Shift(kind) => shifted(kind, shapes),
-        Mnemonic::Push => pushed(shapes),
+        Mnemonic::Imul => imul_form(shapes),
+        Mnemonic::Shift(kind) => shift_form(kind, shapes),
+        Mnemonic::Push => push_form(shapes),
         Mnemonic::Pop => {
-            let operand = one(Width::D, shapes)?;
+            let operand = one_operand(Width::D, shapes)?;
             Some(Op::Pop(operand))
         }
-        Mnemonic::Call => called(shapes),
-        Mnemonic::Ret => returned(shapes),
-        Mnemonic::Jmp => jumped(shapes),
-        Mnemonic::Jcc(condition) => branched(condition, shapes),
+        Mnemonic::Call => call_form(shapes),
+        Mnemonic::Ret => ret_form(shapes),
+        Mnemonic::Jmp => jmp_form(shapes),
+        Mnemonic::Jcc(condition) => jcc_form(condition, shapes),
         Mnemonic::Setcc(condition) => {
-            let operand = one(Width::B, shapes)?;
+            let operand = one_operand(Width::B, shapes)?;
             Some(Op::Setcc(condition, operand))
         }
         Mnemonic::Cmovcc(condition) => {
-            let (register, from) = loaded(Width::D, shapes)?;
+            let (register, from) = load_form(Width::D, shapes)?;
             Some(Op::Cmovcc(condition, register, from))
         }
         Mnemonic::Loop => with_number(Op::Loop(0), shapes),
         Mnemonic::Jecxz => with_number(Op::Jecxz(0), shapes),
         Mnemonic::Movzx => {
-            let (register, from) = loaded(Width::B, shapes)?;
+            let (register, from) = load_form(Width::B, shapes)?;
             Some(Op::Movzx(register, from))
         }
         Mnemonic::Movsx => {
-            let (register, from) = loaded(Width::B, shapes)?;
+            let (register, from) = load_form(Width::B, shapes)?;
             Some(Op::Movsx(register, from))
         }
         Mnemonic::Cmpxchg => {
-            let (to, register) = stored(shapes)?;
+            let (to, register) = store_form(shapes)?;
             Some(Op::Cmpxchg(to, register))
         }
         Mnemonic::Xadd => {
-            let (to, register) = stored(shapes)?;
+            let (to, register) = store_form(shapes)?;
             Some(Op::Xadd(to, register))
         }
         Mnemonic::Bit(kind) => {
-            let operand = numbered(shapes)?;
+            let operand = number_form(shapes)?;
             Some(Op::Bit(kind, operand, 0))
         }
-        Mnemonic::Nop => idle(shapes),
+        Mnemonic::Nop => nop_form(shapes),
         Mnemonic::Xbegin => with_number(Op::Xbegin(0), shapes),
         Mnemonic::Xabort => with_number(Op::Xabort(0), shapes),
-        Mnemonic::Bare(name) => alone(name, shapes),
+        Mnemonic::Bare(name) => no_operands(name, shapes),
     }
 }
 
 /// The instruction that a mnemonic, with LOCK or without, and operands of these shapes write.
-pub fn instruction(lock: bool, mnemonic: Mnemonic, shapes: Shapes) -> Option<Insn>
+pub fn instruction(lock: bool, mnemonic: Mnemonic, shapes: OperandShapes) -> Option<Insn>
     ensures { result ≡ instruction_of lock mnemonic shapes }
 {
     let op = op(mnemonic, shapes)?;

@@ -1,8 +1,8 @@
 //! What stands in front of a line: a label, and what the line asks for.
 
 ghost use Rattle.std.specs.Prelude.{◌≡◌, map, option_map};
-ghost use Rattle.ia_lex.specs.Tokens.{seen};
-ghost use Rattle.ia_source.specs.Heads.{is_label, begins_with_colon, behind_colon, behind_lock, statement_at, with_label, head_of, seen_statement, seen_head};
+ghost use Rattle.ia_lex.specs.Tokens.{lexeme_of};
+ghost use Rattle.ia_source.specs.Heads.{is_label, begins_with_colon, behind_colon, behind_lock, statement_at, with_label, head_of, statement_content, head_content};
 
 use crate::comma::is_mark;
 use crate::keyword::keyword;
@@ -11,7 +11,7 @@ use ia_lex::{Token, register_of};
 
 /// What a line asks for.
 #[derive(Clone, Copy)]
-pub enum What {
+pub enum Statement {
     /// Nothing.
     Nothing,
     /// An instruction, with LOCK or without.
@@ -28,7 +28,7 @@ pub struct Head<'a, 'b> {
     /// The name in front.
     pub label: Option<&'a [u8]>,
     /// What it asks for.
-    pub what: What,
+    pub statement: Statement,
     /// Its operands.
     pub rest: &'b [Token<'a>],
 }
@@ -41,7 +41,7 @@ fn is_label(word: &[u8]) -> bool
 }
 
 fn begins_with_colon(tokens: &[Token]) -> bool
-    ensures { result ≡ begins_with_colon (map seen tokens.now) }
+    ensures { result ≡ begins_with_colon (map lexeme_of tokens.now) }
 {
     match tokens.first() {
         Some(token) => is_mark(b':', token),
@@ -52,7 +52,7 @@ fn begins_with_colon(tokens: &[Token]) -> bool
 /// What stands behind a label, and the colon if it has one.
 #[tactic(auto, using(crate::proofs::Heads::with_colon, crate::proofs::Heads::without_colon))]
 fn behind_colon<'a, 'b>(tokens: &'b [Token<'a>]) -> &'b [Token<'a>]
-    ensures { map seen result.now ≡ behind_colon (map seen tokens.now) }
+    ensures { map lexeme_of result.now ≡ behind_colon (map lexeme_of tokens.now) }
 {
     if tokens.is_empty() {
         return tokens;
@@ -65,49 +65,49 @@ fn behind_colon<'a, 'b>(tokens: &'b [Token<'a>]) -> &'b [Token<'a>]
 }
 
 /// What stands behind LOCK.
-fn behind_lock<'a, 'b>(tokens: &'b [Token<'a>]) -> Option<(What, &'b [Token<'a>])>
-    ensures { option_map seen_statement result ≡ behind_lock (map seen tokens.now) }
+fn behind_lock<'a, 'b>(tokens: &'b [Token<'a>]) -> Option<(Statement, &'b [Token<'a>])>
+    ensures { option_map statement_content result ≡ behind_lock (map lexeme_of tokens.now) }
 {
     match tokens.split_first() {
-        None => Some((What::Unfit, tokens)),
+        None => Some((Statement::Unfit, tokens)),
         Some((Token::Word(word), rest)) => match keyword(word) {
             None => None,
             Some(Keyword::Lock) => None,
-            Some(Keyword::Mnemonic(mnemonic)) => Some((What::Code(true, mnemonic), rest)),
-            Some(Keyword::Directive(_)) => Some((What::Unfit, rest)),
+            Some(Keyword::Mnemonic(mnemonic)) => Some((Statement::Code(true, mnemonic), rest)),
+            Some(Keyword::Directive(_)) => Some((Statement::Unfit, rest)),
         },
         Some(_) => None,
     }
 }
 
 /// What a line without a label asks for.
-fn statement<'a, 'b>(tokens: &'b [Token<'a>]) -> Option<(What, &'b [Token<'a>])>
-    ensures { option_map seen_statement result ≡ statement_at (map seen tokens.now) }
+fn read_statement<'a, 'b>(tokens: &'b [Token<'a>]) -> Option<(Statement, &'b [Token<'a>])>
+    ensures { option_map statement_content result ≡ statement_at (map lexeme_of tokens.now) }
 {
     match tokens.split_first() {
-        None => Some((What::Nothing, tokens)),
+        None => Some((Statement::Nothing, tokens)),
         Some((Token::Word(word), rest)) => match keyword(word) {
             None => None,
             Some(Keyword::Lock) => behind_lock(rest),
-            Some(Keyword::Mnemonic(mnemonic)) => Some((What::Code(false, mnemonic), rest)),
-            Some(Keyword::Directive(directive)) => Some((What::Directive(directive), rest)),
+            Some(Keyword::Mnemonic(mnemonic)) => Some((Statement::Code(false, mnemonic), rest)),
+            Some(Keyword::Directive(directive)) => Some((Statement::Directive(directive), rest)),
         },
         Some(_) => None,
     }
 }
 
 fn with_label<'a, 'b>(label: Option<&'a [u8]>, tokens: &'b [Token<'a>]) -> Option<Head<'a, 'b>>
-    ensures { option_map seen_head result ≡ with_label (option_map (λ l. l.now) label.entry) (statement_at (map seen tokens.now)) }
+    ensures { option_map head_content result ≡ with_label (option_map (λ l. l.now) label.entry) (statement_at (map lexeme_of tokens.now)) }
 {
-    match statement(tokens) {
-        Some((what, rest)) => Some(Head { label, what, rest }),
+    match read_statement(tokens) {
+        Some((statement, rest)) => Some(Head { label, statement, rest }),
         None => None,
     }
 }
 
 /// The head of a line, or none where a name stands that is no instruction's and no directive's.
 pub fn read_head<'a, 'b>(tokens: &'b [Token<'a>]) -> Option<Head<'a, 'b>>
-    ensures { option_map seen_head result ≡ head_of (map seen tokens.now) }
+    ensures { option_map head_content result ≡ head_of (map lexeme_of tokens.now) }
 {
     match tokens.split_first() {
         None => with_label(None, tokens),

@@ -1,20 +1,20 @@
 //! Operands.
 
 ghost use Rattle.std.specs.Prelude.{◌≡◌, length, map, option_map};
-ghost use Rattle.ia_lex.specs.Tokens.{seen};
+ghost use Rattle.ia_lex.specs.Tokens.{lexeme_of};
 ghost use Rattle.ia_source.specs.Commas.{between_commas};
-ghost use Rattle.ia_source.specs.Places.{seen_parts};
-ghost use Rattle.ia_source.specs.Operands.{sum_of, summed, placed, sized_place, alone, lead_of, by_lead, operand_of, with_shape, with_operand, operands_from, operands_of, seen_operand, seen_operands};
+ghost use Rattle.ia_source.specs.MemoryOperands.{terms_content};
+ghost use Rattle.ia_source.specs.Operands.{expression_of, expression_operand, memory_operand, sized_memory, register_operand, prefix_of, by_prefix, operand_of, with_shape, with_operand, operands_from, operands_of, operand_content, operands_content};
 
 use crate::comma::{first_piece, is_mark};
-use crate::place::read_place;
-use crate::shape::{Shape, Shapes};
-use ia_lex::{Expr, Token, expr, find_word, register_of};
+use crate::memory::read_memory;
+use crate::shape::{OperandShape, OperandShapes};
+use ia_lex::{Expression, Token, expression, find_word, register_of};
 use ia_word::Width;
 
 /// A word that decides what operand follows.
 #[derive(Clone, Copy)]
-pub enum Lead {
+pub enum OperandPrefix {
     /// A register.
     Register(Width, u8),
     /// A size word.
@@ -29,70 +29,70 @@ pub enum Lead {
 #[derive(Drop)]
 pub struct Operand<'a> {
     /// What decides the form of an instruction.
-    pub shape: Shape,
-    /// The parts of its sum or of its displacement.
-    pub parts: Expr<'a>,
+    pub shape: OperandShape,
+    /// The terms of its expression or of its displacement.
+    pub terms: Expression<'a>,
 }
 
 /// The operands of an instruction.
 #[derive(Drop)]
 pub struct Operands<'a> {
     /// What decides the form.
-    pub shapes: Shapes,
-    /// The parts of the operand that is a sum.
-    pub number: Expr<'a>,
-    /// The parts of the displacement of the one that is a place.
-    pub place: Expr<'a>,
+    pub shapes: OperandShapes,
+    /// The terms of the operand that is an expression.
+    pub number: Expression<'a>,
+    /// The terms of the displacement of the one that is a place.
+    pub displacement: Expression<'a>,
 }
 
-static LEADS: [(&str, Lead); 4] = [
-    ("byte", Lead::Size(Width::B)),
-    ("dword", Lead::Size(Width::D)),
-    ("near", Lead::Near),
-    ("short", Lead::Short),
+static PREFIXES: [(&str, OperandPrefix); 4] = [
+    ("byte", OperandPrefix::Size(Width::B)),
+    ("dword", OperandPrefix::Size(Width::D)),
+    ("near", OperandPrefix::Near),
+    ("short", OperandPrefix::Short),
 ];
 
-/// A sum that takes all of the tokens.
-pub fn whole_sum<'a>(tokens: &[Token<'a>]) -> Option<Expr<'a>>
-    ensures { option_map seen_parts result ≡ sum_of (map seen tokens.now) }
+/// An expression that takes all of the tokens.
+pub fn whole_expression<'a>(tokens: &[Token<'a>]) -> Option<Expression<'a>>
+    ensures { option_map terms_content result ≡ expression_of (map lexeme_of tokens.now) }
 {
-    match expr(tokens) {
-        Some((parts, rest)) => { if rest.is_empty() { Some(parts) } else { None } }
+    match expression(tokens) {
+        Some((terms, rest)) => { if rest.is_empty() { Some(terms) } else { None } }
         None => None,
     }
 }
 
-fn summed<'a>(shape: Shape, tokens: &[Token<'a>]) -> Option<Operand<'a>>
-    ensures { option_map seen_operand result ≡ summed shape (map seen tokens.now) }
+fn expression_operand<'a>(shape: OperandShape, tokens: &[Token<'a>]) -> Option<Operand<'a>>
+    ensures { option_map operand_content result ≡ expression_operand shape (map lexeme_of tokens.now) }
 {
-    match whole_sum(tokens) {
-        Some(parts) => Some(Operand { shape, parts }),
+    match whole_expression(tokens) {
+        Some(terms) => Some(Operand { shape, terms }),
         None => None,
     }
 }
 
-/// The place behind an opening bracket.
-fn placed<'a>(size: Option<Width>, tokens: &[Token<'a>]) -> Option<Operand<'a>>
-    ensures { option_map seen_operand result ≡ placed size (map seen tokens.now) }
+/// The memory operand behind an opening bracket.
+fn memory_operand<'a>(size: Option<Width>, tokens: &[Token<'a>]) -> Option<Operand<'a>>
+    ensures { option_map operand_content result ≡ memory_operand size (map lexeme_of tokens.now) }
 {
-    match read_place(tokens) {
-        Some(place) => Some(Operand {
-            shape: Shape::Place(size, place.mem),
-            parts: place.parts,
+    match read_memory(tokens) {
+        Some(memory) => Some(Operand {
+            shape: OperandShape::Memory(size, memory.mem),
+            terms: memory.terms,
         }),
         None => None,
     }
 }
 
 /// What follows a size word.
-fn sized_place<'a>(width: Width, tokens: &[Token<'a>]) -> Option<Operand<'a>>
-    ensures { option_map seen_operand result ≡ sized_place width (map seen tokens.now) }
+fn sized_memory<'a>(width: Width, tokens: &[Token<'a>]) -> Option<Operand<'a>>
+    ensures { option_map operand_content result ≡ sized_memory width (map lexeme_of tokens.now) }
 {
     match tokens.split_first() {
         None => None,
         Some((token, rest)) => {
             if is_mark(b'[', token) {
-                placed(Some(width), rest)
+                memory_operand(Some(width), rest)
             } else {
                 None
             }
@@ -101,101 +101,101 @@ fn sized_place<'a>(width: Width, tokens: &[Token<'a>]) -> Option<Operand<'a>>
 }
 
 /// What follows a register.
-fn alone<'a>(width: Width, register: u8, tokens: &[Token<'a>]) -> Option<Operand<'a>>
-    ensures { option_map seen_operand result ≡ alone width register (map seen tokens.now) }
+fn register_operand<'a>(width: Width, register: u8, tokens: &[Token<'a>]) -> Option<Operand<'a>>
+    ensures { option_map operand_content result ≡ register_operand width register (map lexeme_of tokens.now) }
 {
     if tokens.is_empty() {
         Some(Operand {
-            shape: Shape::Register(width, register),
-            parts: Expr::new(),
+            shape: OperandShape::Register(width, register),
+            terms: Expression::new(),
         })
     } else {
         None
     }
 }
 
-fn find_lead(word: &[u8]) -> Option<Lead>
-    ensures { result ≡ lead_of word.now }
+fn find_prefix(word: &[u8]) -> Option<OperandPrefix>
+    ensures { result ≡ prefix_of word.now }
 {
     match register_of(word) {
-        Some((width, register)) => Some(Lead::Register(width, register)),
-        None => find_word(&LEADS, word),
+        Some((width, register)) => Some(OperandPrefix::Register(width, register)),
+        None => find_word(&PREFIXES, word),
     }
 }
 
 /// The operand that tokens are.
 #[tactic(auto, unfolding(crate::specs::Operands::operand_of))]
 pub fn read_operand<'a>(tokens: &[Token<'a>]) -> Option<Operand<'a>>
-    ensures { option_map seen_operand result ≡ operand_of (map seen tokens.now) }
+    ensures { option_map operand_content result ≡ operand_of (map lexeme_of tokens.now) }
 {
     match tokens.split_first() {
         None => None,
-        Some((Token::Word(word), rest)) => match find_lead(word) {
-            None => summed(Shape::Number, tokens),
-            Some(Lead::Register(width, register)) => alone(width, register, rest),
-            Some(Lead::Size(width)) => sized_place(width, rest),
-            Some(Lead::Near) => summed(Shape::Near, rest),
-            Some(Lead::Short) => summed(Shape::Short, rest),
+        Some((Token::Word(word), rest)) => match find_prefix(word) {
+            None => expression_operand(OperandShape::Number, tokens),
+            Some(OperandPrefix::Register(width, register)) => register_operand(width, register, rest),
+            Some(OperandPrefix::Size(width)) => sized_memory(width, rest),
+            Some(OperandPrefix::Near) => expression_operand(OperandShape::Near, rest),
+            Some(OperandPrefix::Short) => expression_operand(OperandShape::Short, rest),
         },
-        Some((Token::Mark(b'['), rest)) => placed(None, rest),
-        Some(_) => summed(Shape::Number, tokens),
+        Some((Token::Mark(b'['), rest)) => memory_operand(None, rest),
+        Some(_) => expression_operand(OperandShape::Number, tokens),
     }
 }
 
-fn with_shape(shapes: Shapes, shape: Shape) -> Option<Shapes>
+fn with_shape(shapes: OperandShapes, shape: OperandShape) -> Option<OperandShapes>
     ensures { result ≡ with_shape shapes shape }
 {
     match shapes {
-        Shapes::Nothing => Some(Shapes::One(shape)),
-        Shapes::One(first) => Some(Shapes::Two(first, shape)),
-        Shapes::Two(first, second) => Some(Shapes::Three(first, second, shape)),
-        Shapes::Three(_, _, _) => None,
+        OperandShapes::Nothing => Some(OperandShapes::One(shape)),
+        OperandShapes::One(first) => Some(OperandShapes::Two(first, shape)),
+        OperandShapes::Two(first, second) => Some(OperandShapes::Three(first, second, shape)),
+        OperandShapes::Three(_, _, _) => None,
     }
 }
 
 /// One more operand, of at most three.
 fn with_operand<'a>(operands: Operands<'a>, operand: Operand<'a>) -> Option<Operands<'a>>
-    ensures { option_map seen_operands result ≡ with_operand (seen_operands operands.entry) (seen_operand operand.entry) }
+    ensures { option_map operands_content result ≡ with_operand (operands_content operands.entry) (operand_content operand.entry) }
 {
     let Operands {
         shapes,
         number,
-        place,
+        displacement,
     } = operands;
-    let Operand { shape, parts } = operand;
+    let Operand { shape, terms } = operand;
     let shapes = with_shape(shapes, shape)?;
     match shape {
-        Shape::Register(_, _) => Some(Operands {
+        OperandShape::Register(_, _) => Some(Operands {
             shapes,
             number,
-            place,
+            displacement,
         }),
-        Shape::Place(_, _) => Some(Operands {
+        OperandShape::Memory(_, _) => Some(Operands {
             shapes,
             number,
-            place: parts,
+            displacement: terms,
         }),
-        Shape::Number => Some(Operands {
+        OperandShape::Number => Some(Operands {
             shapes,
-            number: parts,
-            place,
+            number: terms,
+            displacement,
         }),
-        Shape::Near => Some(Operands {
+        OperandShape::Near => Some(Operands {
             shapes,
-            number: parts,
-            place,
+            number: terms,
+            displacement,
         }),
-        Shape::Short => Some(Operands {
+        OperandShape::Short => Some(Operands {
             shapes,
-            number: parts,
-            place,
+            number: terms,
+            displacement,
         }),
     }
 }
 
 /// Operands, and those that tokens are.
 fn more_operands<'a>(before: Operands<'a>, tokens: &[Token<'a>]) -> Option<Operands<'a>>
-    ensures { option_map seen_operands result ≡ operands_from (seen_operands before.entry) (between_commas (map seen tokens.now)) }
+    ensures { option_map operands_content result ≡ operands_from (operands_content before.entry) (between_commas (map lexeme_of tokens.now)) }
 {
     let (piece, rest) = first_piece(tokens);
     match read_operand(piece) {
@@ -212,12 +212,12 @@ fn more_operands<'a>(before: Operands<'a>, tokens: &[Token<'a>]) -> Option<Opera
 
 /// The operands that tokens are, between commas.
 pub fn read_operands<'a>(tokens: &[Token<'a>]) -> Option<Operands<'a>>
-    ensures { option_map seen_operands result ≡ operands_of (map seen tokens.now) }
+    ensures { option_map operands_content result ≡ operands_of (map lexeme_of tokens.now) }
 {
     let none = Operands {
-        shapes: Shapes::Nothing,
-        number: Expr::new(),
-        place: Expr::new(),
+        shapes: OperandShapes::Nothing,
+        number: Expression::new(),
+        displacement: Expression::new(),
     };
     if tokens.is_empty() {
         Some(none)

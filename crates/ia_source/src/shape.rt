@@ -5,28 +5,28 @@ use ia_word::Width;
 
 /// What an operand is, up to the numbers and symbols in it.
 #[derive(Clone, Copy)]
-pub enum Shape {
+pub enum OperandShape {
     /// A register by its width and number.
     Register(Width, u8),
-    /// A place in memory, with a size word or without. Its displacement stands as 0.
-    Place(Option<Width>, Mem),
-    /// A sum.
+    /// An operand in memory, with a size word or without. Its displacement stands as 0.
+    Memory(Option<Width>, Mem),
+    /// An expression.
     Number,
-    /// A sum behind `near`.
+    /// An expression behind `near`.
     Near,
-    /// A sum behind `short`.
+    /// An expression behind `short`.
     Short,
 }
 
 /// The operands of an instruction, at most three.
 #[derive(Clone, Copy)]
-pub enum Shapes {
+pub enum OperandShapes {
     /// No operand.
     Nothing,
     /// One operand.
-    One(Shape),
+    One(OperandShape),
     /// Two operands.
-    Two(Shape, Shape),
+    Two(OperandShape, OperandShape),
     /// Three operands.
-    Three(Shape, Shape, Shape),
+    Three(OperandShape, OperandShape, OperandShape),
 }

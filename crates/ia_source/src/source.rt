@@ -2,16 +2,16 @@
 
 ghost use Rattle.std.specs.Prelude.{◌≡◌, Ok, Some, false, map, option_map, MatchResult, IfOk};
 ghost use Rattle.ia_item.specs.Fits.{AllFit};
-ghost use Rattle.ia_source.specs.Seen.{seen_entry};
-ghost use Rattle.ia_source.specs.Statements.{seen_at};
-ghost use Rattle.ia_source.specs.Source.{is_twice, with_name, add_label, label_onto, line_onto, entries_of, seen_names, so_far, Tells, IsTwice};
+ghost use Rattle.ia_source.specs.Contents.{entry_content};
+ghost use Rattle.ia_source.specs.Statements.{state_content};
+ghost use Rattle.ia_source.specs.Source.{is_twice, with_name, add_label, label_onto, line_onto, entries_of, names_content, source_content, Tells, IsTwice};
 
 use crate::fault::{SourceFault, Why};
-use crate::head::{What, read_head};
+use crate::head::{Statement, read_head};
 use crate::mnemonic::Directive;
-use crate::state::{State, behind, start, with_label};
+use crate::state::{SourceState, behind, start, with_label};
 use crate::statement::push_statement;
-use crate::sum::name_in;
+use crate::expression::name_in;
 use ia_item::{Entry, Item, Name};
 use ia_lex::{LexFault, first_line, tokens};
 use indexmap::IndexSet;
@@ -21,12 +21,12 @@ use std::alloc::{AllocError, Global};
 #[tactic(auto, using(crate::proofs::Names::names_after, crate::proofs::Names::was_among))]
 fn define<'a>(
     names: &mut IndexSet<Name<'a>>,
-    state: State<'a>,
+    state: SourceState<'a>,
     label: Option<&'a [u8]>,
 ) -> Result<(), SourceFault>
-    ensures new { MatchResult result (λ _. is_twice (seen_names names.old) (seen_at state.entry) (option_map (λ l. l.now) label.entry) ≡ false)
-        (IsTwice (is_twice (seen_names names.old) (seen_at state.entry) (option_map (λ l. l.now) label.entry)) state.entry.line) }
-    ensures names { IfOk result (λ _. seen_names names.new ≡ with_name (seen_names names.old) (seen_at state.entry) (option_map (λ l. l.now) label.entry)) }
+    ensures new { MatchResult result (λ _. is_twice (names_content names.old) (state_content state.entry) (option_map (λ l. l.now) label.entry) ≡ false)
+        (IsTwice (is_twice (names_content names.old) (state_content state.entry) (option_map (λ l. l.now) label.entry)) state.entry.line) }
+    ensures names { IfOk result (λ _. names_content names.new ≡ with_name (names_content names.old) (state_content state.entry) (option_map (λ l. l.now) label.entry)) }
 {
     match label {
         None => Ok(()),
@@ -45,13 +45,13 @@ fn define<'a>(
 }
 
 /// Adds the entry of a label.
-#[tactic(auto, using(crate::proofs::Added::one_more))]
+#[tactic(auto, using(crate::proofs::AddedEntries::one_more))]
 fn push_name<'a>(
     entries: &mut Vec<Entry<'a>>,
-    state: State<'a>,
+    state: SourceState<'a>,
     label: Option<&'a [u8]>,
 ) -> Result<(), AllocError>
-    ensures { IfOk result (λ _. map seen_entry entries.new.items ≡ add_label (map seen_entry entries.old.items) (seen_at state.entry) (option_map (λ l. l.now) label.entry)) }
+    ensures { IfOk result (λ _. map entry_content entries.new.items ≡ add_label (map entry_content entries.old.items) (state_content state.entry) (option_map (λ l. l.now) label.entry)) }
 {
     if let Some(own) = label {
         entries.push(Entry {
@@ -66,14 +66,14 @@ fn push_name<'a>(
 /// Adds the entry of a line's label. The name of an `equ` is none.
 fn push_label<'a>(
     entries: &mut Vec<Entry<'a>>,
-    state: State<'a>,
+    state: SourceState<'a>,
     label: Option<&'a [u8]>,
-    what: What,
+    statement: Statement,
 ) -> Result<(), AllocError>
-    ensures { IfOk result (λ _. map seen_entry entries.new.items ≡ label_onto (map seen_entry entries.old.items) (seen_at state.entry) (option_map (λ l. l.now) label.entry) what) }
+    ensures { IfOk result (λ _. map entry_content entries.new.items ≡ label_onto (map entry_content entries.old.items) (state_content state.entry) (option_map (λ l. l.now) label.entry) statement) }
 {
-    match what {
-        What::Directive(Directive::Equ) => Ok(()),
+    match statement {
+        Statement::Directive(Directive::Equ) => Ok(()),
         _ => push_name(entries, state, label),
     }
 }
@@ -84,11 +84,11 @@ fn push_line<'a>(
     alloc: Global,
     names: &mut IndexSet<Name<'a>>,
     entries: &mut Vec<Entry<'a>>,
-    state: State<'a>,
+    state: SourceState<'a>,
     line: &'a [u8],
-) -> Result<State<'a>, SourceFault>
-    ensures { MatchResult result (λ s. line_onto (so_far state.entry names.old entries.old.items) line.now ≡ Ok (so_far s names.new entries.new.items))
-        (Tells (line_onto (so_far state.entry names.old entries.old.items) line.now)) }
+) -> Result<SourceState<'a>, SourceFault>
+    ensures { MatchResult result (λ s. line_onto (source_content state.entry names.old entries.old.items) line.now ≡ Ok (source_content s names.new entries.new.items))
+        (Tells (line_onto (source_content state.entry names.old entries.old.items) line.now)) }
 {
     let words = match tokens(alloc, line) {
         Ok(words) => words,
@@ -107,23 +107,23 @@ fn push_line<'a>(
         });
     };
     define(names, state, head.label)?;
-    push_label(entries, state, head.label, head.what)?;
-    let here = with_label(state, head.label, head.what);
-    push_statement(alloc, entries, here, head.label, head.what, head.rest)?;
-    Ok(behind(here, head.what, head.rest))
+    push_label(entries, state, head.label, head.statement)?;
+    let here = with_label(state, head.label, head.statement);
+    push_statement(alloc, entries, here, head.label, head.statement, head.rest)?;
+    Ok(behind(here, head.statement, head.rest))
 }
 
 /// The entries of a source in the order of its lines, or the first line that is wrong and what is wrong with it.
 ///
-/// Each entry can be placed: an instruction is encodable, an alignment is a power of two up to 4096, and a sum has 1 to
-/// 16 parts. `NoMemory` where no memory was left.
+/// Each entry can be placed: an instruction is encodable, an alignment is a power of two up to 4096, and an expression has 1 to
+/// 16 terms. `NoMemory` where no memory was left.
 pub fn entries<'a>(alloc: Global, source: &'a [u8]) -> Result<Vec<Entry<'a>>, SourceFault>
-    ensures exact { MatchResult result (λ es. entries_of source.now ≡ Ok (map seen_entry es.items)) (Tells (entries_of source.now)) }
+    ensures exact { MatchResult result (λ es. entries_of source.now ≡ Ok (map entry_content es.items)) (Tells (entries_of source.now)) }
     ensures fit { IfOk result (λ es. AllFit es.items) }
 {
     let mut names = IndexSet::new(alloc);
     let mut entries = Vec::new(alloc);
-    let State {
+    let SourceState {
         mut line,
         mut scope,
         mut section,
@@ -133,7 +133,7 @@ pub fn entries<'a>(alloc: Global, source: &'a [u8]) -> Result<Vec<Entry<'a>>, So
     let mut place = 0;
     'lines: while place < source.len() {
         let (bytes, taken) = first_line(&source[place..]);
-        let state = State {
+        let state = SourceState {
             line,
             scope,
             section,

@@ -1,18 +1,18 @@
 //! What a line has to know of the lines above.
 
 ghost use Rattle.std.specs.Prelude.{◌≡◌, option_map, map};
-ghost use Rattle.ia_lex.specs.Tokens.{seen};
-ghost use Rattle.ia_source.specs.Statements.{at_start, next_line, named_section, only_number, with_label, in_section, with_flags, behind_what, behind, seen_at};
+ghost use Rattle.ia_lex.specs.Tokens.{lexeme_of};
+ghost use Rattle.ia_source.specs.Statements.{first_state, next_line, named_section, only_number, with_label, in_section, with_flags, behind_statement, behind, state_content};
 
-use crate::head::What;
+use crate::head::Statement;
 use crate::mnemonic::Directive;
-use crate::sum::is_local;
+use crate::expression::is_local;
 use ia_item::Section;
 use ia_lex::Token;
 
 /// What a line has to know of the lines above.
 #[derive(Clone, Copy)]
-pub struct State<'a> {
+pub struct SourceState<'a> {
     /// The line's number, from 1; from u32::MAX on it stays.
     pub line: u32,
     /// The last label that is not local.
@@ -26,10 +26,10 @@ pub struct State<'a> {
 }
 
 /// The state at the first line.
-pub fn start<'a>() -> State<'a>
-    ensures { seen_at result ≡ at_start }
+pub fn start<'a>() -> SourceState<'a>
+    ensures { state_content result ≡ first_state }
 {
-    State {
+    SourceState {
         line: 1,
         scope: b"",
         section: Section::Text,
@@ -46,7 +46,7 @@ fn next_line(line: u32) -> u32
 
 /// The section that one word names.
 pub fn named_section(tokens: &[Token]) -> Option<Section>
-    ensures { result ≡ named_section (map seen tokens.now) }
+    ensures { result ≡ named_section (map lexeme_of tokens.now) }
 {
     match tokens {
         [Token::Word(word)] => {
@@ -66,7 +66,7 @@ pub fn named_section(tokens: &[Token]) -> Option<Section>
 
 /// The number that stands alone, none inside where it is above u64::MAX.
 pub fn only_number(tokens: &[Token]) -> Option<Option<u64>>
-    ensures { result ≡ only_number (map seen tokens.now) }
+    ensures { result ≡ only_number (map lexeme_of tokens.now) }
 {
     match tokens {
         [Token::Number(number)] => Some(*number),
@@ -75,17 +75,17 @@ pub fn only_number(tokens: &[Token]) -> Option<Option<u64>>
 }
 
 /// The state behind a line's label. The name of an `equ` is no label that local ones belong to.
-pub fn with_label<'a>(state: State<'a>, label: Option<&'a [u8]>, what: What) -> State<'a>
-    ensures { seen_at result ≡ with_label (seen_at state.entry) (option_map (λ l. l.now) label.entry) what }
+pub fn with_label<'a>(state: SourceState<'a>, label: Option<&'a [u8]>, statement: Statement) -> SourceState<'a>
+    ensures { state_content result ≡ with_label (state_content state.entry) (option_map (λ l. l.now) label.entry) statement }
 {
-    match (what, label) {
-        (What::Directive(Directive::Equ), _) => state,
+    match (statement, label) {
+        (Statement::Directive(Directive::Equ), _) => state,
         (_, None) => state,
         (_, Some(own)) => {
             if is_local(own) {
                 state
             } else {
-                State {
+                SourceState {
                     line: state.line,
                     scope: own,
                     section: state.section,
@@ -97,10 +97,10 @@ pub fn with_label<'a>(state: State<'a>, label: Option<&'a [u8]>, what: What) -> 
     }
 }
 
-fn with_section<'a>(state: State<'a>, section: Option<Section>) -> State<'a>
-    ensures { seen_at result ≡ in_section (seen_at state.entry) section }
+fn with_section<'a>(state: SourceState<'a>, section: Option<Section>) -> SourceState<'a>
+    ensures { state_content result ≡ in_section (state_content state.entry) section }
 {
-    State {
+    SourceState {
         line: state.line,
         scope: state.scope,
         section: section.unwrap_or(state.section),
@@ -109,10 +109,10 @@ fn with_section<'a>(state: State<'a>, section: Option<Section>) -> State<'a>
     }
 }
 
-fn with_flags<'a>(state: State<'a>, based: bool, placed: bool) -> State<'a>
-    ensures { seen_at result ≡ with_flags (seen_at state.entry) based placed }
+fn with_flags<'a>(state: SourceState<'a>, based: bool, placed: bool) -> SourceState<'a>
+    ensures { state_content result ≡ with_flags (state_content state.entry) based placed }
 {
-    State {
+    SourceState {
         line: state.line,
         scope: state.scope,
         section: state.section,
@@ -122,27 +122,27 @@ fn with_flags<'a>(state: State<'a>, based: bool, placed: bool) -> State<'a>
 }
 
 /// The state behind what a line asks for.
-fn behind_what<'a>(state: State<'a>, what: What, tokens: &[Token<'a>]) -> State<'a>
-    ensures { seen_at result ≡ behind_what (seen_at state.entry) what (map seen tokens.now) }
+fn behind_statement<'a>(state: SourceState<'a>, statement: Statement, tokens: &[Token<'a>]) -> SourceState<'a>
+    ensures { state_content result ≡ behind_statement (state_content state.entry) statement (map lexeme_of tokens.now) }
 {
-    match what {
-        What::Directive(Directive::Section) => with_section(state, named_section(tokens)),
-        What::Directive(Directive::Org) => with_flags(state, true, false),
-        What::Directive(Directive::Db) => with_flags(state, false, true),
-        What::Directive(Directive::Dd) => with_flags(state, false, true),
-        What::Directive(Directive::Resb) => with_flags(state, false, true),
-        What::Directive(Directive::Align) => with_flags(state, false, true),
-        What::Code(_, _) => with_flags(state, false, true),
+    match statement {
+        Statement::Directive(Directive::Section) => with_section(state, named_section(tokens)),
+        Statement::Directive(Directive::Org) => with_flags(state, true, false),
+        Statement::Directive(Directive::Db) => with_flags(state, false, true),
+        Statement::Directive(Directive::Dd) => with_flags(state, false, true),
+        Statement::Directive(Directive::Resb) => with_flags(state, false, true),
+        Statement::Directive(Directive::Align) => with_flags(state, false, true),
+        Statement::Code(_, _) => with_flags(state, false, true),
         _ => state,
     }
 }
 
 /// The state at the next line.
-pub fn behind<'a>(state: State<'a>, what: What, tokens: &[Token<'a>]) -> State<'a>
-    ensures { seen_at result ≡ behind (seen_at state.entry) what (map seen tokens.now) }
+pub fn behind<'a>(state: SourceState<'a>, statement: Statement, tokens: &[Token<'a>]) -> SourceState<'a>
+    ensures { state_content result ≡ behind (state_content state.entry) statement (map lexeme_of tokens.now) }
 {
-    let state = behind_what(state, what, tokens);
-    State {
+    let state = behind_statement(state, statement, tokens);
+    SourceState {
         line: next_line(state.line),
         scope: state.scope,
         section: state.section,

@@ -1,36 +1,36 @@
 //! The entries that lines ask for.
 
 ghost use Rattle.std.specs.Prelude.{◌≡◌, Some, None, true, false, map, option_map, MatchResult, IfOk};
-ghost use Rattle.ia_lex.specs.Tokens.{seen};
-ghost use Rattle.ia_source.specs.Seen.{Reserve, seen_item, seen_entry, seen_sum};
+ghost use Rattle.ia_lex.specs.Tokens.{lexeme_of};
+ghost use Rattle.ia_source.specs.Contents.{Reserve, item_content, entry_content, expression_content};
 ghost use Rattle.ia_source.specs.Commas.{between_commas};
 ghost use Rattle.ia_source.specs.Operands.{operands_of};
-ghost use Rattle.ia_source.specs.Statements.{add_some, if_fits, sum_in, code_item, byte_item, value_item, values_onto, only_number, is_32, is_symbol, is_power, align_item, org_item, equ_item, directive_onto, statement_onto, seen_at, IsBad, IsUnfit};
+ghost use Rattle.ia_source.specs.Statements.{add_some, if_fits, expression_in, code_item, byte_item, value_item, values_onto, only_number, is_32, is_symbol, is_power, align_item, org_item, equ_item, directive_onto, statement_onto, state_content, IsBad, IsUnfit};
 
-use crate::comma::comma_place;
+use crate::comma::comma_index;
 use crate::fault::{SourceFault, Why};
 use crate::form::instruction;
-use crate::head::What;
+use crate::head::Statement;
 use crate::mnemonic::{Directive, Mnemonic};
-use crate::operand::{read_operands, whole_sum};
-use crate::state::{State, named_section, only_number};
-use crate::sum::{name_in, some_sum, sum_in};
-use ia_item::{Entry, Item, Sum, Template};
+use crate::operand::{read_operands, whole_expression};
+use crate::state::{SourceState, named_section, only_number};
+use crate::expression::{name_in, some_expression, expression_in};
+use ia_item::{Entry, Item, ScopedExpression, Template};
 use ia_lex::{Token, register_of};
 use std::alloc::{AllocError, Global};
 
 /// The sum that tokens are, if they are one.
-fn read_sum<'a>(
+fn read_expression<'a>(
     alloc: Global,
-    state: State<'a>,
+    state: SourceState<'a>,
     tokens: &[Token<'a>],
-) -> Result<Option<Sum<'a>>, AllocError>
-    ensures { IfOk result (λ s. option_map seen_sum s ≡ sum_in (seen_at state.entry) (map seen tokens.now)) }
+) -> Result<Option<ScopedExpression<'a>>, AllocError>
+    ensures { IfOk result (λ s. option_map expression_content s ≡ expression_in (state_content state.entry) (map lexeme_of tokens.now)) }
 {
-    match whole_sum(tokens) {
+    match whole_expression(tokens) {
         None => Ok(None),
-        Some(expr) => {
-            let sum = sum_in(alloc, state.scope, &expr)?;
+        Some(expression) => {
+            let sum = expression_in(alloc, state.scope, &expression)?;
             Ok(Some(sum))
         }
     }
@@ -39,24 +39,24 @@ fn read_sum<'a>(
 /// The instruction that a mnemonic and operands write.
 fn read_code<'a>(
     alloc: Global,
-    state: State<'a>,
+    state: SourceState<'a>,
     lock: bool,
     mnemonic: Mnemonic,
     tokens: &[Token<'a>],
 ) -> Result<Option<Item<'a>>, AllocError>
-    ensures { IfOk result (λ i. option_map seen_item i ≡ code_item (seen_at state.entry) lock mnemonic (operands_of (map seen tokens.now))) }
+    ensures { IfOk result (λ i. option_map item_content i ≡ code_item (state_content state.entry) lock mnemonic (operands_of (map lexeme_of tokens.now))) }
 {
     match read_operands(tokens) {
         None => Ok(None),
         Some(operands) => match instruction(lock, mnemonic, operands.shapes) {
             None => Ok(None),
             Some(insn) => {
-                let number = some_sum(alloc, state.scope, &operands.number)?;
-                let place = some_sum(alloc, state.scope, &operands.place)?;
+                let number = some_expression(alloc, state.scope, &operands.number)?;
+                let displacement = some_expression(alloc, state.scope, &operands.displacement)?;
                 Ok(Some(Item::Code(Template {
                     insn,
                     number,
-                    place,
+                    displacement,
                 })))
             }
         },
@@ -66,15 +66,15 @@ fn read_code<'a>(
 /// A value of `db`.
 fn read_byte<'a>(
     alloc: Global,
-    state: State<'a>,
+    state: SourceState<'a>,
     tokens: &[Token<'a>],
 ) -> Result<Option<Item<'a>>, AllocError>
-    ensures { IfOk result (λ i. option_map seen_item i ≡ byte_item (seen_at state.entry) (map seen tokens.now)) }
+    ensures { IfOk result (λ i. option_map item_content i ≡ byte_item (state_content state.entry) (map lexeme_of tokens.now)) }
 {
     if let [Token::Text(bytes)] = tokens {
         return Ok(Some(Item::Text(bytes)));
     }
-    match read_sum(alloc, state, tokens)? {
+    match read_expression(alloc, state, tokens)? {
         Some(sum) => Ok(Some(Item::Byte(sum))),
         None => Ok(None),
     }
@@ -83,16 +83,16 @@ fn read_byte<'a>(
 /// A value of `dd`, or of `db`.
 fn read_value<'a>(
     alloc: Global,
-    state: State<'a>,
+    state: SourceState<'a>,
     long: bool,
     tokens: &[Token<'a>],
 ) -> Result<Option<Item<'a>>, AllocError>
-    ensures { IfOk result (λ i. option_map seen_item i ≡ value_item long (seen_at state.entry) (map seen tokens.now)) }
+    ensures { IfOk result (λ i. option_map item_content i ≡ value_item long (state_content state.entry) (map lexeme_of tokens.now)) }
 {
     if !long {
         return read_byte(alloc, state, tokens);
     }
-    match read_sum(alloc, state, tokens)? {
+    match read_expression(alloc, state, tokens)? {
         Some(sum) => Ok(Some(Item::Long(sum))),
         None => Ok(None),
     }
@@ -100,12 +100,12 @@ fn read_value<'a>(
 
 fn read_reserve<'a>(
     alloc: Global,
-    state: State<'a>,
+    state: SourceState<'a>,
     tokens: &[Token<'a>],
 ) -> Result<Option<Item<'a>>, AllocError>
-    ensures { IfOk result (λ i. option_map seen_item i ≡ option_map Reserve (sum_in (seen_at state.entry) (map seen tokens.now))) }
+    ensures { IfOk result (λ i. option_map item_content i ≡ option_map Reserve (expression_in (state_content state.entry) (map lexeme_of tokens.now))) }
 {
-    match read_sum(alloc, state, tokens)? {
+    match read_expression(alloc, state, tokens)? {
         Some(sum) => Ok(Some(Item::Reserve(sum))),
         None => Ok(None),
     }
@@ -113,15 +113,15 @@ fn read_reserve<'a>(
 
 fn read_equ<'a>(
     alloc: Global,
-    state: State<'a>,
+    state: SourceState<'a>,
     label: Option<&'a [u8]>,
     tokens: &[Token<'a>],
 ) -> Result<Option<Item<'a>>, AllocError>
-    ensures { IfOk result (λ i. option_map seen_item i ≡ equ_item (seen_at state.entry) (option_map (λ l. l.now) label.entry) (map seen tokens.now)) }
+    ensures { IfOk result (λ i. option_map item_content i ≡ equ_item (state_content state.entry) (option_map (λ l. l.now) label.entry) (map lexeme_of tokens.now)) }
 {
     match label {
         None => Ok(None),
-        Some(own) => match read_sum(alloc, state, tokens)? {
+        Some(own) => match read_expression(alloc, state, tokens)? {
             Some(sum) => Ok(Some(Item::Equ(name_in(state.scope, own), sum))),
             None => Ok(None),
         },
@@ -129,8 +129,8 @@ fn read_equ<'a>(
 }
 
 /// The base, once and before anything is placed.
-fn read_org<'a>(state: State<'a>, tokens: &[Token<'a>]) -> Option<Item<'a>>
-    ensures { option_map seen_item result ≡ org_item (seen_at state.entry) (map seen tokens.now) }
+fn read_org<'a>(state: SourceState<'a>, tokens: &[Token<'a>]) -> Option<Item<'a>>
+    ensures { option_map item_content result ≡ org_item (state_content state.entry) (map lexeme_of tokens.now) }
 {
     if state.based || state.placed {
         return None;
@@ -162,7 +162,7 @@ fn is_power(number: u64) -> bool
 
 #[tactic(auto, using(crate::proofs::Powers::small_power))]
 fn read_align<'a>(tokens: &[Token<'a>]) -> Option<Item<'a>>
-    ensures { option_map seen_item result ≡ align_item (only_number (map seen tokens.now)) }
+    ensures { option_map item_content result ≡ align_item (only_number (map lexeme_of tokens.now)) }
 {
     match only_number(tokens) {
         Some(Some(number)) => {
@@ -177,7 +177,7 @@ fn read_align<'a>(tokens: &[Token<'a>]) -> Option<Item<'a>>
 }
 
 fn is_32(tokens: &[Token]) -> bool
-    ensures { result ≡ is_32 (only_number (map seen tokens.now)) }
+    ensures { result ≡ is_32 (only_number (map lexeme_of tokens.now)) }
 {
     match only_number(tokens) {
         Some(Some(number)) => number == 32,
@@ -187,7 +187,7 @@ fn is_32(tokens: &[Token]) -> bool
 
 /// A name, which no register has.
 fn is_symbol(tokens: &[Token]) -> bool
-    ensures { result ≡ is_symbol (map seen tokens.now) }
+    ensures { result ≡ is_symbol (map lexeme_of tokens.now) }
 {
     match tokens {
         [Token::Word(word)] => register_of(word).is_none(),
@@ -196,14 +196,14 @@ fn is_symbol(tokens: &[Token]) -> bool
 }
 
 /// Adds an entry of an item, if there is one.
-#[tactic(auto, using(crate::proofs::Added::one_more))]
+#[tactic(auto, using(crate::proofs::AddedEntries::one_more))]
 pub fn push_some<'a>(
     entries: &mut Vec<Entry<'a>>,
-    state: State<'a>,
+    state: SourceState<'a>,
     item: Option<Item<'a>>,
 ) -> Result<(), SourceFault>
-    ensures { MatchResult result (λ _. add_some (map seen_entry entries.old.items) (seen_at state.entry) (option_map seen_item item.entry) ≡ Some (map seen_entry entries.new.items))
-        (IsBad (add_some (map seen_entry entries.old.items) (seen_at state.entry) (option_map seen_item item.entry)) state.entry.line) }
+    ensures { MatchResult result (λ _. add_some (map entry_content entries.old.items) (state_content state.entry) (option_map item_content item.entry) ≡ Some (map entry_content entries.new.items))
+        (IsBad (add_some (map entry_content entries.old.items) (state_content state.entry) (option_map item_content item.entry)) state.entry.line) }
 {
     match item {
         None => Err(SourceFault::Line {
@@ -224,12 +224,12 @@ pub fn push_some<'a>(
 fn push_value<'a>(
     alloc: Global,
     entries: &mut Vec<Entry<'a>>,
-    state: State<'a>,
+    state: SourceState<'a>,
     long: bool,
     tokens: &[Token<'a>],
 ) -> Result<(), SourceFault>
-    ensures { MatchResult result (λ _. add_some (map seen_entry entries.old.items) (seen_at state.entry) (value_item long (seen_at state.entry) (map seen tokens.now)) ≡ Some (map seen_entry entries.new.items))
-        (IsBad (add_some (map seen_entry entries.old.items) (seen_at state.entry) (value_item long (seen_at state.entry) (map seen tokens.now))) state.entry.line) }
+    ensures { MatchResult result (λ _. add_some (map entry_content entries.old.items) (state_content state.entry) (value_item long (state_content state.entry) (map lexeme_of tokens.now)) ≡ Some (map entry_content entries.new.items))
+        (IsBad (add_some (map entry_content entries.old.items) (state_content state.entry) (value_item long (state_content state.entry) (map lexeme_of tokens.now))) state.entry.line) }
 {
     let item = read_value(alloc, state, long, tokens)?;
     push_some(entries, state, item)
@@ -239,17 +239,17 @@ fn push_value<'a>(
 fn push_values<'a>(
     alloc: Global,
     entries: &mut Vec<Entry<'a>>,
-    state: State<'a>,
+    state: SourceState<'a>,
     long: bool,
     tokens: &[Token<'a>],
 ) -> Result<(), SourceFault>
-    ensures { MatchResult result (λ _. values_onto long (seen_at state.entry) (map seen_entry entries.old.items) (between_commas (map seen tokens.now)) ≡ Some (map seen_entry entries.new.items))
-        (IsBad (values_onto long (seen_at state.entry) (map seen_entry entries.old.items) (between_commas (map seen tokens.now))) state.entry.line) }
+    ensures { MatchResult result (λ _. values_onto long (state_content state.entry) (map entry_content entries.old.items) (between_commas (map lexeme_of tokens.now)) ≡ Some (map entry_content entries.new.items))
+        (IsBad (values_onto long (state_content state.entry) (map entry_content entries.old.items) (between_commas (map lexeme_of tokens.now))) state.entry.line) }
 {
     let mut place = 0;
     while place <= tokens.len() {
         let left = &tokens[place..];
-        let end = comma_place(left);
+        let end = comma_index(left);
         match push_value(alloc, entries, state, long, &left[..end]) {
             Ok(()) => {}
             Err(fault) => return Err(fault),
@@ -259,7 +259,7 @@ fn push_values<'a>(
     Ok(())
 }
 
-fn if_fits(fits: bool, state: State) -> Result<(), SourceFault>
+fn if_fits(fits: bool, state: SourceState) -> Result<(), SourceFault>
     ensures { MatchResult result (λ _. fits ≡ true) (IsUnfit fits state.entry.line) }
 {
     if fits {
@@ -277,13 +277,13 @@ fn if_fits(fits: bool, state: State) -> Result<(), SourceFault>
 fn push_directive<'a>(
     alloc: Global,
     entries: &mut Vec<Entry<'a>>,
-    state: State<'a>,
+    state: SourceState<'a>,
     label: Option<&'a [u8]>,
     directive: Directive,
     tokens: &[Token<'a>],
 ) -> Result<(), SourceFault>
-    ensures { MatchResult result (λ _. directive_onto (map seen_entry entries.old.items) (seen_at state.entry) (option_map (λ l. l.now) label.entry) directive (map seen tokens.now) ≡ Some (map seen_entry entries.new.items))
-        (IsBad (directive_onto (map seen_entry entries.old.items) (seen_at state.entry) (option_map (λ l. l.now) label.entry) directive (map seen tokens.now)) state.entry.line) }
+    ensures { MatchResult result (λ _. directive_onto (map entry_content entries.old.items) (state_content state.entry) (option_map (λ l. l.now) label.entry) directive (map lexeme_of tokens.now) ≡ Some (map entry_content entries.new.items))
+        (IsBad (directive_onto (map entry_content entries.old.items) (state_content state.entry) (option_map (λ l. l.now) label.entry) directive (map lexeme_of tokens.now)) state.entry.line) }
 {
     match directive {
         Directive::Section => if_fits(named_section(tokens).is_some(), state),
@@ -308,24 +308,24 @@ fn push_directive<'a>(
 pub fn push_statement<'a>(
     alloc: Global,
     entries: &mut Vec<Entry<'a>>,
-    state: State<'a>,
+    state: SourceState<'a>,
     label: Option<&'a [u8]>,
-    what: What,
+    statement: Statement,
     tokens: &[Token<'a>],
 ) -> Result<(), SourceFault>
-    ensures { MatchResult result (λ _. statement_onto (map seen_entry entries.old.items) (seen_at state.entry) (option_map (λ l. l.now) label.entry) what (map seen tokens.now) ≡ Some (map seen_entry entries.new.items))
-        (IsBad (statement_onto (map seen_entry entries.old.items) (seen_at state.entry) (option_map (λ l. l.now) label.entry) what (map seen tokens.now)) state.entry.line) }
+    ensures { MatchResult result (λ _. statement_onto (map entry_content entries.old.items) (state_content state.entry) (option_map (λ l. l.now) label.entry) statement (map lexeme_of tokens.now) ≡ Some (map entry_content entries.new.items))
+        (IsBad (statement_onto (map entry_content entries.old.items) (state_content state.entry) (option_map (λ l. l.now) label.entry) statement (map lexeme_of tokens.now)) state.entry.line) }
 {
-    match what {
-        What::Nothing => Ok(()),
-        What::Code(lock, mnemonic) => {
+    match statement {
+        Statement::Nothing => Ok(()),
+        Statement::Code(lock, mnemonic) => {
             let item = read_code(alloc, state, lock, mnemonic, tokens)?;
             push_some(entries, state, item)
         }
-        What::Directive(directive) => {
+        Statement::Directive(directive) => {
             push_directive(alloc, entries, state, label, directive, tokens)
         }
-        What::Unfit => Err(SourceFault::Line {
+        Statement::Unfit => Err(SourceFault::Line {
             line: state.line,
             why: Why::BadOperand,
         }),

@@ -1,5 +1,0 @@
-use Rattle.ia_asm.proofs.Spelt.{code_spelt}
-use Rattle.ia_asm.proofs.laws.code_is_spelt.Goals as goal
-
-pub returns : goal.returns
-returns c = code_spelt

@@ -1,5 +1,0 @@
-use Rattle.std.proofs.Common.{length}
-use Rattle.ia_asm.proofs.sum.+any_symbol.Given as goal
-
-abbrev pub decreases-any_symbol : goal.decreases-any_symbol
-decreases-any_symbol l = length l.parts.now

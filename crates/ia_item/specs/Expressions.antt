@@ -1,0 +1,57 @@
+-- Sums of numbers and symbols, in whole numbers.
+use Rattle.std.specs.Prelude.{Bool, true, false, not, ◌||◌, is_some, Option, Some, None, List, [], ◌∷◌, ℤ, pos, ◌+ℤ◌, ◌-ℤ◌, if◌then◌else◌}
+use Rattle.ia_item.specs.declared.name.Name.{Name}
+use Rattle.ia_item.specs.declared.expression.ScopedAtom.{ScopedAtom}
+use Rattle.ia_item.specs.declared.expression.ScopedAtom.TheVariants.{Number, Symbol}
+use Rattle.ia_item.specs.declared.expression.ScopedTerm.{ScopedTerm}
+use Rattle.ia_item.specs.declared.expression.ScopedExpression.{ScopedExpression}
+
+-- the value of each symbol that is known
+abbrev pub Env : Type 0
+Env = Name → Option ℤ
+
+abbrev pub is_symbol : ScopedAtom → Bool
+is_symbol (Number n) = false
+is_symbol (Symbol name) = true
+
+-- a symbol stands among the parts
+abbrev pub any_symbol : List ScopedTerm → Bool
+any_symbol [] = false
+any_symbol (p ∷ ps) = is_symbol p.atom || any_symbol ps
+
+-- the sum has a symbol, so that its field is wide
+abbrev pub is_wide : ScopedExpression → Bool
+is_wide s = any_symbol s.terms.items
+
+abbrev pub is_unknown : Env → ScopedAtom → Bool
+is_unknown env (Number n) = false
+is_unknown env (Symbol name) = not (is_some (env name))
+
+-- a symbol among the parts has no value
+abbrev pub any_unknown : Env → List ScopedTerm → Bool
+any_unknown env [] = false
+any_unknown env (p ∷ ps) = is_unknown env p.atom || any_unknown env ps
+
+abbrev pub is_huge : ScopedAtom → Bool
+is_huge (Number n) = not (is_some n)
+is_huge (Symbol name) = false
+
+-- a number among the parts is above 2^64 - 1
+abbrev pub any_huge : List ScopedTerm → Bool
+any_huge [] = false
+any_huge (p ∷ ps) = is_huge p.atom || any_huge ps
+
+abbrev pub or_zero : Option ℤ → ℤ
+or_zero None = pos 0
+or_zero (Some v) = v
+
+-- the value of a number or a symbol, 0 where it has none
+abbrev pub value_in : Env → ScopedAtom → ℤ
+value_in env (Number None) = pos 0
+value_in env (Number (Some n)) = pos n
+value_in env (Symbol name) = or_zero (env name)
+
+-- what parts add up to, from a whole number on
+abbrev pub sum_from : Env → ℤ → List ScopedTerm → ℤ
+sum_from env v [] = v
+sum_from env v (p ∷ ps) = sum_from env (if p.negative then v -ℤ value_in env p.atom else v +ℤ value_in env p.atom) ps

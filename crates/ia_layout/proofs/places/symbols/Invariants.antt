@@ -1,0 +1,13 @@
+use Rattle.std.proofs.Common.{◌≡◌, drop, map}
+use Rattle.std.specs.Prelude.{All, flat_map}
+use Rattle.indexmap.specs.IndexMap.{insert_all}
+use Rattle.ia_item.specs.Names.{same_name}
+use Rattle.ia_layout.specs.Placement.{symbols, definition}
+use Rattle.ia_layout.specs.Contents.{entry_place, IsBounded}
+use Rattle.ia_layout.proofs.places.symbols.Given as goal
+
+abbrev pub invariant-loop-spot : goal.invariant-loop-spot
+invariant-loop-spot l = record {
+  good : All IsBounded (drop l.spot-index l.spots);
+  whole : insert_all same_name l.table.values.entries (flat_map definition (map entry_place (drop l.spot-index l.spots))) ≡ symbols (map entry_place l.spots);
+}

@@ -1,0 +1,5 @@
+pub mod PlaceFaults
+pub mod Exactness
+pub mod Symbols
+pub mod Values
+pub mod Items

@@ -1,0 +1,15 @@
+pub mod TokenLemmas
+pub mod Hex
+pub mod PrintedTokens
+pub mod MemoryOperands
+pub mod Operands
+pub mod Heads
+pub mod Fields
+pub mod Forms
+pub mod Plain
+pub mod RoundTrip
+pub mod Lines
+pub mod Program
+pub mod Expressions
+pub mod SameValues
+pub mod Bytes

@@ -1,0 +1,10 @@
+pub mod Printed
+pub mod Lines
+pub mod Operands
+pub mod Mnemonics
+pub mod Resolved
+pub mod Forms
+pub mod RoundTrip
+pub mod Program
+pub mod Expressions
+pub mod Bytes

@@ -1,0 +1,40 @@
+-- Entries, one by one.
+use Rattle.std.proofs.Common.{◌≡◌, ℕ, ◌+◌, ◌≤◌, Bool, List, [], ◌∷◌, ◌++◌, Option, Some, None, sym, ◌∙◌, ap, map, take, drop, length, ◌-◌}
+use Rattle.std.proofs.lemmas.List.{map-append, take_rest}
+use Rattle.std.specs.List.{prefix_len}
+use Rattle.ia_item.specs.declared.item.Entry.{Entry}
+use Rattle.ia_lex.specs.declared.token.Token.{Token}
+use Rattle.ia_lex.specs.Tokens.{Lexeme, lexeme_of}
+use Rattle.ia_source.specs.Contents.{EntryContent, entry_content}
+use Rattle.ia_source.specs.Commas.{goes_on, pieces_from}
+use Rattle.ia_source.specs.Statements.{StateContent, add_some, value_item, by_entries, values_onto, IsBad}
+use Rattle.ia_source.specs.declared.fault.SourceFault.{SourceFault}
+use Rattle.ia_source.specs.declared.fault.SourceFault.TheVariants as fault
+use Rattle.ia_source.proofs.Commas.{pieces_step}
+
+pub one_more : (xs : List Entry) (x : Entry) → map entry_content (xs ++ x ∷ []) ≡ map entry_content xs ++ entry_content x ∷ []
+one_more xs x = map-append entry_content xs (x ∷ [])
+
+-- the piece of tokens that a value is read from
+pub piece_is : (xs : List Token) (place end : ℕ) → place ≤ length xs → end ≡ prefix_len goes_on (take (length xs - place) (drop place xs)) → end ≤ length (take (length xs - place) (drop place xs))
+    → pieces_from place xs ≡ map lexeme_of (take end (take (length xs - place) (drop place xs))) ∷ pieces_from (place + (end + 1)) xs
+piece_is xs place end h e w =
+    let same : take (length xs - place) (drop place xs) ≡ drop place xs = take_rest xs place in
+    pieces_step xs place end h (e ∙ ap (prefix_len goes_on) same) (rw same at w)
+    ∙ ap (λ (l : List Token). map lexeme_of (take end l) ∷ pieces_from (place + (end + 1)) xs) (sym same)
+
+-- one more value is read
+pub value_read : (long : Bool) (at : StateContent) (es new : List EntryContent) (p : List Lexeme) (all ps : List (List Lexeme)) → all ≡ p ∷ ps → add_some es at (value_item long at p) ≡ Some new
+    → values_onto long at new ps ≡ values_onto long at es all
+value_read long at es new p all ps a e =
+    sym (ap (values_onto long at es) a ∙ ap (λ f. by_entries f (λ more. values_onto long at more ps)) e)
+
+pub value_unread : (long : Bool) (at : StateContent) (es : List EntryContent) (p : List Lexeme) (all ps : List (List Lexeme)) → all ≡ p ∷ ps → add_some es at (value_item long at p) ≡ None
+    → values_onto long at es all ≡ None
+value_unread long at es p all ps a e =
+    ap (values_onto long at es) a ∙ ap (λ f. by_entries f (λ more. values_onto long at more ps)) e
+
+-- what was not added with one reading was not added with another
+pub bad_too : (found other : Option (List EntryContent)) (line : ℕ) (f : SourceFault) → (found ≡ None → other ≡ None) → IsBad found line f → IsBad other line f
+bad_too found other line (fault.Line l why) same h = (same h.0, h.1, h.2)
+bad_too found other line fault.NoMemory same h = tt

@@ -1,0 +1,29 @@
+-- Sums, part by part.
+use Rattle.std.proofs.Common.{◌≡◌, ℕ, ◌+◌, ◌<◌, ◌≤◌, List, [], ◌∷◌, ◌++◌, refl, sym, ◌∙◌, ap, drop, length, map, get_or, append_assoc, append-nil}
+use Rattle.std.proofs.lemmas.List.{map-append, at_drop_more, at_drop_all}
+use Rattle.ia_lex.specs.declared.terms.Term.{Term}
+use Rattle.ia_lex.specs.Terms.{TermContent, term_content}
+use Rattle.ia_item.specs.declared.expression.ScopedTerm.{ScopedTerm}
+use Rattle.ia_source.specs.Contents.{scoped_term_content}
+use Rattle.ia_source.specs.Symbols.{resolved, scoped}
+
+-- one more part
+pub step : (scope : List ℕ) (done : List ScopedTerm) (p : ScopedTerm) (more : List ScopedTerm) (xs : List Term) (i : ℕ) (x : Term) (all : List TermContent) → i < length xs
+    → map scoped_term_content done ++ map (scoped scope) (drop i xs) ≡ all → more ≡ done ++ p ∷ [] → scoped_term_content p ≡ scoped scope (get_or xs i x)
+    → map scoped_term_content more ++ map (scoped scope) (drop (i + 1) xs) ≡ all
+step scope done p more xs i x all h e m q =
+    ap (λ (l : List ScopedTerm). map scoped_term_content l ++ map (scoped scope) (drop (i + 1) xs)) m
+    ∙ ap (λ (l : List TermContent). l ++ map (scoped scope) (drop (i + 1) xs)) (map-append scoped_term_content done (p ∷ []))
+    ∙ append_assoc (map scoped_term_content done) (scoped_term_content p ∷ []) (map (scoped scope) (drop (i + 1) xs))
+    ∙ ap (λ (v : TermContent). map scoped_term_content done ++ v ∷ map (scoped scope) (drop (i + 1) xs)) q
+    ∙ ap (λ (l : List TermContent). map scoped_term_content done ++ l) (sym (at_drop_more (map (scoped scope)) xs i x h)) ∙ e
+
+-- all parts
+pub finish : (scope : List ℕ) (done : List ScopedTerm) (xs : List Term) (i : ℕ) (all : List TermContent) → length xs ≤ i
+    → map scoped_term_content done ++ map (scoped scope) (drop i xs) ≡ all → map scoped_term_content done ≡ all
+finish scope done xs i all h e =
+    sym (append-nil (map scoped_term_content done)) ∙ ap (λ (l : List TermContent). map scoped_term_content done ++ l) (sym (at_drop_all (map (scoped scope)) xs i h)) ∙ e
+
+pub twice : (scope : List ℕ) (xs : List Term) → map (scoped scope) xs ≡ map (resolved scope) (map term_content xs)
+twice scope [] = refl
+twice scope (x ∷ xs) = ap (λ l. scoped scope x ∷ l) (twice scope xs)

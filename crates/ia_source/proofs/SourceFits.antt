@@ -1,0 +1,273 @@
+-- Every entry that is read can be placed.
+use Rattle.std.proofs.Common.{◌≡◌, ℕ, zero, suc, ◌≤◌, ◌^◌, ◌⊎◌, inl, inr, Bool, true, false, cond, List, [], ◌∷◌, ◌++◌, Option, Some, None, refl, sym, ◌∙◌, subst, map, length, arith, IsTrue, rules}
+use Rattle.std.proofs.lemmas.List.{length-map}
+use Rattle.std.specs.Prelude.{option_map, ◌==◌, ◌||◌, Result, Ok, Err, is_some}
+use Rattle.ia_insn.specs.declared.op.Op.{Op}
+use Rattle.ia_insn.specs.declared.op.Insn.{Insn}
+use Rattle.ia_insn.specs.Encoding.{is_encodable}
+use Rattle.ia_item.specs.declared.item.Item.{Item}
+use Rattle.ia_item.specs.declared.item.Item.TheVariants as item
+use Rattle.ia_item.specs.declared.item.Entry.{Entry}
+use Rattle.ia_item.specs.declared.expression.ScopedExpression.{ScopedExpression}
+use Rattle.ia_item.specs.Fits.{FitsExpression, FitsAnyExpression, FitsItem, AllFit, IsPower}
+use Rattle.ia_lex.specs.Tokens.{Lexeme, Word, Number, Text as Quoted, Mark, tokens_of}
+use Rattle.ia_lex.specs.Terms.{TermContent}
+use Rattle.ia_lex.specs.Lines.{lines_of}
+use Rattle.ia_source.specs.declared.mnemonic.Mnemonic.{Mnemonic}
+use Rattle.ia_source.specs.declared.mnemonic.Directive.{Directive}
+use Rattle.ia_source.specs.declared.mnemonic.Directive.TheVariants as directive
+use Rattle.ia_source.specs.declared.head.Statement.{Statement}
+use Rattle.ia_source.specs.declared.head.Statement.TheVariants as statement
+use Rattle.ia_source.specs.declared.fault.Why.{Why}
+use Rattle.ia_source.specs.Contents.{ItemContent, EntryContent, Label, Equ, Code, Byte, Text, Long, Reserve, Align, Org, scoped_term_content, expression_content, item_content, entry_content}
+use Rattle.ia_source.specs.Fits.{FitsTerms, FitsAnyTerms, FitsContent}
+use Rattle.ia_source.specs.Symbols.{resolved, written, whole_of}
+use Rattle.ia_source.specs.Commas.{between_commas}
+use Rattle.ia_source.specs.Forms.{op_of, by_op, instruction_of}
+use Rattle.ia_source.specs.Operands.{Operands, operands_of, expression_of}
+use Rattle.ia_source.specs.Heads.{Head, head_of}
+use Rattle.ia_source.specs.Statements.{StateContent, add, add_some, expression_in, code_item, byte_item, value_item, by_entries, values_onto, named_section, only_number, is_32, is_symbol, is_power, align_item, org_item, equ_item, if_fits, directive_onto, statement_onto, with_label, behind}
+use Rattle.ia_source.specs.Source.{SourceContent, is_twice, with_name, add_label, label_onto, or_bad, head_onto, tokens_onto, line_onto, by_line, lines_onto, first_content, entries_of}
+use Rattle.ia_source.proofs.FormsFit.{ReadsSum, sum_fits, mapped_fits, FitOperands, ReadsOperands, operands_fit}
+
+-- ---- items
+
+abbrev ReadsItem : Option ItemContent → Type 0
+ReadsItem r = (i : ItemContent) → r ≡ Some i → FitsContent i
+
+no_item : ReadsItem None
+no_item i e = absurd (cc)
+
+just_item : (j : ItemContent) → FitsContent j → ReadsItem (Some j)
+just_item j h i e = let k : j ≡ i = cc in subst FitsContent k h
+
+sum_in_fits : (at : StateContent) (ts : List Lexeme) → ReadsSum (expression_in at ts)
+sum_in_fits at ts = mapped_fits (resolved at.scope) (expression_of ts) (sum_fits ts)
+
+of_sum : (make : List TermContent → ItemContent) (r : Option (List TermContent)) → ((ps : List TermContent) → FitsTerms ps → FitsContent (make ps)) → ReadsSum r → ReadsItem (option_map make r)
+of_sum make None f g = no_item
+of_sum make (Some ps) f g = just_item (make ps) (f ps (g ps refl))
+
+written_fits : (scope : List ℕ) (ps : List TermContent) → length ps ≤ 16 → FitsAnyTerms (written scope ps)
+written_fits scope [] h = tt
+written_fits scope (p ∷ ps) h =
+    let l : length (map (resolved scope) ps) ≡ length ps = length-map ps (resolved scope) in
+    (omega arith, omega (arith, l, h))
+
+encoded : (i : Insn) (b : Bool) (j : Insn) → b ≡ is_encodable i → cond b (Some i) None ≡ Some j → IsTrue (is_encodable j)
+encoded i true j f e =
+    let k : i ≡ j = cc in
+    let t : IsTrue (is_encodable i) = search (rules, sym f) in
+    subst (λ (x : Insn). IsTrue (is_encodable x)) k t
+encoded i false j f e = absurd (cc)
+
+instruction_fits : (lock : Bool) (r : Option Op) (j : Insn) → by_op lock r ≡ Some j → IsTrue (is_encodable j)
+instruction_fits lock None j e = absurd (cc)
+instruction_fits lock (Some o) j e = encoded (record { lock = lock; op = o }) (is_encodable (record { lock = lock; op = o })) j refl e
+
+with_insn : (at : StateContent) (os : Operands) (r : Option Insn) → FitOperands os → ((j : Insn) → r ≡ Some j → IsTrue (is_encodable j))
+    → ReadsItem (option_map (λ i. Code i (written at.scope os.number) (written at.scope os.displacement)) r)
+with_insn at os None h f = no_item
+with_insn at os (Some j) h f = just_item (Code j (written at.scope os.number) (written at.scope os.displacement))
+    (f j refl, written_fits at.scope os.number h.number, written_fits at.scope os.displacement h.displacement)
+
+code_fits : (at : StateContent) (lock : Bool) (m : Mnemonic) (r : Option Operands) → ReadsOperands r → ReadsItem (code_item at lock m r)
+code_fits at lock m None f = no_item
+code_fits at lock m (Some os) f = with_insn at os (instruction_of lock m os.shapes) (f os refl) (instruction_fits lock (op_of m os.shapes))
+
+byte_sum : (at : StateContent) (ts : List Lexeme) → ReadsItem (option_map Byte (expression_in at ts))
+byte_sum at ts = of_sum Byte (expression_in at ts) (λ ps h. h) (sum_in_fits at ts)
+
+byte_fits : (at : StateContent) (ts : List Lexeme) → ReadsItem (byte_item at ts)
+byte_fits at [] = byte_sum at []
+byte_fits at (Quoted t ∷ []) = just_item (Text t) tt
+byte_fits at (Quoted t ∷ u ∷ ts) = byte_sum at (Quoted t ∷ u ∷ ts)
+byte_fits at (Word w ∷ ts) = byte_sum at (Word w ∷ ts)
+byte_fits at (Number n ∷ ts) = byte_sum at (Number n ∷ ts)
+byte_fits at (Mark b ∷ ts) = byte_sum at (Mark b ∷ ts)
+
+value_fits : (long : Bool) (at : StateContent) (ts : List Lexeme) → ReadsItem (value_item long at ts)
+value_fits false at ts = byte_fits at ts
+value_fits true at ts = of_sum Long (expression_in at ts) (λ ps h. h) (sum_in_fits at ts)
+
+org_fits : (r : Option (Option ℕ)) → ReadsItem (option_map Org r)
+org_fits None = no_item
+org_fits (Some n) = just_item (Org n) tt
+
+org_item_fits : (b : Bool) (r : Option (Option ℕ)) → ReadsItem (cond b None (option_map Org r))
+org_item_fits true r = no_item
+org_item_fits false r = org_fits r
+
+equ_fits : (at : StateContent) (label : Option (List ℕ)) (ts : List Lexeme) → ReadsItem (equ_item at label ts)
+equ_fits at None ts = no_item
+equ_fits at (Some own) ts = of_sum (Equ (whole_of at.scope own)) (expression_in at ts) (λ ps h. h) (sum_in_fits at ts)
+
+-- the last of some tests, or one before
+next_power : (n p k : ℕ) (more : Bool) → p ≡ 2 ^ k → k ≤ 12 → (more ≡ true → IsPower n) → (more || (n == p)) ≡ true → IsPower n
+next_power n p k more e h f t = elim (either more (n == p) t) [
+  | inl b ↦ f b
+  | inr a ↦ let same : n ≡ p = grind (arith, a) in (k, h, same ∙ e)
+]
+  where
+    either : (a b : Bool) → (a || b) ≡ true → (a ≡ true) ⊎ (b ≡ true)
+    either true b e = inl refl
+    either false b e = inr e
+
+last_power : (n p k : ℕ) → p ≡ 2 ^ k → k ≤ 12 → (n == p) ≡ true → IsPower n
+last_power n p k e h t = let same : n ≡ p = grind (arith, t) in (k, h, same ∙ e)
+
+power_fits : (n : ℕ) → is_power n ≡ true → IsPower n
+power_fits n = next_power n 4096 12 _ refl (omega arith) (next_power n 2048 11 _ refl (omega arith) (next_power n 1024 10 _ refl (omega arith) (next_power n 512 9 _ refl (omega arith) (next_power n 256 8 _ refl (omega arith) (next_power n 128 7 _ refl (omega arith) (next_power n 64 6 _ refl (omega arith) (next_power n 32 5 _ refl (omega arith) (next_power n 16 4 _ refl (omega arith) (next_power n 8 3 _ refl (omega arith) (next_power n 4 2 _ refl (omega arith) (next_power n 2 1 _ refl (omega arith) (last_power n 1 0 refl (omega arith)))))))))))))
+
+if_power : (n : ℕ) (b : Bool) → (b ≡ true → IsPower n) → ReadsItem (cond b (Some (Align n)) None)
+if_power n true f = just_item (Align n) (f refl)
+if_power n false f = no_item
+
+align_fits : (r : Option (Option ℕ)) → ReadsItem (align_item r)
+align_fits None = no_item
+align_fits (Some None) = no_item
+align_fits (Some (Some n)) = if_power n (is_power n) (power_fits n)
+
+-- ---- entries
+
+abbrev pub EachFits : List EntryContent → Type 0
+EachFits [] = Unit {0}
+EachFits (e ∷ es) = FitsContent e.item × EachFits es
+
+one_fits : (es : List EntryContent) (e : EntryContent) → EachFits es → FitsContent e.item → EachFits (es ++ e ∷ [])
+one_fits [] e h f = (f, tt)
+one_fits (x ∷ es) e h f = (h.0, one_fits es e h.1 f)
+
+abbrev ReadsEntries : Option (List EntryContent) → Type 0
+ReadsEntries r = (es : List EntryContent) → r ≡ Some es → EachFits es
+
+no_entries : ReadsEntries None
+no_entries es e = absurd (cc)
+
+just_entries : (fs : List EntryContent) → EachFits fs → ReadsEntries (Some fs)
+just_entries fs h es e = let k : fs ≡ es = cc in subst EachFits k h
+
+added_fit : (es : List EntryContent) (at : StateContent) (r : Option ItemContent) → EachFits es → ReadsItem r → ReadsEntries (add_some es at r)
+added_fit es at None h f = no_entries
+added_fit es at (Some i) h f = just_entries (add es at i) (one_fits es (record { line = at.line; section = at.section; item = i }) h (f i refl))
+
+by_entries_fit : (r : Option (List EntryContent)) (next : List EntryContent → Option (List EntryContent)) → ReadsEntries r → ((es : List EntryContent) → EachFits es → ReadsEntries (next es)) → ReadsEntries (by_entries r next)
+by_entries_fit None next f g = no_entries
+by_entries_fit (Some es) next f g = g es (f es refl)
+
+values_fit : (long : Bool) (at : StateContent) (es : List EntryContent) (ps : List (List Lexeme)) → EachFits es → ReadsEntries (values_onto long at es ps)
+values_fit long at es [] h = just_entries es h
+values_fit long at es (p ∷ ps) h = by_entries_fit (add_some es at (value_item long at p)) (λ more. values_onto long at more ps)
+    (added_fit es at (value_item long at p) h (value_fits long at p)) (λ more fit. values_fit long at more ps fit)
+
+if_fits_fit : (b : Bool) (es : List EntryContent) → EachFits es → ReadsEntries (if_fits b es)
+if_fits_fit true es h = just_entries es h
+if_fits_fit false es h = no_entries
+
+directive_fits : (es : List EntryContent) (at : StateContent) (label : Option (List ℕ)) (d : Directive) (ts : List Lexeme) → EachFits es → ReadsEntries (directive_onto es at label d ts)
+unfolding directive_onto
+directive_fits es at label directive.Section ts h = if_fits_fit (is_some (named_section ts)) es h
+directive_fits es at label directive.Org ts h = added_fit es at (org_item at ts) h (org_item_fits (at.based || at.placed) (only_number ts))
+directive_fits es at label directive.Bits ts h = if_fits_fit (is_32 (only_number ts)) es h
+directive_fits es at label directive.Global ts h = if_fits_fit (is_symbol ts) es h
+directive_fits es at label directive.Db ts h = values_fit false at es (between_commas ts) h
+directive_fits es at label directive.Dd ts h = values_fit true at es (between_commas ts) h
+directive_fits es at label directive.Resb ts h = added_fit es at (option_map Reserve (expression_in at ts)) h (of_sum Reserve (expression_in at ts) (λ ps h. h) (sum_in_fits at ts))
+directive_fits es at label directive.Align ts h = added_fit es at (align_item (only_number ts)) h (align_fits (only_number ts))
+directive_fits es at label directive.Equ ts h = added_fit es at (equ_item at label ts) h (equ_fits at label ts)
+
+statement_fits : (es : List EntryContent) (at : StateContent) (label : Option (List ℕ)) (w : Statement) (ts : List Lexeme) → EachFits es → ReadsEntries (statement_onto es at label w ts)
+statement_fits es at label statement.Nothing ts h = just_entries es h
+statement_fits es at label (statement.Code lock m) ts h = added_fit es at (code_item at lock m (operands_of ts)) h (code_fits at lock m (operands_of ts) (operands_fit ts))
+statement_fits es at label (statement.Directive d) ts h = directive_fits es at label d ts h
+statement_fits es at label statement.Unfit ts h = no_entries
+
+-- ---- lines
+
+name_fits : (es : List EntryContent) (at : StateContent) (label : Option (List ℕ)) → EachFits es → EachFits (add_label es at label)
+name_fits es at None h = h
+name_fits es at (Some own) h = one_fits es (record { line = at.line; section = at.section; item = Label (whole_of at.scope own) }) h tt
+
+label_fits : (es : List EntryContent) (at : StateContent) (label : Option (List ℕ)) (w : Statement) → EachFits es → EachFits (label_onto es at label w)
+label_fits es at label (statement.Directive directive.Equ) h = h
+label_fits es at label (statement.Directive directive.Section) h = name_fits es at label h
+label_fits es at label (statement.Directive directive.Org) h = name_fits es at label h
+label_fits es at label (statement.Directive directive.Bits) h = name_fits es at label h
+label_fits es at label (statement.Directive directive.Global) h = name_fits es at label h
+label_fits es at label (statement.Directive directive.Db) h = name_fits es at label h
+label_fits es at label (statement.Directive directive.Dd) h = name_fits es at label h
+label_fits es at label (statement.Directive directive.Resb) h = name_fits es at label h
+label_fits es at label (statement.Directive directive.Align) h = name_fits es at label h
+label_fits es at label statement.Nothing h = name_fits es at label h
+label_fits es at label (statement.Code lock m) h = name_fits es at label h
+label_fits es at label statement.Unfit h = name_fits es at label h
+
+abbrev ReadsLine : Result SourceContent (ℕ × Why) → Type 0
+ReadsLine r = (s : SourceContent) → r ≡ Ok s → EachFits s.entries
+
+no_line : (f : ℕ × Why) → ReadsLine (Err f)
+no_line f s e = absurd (cc)
+
+or_bad_fits : (line : ℕ) (at : StateContent) (names : List (List ℕ)) (r : Option (List EntryContent)) → ReadsEntries r → ReadsLine (or_bad line at names r)
+or_bad_fits line at names None f s e = absurd (cc)
+or_bad_fits line at names (Some es) f s e =
+    let k : record { at = at; names = names; entries = es } ≡ s = cc in
+    subst (λ (s : SourceContent). EachFits s.entries) k (f es refl)
+
+by_twice : (b : Bool) (f : ℕ × Why) (r : Result SourceContent (ℕ × Why)) → ReadsLine r → ReadsLine (cond b (Err f) r)
+by_twice true f r g = no_line f
+by_twice false f r g = g
+
+head_fits : (s : SourceContent) (h : Option Head) → EachFits s.entries → ReadsLine (head_onto s h)
+head_fits s None f = no_line _
+head_fits s (Some h) f = by_twice (is_twice s.names s.at h.label) _ _
+    (or_bad_fits s.at.line (behind (with_label s.at h.label h.statement) h.statement h.rest) (with_name s.names s.at h.label) _
+    (statement_fits (label_onto s.entries s.at h.label h.statement) (with_label s.at h.label h.statement) h.label h.statement h.rest (label_fits s.entries s.at h.label h.statement f)))
+
+tokens_fit : (s : SourceContent) (r : Option (List Lexeme)) → EachFits s.entries → ReadsLine (tokens_onto s r)
+tokens_fit s None f = no_line _
+tokens_fit s (Some ts) f = head_fits s (head_of ts) f
+
+line_fits : (s : SourceContent) (bytes : List ℕ) → EachFits s.entries → ReadsLine (line_onto s bytes)
+unfolding line_onto
+line_fits s bytes f = tokens_fit s (tokens_of bytes) f
+
+abbrev ReadsLines : Result (List EntryContent) (ℕ × Why) → Type 0
+ReadsLines r = (es : List EntryContent) → r ≡ Ok es → EachFits es
+
+by_line_fits : (r : Result SourceContent (ℕ × Why)) (next : SourceContent → Result (List EntryContent) (ℕ × Why)) → ReadsLine r → ((s : SourceContent) → EachFits s.entries → ReadsLines (next s)) → ReadsLines (by_line r next)
+by_line_fits (Err f) next g k es e = absurd (cc)
+by_line_fits (Ok s) next g k es e = k s (g s refl) es e
+
+lines_fit : (s : SourceContent) (ls : List (List ℕ)) → EachFits s.entries → ReadsLines (lines_onto s ls)
+lines_fit s [] f es e = let k : s.entries ≡ es = cc in subst EachFits k f
+lines_fit s (l ∷ ls) f es e = by_line_fits (line_onto s l) (λ more. lines_onto more ls) (line_fits s l f) (λ more fit. lines_fit more ls fit) es e
+
+-- ---- the code's entries
+
+sum_too : (s : ScopedExpression) → FitsTerms (expression_content s) → FitsExpression s
+sum_too s h = let l : length (map scoped_term_content s.terms.items) ≡ length s.terms.items = length-map s.terms.items scoped_term_content in (omega (arith, l, h.0), omega (arith, l, h.1))
+
+any_too : (s : Option ScopedExpression) → FitsAnyTerms (option_map expression_content s) → FitsAnyExpression s
+any_too None h = tt
+any_too (Some s) h = sum_too s h
+
+item_too : (i : Item) → FitsContent (item_content i) → FitsItem i
+item_too (item.Label name) h = tt
+item_too (item.Equ name s) h = sum_too s h
+item_too (item.Code t) h = (h.0, any_too t.number h.1, any_too t.displacement h.2)
+item_too (item.Byte s) h = sum_too s h
+item_too (item.Text b) h = tt
+item_too (item.Long s) h = sum_too s h
+item_too (item.Reserve s) h = sum_too s h
+item_too (item.Align n) h = h
+item_too (item.Org n) h = tt
+
+each_too : (xs : List Entry) → EachFits (map entry_content xs) → AllFit xs
+each_too [] h k d l = absurd (omega arith)
+each_too (x ∷ xs) h zero d l = item_too x.item h.0
+each_too (x ∷ xs) h (suc k) d l = each_too xs h.1 k d (omega arith)
+
+-- entries that are those of a source can be placed
+pub all_fit : (source : List ℕ) (xs : List Entry) → entries_of source ≡ Ok (map entry_content xs) → AllFit xs
+all_fit source xs e = each_too xs (lines_fit first_content (lines_of source) tt (map entry_content xs) e)

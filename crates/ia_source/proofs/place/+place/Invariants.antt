@@ -1,8 +1,0 @@
-use Rattle.std.proofs.Common.{length}
-use Rattle.ia_source.proofs.place.+place.Given as goal
-
-abbrev pub decreases-behind_piece : goal.decreases-behind_piece
-decreases-behind_piece l = length l.tokens.now
-
-abbrev pub decreases-behind_sign : goal.decreases-behind_sign
-decreases-behind_sign l = length l.tokens.now

@@ -1,0 +1,77 @@
+//! Expressions with the whole names of their symbols.
+
+ghost use Rattle.std.specs.Prelude.{◌≡◌, map, option_map, IfOk};
+ghost use Rattle.ia_item.specs.Names.{whole_name};
+ghost use Rattle.ia_source.specs.Contents.{scoped_term_content, expression_content};
+ghost use Rattle.ia_source.specs.MemoryOperands.{terms_content};
+ghost use Rattle.ia_source.specs.Symbols.{is_local, whole_of, resolved, scoped, written};
+
+use ia_item::{Name, ScopedAtom, ScopedExpression, ScopedTerm};
+use ia_lex::{Atom, Expression, Term};
+use std::alloc::{AllocError, Global};
+
+/// Whether a name is that of a local label: it begins with a dot.
+pub fn is_local(own: &[u8]) -> bool
+    ensures { result ≡ is_local own.now }
+{
+    match own.first() {
+        Some(byte) => *byte == b'.',
+        None => false,
+    }
+}
+
+/// A name behind a label.
+pub fn name_in<'a>(scope: &'a [u8], own: &'a [u8]) -> Name<'a>
+    ensures { whole_name result ≡ whole_of scope.now own.now }
+{
+    if is_local(own) {
+        Name { scope, own }
+    } else {
+        Name { scope: b"", own }
+    }
+}
+
+fn term_in<'a>(scope: &'a [u8], term: &Term<'a>) -> ScopedTerm<'a>
+    ensures { scoped_term_content result ≡ scoped scope.now term.now }
+{
+    let Term { negative, atom } = *term;
+    match atom {
+        Atom::Number(number) => ScopedTerm {
+            negative,
+            atom: ScopedAtom::Number(number),
+        },
+        Atom::Symbol(own) => ScopedTerm {
+            negative,
+            atom: ScopedAtom::Symbol(name_in(scope, own)),
+        },
+    }
+}
+
+/// The expression that stands behind a label.
+#[tactic(auto, using(crate::proofs::ScopedTerms::step, crate::proofs::ScopedTerms::finish, crate::proofs::ScopedTerms::twice))]
+pub fn expression_in<'a>(alloc: Global, scope: &'a [u8], expression: &Expression<'a>) -> Result<ScopedExpression<'a>, AllocError>
+    ensures { IfOk result (λ s. expression_content s ≡ map (resolved scope.now) (terms_content expression.now)) }
+{
+    let written = expression.as_slice();
+    let mut terms = Vec::with_capacity(alloc, written.len())?;
+    for term in written {
+        terms.push(term_in(scope, term))?;
+    }
+    Ok(ScopedExpression { terms })
+}
+
+/// The expression, where there is one.
+pub fn some_expression<'a>(
+    alloc: Global,
+    scope: &'a [u8],
+    expression: &Expression<'a>,
+) -> Result<Option<ScopedExpression<'a>>, AllocError>
+    ensures { IfOk result (λ s. option_map expression_content s ≡ written scope.now (terms_content expression.now)) }
+{
+    if expression.is_empty() {
+        Ok(None)
+    } else {
+        let scoped = expression_in(alloc, scope, expression)?;
+        Ok(Some(scoped))
+    }
+}

@@ -1,0 +1,295 @@
+//! Places in memory.
+
+ghost use Rattle.std.specs.Prelude.{◌≡◌, ◌≤◌, ◌<◌, length, map, option_map, IfSome, Some, None, false, not};
+ghost use Rattle.ia_lex.specs.Tokens.{lexeme_of};
+ghost use Rattle.ia_lex.specs.Terms.{term_content, atom_content};
+ghost use Rattle.ia_source.specs.MemoryOperands.{long_register, scale_of, both, with_register, with_scaled, with_term, plain, product, factor_of, piece_at, joined, memory_from, memory_of, terms_content, piece_content, piece_and_length, joined_content, memory_content};
+
+use crate::comma::is_mark;
+use ia_insn::Mem;
+use ia_lex::{Atom, Expression, Term, Token, atom, register_of, sign};
+use ia_word::Width;
+
+/// A place in memory.
+#[derive(Drop)]
+pub struct MemoryOperand<'a> {
+    /// Its base and its index, with a displacement of 0.
+    pub mem: Mem,
+    /// The terms of its displacement.
+    pub terms: Expression<'a>,
+}
+
+/// A part of a place.
+#[derive(Clone, Copy)]
+pub enum Piece<'a> {
+    /// A register.
+    Register(u8),
+    /// A register and its scale.
+    Scaled(u8, u8),
+    /// A number or a symbol.
+    Valued(Atom<'a>),
+}
+
+const NOWHERE: Mem = Mem {
+    base: None,
+    index: None,
+    scale: 1,
+    disp: 0,
+};
+
+/// The register of 32 bits that a token names.
+fn long_register(token: &Token) -> Option<u8>
+    ensures { result ≡ long_register (lexeme_of token.now) }
+{
+    match token {
+        Token::Word(word) => match register_of(word) {
+            Some((Width::D, register)) => Some(register),
+            _ => None,
+        },
+        _ => None,
+    }
+}
+
+fn scale(token: &Token) -> Option<u8>
+    ensures { result ≡ scale_of (lexeme_of token.now) }
+{
+    match token {
+        Token::Number(Some(1)) => Some(1),
+        Token::Number(Some(2)) => Some(2),
+        Token::Number(Some(4)) => Some(4),
+        Token::Number(Some(8)) => Some(8),
+        _ => None,
+    }
+}
+
+/// One more register: the base, or behind another the index, where ESP changes places with it.
+fn with_register(mem: Mem, register: u8) -> Option<Mem>
+    ensures { result ≡ with_register mem register }
+{
+    match (mem.base, mem.index) {
+        (None, index) => Some(Mem {
+            base: Some(register),
+            index,
+            scale: mem.scale,
+            disp: 0,
+        }),
+        (Some(_), Some(_)) => None,
+        (Some(base), None) => {
+            if register != 4 {
+                Some(Mem {
+                    base: Some(base),
+                    index: Some(register),
+                    scale: 1,
+                    disp: 0,
+                })
+            } else if base == 4 {
+                None
+            } else {
+                Some(Mem {
+                    base: Some(4),
+                    index: Some(base),
+                    scale: 1,
+                    disp: 0,
+                })
+            }
+        }
+    }
+}
+
+/// One more register with a scale: the index.
+fn with_scaled(mem: Mem, register: u8, scale: u8) -> Option<Mem>
+    ensures { result ≡ with_scaled mem register scale }
+{
+    match mem.index {
+        Some(_) => None,
+        None => {
+            if register == 4 {
+                None
+            } else {
+                Some(Mem {
+                    base: mem.base,
+                    index: Some(register),
+                    scale,
+                    disp: 0,
+                })
+            }
+        }
+    }
+}
+
+/// One more part, of at most 16.
+#[tactic(auto, using(crate::proofs::MemoryOperands::one_more, crate::proofs::MemoryOperands::has_room, crate::proofs::MemoryOperands::is_full))]
+fn with_term<'a>(terms: Expression<'a>, negative: bool, atom: Atom<'a>) -> Option<Expression<'a>>
+    ensures { option_map terms_content result ≡ with_term (terms_content terms.entry) negative (atom_content atom.entry) }
+{
+    let mut terms = terms;
+    if terms.is_full() {
+        return None;
+    }
+    terms.push(Term { negative, atom });
+    Some(terms)
+}
+
+fn plain<'a>(token: &Token<'a>) -> Option<Piece<'a>>
+    ensures { option_map piece_content result ≡ plain (lexeme_of token.now) }
+{
+    match long_register(token) {
+        Some(register) => Some(Piece::Register(register)),
+        None => match atom(token) {
+            Some(atom) => Some(Piece::Valued(atom)),
+            None => None,
+        },
+    }
+}
+
+fn both<'a>(register: &Token<'a>, factor: &Token<'a>) -> Option<Piece<'a>>
+    ensures { option_map piece_content result ≡ both (long_register (lexeme_of register.now)) (scale_of (lexeme_of factor.now)) }
+{
+    match (long_register(register), scale(factor)) {
+        (Some(register), Some(scale)) => Some(Piece::Scaled(register, scale)),
+        _ => None,
+    }
+}
+
+/// A register times a scale, or a scale times a register.
+fn product<'a>(first: &Token<'a>, second: &Token<'a>) -> Option<Piece<'a>>
+    ensures { option_map piece_content result ≡ product (lexeme_of first.now) (lexeme_of second.now) }
+{
+    match first {
+        Token::Word(_) => both(first, second),
+        _ => both(second, first),
+    }
+}
+
+/// The token behind a `*` in front.
+fn factor<'a, 'b>(tokens: &'b [Token<'a>]) -> Option<&'b Token<'a>>
+    ensures token { option_map (λ t. lexeme_of t.now) result ≡ factor_of (map lexeme_of tokens.now) }
+    ensures within { IfSome result (λ t. 2 ≤ length tokens.now) }
+{
+    match tokens {
+        [mark, second, ..] => {
+            if is_mark(b'*', mark) {
+                Some(second)
+            } else {
+                None
+            }
+        }
+        _ => None,
+    }
+}
+
+/// The piece in front, and how many tokens it takes.
+fn front_piece<'a>(tokens: &[Token<'a>]) -> Option<(Piece<'a>, usize)>
+    ensures piece { option_map piece_and_length result ≡ piece_at (map lexeme_of tokens.now) }
+    ensures some { IfSome result (λ x. 1 ≤ x.1) }
+    ensures within { IfSome result (λ x. x.1 ≤ length tokens.now) }
+{
+    match tokens.split_first() {
+        None => None,
+        Some((first, rest)) => match factor(rest) {
+            Some(second) => match product(first, second) {
+                Some(piece) => Some((piece, 3)),
+                None => None,
+            },
+            None => match plain(first) {
+                Some(piece) => Some((piece, 1)),
+                None => None,
+            },
+        },
+    }
+}
+
+/// A place with one more piece.
+fn joined<'a>(
+    mem: Mem,
+    terms: Expression<'a>,
+    negative: bool,
+    register: bool,
+    piece: Piece<'a>,
+) -> Option<(Mem, Expression<'a>)>
+    ensures { option_map joined_content result ≡ joined mem (terms_content terms.entry) negative register (piece_content piece.entry) }
+{
+    match piece {
+        Piece::Register(number) => {
+            if !register {
+                return None;
+            }
+            match with_register(mem, number) {
+                Some(mem) => Some((mem, terms)),
+                None => None,
+            }
+        }
+        Piece::Scaled(number, scale) => {
+            if !register {
+                return None;
+            }
+            match with_scaled(mem, number, scale) {
+                Some(mem) => Some((mem, terms)),
+                None => None,
+            }
+        }
+        Piece::Valued(atom) => match with_term(terms, negative, atom) {
+            Some(terms) => Some((mem, terms)),
+            None => None,
+        },
+    }
+}
+
+/// What stands behind a piece: a sign and pieces, or the closing bracket.
+#[cycle(memory)]
+fn behind_piece<'a>(mem: Mem, terms: Expression<'a>, tokens: &[Token<'a>]) -> Option<MemoryOperand<'a>>
+    ensures { option_map memory_content result ≡ memory_from 0 mem (terms_content terms.entry) None (map lexeme_of tokens.now) }
+{
+    match tokens.split_first() {
+        None => None,
+        Some((token, rest)) => {
+            if is_mark(b']', token) {
+                if rest.is_empty() {
+                    Some(MemoryOperand { mem, terms })
+                } else {
+                    None
+                }
+            } else {
+                match sign(token) {
+                    None => None,
+                    Some(negative) => behind_sign(mem, terms, negative, !negative, rest),
+                }
+            }
+        }
+    }
+}
+
+/// What stands behind a sign: a piece and what follows it.
+#[cycle(memory)]
+#[tactic(auto, using(crate::proofs::MemoryOperands::behind_some, crate::proofs::MemoryOperands::behind_none, crate::proofs::MemoryOperands::behind_bad))]
+fn behind_sign<'a>(
+    mem: Mem,
+    terms: Expression<'a>,
+    negative: bool,
+    register: bool,
+    tokens: &[Token<'a>],
+) -> Option<MemoryOperand<'a>>
+    ensures { option_map memory_content result ≡ memory_from 0 mem (terms_content terms.entry) (Some (negative, register)) (map lexeme_of tokens.now) }
+{
+    match front_piece(tokens) {
+        None => None,
+        Some((piece, taken)) => match joined(mem, terms, negative, register, piece) {
+            None => None,
+            Some((mem, terms)) => behind_piece(mem, terms, &tokens[taken..]),
+        },
+    }
+}
+
+/// The place whose tokens stand behind an opening bracket. A sign in front belongs to a number or a symbol.
+#[tactic(auto, unfolding(crate::specs::MemoryOperands::memory_of))]
+pub fn read_memory<'a>(tokens: &[Token<'a>]) -> Option<MemoryOperand<'a>>
+    ensures { option_map memory_content result ≡ memory_of (map lexeme_of tokens.now) }
+{
+    match tokens.split_first() {
+        None => None,
+        Some((token, rest)) => match sign(token) {
+            None => behind_sign(NOWHERE, Expression::new(), false, true, tokens),
+            Some(negative) => behind_sign(NOWHERE, Expression::new(), negative, false, rest),
+        },
+    }
+}
