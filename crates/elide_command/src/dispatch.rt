@@ -2,18 +2,15 @@
 
 ghost use Rattle.std.specs.Prelude.{◌≤◌};
 
-use crate::asm::asm;
-use crate::debug::debug;
-use crate::dis::dis;
-use crate::fault::{Fault, Refusal};
-use crate::options::command_line;
-use crate::paths::Paths;
-use crate::replay::replay;
-use crate::run::run;
-use crate::threads::threads;
-use clap::ArgMatches;
+use crate::telling::{tell, tell_no_request};
+use elide_args::{Request, request_of};
+use elide_asm::{asm, dis};
+use elide_debug::debug;
+use elide_program::Paths;
+use elide_run::{Agreement, replay, run};
+use elide_setup::Refusal;
+use elide_threads::threads;
 use ia_text::Out;
-use std::alloc::{AllocError, Global};
 use std::sync::Wait;
 use std::thread::Threads;
 use tm_debug::In;
@@ -34,91 +31,45 @@ pub fn command<R: Threads + Wait + Sync + AllocGlobal, P: Paths, I: In, O: Out, 
     ensures { result ≤ 2 }
 {
     let alloc = rt.alloc();
-    let line = match command_line(alloc) {
-        Ok(line) => line,
-        Err(refused) => return tell(alloc, Refusal::from(refused), err),
-    };
-    match line.try_get_matches_from(words) {
-        Ok(matches) => match obey(rt, &matches, paths, input, out) {
+    match request_of(alloc, words) {
+        Ok(request) => match obey(rt, &request, paths, input, out) {
             Ok(Answer::Done) => 0,
             Ok(Answer::Differs) => 1,
             Err(refusal) => tell(alloc, refusal, err),
         },
-        Err(error) => tell_clap(alloc, &error, out, err),
+        Err(answer) => tell_no_request(alloc, answer, out, err),
     }
 }
 
-/// What a command that was not refused came to.
+// What a command that was not refused came to.
 #[derive(Clone, Copy, PartialEq, Eq, Debug)]
-pub enum Answer {
-    /// It did what it was asked.
+enum Answer {
+    // It did what it was asked.
     Done,
-    /// A history that was run again ended otherwise.
+    // A history that was run again ended otherwise.
     Differs,
 }
 
-// Does what the words say.
+// Does what is asked for.
 fn obey<R: Threads + Wait + Sync + AllocGlobal, P: Paths, I: In, O: Out>(
     rt: &R,
-    matches: &ArgMatches<'_>,
+    request: &Request<'_>,
     paths: &mut P,
     input: &mut I,
     out: &mut O,
 ) -> Result<Answer, Refusal> {
     let alloc = rt.alloc();
-    match matches.subcommand() {
-        Some(("asm", options)) => asm(alloc, options, paths, out),
-        Some(("dis", options)) => dis(alloc, options, paths, out),
-        Some(("run", options)) => run(alloc, options, paths, out),
-        Some(("threads", options)) => threads(rt, options, paths, out),
-        Some(("replay", options)) => replay(alloc, options, paths, out),
-        Some(("debug", options)) => debug(rt, alloc, options, paths, input, out),
-        _ => Ok(Answer::Done),
-    }
-}
-
-// Tells why a command ended, and gives its status.
-fn tell<E: Out>(alloc: Global, refusal: Refusal, err: &mut E) -> u8
-    ensures { result ≤ 2 }
-{
-    match refusal {
-        Refusal::Fault(fault) => {
-            put_text(fault_line(alloc, fault), err);
-            1
-        }
-        Refusal::Usage(name) => {
-            put_text(format!(in alloc; "usage: {name}\n"), err);
-            2
+    match request {
+        Request::Asm(options) => asm(alloc, options, paths, out)?,
+        Request::Dis(options) => dis(alloc, options, paths, out)?,
+        Request::Run(options) => run(alloc, options, paths, out)?,
+        Request::Threads(options) => threads(rt, options, paths, out)?,
+        Request::Debug(options) => debug(rt, alloc, options, paths, input, out)?,
+        Request::Replay(options) => {
+            if replay(alloc, options, paths, out)? == Agreement::Differs {
+                return Ok(Answer::Differs);
+            }
         }
     }
-}
-
-// The line that tells a fault.
-fn fault_line(alloc: Global, fault: Fault) -> Result<String, AllocError> {
-    let code = fault.code();
-    match fault.line() {
-        None => format!(in alloc; "fault {code} {fault}\n"),
-        Some(line) => format!(in alloc; "fault {code} {fault} line {line}\n"),
-    }
-}
-
-// Tells what clap says of the words: a refusal, or the help or version that was asked for.
-fn tell_clap<O: Out, E: Out>(alloc: Global, error: &clap::Error, out: &mut O, err: &mut E) -> u8
-    ensures { result ≤ 2 }
-{
-    let text = format!(in alloc; "{error}");
-    if error.use_stderr() {
-        put_text(text, err);
-        2
-    } else {
-        put_text(text, out);
-        0
-    }
-}
-
-// Writes a text that could be made. A failure here has no further place to be told.
-fn put_text<O: Out>(text: Result<String, AllocError>, out: &mut O) {
-    if let Ok(text) = text {
-        let _ = out.put(text.as_bytes());
-    }
+    Ok(Answer::Done)
 }

@@ -1,27 +1,12 @@
 //! The commands of `elide`, over files and devices that are handed in.
+//!
+//! [`command`] promises the exit status, 0, 1 or 2; what it writes is compared by `doc_tests`. The words become a plain request
+//! in `elide_args`; each command is a crate of its own, `elide_asm`, `elide_run`, `elide_threads` and `elide_debug`, and this one
+//! chooses among them and tells how they ended.
 #![tactic(auto)]
 
-mod asm;
-mod debug;
-mod dis;
 mod dispatch;
-mod fault;
-mod file;
-mod number;
-mod options;
-mod page;
-mod paths;
-mod plan;
-mod program;
-mod replay;
-mod run;
-mod settings;
-mod setup;
-mod show;
-mod threads;
+mod telling;
 
 pub use dispatch::command;
-pub use paths::{HostPaths, Paths};
-
-#[cfg(test)]
-mod tests;
+pub use elide_program::{HostPaths, Paths};

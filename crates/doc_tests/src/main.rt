@@ -1,0 +1,94 @@
+//! Runs each `elide` command that the documents and the table of worked rows show, and tells where it comes to something
+//! else than they say.
+//!
+//! A document's commands are the lines `$ ./elide ..` and `$ cat ..` of its code blocks. What has to be printed stands below
+//! a command, up to the next one or the block's end; a line `...` there stands for any lines. The table, `rows.txt`, says
+//! its form at its head; its commands run over files in memory, and status, standard output and standard error are compared.
+#![tactic(auto)]
+
+mod exercise;
+mod memory;
+mod reply;
+mod rows;
+
+use doc_lines::{exercises, parts};
+use exercise::{Verdict, run};
+use rows::Course;
+use std::io::Write;
+use std::process::ExitCode;
+use std::rt::Files;
+use std::sync::Wait;
+use std::thread::Threads;
+use std::{fs, io};
+
+/// The documents whose commands are run, in this order, so that a later one may read what an earlier one wrote. The last is
+/// there for the tests alone.
+const DOCUMENTS: [&str; 3] = ["docs/TUTORIAL.md", "examples/README.md", "files.md"];
+
+/// The table of worked rows.
+const TABLE: &str = "rows.txt";
+
+fn main(rt: HostRuntime) -> io::Result<ExitCode> {
+    let mut out = io::writer(&rt);
+    let mut wrong = 0usize;
+    for path in DOCUMENTS {
+        wrong = wrong.saturating_add(check(&rt, path, &mut out)?);
+    }
+    wrong = wrong.saturating_add(check_rows(&rt, TABLE, &mut out)?);
+    Ok(if wrong == 0 {
+        ExitCode::SUCCESS
+    } else {
+        ExitCode::FAILURE
+    })
+}
+
+// Runs the commands of one document, and answers how many print something else.
+fn check<R: Threads + Wait + Sync + AllocGlobal + Files, W: Write>(
+    rt: &R,
+    path: &str,
+    out: &mut W,
+) -> io::Result<usize> {
+    let text = fs::read_to_string(rt, path)?;
+    let exercises = exercises(rt.alloc(), &text)?;
+    let mut wrong = 0usize;
+    for exercise in &exercises {
+        match run(rt, exercise)? {
+            Verdict::AsShown => {}
+            Verdict::Otherwise(said) => {
+                wrong = wrong.saturating_add(1);
+                writeln!(out, "{path}: {} prints\n{said}", exercise.command)?;
+            }
+        }
+    }
+    writeln!(
+        out,
+        "{path}: {} commands, {wrong} print something else",
+        exercises.len()
+    )?;
+    Ok(wrong)
+}
+
+// Runs the commands of the table, and answers how many come to something else.
+fn check_rows<R: Threads + Wait + Sync + AllocGlobal + Files, W: Write>(
+    rt: &R,
+    path: &str,
+    out: &mut W,
+) -> io::Result<usize> {
+    let text = fs::read_to_string(rt, path)?;
+    let parts = parts(rt.alloc(), &text)?;
+    let mut course = Course::new(rt.alloc());
+    for part in &parts {
+        course.take(rt, part, out)?;
+    }
+    let Course {
+        rows,
+        commands,
+        wrong,
+        ..
+    } = &course;
+    writeln!(
+        out,
+        "{path}: {commands} commands in {rows} rows, {wrong} come to something else"
+    )?;
+    Ok(course.wrong)
+}

@@ -1,0 +1,92 @@
+//! What a command line of `elide` comes to.
+
+use doc_lines::{Room, Told};
+use elide_command::{Paths, command};
+use ia_text::ToWriter;
+use std::alloc::{AllocError, Global};
+use std::io;
+use std::io::Write;
+use std::sync::Wait;
+use std::thread::Threads;
+use tm_debug::FromReader;
+
+/// The exit status, and what was written.
+#[derive(Debug, Drop)]
+pub struct Reply {
+    /// The exit status.
+    pub status: u8,
+    /// What stands on standard output.
+    pub out: String,
+    /// What stands on standard error.
+    pub err: String,
+}
+
+impl Reply {
+    /// The same, to be compared.
+    pub fn told(&self) -> Told<'_> {
+        Told {
+            status: self.status,
+            out: self.out.as_str(),
+            err: self.err.as_str(),
+        }
+    }
+}
+
+/// Outputs that take all that is written.
+pub const ALL: Room = Room {
+    out: usize::MAX,
+    err: usize::MAX,
+};
+
+/// Runs a command over these files and this input; its outputs take so many bytes and then fail.
+pub fn reply_to<R: Threads + Wait + Sync + AllocGlobal, P: Paths>(
+    rt: &R,
+    words: &[String],
+    paths: &mut P,
+    given: &[u8],
+    room: Room,
+) -> Result<Reply, AllocError> {
+    let alloc = rt.alloc();
+    let mut input = FromReader::new(given);
+    let mut out = ToWriter::new(Sheet::new(alloc, room.out));
+    let mut err = ToWriter::new(Sheet::new(alloc, room.err));
+    let status = command(rt, words, paths, &mut input, &mut out, &mut err);
+    Ok(Reply {
+        status,
+        out: out.writer.text(alloc)?,
+        err: err.writer.text(alloc)?,
+    })
+}
+
+// A device in memory with room for so many bytes.
+#[derive(Drop)]
+struct Sheet {
+    bytes: Vec<u8>,
+    room: usize,
+}
+
+impl Sheet {
+    fn new(alloc: Global, room: usize) -> Sheet {
+        Sheet {
+            bytes: Vec::new(alloc),
+            room,
+        }
+    }
+
+    fn text(&self, alloc: Global) -> Result<String, AllocError> {
+        String::from_utf8_lossy(alloc, self.bytes.as_slice())
+    }
+}
+
+impl Write for Sheet {
+    fn write(&mut self, buf: &[u8]) -> io::Result<usize> {
+        let count = buf.len().min(self.room);
+        self.bytes.extend_from_slice(&buf[..count])?;
+        self.room -= count;
+        Ok(count)
+    }
+
+    fn flush(&mut self) -> io::Result<()> {
+        Ok(())
+    }
+}

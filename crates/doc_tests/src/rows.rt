@@ -1,0 +1,123 @@
+//! The worked rows, run over files in memory.
+
+use crate::memory::Memory;
+use crate::reply::{Reply, reply_to};
+use doc_lines::{PartHead, Room, TablePart, is_wanted, line_of, room_of};
+use elide_command::Paths;
+use std::alloc::{AllocError, Global};
+use std::io;
+use std::io::Write;
+use std::sync::Wait;
+use std::thread::Threads;
+
+/// Where a run of the table stands.
+#[derive(Drop)]
+pub struct Course<'a> {
+    /// How many rows were begun.
+    pub rows: usize,
+    /// How many commands were run.
+    pub commands: usize,
+    /// How many of them came to something else.
+    pub wrong: usize,
+    title: &'a str,
+    memory: Memory,
+    before: String,
+}
+
+impl<'a> Course<'a> {
+    /// Before the first row.
+    pub fn new(alloc: Global) -> Course<'a> {
+        Course {
+            rows: 0,
+            commands: 0,
+            wrong: 0,
+            title: "",
+            memory: Memory::new(alloc),
+            before: String::new(alloc),
+        }
+    }
+
+    /// Takes a part of the table, and tells a command that comes to something else than it says.
+    pub fn take<R: Threads + Wait + Sync + AllocGlobal, W: Write>(
+        &mut self,
+        rt: &R,
+        part: &TablePart<'a>,
+        out: &mut W,
+    ) -> io::Result<()> {
+        match part.head {
+            PartHead::Row(title) => self.begin(rt.alloc(), title),
+            PartHead::Text(name) => self
+                .memory
+                .put(name, Some(text_of(rt.alloc(), &part.lines)?))?,
+            PartHead::Bytes(name) => self
+                .memory
+                .put(name, Some(bytes_of(rt.alloc(), &part.lines)?))?,
+            PartHead::Folder(name) => self.memory.put(name, None)?,
+            PartHead::Command(command) => self.run(rt, command, part.lines.as_slice(), out)?,
+        }
+        Ok(())
+    }
+
+    fn begin(&mut self, alloc: Global, title: &'a str) {
+        self.rows = self.rows.saturating_add(1);
+        self.title = title;
+        self.memory = Memory::new(alloc);
+        self.before.clear();
+    }
+
+    fn run<R: Threads + Wait + Sync + AllocGlobal, W: Write>(
+        &mut self,
+        rt: &R,
+        command: &str,
+        lines: &[&str],
+        out: &mut W,
+    ) -> io::Result<()> {
+        self.commands = self.commands.saturating_add(1);
+        let told = said(rt, command, &mut self.memory, room_of(lines))?;
+        if !is_wanted(lines, told.told(), self.before.as_str()) {
+            self.wrong = self.wrong.saturating_add(1);
+            writeln!(out, "{}: {command} comes to {}", self.title, told.status)?;
+            writeln!(out, "{}{}", told.out, told.err)?;
+        }
+        self.before = told.out;
+        Ok(())
+    }
+}
+
+// What a command comes to over files in memory.
+fn said<R: Threads + Wait + Sync + AllocGlobal>(
+    rt: &R,
+    command: &str,
+    memory: &mut Memory,
+    room: Room,
+) -> Result<Reply, AllocError> {
+    let alloc = rt.alloc();
+    let line = line_of(alloc, command)?;
+    let given = match &line.input {
+        Some(name) => memory.read(name.as_str()).map_err(|_| AllocError)?,
+        None => Vec::new(alloc),
+    };
+    let words = line.words.as_slice().get(1..).unwrap_or(&[]);
+    reply_to(rt, words, memory, given.as_slice(), room)
+}
+
+// The lines of a file, each ended by LF.
+fn text_of(alloc: Global, lines: &Vec<&str>) -> Result<Vec<u8>, AllocError> {
+    let mut text = Vec::new(alloc);
+    for line in lines {
+        text.extend_from_slice(line.as_bytes())?;
+        text.push(b'\n')?;
+    }
+    Ok(text)
+}
+
+// The bytes that words of two hex digits say.
+fn bytes_of(alloc: Global, lines: &Vec<&str>) -> Result<Vec<u8>, AllocError> {
+    let mut bytes = Vec::new(alloc);
+    for line in lines {
+        for word in line.split_whitespace() {
+            bytes.push(u8::from_str_radix(word, 16).unwrap_or(0))?;
+        }
+    }
+    Ok(bytes)
+}

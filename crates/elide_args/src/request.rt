@@ -1,0 +1,100 @@
+//! What the words of a command line ask for. The values are texts of the words, or clap's defaults; no one has read them yet.
+
+/// A request: a subcommand with its options.
+#[derive(Clone, Copy, Debug)]
+pub enum Request<'a> {
+    /// `asm`.
+    Asm(AsmOptions<'a>),
+    /// `dis`.
+    Dis(DisOptions<'a>),
+    /// `run`.
+    Run(RunOptions<'a>),
+    /// `threads`.
+    Threads(ThreadsOptions<'a>),
+    /// `replay`.
+    Replay(ReplayOptions<'a>),
+    /// `debug`.
+    Debug(DebugOptions<'a>),
+}
+
+/// The options of `asm`.
+#[derive(Clone, Copy, Debug)]
+pub struct AsmOptions<'a> {
+    /// The path of the source.
+    pub file: &'a str,
+    /// Whether the listing is printed in place of the image text.
+    pub lists: bool,
+}
+
+/// The options of `dis`.
+#[derive(Clone, Copy, Debug)]
+pub struct DisOptions<'a> {
+    /// The path of the program.
+    pub file: &'a str,
+}
+
+/// The options of `run`.
+#[derive(Clone, Copy, Debug)]
+pub struct RunOptions<'a> {
+    /// The machine.
+    pub machine: MachineOptions<'a>,
+    /// The schedule.
+    pub schedule: ScheduleOptions<'a>,
+    /// Whether the outcome of each step is printed.
+    pub traces: bool,
+}
+
+/// The options of `threads`.
+#[derive(Clone, Copy, Debug)]
+pub struct ThreadsOptions<'a> {
+    /// The machine.
+    pub machine: MachineOptions<'a>,
+    /// `--budget`: the most steps of each core.
+    pub budget: Option<&'a str>,
+    /// `--record`: the path that the schedule is written to.
+    pub record: Option<&'a str>,
+}
+
+/// The options of `replay`.
+#[derive(Clone, Copy, Debug)]
+pub struct ReplayOptions<'a> {
+    /// The machine.
+    pub machine: MachineOptions<'a>,
+    /// The schedule.
+    pub schedule: ScheduleOptions<'a>,
+}
+
+/// The options of `debug`.
+#[derive(Clone, Copy, Debug)]
+pub struct DebugOptions<'a> {
+    /// The machine.
+    pub machine: MachineOptions<'a>,
+}
+
+/// The options of each command that makes a machine.
+#[derive(Clone, Copy, Debug)]
+pub struct MachineOptions<'a> {
+    /// The path of the program.
+    pub file: &'a str,
+    /// `--cores`.
+    pub cores: Option<&'a str>,
+    /// `--mem`.
+    pub memory: Option<&'a str>,
+    /// `--entry`.
+    pub entry: Option<&'a str>,
+    /// `--reads`.
+    pub reads: Option<&'a str>,
+    /// `--writes`.
+    pub writes: Option<&'a str>,
+    /// `--dump`.
+    pub dump: Option<&'a str>,
+}
+
+/// The options that give a schedule, of which a command takes exactly one.
+#[derive(Clone, Copy, Debug)]
+pub struct ScheduleOptions<'a> {
+    /// `--steps`: a list of core numbers.
+    pub steps: Option<&'a str>,
+    /// `--schedule`: the path of a schedule text.
+    pub path: Option<&'a str>,
+}

@@ -1,0 +1,70 @@
+//! Why there is no program.
+
+use ia_asm::AsmFault;
+use ia_image::{ImageFault, LoadFault};
+use ia_text::WriteFault;
+use std::alloc::AllocError;
+use thiserror::Error;
+
+/// A fault of FILE or of its loading, with a number, told on one line. It owns nothing, so that it goes through `?` at no cost.
+#[derive(Clone, Copy, Debug, Error)]
+pub enum ProgramFault {
+    /// An output device failed.
+    #[error("{0}")]
+    Write(WriteFault),
+    /// FILE is a source that is not assembled.
+    #[error("{0}")]
+    Assemble(AsmFault),
+    /// FILE is no image text.
+    #[error("{0}")]
+    Image(ImageFault),
+    /// The program is not loaded.
+    #[error("{0}")]
+    Load(LoadFault),
+    /// A file cannot be read.
+    #[error("Input")]
+    Input,
+}
+
+impl ProgramFault {
+    /// The fault's number.
+    pub fn code(self) -> u8 {
+        match self {
+            ProgramFault::Write(fault) => fault.code(),
+            ProgramFault::Assemble(fault) => fault.code(),
+            ProgramFault::Image(fault) => fault.code(),
+            ProgramFault::Load(fault) => fault.code(),
+            ProgramFault::Input => 80,
+        }
+    }
+
+    /// The line of the text that is at fault, from 1.
+    pub fn line(self) -> Option<usize> {
+        match self {
+            ProgramFault::Assemble(fault) => fault.line().map(|line| line as usize),
+            ProgramFault::Image(fault) => fault.line(),
+            _ => None,
+        }
+    }
+}
+
+/// Why a program is not had: a fault, or an option that was misused.
+#[derive(Clone, Copy, Debug)]
+pub enum ProgramRefusal {
+    /// A fault.
+    Fault(ProgramFault),
+    /// The option of this name is misused.
+    Usage(&'static str),
+}
+
+impl From<ProgramFault> for ProgramRefusal {
+    fn from(fault: ProgramFault) -> ProgramRefusal {
+        ProgramRefusal::Fault(fault)
+    }
+}
+
+impl From<AllocError> for ProgramRefusal {
+    fn from(_refused: AllocError) -> ProgramRefusal {
+        ProgramRefusal::Fault(ProgramFault::Load(LoadFault::NoMemory))
+    }
+}

@@ -1,0 +1,127 @@
+//! FILE as a program: image text, or a source that is assembled.
+
+use crate::entries::EntryList;
+use crate::fault::{ProgramFault, ProgramRefusal};
+use crate::paths::Paths;
+use crate::settings::Settings;
+use ia_asm::{Unit, assemble};
+use ia_image::{ImageText, Program, load, read_image};
+use std::alloc::Global;
+
+/// A program as it is written in a file.
+#[derive(Drop)]
+pub enum ProgramFile<'a> {
+    /// As image text.
+    Image(ImageText),
+    /// As a source, which is assembled.
+    Source(Unit<'a>),
+}
+
+/// The content of a file.
+pub fn read_file<P: Paths>(path: &str, paths: &mut P) -> Result<Vec<u8>, ProgramRefusal> {
+    match paths.read(path) {
+        Ok(text) => Ok(text),
+        Err(_) => Err(ProgramRefusal::Fault(ProgramFault::Input)),
+    }
+}
+
+impl<'a> ProgramFile<'a> {
+    /// A text as a program: image text where it begins with `image 1 `, else a source.
+    pub fn read(alloc: Global, text: &'a [u8]) -> Result<ProgramFile<'a>, ProgramRefusal> {
+        if text.starts_with(b"image 1 ") {
+            match read_image(alloc, text) {
+                Ok(image) => Ok(ProgramFile::Image(image)),
+                Err(fault) => Err(ProgramRefusal::Fault(ProgramFault::Image(fault))),
+            }
+        } else {
+            match assemble(alloc, text) {
+                Ok(unit) => Ok(ProgramFile::Source(unit)),
+                Err(fault) => Err(ProgramRefusal::Fault(ProgramFault::Assemble(fault))),
+            }
+        }
+    }
+
+    /// The image.
+    pub fn bytes(&self) -> &[u8] {
+        match self {
+            ProgramFile::Image(image) => image.bytes.as_slice(),
+            ProgramFile::Source(unit) => unit.image.as_slice(),
+        }
+    }
+
+    /// The address of the image's first byte.
+    pub fn base(&self) -> u32 {
+        match self {
+            ProgramFile::Image(image) => image.base,
+            ProgramFile::Source(unit) => unit.base,
+        }
+    }
+
+    /// How many bytes of the image are code, as the file says.
+    pub fn code_len(&self) -> u32 {
+        match self {
+            ProgramFile::Image(image) => image.code_len,
+            ProgramFile::Source(unit) => unit.code_len,
+        }
+    }
+
+    /// The address of a symbol of the source.
+    pub fn symbol(&self, name: &str) -> Option<u32> {
+        match self {
+            ProgramFile::Image(_) => None,
+            ProgramFile::Source(unit) => unit.address(name.as_bytes()),
+        }
+    }
+
+    /// Where each core starts.
+    pub fn starts(
+        &self,
+        alloc: Global,
+        settings: &Settings<'_>,
+    ) -> Result<Vec<u32>, ProgramRefusal> {
+        match settings.entries {
+            Some(list) => starts_of(alloc, list, settings.cores, self),
+            None => same_start(alloc, self.base(), settings.cores),
+        }
+    }
+
+    /// The program, with the memory size that is asked for and a core for each of these starts.
+    pub fn load(
+        &self,
+        alloc: Global,
+        settings: &Settings<'_>,
+        starts: &[u32],
+    ) -> Result<Program, ProgramRefusal> {
+        let loaded = load(
+            alloc,
+            self.bytes(),
+            self.base(),
+            self.code_len(),
+            settings.memory,
+            starts,
+        );
+        match loaded {
+            Ok(program) => Ok(program),
+            Err(fault) => Err(ProgramRefusal::Fault(ProgramFault::Load(fault))),
+        }
+    }
+}
+
+// The addresses of a list: one for all cores, or one a core.
+fn starts_of(
+    alloc: Global,
+    list: EntryList<'_>,
+    cores: u32,
+    file: &ProgramFile<'_>,
+) -> Result<Vec<u32>, ProgramRefusal> {
+    let addresses = list.addresses(alloc, file)?;
+    match addresses.as_slice() {
+        [alone] => same_start(alloc, *alone, cores),
+        _ => Ok(addresses),
+    }
+}
+
+// One address for all cores. One more than the most cores is refused as any greater number is.
+fn same_start(alloc: Global, address: u32, cores: u32) -> Result<Vec<u32>, ProgramRefusal> {
+    Ok(vec![in alloc; address; cores.min(17) as usize]?)
+}

@@ -1,0 +1,136 @@
+//! Why a command ends without its answer.
+
+use elide_program::{ProgramFault, ProgramRefusal};
+use ia_image::LoadFault;
+use ia_text::{Failed, WriteFault};
+use std::alloc::AllocError;
+use thiserror::Error;
+use tm_core::{MachineFault, RunFault};
+use tm_hist::{BoardFault, ScheduleFault, SerialFault, StepFault};
+
+/// A fault with a number, told on one line. It owns nothing, so that it goes through `?` at no cost.
+#[derive(Clone, Copy, Debug, Error)]
+pub enum Fault {
+    /// There is no program.
+    #[error("{0}")]
+    Program(ProgramFault),
+    /// The machine is not made.
+    #[error("{0}")]
+    Machine(MachineFault),
+    /// The schedule is not run.
+    #[error("{0}")]
+    Run(RunFault),
+    /// The schedule is no schedule text.
+    #[error("{0}")]
+    Schedule(ScheduleFault),
+    /// The board is not made.
+    #[error("{0}")]
+    Board(BoardFault),
+    /// A step of the board is not made.
+    #[error("{0}")]
+    Step(StepFault),
+    /// The history is not run again.
+    #[error("{0}")]
+    Serial(SerialFault),
+    /// A worker's thread is not started.
+    #[error("SpawnRefused")]
+    SpawnRefused,
+    /// The workers have no memory.
+    #[error("NoMemory")]
+    NoWorkers,
+    /// The input of a session failed.
+    #[error("Read")]
+    SessionRead,
+    /// The output of a session failed.
+    #[error("Write")]
+    SessionWrite,
+    /// A session has no memory.
+    #[error("NoMemory")]
+    NoSession,
+    /// A part of memory passes the memory's end.
+    #[error("OutOfRange")]
+    OutOfRange,
+    /// A file cannot be written.
+    #[error("Output")]
+    Output,
+}
+
+impl Fault {
+    /// The fault's number.
+    pub fn code(self) -> u8 {
+        match self {
+            Fault::Program(fault) => fault.code(),
+            Fault::Machine(fault) => fault.code(),
+            Fault::Run(fault) => fault.code(),
+            Fault::Schedule(fault) => fault.code(),
+            Fault::Board(fault) => fault.code(),
+            Fault::Step(fault) => fault.code(),
+            Fault::Serial(fault) => fault.code(),
+            Fault::SpawnRefused => 60,
+            Fault::NoWorkers => 61,
+            Fault::OutOfRange => 73,
+            Fault::SessionRead => 76,
+            Fault::SessionWrite => 77,
+            Fault::NoSession => 78,
+            Fault::Output => 81,
+        }
+    }
+
+    /// The line of the text that is at fault, from 1.
+    pub fn line(self) -> Option<usize> {
+        match self {
+            Fault::Program(fault) => fault.line(),
+            Fault::Schedule(ScheduleFault::BadSchedule(line)) => Some(line),
+            _ => None,
+        }
+    }
+}
+
+/// Why a command whose words clap took ends: a fault, or an option that was misused.
+#[derive(Clone, Copy, Debug)]
+pub enum Refusal {
+    /// A fault.
+    Fault(Fault),
+    /// The option of this name is misused.
+    Usage(&'static str),
+}
+
+impl Refusal {
+    /// A refusal for want of memory.
+    pub fn no_memory() -> Refusal {
+        Refusal::Fault(Fault::Program(ProgramFault::Load(LoadFault::NoMemory)))
+    }
+}
+
+impl From<Fault> for Refusal {
+    fn from(fault: Fault) -> Refusal {
+        Refusal::Fault(fault)
+    }
+}
+
+impl From<ProgramRefusal> for Refusal {
+    fn from(refusal: ProgramRefusal) -> Refusal {
+        match refusal {
+            ProgramRefusal::Fault(fault) => Refusal::Fault(Fault::Program(fault)),
+            ProgramRefusal::Usage(name) => Refusal::Usage(name),
+        }
+    }
+}
+
+impl From<AllocError> for Refusal {
+    fn from(_refused: AllocError) -> Refusal {
+        Refusal::no_memory()
+    }
+}
+
+impl From<Failed> for Refusal {
+    fn from(_failed: Failed) -> Refusal {
+        Refusal::from(WriteFault::Write)
+    }
+}
+
+impl From<WriteFault> for Refusal {
+    fn from(fault: WriteFault) -> Refusal {
+        Refusal::Fault(Fault::Program(ProgramFault::Write(fault)))
+    }
+}

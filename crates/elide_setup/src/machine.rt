@@ -1,0 +1,103 @@
+//! What the commands that make a machine begin with.
+
+use crate::fault::{Fault, Refusal};
+use crate::plan::Plan;
+use crate::shown::part_of;
+use elide_args::{MachineOptions, ScheduleOptions};
+use elide_program::{Dump, Paths, ProgramFile, Settings, read_file};
+use ia_image::Program;
+use std::alloc::Global;
+use tm_core::Limits;
+use tm_hist::Board;
+
+/// A program, and what the options say of its machine.
+#[derive(Drop)]
+pub struct Setup {
+    /// The program, with its cores and memory size.
+    pub program: Program,
+    /// How many lines a transaction can touch.
+    pub limits: Limits,
+    /// What is printed of memory.
+    pub dump: Option<Dump>,
+}
+
+impl Setup {
+    // Loads a file by the options.
+    fn load(
+        alloc: Global,
+        settings: &Settings<'_>,
+        file: &ProgramFile<'_>,
+        starts: &[u32],
+    ) -> Result<Setup, Refusal> {
+        let program = file.load(alloc, settings, starts)?;
+        Ok(Setup {
+            program,
+            limits: limits_of(settings),
+            dump: settings.dump,
+        })
+    }
+
+    // The program of a text by the options.
+    fn read(alloc: Global, settings: &Settings<'_>, text: &[u8]) -> Result<Setup, Refusal> {
+        let file = ProgramFile::read(alloc, text)?;
+        let starts = file.starts(alloc, settings)?;
+        Setup::load(alloc, settings, &file, starts.as_slice())
+    }
+}
+
+fn limits_of(settings: &Settings<'_>) -> Limits {
+    Limits {
+        read_lines: settings.reads,
+        write_lines: settings.writes,
+    }
+}
+
+/// Reads FILE and loads it by the options.
+pub fn prepared<P: Paths>(
+    alloc: Global,
+    path: &str,
+    settings: &Settings<'_>,
+    paths: &mut P,
+) -> Result<Setup, Refusal> {
+    let text = read_file(path, paths)?;
+    Setup::read(alloc, settings, text.as_slice())
+}
+
+/// The same for a command with a schedule, whose core numbers are answered beside. It is read before the program is loaded.
+pub fn scheduled<P: Paths>(
+    alloc: Global,
+    machine: &MachineOptions<'_>,
+    schedule: &ScheduleOptions<'_>,
+    paths: &mut P,
+) -> Result<(Setup, Vec<u8>), Refusal> {
+    let settings = Settings::read(machine)?;
+    let plan = Plan::read(alloc, schedule)?;
+    let text = read_file(machine.file, paths)?;
+    planned(alloc, &settings, plan, text.as_slice(), paths)
+}
+
+// A program by the text of FILE, and its steps.
+fn planned<P: Paths>(
+    alloc: Global,
+    settings: &Settings<'_>,
+    plan: Plan<'_>,
+    text: &[u8],
+    paths: &mut P,
+) -> Result<(Setup, Vec<u8>), Refusal> {
+    let file = ProgramFile::read(alloc, text)?;
+    let starts = file.starts(alloc, settings)?;
+    let steps = plan.steps(alloc, paths)?;
+    let setup = Setup::load(alloc, settings, &file, starts.as_slice())?;
+    Ok((setup, steps))
+}
+
+/// A board of the program with room for so many steps, where what is to be printed of memory is there.
+pub fn new_board(alloc: Global, setup: &Setup, limit: u64) -> Result<Board, Refusal> {
+    match Board::new(alloc, &setup.program, setup.limits, limit) {
+        Ok(board) => {
+            part_of(board.machine().view(), setup.dump)?;
+            Ok(board)
+        }
+        Err(fault) => Err(Refusal::Fault(Fault::Board(fault))),
+    }
+}
