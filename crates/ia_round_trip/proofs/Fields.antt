@@ -10,7 +10,7 @@ use Rattle.ia_item.specs.declared.item.Field.{Field}
 use Rattle.ia_item.specs.declared.item.Field.TheVariants as field
 use Rattle.ia_item.specs.Fields.{field_of, with_number, with_displacement, with_disp, distance, stored_number}
 use Rattle.ia_lex.specs.Terms.{NumberAtom}
-use Rattle.ia_text.specs.Parts.{target}
+use Rattle.ia_text.specs.Arguments.{target}
 use Rattle.ia_round_trip.specs.Operands.{part_of, displacement_terms}
 use Rattle.ia_round_trip.specs.Resolved.{known_number, by_value, takes, if_taken, field_number, op_with_number, op_with_displacement, by_op}
 use Rattle.ia_round_trip.specs.Forms.{expression_of}

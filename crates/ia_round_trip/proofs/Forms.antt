@@ -14,7 +14,7 @@ use Rattle.ia_insn.specs.declared.operand.Operand.TheVariants.{Reg, Imm, Mem as 
 use Rattle.ia_insn.specs.Writing.{fits_mem, fits_operand}
 use Rattle.ia_insn.specs.Encoding.{encodable, fits_pair, fits_test}
 use Rattle.ia_item.specs.Fields.{with_number, with_displacement, with_disp}
-use Rattle.ia_text.specs.Parts.{operand_arg, target as jump_target}
+use Rattle.ia_text.specs.Arguments.{operand_arg, target as jump_target}
 use Rattle.ia_source.specs.declared.shape.OperandShape.{OperandShape}
 use Rattle.ia_source.specs.declared.shape.OperandShape.TheVariants as shape
 use Rattle.ia_source.specs.declared.shape.OperandShapes.TheVariants.{One}

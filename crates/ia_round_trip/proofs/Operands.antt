@@ -12,7 +12,7 @@ use Rattle.ia_lex.specs.Words.{find_word}
 use Rattle.ia_text.specs.declared.arg.Arg.{Arg}
 use Rattle.ia_text.specs.declared.arg.Arg.TheVariants as arg
 use Rattle.ia_text.specs.Names.{register_name}
-use Rattle.ia_text.specs.Parts.{first_arg, second_arg, third_arg}
+use Rattle.ia_text.specs.Arguments.{first_arg, second_arg, third_arg}
 use Rattle.ia_source.specs.declared.shape.OperandShape.TheVariants as shape
 use Rattle.ia_source.specs.declared.operand.OperandPrefix.TheVariants.{Register}
 use Rattle.ia_source.specs.Keywords.{or_else}

@@ -22,7 +22,7 @@ use Rattle.ia_lex.specs.Tokens.{Lexeme, Word, Number, Mark, tokens_from, tokens_
 use Rattle.ia_text.specs.declared.arg.Arg.{Arg}
 use Rattle.ia_text.specs.declared.arg.Arg.TheVariants as arg
 use Rattle.ia_text.specs.Names.{register_name, size_name, stem, condition, condition_name, alu_name, shift_name, bit_name, unary_name}
-use Rattle.ia_text.specs.Parts.{first_arg, second_arg, third_arg}
+use Rattle.ia_text.specs.Arguments.{first_arg, second_arg, third_arg}
 use Rattle.ia_text.specs.Number.{number}
 use Rattle.ia_text.specs.Text.{base_text, scale_text, index_text, disp_text, mem_text, arg_text, behind, op_text, insn_text}
 use Rattle.ia_round_trip.specs.Printed.{base_tokens, scale_value, index_tokens, disp_tokens, mem_tokens, arg_tokens, behind_tokens, op_tokens, insn_tokens, TextHasItsTokens}

@@ -9,7 +9,7 @@ use Rattle.ia_lex.specs.Tokens.{Lexeme, Word, Number, Mark, tokens_of}
 use Rattle.ia_text.specs.declared.arg.Arg.{Arg}
 use Rattle.ia_text.specs.declared.arg.Arg.TheVariants as arg
 use Rattle.ia_text.specs.Names.{register_name, size_name, stem, condition}
-use Rattle.ia_text.specs.Parts.{first_arg, second_arg, third_arg}
+use Rattle.ia_text.specs.Arguments.{first_arg, second_arg, third_arg}
 use Rattle.ia_text.specs.Text.{insn_text}
 
 abbrev pub plus_tokens : Bool → List Lexeme
