@@ -4,6 +4,7 @@ mod products_table;
 mod shifts_table;
 mod sums_table;
 
+use crate::numbers::Numbers;
 use bitflags::Flags as _;
 use ia_alu::{
     Divide, IncDecOp, add, alu, bit, div, idiv, imul, imul_low, incdec, mul, neg, shift, sub,
@@ -44,25 +45,25 @@ fn sum_of(flags: Flags) -> Option<u32> {
 }
 
 // Whether an operation gives what the table has at each pair of doublewords.
-fn wide_agrees(op: AluOp, table: &[u32]) -> bool {
-    let mut rows = table.iter().copied();
+fn wide_agrees(op: AluOp, table: &str) -> bool {
+    let mut rows = Numbers::new(table);
     for a in WIDE {
         for b in WIDE {
             for before in BEFORE {
                 let (value, after) = alu(op, Width::D, a, b, flags(before));
                 let written = if op == AluOp::Cmp { a } else { value };
-                if rows.next() != Some(written) || rows.next() != sum_of(after) {
+                if rows.take() != Some(written) || rows.take() != sum_of(after) {
                     return false;
                 }
             }
         }
     }
-    rows.next().is_none()
+    rows.is_empty()
 }
 
 // The same at each pair of bytes.
-fn bytes_agree(op: AluOp, table: &[u32]) -> bool {
-    let mut rows = table.iter().copied();
+fn bytes_agree(op: AluOp, table: &str) -> bool {
+    let mut rows = Numbers::new(table);
     for a in BYTES {
         for b in BYTES {
             for before in BEFORE {
@@ -72,141 +73,141 @@ fn bytes_agree(op: AluOp, table: &[u32]) -> bool {
                 } else {
                     value
                 };
-                if rows.next() != Some(written) || rows.next() != sum_of(after) {
+                if rows.take() != Some(written) || rows.take() != sum_of(after) {
                     return false;
                 }
             }
         }
     }
-    rows.next().is_none()
+    rows.is_empty()
 }
 
 // Whether a step gives what the table has at each doubleword.
-fn wide_steps_agree(op: IncDecOp, table: &[u32]) -> bool {
-    let mut rows = table.iter().copied();
+fn wide_steps_agree(op: IncDecOp, table: &str) -> bool {
+    let mut rows = Numbers::new(table);
     for a in WIDE {
         for before in BEFORE {
             let (value, after) = incdec(op, Width::D, a, flags(before));
-            if rows.next() != Some(value) || rows.next() != sum_of(after) {
+            if rows.take() != Some(value) || rows.take() != sum_of(after) {
                 return false;
             }
         }
     }
-    rows.next().is_none()
+    rows.is_empty()
 }
 
 // The same at each byte.
-fn byte_steps_agree(op: IncDecOp, table: &[u32]) -> bool {
-    let mut rows = table.iter().copied();
+fn byte_steps_agree(op: IncDecOp, table: &str) -> bool {
+    let mut rows = Numbers::new(table);
     for a in BYTES {
         for before in BEFORE {
             let (value, after) = incdec(op, Width::B, u32::from(a), flags(before));
-            if rows.next() != Some(value) || rows.next() != sum_of(after) {
+            if rows.take() != Some(value) || rows.take() != sum_of(after) {
                 return false;
             }
         }
     }
-    rows.next().is_none()
+    rows.is_empty()
 }
 
 // Whether NEG gives what the table has at each doubleword, whatever the flags before.
-fn negations_agree(table: &[u32]) -> bool {
-    let mut rows = table.iter().copied();
+fn negations_agree(table: &str) -> bool {
+    let mut rows = Numbers::new(table);
     for a in WIDE {
         for _before in BEFORE {
             let (value, after) = neg(a);
-            if rows.next() != Some(value) || rows.next() != sum_of(after) {
+            if rows.take() != Some(value) || rows.take() != sum_of(after) {
                 return false;
             }
         }
     }
-    rows.next().is_none()
+    rows.is_empty()
 }
 
 // Whether a shift gives what the table has at each doubleword and count.
-fn shifts_agree(op: ShiftOp, table: &[u32]) -> bool {
-    let mut rows = table.iter().copied();
+fn shifts_agree(op: ShiftOp, table: &str) -> bool {
+    let mut rows = Numbers::new(table);
     for a in WIDE {
         for count in COUNTS {
             for before in BEFORE {
                 let (value, after) = shift(op, a, count, flags(before));
-                if rows.next() != Some(value) || rows.next() != sum_of(after) {
+                if rows.take() != Some(value) || rows.take() != sum_of(after) {
                     return false;
                 }
             }
         }
     }
-    rows.next().is_none()
+    rows.is_empty()
 }
 
 // Whether a bit test gives what the table has at each doubleword and bit number.
-fn bits_agree(op: BitOp, table: &[u32]) -> bool {
-    let mut rows = table.iter().copied();
+fn bits_agree(op: BitOp, table: &str) -> bool {
+    let mut rows = Numbers::new(table);
     for a in WIDE {
         for index in COUNTS {
             for before in BEFORE {
                 let (value, after) = bit(op, a, index, flags(before));
-                if rows.next() != Some(value) || rows.next() != sum_of(after) {
+                if rows.take() != Some(value) || rows.take() != sum_of(after) {
                     return false;
                 }
             }
         }
     }
-    rows.next().is_none()
+    rows.is_empty()
 }
 
 // Whether MUL gives what the table has at each pair of doublewords.
-fn products_agree(table: &[u32]) -> bool {
-    let mut rows = table.iter().copied();
+fn products_agree(table: &str) -> bool {
+    let mut rows = Numbers::new(table);
     for a in WIDE {
         for b in WIDE {
             for before in BEFORE {
                 let (low, high, after) = mul(a, b, flags(before));
-                if rows.next() != Some(low)
-                    || rows.next() != Some(high)
-                    || rows.next() != sum_of(after)
+                if rows.take() != Some(low)
+                    || rows.take() != Some(high)
+                    || rows.take() != sum_of(after)
                 {
                     return false;
                 }
             }
         }
     }
-    rows.next().is_none()
+    rows.is_empty()
 }
 
 // The same of IMUL.
-fn signed_products_agree(table: &[u32]) -> bool {
-    let mut rows = table.iter().copied();
+fn signed_products_agree(table: &str) -> bool {
+    let mut rows = Numbers::new(table);
     for a in WIDE {
         for b in WIDE {
             for before in BEFORE {
                 let (low, high, after) = imul(a, b, flags(before));
-                if rows.next() != Some(low)
-                    || rows.next() != Some(high)
-                    || rows.next() != sum_of(after)
+                if rows.take() != Some(low)
+                    || rows.take() != Some(high)
+                    || rows.take() != sum_of(after)
                 {
                     return false;
                 }
             }
         }
     }
-    rows.next().is_none()
+    rows.is_empty()
 }
 
 // The same of the low half alone.
-fn low_products_agree(table: &[u32]) -> bool {
-    let mut rows = table.iter().copied();
+fn low_products_agree(table: &str) -> bool {
+    let mut rows = Numbers::new(table);
     for a in WIDE {
         for b in WIDE {
             for before in BEFORE {
                 let (low, after) = imul_low(a, b, flags(before));
-                if rows.next() != Some(low) || rows.next() != sum_of(after) {
+                if rows.take() != Some(low) || rows.take() != sum_of(after) {
                     return false;
                 }
             }
         }
     }
-    rows.next().is_none()
+    rows.is_empty()
 }
 
 // Whether there is a fault, the quotient and the remainder, as a row of the table.
@@ -218,8 +219,8 @@ fn quotient_row(quotient: Result<(u32, u32), Divide>) -> (Option<u32>, Option<u3
 }
 
 // Whether DIV, or IDIV, gives what the table has at each dividend and divisor.
-fn quotients_agree(signed: bool, table: &[u32]) -> bool {
-    let mut rows = table.iter().copied();
+fn quotients_agree(signed: bool, table: &str) -> bool {
+    let mut rows = Numbers::new(table);
     for high in HIGHS {
         for low in WIDE {
             for by in WIDE {
@@ -228,13 +229,13 @@ fn quotients_agree(signed: bool, table: &[u32]) -> bool {
                 } else {
                     div(high, low, by)
                 });
-                if (rows.next(), rows.next(), rows.next()) != row {
+                if (rows.take(), rows.take(), rows.take()) != row {
                     return false;
                 }
             }
         }
     }
-    rows.next().is_none()
+    rows.is_empty()
 }
 
 #[test]

@@ -16,6 +16,8 @@ mod images;
 #[cfg(test)]
 mod instructions;
 #[cfg(test)]
+mod numbers;
+#[cfg(test)]
 mod spellings;
 #[cfg(test)]
 mod text;

@@ -6,7 +6,6 @@
  *     ./processor sums > ../src/tests/sums_table.rt
  *     ./processor shifts > ../src/tests/shifts_table.rt
  *     ./processor products > ../src/tests/products_table.rt
- *     (and then the formatter)
  *
  * Each instruction runs twice on each operand: with the six flags clear, and with all of them set. A flag that the manual
  * (SDM volume 2) leaves undefined after an instruction is printed as it was before, which is what this machine does with
@@ -18,6 +17,21 @@
 #include <stdint.h>
 #include <stdio.h>
 #include <string.h>
+
+/* A number in hex with a blank behind it, in lines of at most 116 bytes. */
+static int column;
+
+static void put(uint32_t number)
+{
+    char text[12];
+    int length = snprintf(text, sizeof text, "%x ", number);
+    if (column + length > 116) {
+        printf("\\\n");
+        column = 0;
+    }
+    fputs(text, stdout);
+    column += length;
+}
 
 enum { CF = 0x001, PF = 0x004, AF = 0x010, ZF = 0x040, SF = 0x080, OF = 0x800, ALL = 0x8d5 };
 
@@ -131,7 +145,8 @@ QUOTIENT(idiv_d, "idivl")
 
 static void head(const char *doc, const char *name)
 {
-    printf("/// %s\npub(super) const %s: &[u32] = &[\n", doc, name);
+    printf("/// %s\npub(super) const %s: &str = \"\\\n", doc, name);
+    column = 0;
 }
 
 /* Flags after, where those that the manual leaves undefined are as before. */
@@ -147,9 +162,9 @@ static void pairs(const char *doc, const char *name, insn run, const uint32_t *e
         for (int j = 0; j < n; j++)
             for (int k = 0; k < 2; k++) {
                 struct after r = run(edges[i], edges[j], flags_before[k]);
-                printf("0x%x, 0x%x, ", r.value, kept(r.flags, flags_before[k], defined));
+                put(r.value), put(kept(r.flags, flags_before[k], defined));
             }
-    printf("];\n\n");
+    printf("\";\n\n");
 }
 
 static void singles(const char *doc, const char *name, insn run, const uint32_t *edges, int n)
@@ -158,9 +173,9 @@ static void singles(const char *doc, const char *name, insn run, const uint32_t 
     for (int i = 0; i < n; i++)
         for (int k = 0; k < 2; k++) {
             struct after r = run(edges[i], 0, flags_before[k]);
-            printf("0x%x, 0x%x, ", r.value, r.flags);
+            put(r.value), put(r.flags);
         }
-    printf("];\n\n");
+    printf("\";\n\n");
 }
 
 /* By the counts, and the flags that are defined where the count modulo 32 is 1 and where it is above. */
@@ -172,9 +187,9 @@ static void shifts(const char *doc, const char *name, insn run, uint32_t by_one,
             for (int k = 0; k < 2; k++) {
                 struct after r = run(wide_edges[i], counts[j], flags_before[k]);
                 uint32_t by = counts[j] % 32, defined = by == 0 ? ALL : by == 1 ? by_one : by_more;
-                printf("0x%x, 0x%x, ", r.value, kept(r.flags, flags_before[k], defined));
+                put(r.value), put(kept(r.flags, flags_before[k], defined));
             }
-    printf("];\n\n");
+    printf("\";\n\n");
 }
 
 static void bits(const char *doc, const char *name, insn run)
@@ -184,9 +199,9 @@ static void bits(const char *doc, const char *name, insn run)
         for (int j = 0; j < 5; j++)
             for (int k = 0; k < 2; k++) {
                 struct after r = run(wide_edges[i], counts[j], flags_before[k]);
-                printf("0x%x, 0x%x, ", r.value, kept(r.flags, flags_before[k], CF | ZF));
+                put(r.value), put(kept(r.flags, flags_before[k], CF | ZF));
             }
-    printf("];\n\n");
+    printf("\";\n\n");
 }
 
 static void products(const char *doc, const char *name, insn run)
@@ -196,9 +211,9 @@ static void products(const char *doc, const char *name, insn run)
         for (int j = 0; j < 8; j++)
             for (int k = 0; k < 2; k++) {
                 struct after r = run(wide_edges[i], wide_edges[j], flags_before[k]);
-                printf("0x%x, 0x%x, 0x%x, ", r.value, r.high, kept(r.flags, flags_before[k], CF | OF));
+                put(r.value), put(r.high), put(kept(r.flags, flags_before[k], CF | OF));
             }
-    printf("];\n\n");
+    printf("\";\n\n");
 }
 
 static void quotients(const char *doc, const char *name, insn run)
@@ -209,15 +224,15 @@ static void quotients(const char *doc, const char *name, insn run)
         for (int i = 0; i < 8; i++)
             for (int j = 0; j < 8; j++) {
                 struct after r = run(highs[h], wide_edges[i], wide_edges[j]);
-                printf("%d, 0x%x, 0x%x, ", r.fault, r.value, r.high);
+                put(r.fault), put(r.value), put(r.high);
             }
-    printf("];\n\n");
+    printf("\";\n\n");
 }
 
 static void about(const char *what)
 {
     printf("//! %s,\n//! as an Intel processor gives them: made by tests-data/arithmetic.c, row by row in the order of its loops. A flag\n"
-           "//! that the manual leaves undefined stands here as it was before the instruction.\n\n", what);
+           "//! that the manual leaves undefined stands here as it was before the instruction.\n//!\n//! The numbers are in hex, each with a blank behind it.\n\n", what);
 }
 
 static void sums(void)

@@ -4,13 +4,27 @@
  *
  *     gcc -O1 -mno-red-zone -o execution execution.c
  *     ./execution > ../src/execution/processor_table.rt
- *     (and then the formatter)
  *
  * Where flags are printed, the instruction runs once with the six flags clear and once with all of them set. AF after TEST,
  * which the manual (SDM volume 2) leaves undefined and the processor clears, is printed as it was before.
  */
 #include <stdint.h>
 #include <stdio.h>
+
+/* A number in hex with a blank behind it, in lines of at most 116 bytes. */
+static int column;
+
+static void put(uint32_t number)
+{
+    char text[12];
+    int length = snprintf(text, sizeof text, "%x ", number);
+    if (column + length > 116) {
+        printf("\\\n");
+        column = 0;
+    }
+    fputs(text, stdout);
+    column += length;
+}
 
 enum { CF = 0x001, PF = 0x004, AF = 0x010, ZF = 0x040, SF = 0x080, OF = 0x800, ALL = 0x8d5 };
 
@@ -21,7 +35,8 @@ static const uint32_t places[6] = {CF, PF, AF, ZF, SF, OF};
 
 static void head(const char *doc, const char *name)
 {
-    printf("/// %s\npub(super) const %s: &[u32] = &[\n", doc, name);
+    printf("/// %s\npub(super) const %s: &str = \"\\\n", doc, name);
+    column = 0;
 }
 
 static void xadd(void)
@@ -33,9 +48,9 @@ static void xadd(void)
                 uint32_t to = edges[i], from = edges[j];
                 uint64_t f = (k ? ALL : 0) | 0x202;
                 __asm__ volatile(WITH_FLAGS("xaddl %[b], %[a]") : [a] "+r"(to), [b] "+r"(from), [f] "+r"(f) : : "cc", "memory");
-                printf("0x%x, 0x%x, 0x%x, ", to, from, (uint32_t)f & ALL);
+                put(to), put(from), put((uint32_t)f & ALL);
             }
-    printf("];\n\n");
+    printf("\";\n\n");
 }
 
 static void cmpxchg(void)
@@ -47,9 +62,9 @@ static void cmpxchg(void)
                 uint32_t eax = edges[i], to = edges[j], from = 0x12345678;
                 uint64_t f = (k ? ALL : 0) | 0x202;
                 __asm__ volatile(WITH_FLAGS("cmpxchgl %[b], %[a]") : "+a"(eax), [a] "+r"(to), [f] "+r"(f) : [b] "r"(from) : "cc", "memory");
-                printf("0x%x, 0x%x, 0x%x, ", eax, to, (uint32_t)f & ALL);
+                put(eax), put(to), put((uint32_t)f & ALL);
             }
-    printf("];\n\n");
+    printf("\";\n\n");
 }
 
 static void test(void)
@@ -61,9 +76,9 @@ static void test(void)
                 uint32_t before = k ? ALL : 0;
                 uint64_t f = before | 0x202;
                 __asm__ volatile(WITH_FLAGS("testl %[b], %[a]") : [f] "+r"(f) : [a] "r"(edges[i]), [b] "r"(edges[j]) : "cc", "memory");
-                printf("0x%x, ", ((uint32_t)f & (ALL - AF)) | (before & AF));
+                put(((uint32_t)f & (ALL - AF)) | (before & AF));
             }
-    printf("];\n\n");
+    printf("\";\n\n");
 }
 
 static void extensions(void)
@@ -76,9 +91,9 @@ static void extensions(void)
         __asm__("movsbl %b1, %0" : "=r"(sign) : "q"(edges[i]));
         __asm__("cltd" : "=d"(edx) : "a"(edges[i]));
         __asm__("cwtl" : "+a"(eax));
-        printf("0x%x, 0x%x, 0x%x, 0x%x, 0x%x, ", inverse, zero, sign, edx, eax);
+        put(inverse), put(zero), put(sign), put(edx), put(eax);
     }
-    printf("];\n\n");
+    printf("\";\n\n");
 }
 
 #define CONDITION(n, name)                                                                                   \
@@ -106,9 +121,9 @@ static int conditions(void)
         CONDITION(4, "e") CONDITION(5, "ne") CONDITION(6, "be") CONDITION(7, "a")
         CONDITION(8, "s") CONDITION(9, "ns") CONDITION(10, "p") CONDITION(11, "np")
         CONDITION(12, "l") CONDITION(13, "ge") CONDITION(14, "le") CONDITION(15, "g")
-        printf("0x%x, ", mask);
+        put(mask);
     }
-    printf("];\n\n");
+    printf("\";\n\n");
     return 0;
 }
 
@@ -120,15 +135,15 @@ static void loops(void)
         uint32_t loops = 1, jumps = 1;
         __asm__ volatile("addr32 loop 1f\n movl $0, %1\n 1:" : "+c"(ecx), "+r"(loops));
         __asm__ volatile("jecxz 1f\n movl $0, %0\n 1:" : "+r"(jumps) : "c"(same));
-        printf("0x%x, %u, %u, ", (uint32_t)ecx, loops, jumps);
+        put((uint32_t)ecx), put(loops), put(jumps);
     }
-    printf("];\n\n");
+    printf("\";\n\n");
 }
 
 int main(void)
 {
     printf("//! Results of instructions as an Intel processor gives them: made by tests-data/execution.c, row by row in the\n"
-           "//! order of its loops.\n\n");
+           "//! order of its loops.\n//!\n//! The numbers are in hex, each with a blank behind it.\n\n");
     xadd();
     cmpxchg();
     test();

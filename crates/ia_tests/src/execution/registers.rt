@@ -5,6 +5,7 @@ ghost use Rattle.ia_insn.specs.Encoding.{encodable};
 
 use super::processor_table::{CMPXCHG, CONDITIONS, EXTENSIONS, LOOPS, TEST, XADD};
 use super::{BEHIND, flags, goes_on, registers_of, run, starting};
+use crate::numbers::Numbers;
 use ia_exec::Done;
 use ia_insn::{Count, Op, Operand};
 use ia_regs::Regs;
@@ -33,8 +34,8 @@ const PLACES: [(u8, u16); 6] = [
     (32, 0x800),
 ];
 
-fn xadd_agrees(table: &[u32]) -> bool {
-    let mut rows = table.iter().copied();
+fn xadd_agrees(table: &str) -> bool {
+    let mut rows = Numbers::new(table);
     for a in EDGES {
         for b in EDGES {
             for before in BEFORE {
@@ -46,20 +47,20 @@ fn xadd_agrees(table: &[u32]) -> bool {
                     return false;
                 };
                 let sum = u32::from(bitflags::Flags::bits(&after.flags));
-                if rows.next() != Some(after.get(2))
-                    || rows.next() != Some(after.get(3))
-                    || rows.next() != Some(sum)
+                if rows.take() != Some(after.get(2))
+                    || rows.take() != Some(after.get(3))
+                    || rows.take() != Some(sum)
                 {
                     return false;
                 }
             }
         }
     }
-    rows.next().is_none()
+    rows.is_empty()
 }
 
-fn cmpxchg_agrees(table: &[u32]) -> bool {
-    let mut rows = table.iter().copied();
+fn cmpxchg_agrees(table: &str) -> bool {
+    let mut rows = Numbers::new(table);
     for a in EDGES {
         for b in EDGES {
             for before in BEFORE {
@@ -72,20 +73,20 @@ fn cmpxchg_agrees(table: &[u32]) -> bool {
                     return false;
                 };
                 let sum = u32::from(bitflags::Flags::bits(&after.flags));
-                if rows.next() != Some(after.get(0))
-                    || rows.next() != Some(after.get(2))
-                    || rows.next() != Some(sum)
+                if rows.take() != Some(after.get(0))
+                    || rows.take() != Some(after.get(2))
+                    || rows.take() != Some(sum)
                 {
                     return false;
                 }
             }
         }
     }
-    rows.next().is_none()
+    rows.is_empty()
 }
 
-fn test_agrees(table: &[u32]) -> bool {
-    let mut rows = table.iter().copied();
+fn test_agrees(table: &str) -> bool {
+    let mut rows = Numbers::new(table);
     for a in EDGES {
         for b in EDGES {
             for before in BEFORE {
@@ -98,13 +99,13 @@ fn test_agrees(table: &[u32]) -> bool {
                     return false;
                 };
                 let sum = u32::from(bitflags::Flags::bits(&after.flags));
-                if after.gpr != start.gpr || rows.next() != Some(sum) {
+                if after.gpr != start.gpr || rows.take() != Some(sum) {
                     return false;
                 }
             }
         }
     }
-    rows.next().is_none()
+    rows.is_empty()
 }
 
 // A register after an instruction that changes no flag.
@@ -120,24 +121,24 @@ fn left_in(register: u8, op: Op, start: &Regs) -> Option<u32>
     }
 }
 
-fn extensions_agree(table: &[u32]) -> bool {
-    let mut rows = table.iter().copied();
+fn extensions_agree(table: &str) -> bool {
+    let mut rows = Numbers::new(table);
     for a in EDGES {
         let start = Regs {
             flags: flags(0x8d5),
             ..starting(a, 5, 5, a)
         };
         let source = Operand::Reg(3);
-        if rows.next() != left_in(3, Op::Unary(UnaryOp::Not, source), &start)
-            || rows.next() != left_in(1, Op::Movzx(1, source), &start)
-            || rows.next() != left_in(1, Op::Movsx(1, source), &start)
-            || rows.next() != left_in(2, Op::Cdq, &start)
-            || rows.next() != left_in(0, Op::Cwde, &start)
+        if rows.take() != left_in(3, Op::Unary(UnaryOp::Not, source), &start)
+            || rows.take() != left_in(1, Op::Movzx(1, source), &start)
+            || rows.take() != left_in(1, Op::Movsx(1, source), &start)
+            || rows.take() != left_in(2, Op::Cdq, &start)
+            || rows.take() != left_in(0, Op::Cwde, &start)
         {
             return false;
         }
     }
-    rows.next().is_none()
+    rows.is_empty()
 }
 
 // 1 where an instruction jumped 16 bytes back from its end, and 0 where it stands behind itself.
@@ -149,22 +150,22 @@ fn jumped(done: Done) -> Option<u32> {
     }
 }
 
-fn loops_agree(table: &[u32]) -> bool {
-    let mut rows = table.iter().copied();
+fn loops_agree(table: &str) -> bool {
+    let mut rows = Numbers::new(table);
     for ecx in EDGES {
         let start = Regs {
             flags: flags(0x8d5),
             ..starting(7, ecx, 7, 7)
         };
         let looped = run(Op::Loop(0xffff_fff0), &start, 0);
-        if rows.next() != left_in(1, Op::Loop(0xffff_fff0), &start)
-            || rows.next() != jumped(looped)
-            || rows.next() != jumped(run(Op::Jecxz(0xffff_fff0), &start, 0))
+        if rows.take() != left_in(1, Op::Loop(0xffff_fff0), &start)
+            || rows.take() != jumped(looped)
+            || rows.take() != jumped(run(Op::Jecxz(0xffff_fff0), &start, 0))
         {
             return false;
         }
     }
-    rows.next().is_none()
+    rows.is_empty()
 }
 
 // The flags of a number of the table of conditions.
@@ -214,12 +215,14 @@ fn extensions_and_loops_are_the_processors(rt: HostRuntime) {
 
 #[test]
 fn conditions_are_the_processors(rt: HostRuntime) {
-    assert_eq!(rt; CONDITIONS.len(), 64);
-    for (number, mask) in (0u8..64).zip(CONDITIONS.iter().copied()) {
+    let mut rows = Numbers::new(CONDITIONS);
+    for number in 0u8..64 {
+        let mask = rows.take().unwrap_or(0);
         for condition in 0u8..16 {
             assert!(rt; condition_agrees(condition, mask, flags_at(number)));
         }
     }
+    assert!(rt; rows.is_empty());
 }
 
 #[test]
