@@ -8,8 +8,8 @@ ghost use Rattle.ia_regs.specs.Flags.{has_carry, has_parity, has_adjust, has_zer
 use ia_regs::Flags;
 use ia_word::BitOp;
 
-/// A doubleword with the bit of an index modulo 32 as it is, set, cleared or turned, and CF the bit before (SDM volume 2,
-/// BT, BTS, BTR, BTC).
+/// A doubleword with the bit of an index modulo 32 as it is, set, cleared or turned, and CF the bit before (SDM volume
+/// 2, BT, BTS, BTR, BTC).
 #[tactic(auto, unfolding(crate::specs::Bits::bit_value))]
 pub fn bit(op: BitOp, a: u32, index: u8, flags: Flags) -> (u32, Flags)
     ensures value { result.0 ≡ bit_value op a (index % 32) }

@@ -9,8 +9,8 @@ use crate::numbers::{as_signed, low_word, result_flags};
 use ia_regs::Flags;
 use ia_word::{ShiftOp, Width};
 
-/// A doubleword shifted by a count modulo 32, and the flags after it (SDM volume 2, RCL/RCR/ROL/ROR and SAL/SAR/SHL/SHR).
-/// Where the count modulo 32 is 0, the doubleword and all flags stay.
+/// A doubleword shifted by a count modulo 32, and the flags after it (SDM volume 2, RCL/RCR/ROL/ROR and
+/// SAL/SAR/SHL/SHR). Where the count modulo 32 is 0, the doubleword and all flags stay.
 #[tactic(auto, unfolding(crate::specs::Shifts::shift_value, crate::specs::Shifts::shift_flags))]
 pub fn shift(op: ShiftOp, a: u32, count: u8, flags: Flags) -> (u32, Flags)
     ensures value { result.0 ≡ shift_value op a count }

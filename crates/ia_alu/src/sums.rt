@@ -26,7 +26,8 @@ pub fn add(width: Width, a: u32, b: u32, carry: bool) -> (u32, Flags)
     ensures af { IsTrue (has_adjust result.1) ↔ 16 ≤ a % 16 + b % 16 + from_bool carry }
     ensures zf { IsTrue (has_zero result.1) ↔ result.0 ≡ 0 }
     ensures sf { IsTrue (has_sign result.1) ↔ half_of width ≤ result.0 }
-    ensures of { IsTrue (has_overflow result.1) ↔ IsOutside width (signed_value width a +ℤ signed_value width b +ℤ pos (from_bool carry)) }
+    ensures of { IsTrue (has_overflow result.1) ↔
+        IsOutside width (signed_value width a +ℤ signed_value width b +ℤ pos (from_bool carry)) }
 {
     let sum = u64::from(a) + u64::from(b) + u64::from(carry);
     let value = (sum % width.range()) as u32;
@@ -54,7 +55,8 @@ pub fn sub(width: Width, a: u32, b: u32, borrow: bool) -> (u32, Flags)
     ensures af { IsTrue (has_adjust result.1) ↔ a % 16 < b % 16 + from_bool borrow }
     ensures zf { IsTrue (has_zero result.1) ↔ result.0 ≡ 0 }
     ensures sf { IsTrue (has_sign result.1) ↔ half_of width ≤ result.0 }
-    ensures of { IsTrue (has_overflow result.1) ↔ IsOutside width (signed_value width a -ℤ signed_value width b -ℤ pos (from_bool borrow)) }
+    ensures of { IsTrue (has_overflow result.1) ↔
+        IsOutside width (signed_value width a -ℤ signed_value width b -ℤ pos (from_bool borrow)) }
 {
     let taken = u64::from(b) + u64::from(borrow);
     let value = ((u64::from(a) + width.range() - taken) % width.range()) as u32;

@@ -1,5 +1,5 @@
-//! Opcodes from C0 on whose ModRM byte says which instruction it is. What /n does not allow is refused before SIB and the
-//! displacement are read.
+//! Opcodes from C0 on whose ModRM byte says which instruction it is. What /n does not allow is refused before SIB and
+//! the displacement are read.
 
 ghost use Rattle.ia_insn.specs.Table.{row_C0};
 ghost use Rattle.ia_insn.specs.Reading.{Gives, form_at};

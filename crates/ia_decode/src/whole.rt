@@ -57,8 +57,8 @@ fn measured(bytes: &[u8]) -> Result<(Insn, u8), DecodeFault>
     Ok((found, (bytes.len() - rest.len()) as u8))
 }
 
-/// The instruction that stands in front, and how many bytes it takes, 1 to 15. Faults: `Short` where the bytes end within
-/// an instruction, `LockNotAllowed` where LOCK stands before an instruction that it may not stand before, else
+/// The instruction that stands in front, and how many bytes it takes, 1 to 15. Faults: `Short` where the bytes end
+/// within an instruction, `LockNotAllowed` where LOCK stands before an instruction that it may not stand before, else
 /// `NotInSubset`. Takes no memory, and reads no byte behind the one that decides.
 pub fn decode(bytes: &[u8]) -> Result<(Insn, u8), DecodeFault>
     // It is what reading from left to right gives.
@@ -69,7 +69,8 @@ pub fn decode(bytes: &[u8]) -> Result<(Insn, u8), DecodeFault>
     ensures encodable { IfOk result (λ x. IsTrue (is_encodable x.0)) }
     ensures length { IfOk result (λ x. (1 ≤ x.1) × (x.1 ≤ 15)) }
     // What stands in front is answered.
-    ensures only { (front rest : List ℕ) (i : Insn) → Spells front i → bytes.now ≡ front ++ rest → result ≡ Ok (i, length front) }
+    ensures only { (front rest : List ℕ) (insn : Insn) → Spells front insn →
+        bytes.now ≡ front ++ rest → result ≡ Ok (insn, length front) }
     // The bytes are a proper front of a spelling, or F0 and one of a spelling without F0.
     ensures short { (result ≡ Err DecodeFault.Short) ↔ IsShort bytes.now }
     // F0 stands before an instruction that is not lockable.

@@ -10,7 +10,8 @@ use crate::kinds::{unary_number, width_bit};
 use crate::parts::{put_bytes, put_form, put_near, put_short};
 use crate::wide::Wide;
 use crate::writing::{
-    put_alu, put_bit, put_imul, put_mov, put_pop, put_push, put_ret, put_shift, put_inc_dec, put_test,
+    put_alu, put_bit, put_imul, put_inc_dec, put_mov, put_pop, put_push, put_ret, put_shift,
+    put_test,
 };
 use arrayvec::ArrayVec;
 use ia_insn::{Insn, Op, Operand};
@@ -113,8 +114,8 @@ fn written(insn: &Insn, wide: Wide) -> Bytes
     out
 }
 
-/// The bytes of an encodable instruction, at most 15: each field takes the form that is as short as its value allows, and
-/// a form with AL, EAX or a bare address is never given.
+/// The bytes of an encodable instruction, at most 15: each field takes the form that is as short as its value allows,
+/// and a form with AL, EAX or a bare address is never given.
 pub fn encode(insn: &Insn) -> Bytes
     requires { IsTrue (is_encodable insn.now) }
     // They are those of the one definition, with nothing held wide.
@@ -127,9 +128,9 @@ pub fn encode(insn: &Insn) -> Bytes
     encode_with(insn, false, false)
 }
 
-/// The bytes of an encodable instruction, at most 15. Where `number_wide`, the immediate takes 32 bits where the instruction
-/// has such a form: 81 for 83, 69 for 6B, 68 for 6A, and a shift's count stands in C1 even where it is 1. Where
-/// `place_wide`, a displacement takes 32 bits. So the length depends on no value that stands in such a field.
+/// The bytes of an encodable instruction, at most 15. Where `number_wide`, the immediate takes 32 bits where the
+/// instruction has such a form: 81 for 83, 69 for 6B, 68 for 6A, and a shift's count stands in C1 even where it is 1.
+/// Where `place_wide`, a displacement takes 32 bits. So the length depends on no value that stands in such a field.
 pub fn encode_with(insn: &Insn, number_wide: bool, place_wide: bool) -> Bytes
     requires { IsTrue (is_encodable insn.now) }
     ensures bytes { result.items ≡ insn_bytes_with number_wide place_wide insn.now }

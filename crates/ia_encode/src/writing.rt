@@ -75,7 +75,14 @@ pub fn put_mov(out: &mut Bytes, wide: Wide, width: Width, to: &Operand, from: &O
 
 /// INC and DEC: of a doubleword the opcode of a register, else FE or FF with a digit.
 #[tactic(auto, unfolding(ia_insn::specs::Encoding::inc_dec_bytes))]
-pub fn put_inc_dec(out: &mut Bytes, wide: Wide, width: Width, base: u8, digit: u8, operand: &Operand)
+pub fn put_inc_dec(
+    out: &mut Bytes,
+    wide: Wide,
+    width: Width,
+    base: u8,
+    digit: u8,
+    operand: &Operand,
+)
     requires operand { IsTrue (fits_operand operand.now) }
     requires base { base ≤ 0x48 }
     requires digit { digit < 8 }

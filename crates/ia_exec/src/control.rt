@@ -8,7 +8,7 @@ ghost use Rattle.ia_exec.specs.Control.{with_esp_raised, lowered_esp, push_of, p
 ghost use Rattle.ia_exec.specs.Table.{control_of};
 
 use crate::done::Effect;
-use crate::operand::{without_store, put, store, value, with_register};
+use crate::operand::{put, store, value, with_register, without_store};
 use ia_insn::{Op, Operand};
 use ia_regs::{Regs, cond};
 use ia_word::{EBP, ECX, ESP, Width};

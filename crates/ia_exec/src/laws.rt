@@ -11,10 +11,12 @@ ghost use Rattle.ia_exec.specs.Laws.{IsLawful};
 /// halt come only outside of transactions, an end and an abort only inside; what begins a transaction loads nothing,
 /// begins below depth 7, and has the fallback that the registers give.
 pub fn each_outcome_is_lawful()
-    ensures { (i : Insn) (len : ℕ) (r : Regs) (loaded depth : ℕ) → IsLawful i len r depth (finish_of i len r loaded depth) }
+    ensures { (insn : Insn) (len : ℕ) (regs : Regs) (loaded depth : ℕ) →
+        IsLawful insn len regs depth (finish_of insn len regs loaded depth) }
 {}
 
 /// Where an instruction loads nothing, what is given as loaded does not count.
 pub fn loaded_counts_only_where_there_is_a_load()
-    ensures { (i : Insn) (len : ℕ) (r : Regs) (one other depth : ℕ) → load_of i r ≡ None → finish_of i len r one depth ≡ finish_of i len r other depth }
+    ensures { (insn : Insn) (len : ℕ) (regs : Regs) (one other depth : ℕ) → load_of insn regs ≡ None →
+        finish_of insn len regs one depth ≡ finish_of insn len regs other depth }
 {}

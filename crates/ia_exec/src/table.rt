@@ -5,17 +5,18 @@ ghost use Rattle.ia_insn.specs.Encoding.{encodable, is_encodable};
 ghost use Rattle.ia_exec.specs.Laws.{fallback_of};
 ghost use Rattle.ia_exec.specs.Table.{finish_of, done_of, goes_on, by_depth, divide_of, xbegin_of, xtest_of, cpuid_of, with_four_registers};
 
-use crate::arithmetic::{with_edx_eax, effect};
+use crate::arithmetic::{effect, with_edx_eax};
 use crate::control::{at, sum};
 use crate::done::{AbortKind, Done, Effect, Exception};
-use crate::operand::{without_store, value};
+use crate::operand::{value, without_store};
 use ia_alu::{Divide, div, idiv};
 use ia_insn::{Insn, Op};
 use ia_regs::{Flags, Regs};
 use ia_word::{EAX, EBX, ECX, EDX, UnaryOp, Width};
 
-/// What an instruction of `len` bytes comes to at these registers, whose EIP stands at the instruction. `loaded` is what
-/// stands where `load_of` points, and counts only where it points somewhere. `depth` is that of transactions: 0 outside.
+/// What an instruction of `len` bytes comes to at these registers, whose EIP stands at the instruction. `loaded` is
+/// what stands where `load_of` points, and counts only where it points somewhere. `depth` is that of transactions: 0
+/// outside.
 #[tactic(auto, unfolding(crate::specs::Table::finish_of))]
 pub fn finish(insn: &Insn, len: u8, regs: &Regs, loaded: u32, depth: u8) -> Done
     requires { IsTrue (is_encodable insn.now) }
@@ -50,7 +51,11 @@ fn done(op: &Op, regs: &Regs, loaded: u32, depth: u8) -> Done
         Op::Ud2 => by_depth(depth, Done::Fault(Exception::Undefined), AbortKind::Other),
         Op::Cpuid => by_depth(depth, goes_on(without_store(cpuid(regs))), AbortKind::Other),
         Op::Xbegin(distance) => xbegin(sum(regs.eip, *distance), depth),
-        Op::Xabort(code) => by_depth(depth, goes_on(without_store(*regs)), AbortKind::Explicit(*code)),
+        Op::Xabort(code) => by_depth(
+            depth,
+            goes_on(without_store(*regs)),
+            AbortKind::Explicit(*code),
+        ),
         Op::Xend => xend(depth),
         Op::Xtest => goes_on(without_store(xtest(depth, regs))),
         _ => goes_on(effect(op, regs, loaded)),
@@ -92,7 +97,9 @@ fn divide(depth: u8, quotient: Result<(u32, u32), Divide>, regs: &Regs) -> Done
     ensures { result ≡ divide_of depth quotient regs.now }
 {
     match quotient {
-        Ok((quotient, remainder)) => { goes_on(without_store(with_edx_eax(quotient, remainder, regs.flags, regs))) }
+        Ok((quotient, remainder)) => {
+            goes_on(without_store(with_edx_eax(quotient, remainder, regs.flags, regs)))
+        }
         Err(_) => by_depth(depth, Done::Fault(Exception::Divide), AbortKind::Other),
     }
 }

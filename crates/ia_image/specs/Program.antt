@@ -1,5 +1,5 @@
--- What a program is, and the state that a machine starts it in. The limits and the state are choices of this machine, not
--- statements about hardware.
+-- What a program is, and the state that a machine starts it in. The limits and the state are choices of this machine,
+-- not statements about hardware.
 use Rattle.std.specs.Prelude.{◌≡◌, ℕ, ◌+◌, ◌-◌, ◌*◌, ◌%◌, ◌<◌, ◌≤◌, List, [], ◌∷◌, ◌++◌, All, length, replicate, slice_index, take}
 use Rattle.ia_regs.specs.declared.Regs.{Regs}
 

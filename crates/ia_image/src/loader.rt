@@ -92,7 +92,15 @@ pub fn load(
     mem_size: u32,
     entries: &[u32],
 ) -> Result<Program, LoadFault>
-    ensures tests { Loads (load_refusal bytes.now base code_len mem_size entries.now) (record { bytes = bytes.now; base = base; code_len = code_len; mem_size = mem_size; entries = entries.now }) result }
+    ensures tests { Loads (load_refusal bytes.now base code_len mem_size entries.now)
+        (record {
+          bytes = bytes.now;
+          base = base;
+          code_len = code_len;
+          mem_size = mem_size;
+          entries = entries.now;
+        })
+        result }
 {
     if let Some(fault) = refusal(bytes, base, code_len, mem_size, entries) {
         return Err(fault);

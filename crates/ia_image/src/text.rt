@@ -1,4 +1,5 @@
-//! Image text: a line `image 1 BASE CODE` with two numbers in hex, and then the bytes of the image as lines of hex digits.
+//! Image text: a line `image 1 BASE CODE` with two numbers in hex, and then the bytes of the image as lines of hex
+//! digits.
 
 ghost use Rattle.std.specs.Prelude.{◌≡◌, ◌<◌, ◌≤◌, IfSome, MatchResult, Ok, [], length, true};
 ghost use Rattle.std.specs.Char.{digit_value};
@@ -138,7 +139,9 @@ fn push_lines(bytes: &mut Vec<u8>, text: &[u8]) -> Result<(), ImageFault>
 /// (1 for an empty text); 26 `NoMemory`.
 #[tactic(auto, unfolding(crate::specs::ImageText::image_read))]
 pub fn read_image(alloc: Global, text: &[u8]) -> Result<ImageText, ImageFault>
-    ensures { MatchResult result (λ x. image_read text.now ≡ Ok (record { bytes = x.bytes.items; base = x.base; code_len = x.code_len })) (Tells (image_read text.now)) }
+    ensures { MatchResult result
+        (λ x. image_read text.now ≡ Ok (record { bytes = x.bytes.items; base = x.base; code_len = x.code_len }))
+        (Tells (image_read text.now)) }
 {
     if text.is_empty() {
         return Err(ImageFault::BadImageText(1));

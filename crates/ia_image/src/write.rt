@@ -46,7 +46,8 @@ pub fn write_image<O: Out>(
     out: &mut O,
 ) -> Result<(), WriteFault>
     ensures text { Writes (O.device out.old) (O.device out.new) (image_text bytes.now base code_len) result }
-    ensures read_back { image_read (image_text bytes.now base code_len) ≡ Ok (record { bytes = bytes.now; base = base; code_len = code_len }) }
+    ensures read_back { image_read (image_text bytes.now base code_len) ≡
+        Ok (record { bytes = bytes.now; base = base; code_len = code_len }) }
 {
     let mut page = Page::new();
     push_header(&mut page, base, code_len);

@@ -1,5 +1,5 @@
--- The bytes of an operand in memory or a register: ModRM, SIB and displacement (SDM vol. 2A, "ModR/M and SIB Bytes", tables
--- "32-Bit Addressing Forms with the ModR/M Byte" and "with the SIB Byte").
+-- The bytes of an operand in memory or a register: ModRM, SIB and displacement (SDM vol. 2A, "ModR/M and SIB Bytes",
+-- tables "32-Bit Addressing Forms with the ModR/M Byte" and "with the SIB Byte").
 use Rattle.std.specs.Prelude.{◌≡◌, ◌≢◌, ℕ, ◌/◌, ◌%◌, ◌^◌, ◌<◌, List, [], ◌∷◌, Option, Some, None, if◌then◌else◌, ◌==◌}
 use Rattle.std.specs.Int.{w16, to_le_bytes}
 use Rattle.ia_word.specs.Bytes.{long_bytes, sign_extended}
@@ -50,4 +50,5 @@ pub data SpellsMem : ℕ → ℕ → List ℕ → Mem → Type 0 where
 -- what stands behind a ModRM byte, and the operand that both are
 pub data SpellsOperand : Head → List ℕ → Operand → Type 0 where
   register : {h : Head} → h.mode ≡ 3 → SpellsOperand h [] (Reg h.rm)
-  memory : {h : Head} {bytes : List ℕ} {m : Mem} → h.mode ≢ 3 → SpellsMem h.mode h.rm bytes m → SpellsOperand h bytes (Memory m)
+  memory : {h : Head} {bytes : List ℕ} {m : Mem} → h.mode ≢ 3 → SpellsMem h.mode h.rm bytes m
+      → SpellsOperand h bytes (Memory m)

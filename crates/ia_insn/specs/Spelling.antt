@@ -60,7 +60,8 @@ IsShort bytes = IsFront bytes ⊎ IsLockedFront bytes
 -- F0 stands before an instruction that is not lockable
 abbrev pub IsLockFault : List ℕ → Type 0
 IsLockFault bytes =
-    (front : List ℕ) × (rest : List ℕ) × (i : Op) × SpellsOp front i × (lockable i ≡ false) × (bytes ≡ 0xF0 ∷ (front ++ rest))
+    (front : List ℕ) × (rest : List ℕ) × (i : Op) × SpellsOp front i × (lockable i ≡ false)
+    × (bytes ≡ 0xF0 ∷ (front ++ rest))
 
 -- no spelling stands in front, and the bytes are none of the above
 abbrev pub IsOther : List ℕ → Type 0

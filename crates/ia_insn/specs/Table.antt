@@ -231,9 +231,9 @@ rows_C0 =
     row 0xF9 (plain (done op.Stc)) ∷
     -- vol. 2A "INC—Increment by 1", "DEC—Decrement by 1", and the pages of ff_of
     row 0xFE (digit (λ n.
-        if n == 0 then Some (bare (λ m. op.Inc B m))
-        else if n == 1 then Some (bare (λ m. op.Dec B m))
-        else None)) ∷
+    if n == 0 then Some (bare (λ m. op.Inc B m))
+    else if n == 1 then Some (bare (λ m. op.Dec B m))
+    else None)) ∷
     row 0xFF (digit ff_of) ∷ []
 
 unfoldable pub row_C0 : ℕ → Form
@@ -253,9 +253,9 @@ abbrev pub two_byte_rows : List OpcodeRow
 two_byte_rows =
     -- vol. 2D "XEND—Transactional End", "XTEST—Test if in Transactional Execution": the bytes D5 and D6
     row 0x01 (group (λ h.
-        if h.mode == 3 && h.reg == 2 && h.rm == 5 then Some (bare (λ m. op.Xend))
-        else if h.mode == 3 && h.reg == 2 && h.rm == 6 then Some (bare (λ m. op.Xtest))
-        else None)) ∷
+    if h.mode == 3 && h.reg == 2 && h.rm == 5 then Some (bare (λ m. op.Xend))
+    else if h.mode == 3 && h.reg == 2 && h.rm == 6 then Some (bare (λ m. op.Xtest))
+    else None)) ∷
     -- vol. 2B "UD—Undefined Instruction", "NOP—No Operation"
     row 0x0B (plain (done op.Ud2)) ∷
     row 0x1F (only 0 (bare (λ m. op.NopOf m))) ∷
@@ -267,10 +267,10 @@ two_byte_rows =
     row 0xA2 (plain (done op.Cpuid)) ∷
     -- vol. 2A "LFENCE—Load Fence"; vol. 2B "MFENCE—Memory Fence", "SFENCE—Store Fence": the bytes E8, F0 and F8
     row 0xAE (group (λ h.
-        if h.mode == 3 && h.rm == 0 then slice_index_or (
-            None ∷ None ∷ None ∷ None ∷ None ∷
-            Some (bare (λ m. op.Lfence)) ∷ Some (bare (λ m. op.Mfence)) ∷ Some (bare (λ m. op.Sfence)) ∷ []) h.reg None
-        else None)) ∷
+    if h.mode == 3 && h.rm == 0 then slice_index_or (
+    None ∷ None ∷ None ∷ None ∷ None ∷
+    Some (bare (λ m. op.Lfence)) ∷ Some (bare (λ m. op.Mfence)) ∷ Some (bare (λ m. op.Sfence)) ∷ []) h.reg None
+    else None)) ∷
     -- vol. 2A "IMUL—Signed Multiply", "CMPXCHG—Compare and Exchange"; vol. 2B "MOVZX—Move With Zero-Extend"
     row 0xAF (r_m (λ r m. op.Imul r m)) ∷
     row 0xB1 (m_r (λ m r. op.Cmpxchg m r)) ∷
@@ -295,4 +295,5 @@ behind_f3 b = look_up (row 0x90 (plain (done op.Pause)) ∷ []) b
 pub data SpellsOp : List ℕ → Op → Type 0 where
   one : {b : ℕ} {bytes : List ℕ} {i : Op} → b < 256 → SpellsForm (one_byte b) bytes i → SpellsOp (b ∷ bytes) i
   two : {b : ℕ} {bytes : List ℕ} {i : Op} → b < 256 → SpellsForm (two_byte b) bytes i → SpellsOp (0x0F ∷ b ∷ bytes) i
-  with_f3 : {b : ℕ} {bytes : List ℕ} {i : Op} → b < 256 → SpellsForm (behind_f3 b) bytes i → SpellsOp (0xF3 ∷ b ∷ bytes) i
+  with_f3 : {b : ℕ} {bytes : List ℕ} {i : Op} → b < 256 → SpellsForm (behind_f3 b) bytes i
+      → SpellsOp (0xF3 ∷ b ∷ bytes) i

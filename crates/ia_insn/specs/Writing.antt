@@ -10,20 +10,21 @@ use Rattle.ia_insn.specs.declared.operand.Operand.TheVariants.{Reg, Imm, Mem as 
 
 abbrev pub fits_base : Option ℕ → Bool
 fits_base None = true
-fits_base (Some r) = nat_lt r 8
+fits_base (Some register) = nat_lt register 8
 
 abbrev pub fits_index : Option ℕ → ℕ → Bool
 fits_index None scale = scale == 1
-fits_index (Some r) scale = nat_lt r 8 && not (r == ESP) && (scale == 1 || scale == 2 || scale == 4 || scale == 8)
+fits_index (Some register) scale =
+    nat_lt register 8 && not (register == ESP) && (scale == 1 || scale == 2 || scale == 4 || scale == 8)
 
 abbrev pub fits_mem : Mem → Bool
-fits_mem m = fits_base m.base && fits_index m.index m.scale && nat_lt m.disp (2 ^ 32)
+fits_mem place = fits_base place.base && fits_index place.index place.scale && nat_lt place.disp (2 ^ 32)
 
 -- a register or a place in memory
 abbrev pub fits_operand : Operand → Bool
-fits_operand (Reg r) = nat_lt r 8
-fits_operand (Memory m) = fits_mem m
-fits_operand (Imm n) = false
+fits_operand (Reg register) = nat_lt register 8
+fits_operand (Memory place) = fits_mem place
+fits_operand (Imm number) = false
 
 -- ---- bytes
 
@@ -33,11 +34,12 @@ three high middle low = 64 * high + 8 * middle + low
 
 -- a sign-extended byte
 abbrev pub is_signed_byte : ℕ → Bool
-is_signed_byte n = nat_lt n 128 || nat_le (2 ^ 32 - 128) n
+is_signed_byte number = nat_lt number 128 || nat_le (2 ^ 32 - 128) number
 
 -- mod, with a base; where the displacement is wide it takes 32 bits whatever it is
 abbrev pub mode_for : Bool → ℕ → ℕ → ℕ
-mode_for wide r disp = if wide then 2 else if disp == 0 && not (r == 5) then 0 else if is_signed_byte disp then 1 else 2
+mode_for wide base disp =
+    if wide then 2 else if disp == 0 && not (base == 5) then 0 else if is_signed_byte disp then 1 else 2
 
 abbrev pub disp_bytes : ℕ → ℕ → List ℕ
 disp_bytes mode disp = if mode == 0 then [] else if mode == 1 then disp % 256 ∷ [] else long_bytes disp
@@ -56,6 +58,6 @@ place_bytes wide reg (Some b) (Some i) scale disp =
 
 -- a ModRM byte with this reg field, and what stands behind it
 unfoldable pub operand_bytes : Bool → ℕ → Operand → List ℕ
-operand_bytes wide reg (Reg r) = three 3 reg r ∷ []
-operand_bytes wide reg (Memory m) = place_bytes wide reg m.base m.index m.scale m.disp
+operand_bytes wide reg (Reg register) = three 3 reg register ∷ []
+operand_bytes wide reg (Memory place) = place_bytes wide reg place.base place.index place.scale place.disp
 operand_bytes wide reg (Imm n) = []

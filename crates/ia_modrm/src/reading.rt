@@ -1,5 +1,5 @@
-//! Reads numbers and the bytes of an operand, from the front of a slice. Each function answers what it read and the bytes
-//! behind it, and `Short` exactly where the bytes end too early.
+//! Reads numbers and the bytes of an operand, from the front of a slice. Each function answers what it read and the
+//! bytes behind it, and `Short` exactly where the bytes end too early.
 
 ghost use Rattle.std.specs.Prelude.{◌≡◌, ◌<◌, ◌%◌, ◌/◌, ℕ, List, length, Option};
 ghost use Rattle.ia_insn.specs.Operands.{Head, head_of};

@@ -17,7 +17,8 @@ fn numbers(rt: HostRuntime) {
     assert_eq!(rt; long(&[1, 2, 3]), Err(DecodeFault::Short));
 }
 
-/// A ModRM byte, its reg field, whether the displacement is held at 32 bits, what stands behind the byte, and the operand.
+/// A ModRM byte, its reg field, whether the displacement is held at 32 bits, what stands behind the byte, and the
+/// operand.
 type OperandRow = (u8, u8, bool, &'static [u8], Operand);
 
 macro_rules! mem {

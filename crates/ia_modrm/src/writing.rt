@@ -83,7 +83,8 @@ fn put_place(out: &mut Bytes, wide: bool, reg: u8, place: &Mem)
     requires reg { reg < 8 }
     requires place { IsTrue (fits_mem place.now) }
     requires room { array_vec_len out.old ≤ 9 }
-    ensures items { out.new.items ≡ out.old.items ++ place_bytes wide reg place.now.base place.now.index place.now.scale place.now.disp }
+    ensures items { out.new.items ≡
+        out.old.items ++ place_bytes wide reg place.now.base place.now.index place.now.scale place.now.disp }
     ensures len { array_vec_len out.new ≤ array_vec_len out.old + 6 }
 {
     match (place.base, place.index) {

@@ -26,10 +26,8 @@ impl bitflags::Flags for Flags {
 
     ghost exact = { ⊤ };
 
-    ghost table = {
-        (codes "CF", 1) ∷ (codes "PF", 4) ∷ (codes "AF", 16) ∷
-        (codes "ZF", 64) ∷ (codes "SF", 128) ∷ (codes "OF", 2048) ∷ []
-    };
+    ghost table = { (codes "CF", 1) ∷ (codes "PF", 4) ∷ (codes "AF", 16) ∷
+        (codes "ZF", 64) ∷ (codes "SF", 128) ∷ (codes "OF", 2048) ∷ [] };
 
     ghost set_of = { λ f. f.0 };
 

@@ -1,5 +1,5 @@
--- The operands of an instruction at an address, as they are printed. A jump is shown by its target (SDM volume 2, Jcc and
--- JMP: the distance counts from the end of the instruction).
+-- The operands of an instruction at an address, as they are printed. A jump is shown by its target (SDM volume 2, Jcc
+-- and JMP: the distance counts from the end of the instruction).
 use Rattle.std.specs.Prelude.{ℕ, ◌+◌, ◌%◌, ◌^◌, Option, Some, None}
 use Rattle.ia_insn.specs.declared.kinds.Count.{Count}
 use Rattle.ia_insn.specs.declared.kinds.Count.TheVariants as count

@@ -90,7 +90,9 @@ pub fn push_eight(page: &mut Page, n: u32)
 pub fn make_room<O: Out>(page: &mut Page, room: usize, out: &mut O) -> Result<(), Failed>
     requires { room ≤ 4096 }
     ensures room { OnOk result (array_vec_len page.new + room ≤ 4096) }
-    ensures put { MatchResult result (λ _. Ahead (O.device out.old) (O.device out.new) page.old.items page.new.items) (λ _. Stopped (O.device out.old) (O.device out.new) page.old.items) }
+    ensures put { MatchResult result
+        (λ _. Ahead (O.device out.old) (O.device out.new) page.old.items page.new.items)
+        (λ _. Stopped (O.device out.old) (O.device out.new) page.old.items) }
 {
     if page.remaining_capacity() < room {
         out.put(page.as_slice())?;

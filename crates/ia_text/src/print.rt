@@ -6,10 +6,10 @@ ghost use Rattle.ia_text.specs.Writing.{Writes};
 ghost use Rattle.ia_text.specs.Text.{plus, base_text, scale_text, index_text, disp_text, mem_text, arg_text, behind, op_text, insn_text};
 
 use crate::arg::Arg;
+use crate::arguments::arguments_of;
 use crate::names::{condition_part, mnemonic, register, size};
 use crate::out::{Out, WriteFault};
 use crate::page::{Page, push, push_number};
-use crate::arguments::arguments_of;
 use ia_insn::{Insn, Mem, Op};
 use ia_word::Width;
 

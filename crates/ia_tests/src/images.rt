@@ -1,0 +1,145 @@
+//! Each fault of the loader at its limit and one past it, and image text by example.
+
+use ia_image::{ImageFault, LoadFault, load, read_image, write_image};
+use ia_text::{Out, ToVec};
+use std::alloc::Global;
+use std::test::Fail;
+
+const ENTRIES: [u32; 17] = [256; 17];
+
+fn outcome(
+    alloc: Global,
+    len: usize,
+    base: u32,
+    code_len: u32,
+    mem_size: u32,
+    entries: &[u32],
+) -> Option<LoadFault> {
+    let image = [0xf4; 16];
+    load(
+        alloc,
+        &image[..len.min(16)],
+        base,
+        code_len,
+        mem_size,
+        entries,
+    )
+    .err()
+}
+
+#[test]
+fn limits(rt: HostRuntime) -> Result<(), Fail> {
+    let most = 67_108_864;
+    let cases: [(usize, u32, u32, u32, usize, Option<LoadFault>); 16] = [
+        (1, 256, 1, 8192, 1, None),
+        (0, 256, 1, 8192, 0, Some(LoadFault::Empty)),
+        (1, 256, 1, 8191, 0, Some(LoadFault::BadCores)),
+        (1, 256, 1, 69_632, 16, None),
+        (1, 256, 1, 8191, 17, Some(LoadFault::BadCores)),
+        (1, 8192, 1, 8191, 1, Some(LoadFault::BadMemorySize)),
+        (1, 256, 1, 4096, 1, Some(LoadFault::BadMemorySize)),
+        (1, 256, 1, 65_536, 16, Some(LoadFault::BadMemorySize)),
+        (1, 256, 1, most, 1, None),
+        (1, 256, 1, most + 4096, 1, Some(LoadFault::BadMemorySize)),
+        (16, 8176, 17, 8192, 1, Some(LoadFault::CodeTooLong)),
+        (16, 8177, 17, 8192, 1, Some(LoadFault::TooLarge)),
+        (16, u32::MAX, 1, 8192, 1, Some(LoadFault::TooLarge)),
+        (16, 255, 16, 8192, 1, None),
+        (16, 257, 16, 8192, 1, Some(LoadFault::EntryOutsideCode)),
+        (16, 255, 1, 8192, 1, Some(LoadFault::EntryOutsideCode)),
+    ];
+    for (len, base, code_len, mem_size, cores, fault) in cases {
+        assert!(rt; cores <= 17);
+        let found = outcome(rt.alloc(), len, base, code_len, mem_size, &ENTRIES[..cores]);
+        assert_eq!(rt; found, fault);
+    }
+    Ok(())
+}
+
+#[test]
+fn a_program(rt: HostRuntime) -> Result<(), Fail> {
+    let program = load(rt.alloc(), b"\xf4\xf4\x07", 256, 2, 12_288, &[256, 257])?;
+    let copy = program.copy(rt.alloc())?;
+    assert_eq!(rt; copy.cores(), 2);
+    assert_eq!(rt; copy.entry(0), Some(256));
+    assert_eq!(rt; copy.entry(1), Some(257));
+    assert_eq!(rt; copy.entry(2), None);
+    assert_eq!(rt; copy.mem_size(), 12_288);
+    assert_eq!(rt; copy.base(), 256);
+    assert_eq!(rt; copy.bytes(), b"\xf4\xf4\x07".as_slice());
+    assert_eq!(rt; copy.code(), b"\xf4\xf4".as_slice());
+    let outside = load(rt.alloc(), b"\xf4\xf4\x07", 256, 2, 12_288, &[256, 258]);
+    assert_eq!(rt; outside.err().map(LoadFault::code), Some(24));
+    Ok(())
+}
+
+#[test]
+fn texts(rt: HostRuntime) -> Result<(), Fail> {
+    let cases: [(&[u8], &[u8]); 6] = [
+        (b"image 1 100 e\nf4\n", b"\xf4"),
+        (b"image 1 00000100 0000000E", b""),
+        (b"image 1 100 e\r\n\r\n\nF4f5\r\naB\n\n", b"\xf4\xf5\xab"),
+        (
+            b"image 1 100 e\n0123456789abcdef",
+            b"\x01\x23\x45\x67\x89\xab\xcd\xef",
+        ),
+        (
+            b"image 1 100 e\n00\n0102\n030405",
+            b"\x00\x01\x02\x03\x04\x05",
+        ),
+        (b"image 1 100 e\n", b""),
+    ];
+    for (text, bytes) in cases {
+        let image = read_image(rt.alloc(), text)?;
+        assert_eq!(rt; image.bytes.as_slice(), bytes);
+        assert_eq!(rt; image.base, 256);
+        assert_eq!(rt; image.code_len, 14);
+    }
+    Ok(())
+}
+
+#[test]
+fn broken_texts(rt: HostRuntime) {
+    let cases: [(&[u8], usize); 16] = [
+        (b"", 1),
+        (b"\nimage 1 100 e\n", 1),
+        (b"image 2 100 e\n", 1),
+        (b"image 1 100\n", 1),
+        (b"image 1  100 e\n", 1),
+        (b"image 1 100 e \n", 1),
+        (b"image 1 123456789 e\n", 1),
+        (b"image 1 100 0x1\n", 1),
+        (b"Image 1 100 e\n", 1),
+        (b"image 1 100 e\r", 1),
+        (b"image 1 100 e\r\r\n", 1),
+        (b"image 1 100 e\nf4\nf\n", 3),
+        (b"image 1 100 e\n\nf4\n \n", 4),
+        (b"image 1 100 e\nfg\n0\n", 2),
+        (b"image 1 100 e\nf4 f4\n", 2),
+        (b"image 1 100 e\nf4\r", 2),
+    ];
+    for (text, line) in cases {
+        let fault = read_image(rt.alloc(), text).err();
+        assert_eq!(rt; fault, Some(ImageFault::BadImageText(line)));
+    }
+    assert_eq!(rt; ImageFault::BadImageText(3).code(), 27);
+    assert_eq!(rt; ImageFault::BadImageText(3).line(), Some(3));
+}
+
+#[test]
+fn written(rt: HostRuntime) -> Result<(), Fail> {
+    let mut bytes = [0xa5; 34];
+    bytes[0] = 0x0f;
+    let mut out = ToVec::new(Vec::new(rt.alloc()));
+    write_image(&bytes, 0x100, 0xABC, &mut out)?;
+    let text: &[u8] = b"\
+image 1 100 abc\n\
+0fa5a5a5a5a5a5a5a5a5a5a5a5a5a5a5a5a5a5a5a5a5a5a5a5a5a5a5a5a5a5a5\n\
+a5a5\n";
+    assert_eq!(rt; out.bytes.as_slice(), text);
+    assert_eq!(rt; out.failures(), 0);
+    let mut none = ToVec::new(Vec::new(rt.alloc()));
+    write_image(b"", 0, u32::MAX, &mut none)?;
+    assert_eq!(rt; none.bytes.as_slice(), b"image 1 0 ffffffff\n".as_slice());
+    Ok(())
+}
