@@ -4,6 +4,8 @@
 //! A document's commands are the lines `$ ./elide ..` and `$ cat ..` of its code blocks. What has to be printed stands below
 //! a command, up to the next one or the block's end; a line `...` there stands for any lines. The table, `rows.txt`, says
 //! its form at its head; its commands run over files in memory, and status, standard output and standard error are compared.
+//!
+//! Promises no more than safety: it is a test. Stands on `elide_command`, whose commands it runs, and on `doc_lines`.
 #![tactic(auto)]
 
 mod exercise;

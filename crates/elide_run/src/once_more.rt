@@ -79,9 +79,17 @@ fn step_all(board: &mut Board, steps: &[u8]) -> Result<(), Refusal> {
         return Err(Refusal::Fault(Fault::Run(RunFault::NoSuchCore)));
     }
     for core in steps {
-        board.step(*core).map_err(Fault::Step)?;
+        step(board, *core)?;
     }
     Ok(())
+}
+
+// One step of a core.
+fn step(board: &mut Board, core: u8) -> Result<(), Refusal> {
+    match board.step(core) {
+        Ok(_outcome) => Ok(()),
+        Err(fault) => Err(Refusal::Fault(Fault::Step(fault))),
+    }
 }
 
 // Whether memory, registers and stops are the same.
