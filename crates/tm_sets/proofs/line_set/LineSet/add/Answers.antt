@@ -2,8 +2,9 @@ use Rattle.std.proofs.Common.{◌≡◌, ◌+◌, ◌++◌, ◌∷◌, [], ℕ, 
 use Rattle.std.proofs.lemmas.List.{length_push}
 use Rattle.std.specs.Result.{is_ok}
 use Rattle.std.specs.FinSet as set
-use Rattle.tm_sets.proofs.Lists.{lines_of, kept, pushed, len_push}
-use Rattle.tm_sets.proofs.row.Row.add.Goals as goal
+use Rattle.tm_sets.specs.LineSet.{lines_of}
+use Rattle.tm_sets.proofs.Lists.{kept, pushed, len_push}
+use Rattle.tm_sets.proofs.line_set.LineSet.add.Goals as goal
 
 pub returns-then-is_some-clause-ok : goal.returns-then-is_some-clause-ok
 returns-then-is_some-clause-ok c =

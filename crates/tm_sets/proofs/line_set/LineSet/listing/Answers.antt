@@ -2,7 +2,7 @@ use Rattle.std.proofs.Common.{◌≡◌, ◌∙◌, ap, subst}
 use Rattle.std.specs.List.Sorted.{IsPermutation}
 use Rattle.std.proofs.lemmas.List.Sorted.{IsNonDecreasingBy-from_sort}
 use Rattle.tm_sets.proofs.Lists.{rising, same_lines, sorted_once}
-use Rattle.tm_sets.proofs.row.Row.listing.Goals as goal
+use Rattle.tm_sets.proofs.line_set.LineSet.listing.Goals as goal
 
 pub returns-clause-ascending : goal.returns-clause-ascending
 returns-clause-ascending c =

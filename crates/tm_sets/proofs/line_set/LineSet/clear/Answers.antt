@@ -1,8 +1,8 @@
 use Rattle.std.proofs.Common.{◌∙◌, ap, sym, length, arith}
 use Rattle.std.specs.Ordering.{nat_cmp}
 use Rattle.std.specs.FinSet as set
-use Rattle.tm_sets.proofs.Lists.{lines_of}
-use Rattle.tm_sets.proofs.row.Row.clear.Goals as goal
+use Rattle.tm_sets.specs.LineSet.{lines_of}
+use Rattle.tm_sets.proofs.line_set.LineSet.clear.Goals as goal
 
 pub invariant_of-self : goal.invariant_of-self
 invariant_of-self c = (
