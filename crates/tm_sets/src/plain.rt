@@ -1,6 +1,7 @@
 //! The sets as plain lists of lines, one a core and kind.
 
-ghost use Rattle.std.specs.Prelude.{◌≡◌, ◌<◌, ◌≤◌, ◌^◌, ℕ, Bool, ◌&&◌, ◌||◌, not, nat_eq, length, is_err, IfOk, IfSome, OnOk, OnErr};
+ghost use Rattle.std.specs.Prelude.{◌≡◌, ◌<◌, ◌≤◌, ◌^◌, ℕ, Bool, ◌&&◌, ◌||◌, not, nat_eq, length, is_err, IfOk, IfSome};
+ghost use Rattle.std.specs.Prelude.{OnOk, OnErr};
 ghost use Rattle.std.specs.FinSet as set;
 ghost use Rattle.tm_sets.specs.Plain.{plain_content, HaveRoom, is_other, is_writer, line_set_at};
 ghost use Rattle.tm_sets.specs.Content.{IsMaskOf};
