@@ -1,5 +1,5 @@
 use Rattle.std.proofs.Common.{◌≡◌, ◌<◌, ◌∙◌, length, subst, sym}
-use Rattle.tm_debug.proofs.state.State.turn.Goals as goal
+use Rattle.tm_debug.proofs.state.SessionState.check_run.Goals as goal
 
 pub returns-else-not-first-clause-room : goal.returns-else-not-first-clause-room
 returns-else-not-first-clause-room c core same =
