@@ -1,8 +1,8 @@
 //! The read set, the write set, and sets of the caller's own.
 
 use super::{ADDS, BEGIN, LIMITS, eax_eip, joined, one, program, steps};
-use crate::Outcome::{Aborted, Begun, Inside};
-use crate::{Machine, transactions_are_as_they_went};
+use tm_core::Outcome::{Aborted, Begun, Inside};
+use tm_core::{Machine, transactions_are_as_they_went};
 use bitflags::Flags as _;
 use ia_image::Program;
 use std::alloc::Global;

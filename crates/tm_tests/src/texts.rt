@@ -1,6 +1,6 @@
 //! Texts that were written by hand, each as it is to be printed or read.
 
-use crate::{
+use tm_hist::{
     History, ScheduleFault, SerialFault, read_schedule, read_steps, serial, write_dump,
     write_outcome, write_schedule,
 };

@@ -1,7 +1,7 @@
 //! What is refused.
 
 use super::{ADDS, LIMITS, program};
-use crate::{CoreState, Limits, Machine, MachineFault, NoSuchCore, RunFault};
+use tm_core::{CoreState, Limits, Machine, MachineFault, NoSuchCore, RunFault};
 use tm_sets::Kind;
 
 #[test]

@@ -1,6 +1,6 @@
 //! One instruction at a time, by the manual's pages and the table of docs/MACHINE.md, "One step".
 
-use crate::{
+use tm_rule::{
     Access, Code, Outside, Stop, Store, Within, fallback, fetch, inside, load_at, outside,
 };
 use ia_regs::{Flags, Regs};

@@ -1,7 +1,6 @@
 //! Steps on a board, written by hand. Code lies from 100h on, in a memory of 65,536 bytes.
 
-use crate::pair::Pair;
-use crate::{Board, BoardFault, History, MOST_STEPS, StepFault};
+use tm_hist::{Board, BoardFault, History, MOST_STEPS, StepFault};
 use ia_image::{Program, load};
 use std::alloc::Global;
 use std::process::Abort;
@@ -130,14 +129,5 @@ fn limits_of_a_board(rt: HostRuntime) {
             BoardFault::NoMemory.code()
         ),
         (55, 40, 41, 51)
-    );
-}
-
-#[test]
-fn steps_take_six_bytes(rt: HostRuntime) {
-    assert_eq!(rt; size_of::<Pair>(), 6);
-    assert_eq!(rt;
-        Pair::new(9, Aborted(0xab00_0021)).outcome(),
-        Aborted(0xab00_0021)
     );
 }

@@ -4,7 +4,7 @@ mod refusals;
 mod rows;
 mod sets;
 
-use crate::{Limits, Machine, Outcome};
+use tm_core::{Limits, Machine, Outcome};
 use ia_image::{Program, load};
 use std::alloc::Global;
 use std::process::Abort;
