@@ -8,7 +8,7 @@ use Rattle.std.proofs.lemmas.Bool.{eq-eqb, lt-ltb, ltb-true, not-false}
 use Rattle.ia_word.specs.declared.width.Width.{Width}
 use Rattle.ia_word.specs.Width.{bytes_of}
 use Rattle.ia_word.specs.Line.{line}
-use Rattle.tm_sets.specs.Content.{Content, added, same_kind}
+use Rattle.tm_sets.specs.Content.{Content, with_line, same_kind}
 use Rattle.tm_core.proofs.Pieces.{contains-insert}
 use Rattle.tm_core.proofs.AccessLines.{access_lines, access_line}
 use Rattle.tm_core.specs.Access.{places}
@@ -69,11 +69,11 @@ same_self Read = refl
 same_self Write = refl
 
 -- the set that a line is added to
-pub added_own : (a b : Content) (c : ℕ) (kind : Kind) (l : ℕ) → b ≡ added a c kind l → b.lines c kind ≡ finset.insert (a.lines c kind) l
+pub added_own : (a b : Content) (c : ℕ) (kind : Kind) (l : ℕ) → b ≡ with_line a c kind l → b.lines c kind ≡ finset.insert (a.lines c kind) l
 added_own a b c kind l e =
     ap (λ (x : Content). x.lines c kind) e
     ∙ ap (λ t. cond (t && same_kind kind kind) (finset.insert (a.lines c kind) l) (a.lines c kind)) (eq-eqb c c refl)
     ∙ ap (λ t. cond t (finset.insert (a.lines c kind) l) (a.lines c kind)) (same_self kind)
 
-pub added_fixed : (a b : Content) (c : ℕ) (kind : Kind) (l : ℕ) → b ≡ added a c kind l → b.fixed ≡ a.fixed
+pub added_fixed : (a b : Content) (c : ℕ) (kind : Kind) (l : ℕ) → b ≡ with_line a c kind l → b.fixed ≡ a.fixed
 added_fixed a b c kind l e = ap (λ (x : Content). x.fixed) e

@@ -11,9 +11,9 @@ pub use Rattle.tm_rule.specs.declared.kinds.Outside.{Outside}
 pub use Rattle.tm_rule.specs.declared.kinds.Outside.TheVariants.{Goes, Begins, Stops}
 pub use Rattle.tm_rule.specs.declared.kinds.Within.{Within}
 pub use Rattle.tm_rule.specs.declared.kinds.Within.TheVariants.{GoesOn, Nests, Ends, Fails}
-pub use Rattle.tm_sets.specs.declared.touched.Kind.{Kind}
-pub use Rattle.tm_sets.specs.declared.touched.Kind.TheVariants.{Read, Write}
-pub use Rattle.tm_sets.specs.Row.{Lines}
+pub use Rattle.tm_sets.specs.declared.interface.Kind.{Kind}
+pub use Rattle.tm_sets.specs.declared.interface.Kind.TheVariants.{Read, Write}
+pub use Rattle.tm_sets.specs.LineSet.{Lines}
 pub use Rattle.tm_core.specs.declared.outcome.Outcome.{Outcome}
 pub use Rattle.tm_core.specs.declared.outcome.Outcome.TheVariants.{Plain, Stopped, Idle, Begun, Inside, Committed, Aborted}
 pub use Rattle.tm_core.specs.declared.outcome.CoreState.{CoreState}

@@ -13,8 +13,8 @@ use ia_word::{Width, line_of};
 use tm_sets::Sets;
 
 // Bit k of a mask.
-fn has_bit(mask: u16, k: u8) -> bool
-    requires { k < 16 }
+fn has_bit(mask: u64, k: u8) -> bool
+    requires { k < 64 }
     ensures { result ≡ bit mask k }
 {
     mask >> k & 1 == 1

@@ -11,8 +11,6 @@ mod memory;
 mod opening;
 mod outcome;
 mod step;
-#[cfg(test)]
-mod tests;
 mod transaction;
 
 pub use fault::{MachineFault, NoSuchCore, RunFault};

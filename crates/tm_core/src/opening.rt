@@ -3,7 +3,7 @@
 ghost use Rattle.std.specs.Prelude.{◌≡◌, ◌<◌, ◌≤◌, ◌*◌, ◌^◌, ◌↔◌, ℕ, List, Option, None, Err, true, length, IfOk};
 ghost use Rattle.std.specs.FinSet as set;
 ghost use Rattle.ia_image.specs.Program.{opening_memory as memory_of, code_of};
-ghost use Rattle.tm_sets.specs.declared.touched.Kind as AnyKind;
+ghost use Rattle.tm_sets.specs.declared.interface.Kind as AnyKind;
 ghost use Rattle.tm_core.specs.State.{opening};
 ghost use Rattle.tm_core.specs.Setting.{setting};
 ghost use Rattle.tm_core.specs.Parts.{cpu_at};

@@ -5,8 +5,8 @@ ghost use Rattle.std.specs.FinSet as set;
 ghost use Rattle.ia_word.specs.Width.{bytes_of, bits_of};
 ghost use Rattle.tm_buffer.specs.Held.{drained, Fits};
 ghost use Rattle.tm_rule.specs.Rule.{load_at as load_by, fallback_of};
-ghost use Rattle.tm_sets.specs.Content.{Content, added};
-ghost use Rattle.tm_sets.specs.declared.touched.Kind as AnyKind;
+ghost use Rattle.tm_sets.specs.Content.{Content, with_line};
+ghost use Rattle.tm_sets.specs.declared.interface.Kind as AnyKind;
 ghost use Rattle.tm_core.specs.Access.{places, places_of, stores_of, loaded_places, loaded_value};
 ghost use Rattle.tm_core.specs.Owed.{fits};
 ghost use Rattle.tm_core.specs.Shown.{plain_view};
@@ -89,7 +89,7 @@ fn add_line<S: Sets>(sets: &mut S, c: u8, line: u32, kind: Kind) -> bool
     requires line { line < (S.content sets.old).fixed.line_count }
     requires room { set.len ((S.content sets.old).lines c kind) ≤ (S.content sets.old).fixed.room kind }
     ensures told { result ≡ not (nat_lt ((S.content sets.old).fixed.room kind) (set.len (set.insert ((S.content sets.old).lines c kind) line))) }
-    ensures ok { result ≡ true → S.content sets.new ≡ added (S.content sets.old) c kind line }
+    ensures ok { result ≡ true → S.content sets.new ≡ with_line (S.content sets.old) c kind line }
     ensures err { result ≡ false → S.content sets.new ≡ S.content sets.old }
 {
     sets.add(c, line, kind).is_ok()

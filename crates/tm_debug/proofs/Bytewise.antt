@@ -3,25 +3,25 @@ use Rattle.std.proofs.Common.{◌≡◌, ℕ, false, List, [], ◌∷◌, ◌++�
 use Rattle.std.specs.Prelude.{◌==◌}
 use Rattle.ia_lex.specs.Lines.{lines_of, without_cr}
 use Rattle.tm_debug.specs.declared.line.Line.{Line}
-use Rattle.tm_debug.specs.declared.line.Start.{Start}
+use Rattle.tm_debug.specs.declared.line.LineStart.{LineStart}
 use Rattle.tm_debug.specs.Serving.{IsKept, IsLast, IsLine, ReadsLine}
 use Rattle.tm_debug.proofs.Feeds.{NoFeed, line_at_end, line_at_feed, no_feed_more}
 
 -- of the known input these bytes were read, and the others are left
-pub record Reading (old new : Option (List ℕ)) (failed_old failed_new : ℕ) (s : Start) : Type 0 where
+pub record Reading (old new : Option (List ℕ)) (failed_old failed_new : ℕ) (s : LineStart) : Type 0 where
   pub taken : List ℕ
   pub kept : IsKept taken s
   pub no_feed : NoFeed taken
   pub failed : failed_new ≡ failed_old
   pub input : (xs : List ℕ) → old ≡ Some xs → (ys : List ℕ) × (new ≡ Some ys) × (xs ≡ taken ++ ys)
 
-pub reading_new : (known : Option (List ℕ)) (failed : ℕ) (s : Start) → IsKept [] s → Reading known known failed failed s
+pub reading_new : (known : Option (List ℕ)) (failed : ℕ) (s : LineStart) → IsKept [] s → Reading known known failed failed s
 reading_new known failed s h = record { taken = []; kept = h; no_feed = refl; failed = refl; input = λ xs e. (xs, e, refl) }
 
 abbrev pub ReadsByte : Option (List ℕ) → Option (List ℕ) → Option ℕ → Type 0
 ReadsByte old new byte = (xs : List ℕ) → old ≡ Some xs → (ys : List ℕ) × (new ≡ Some ys) × (xs ≡ option_to_list byte ++ ys) × (byte ≡ None → ys ≡ [])
 
-pub reading_more : {a b c : Option (List ℕ)} {f g h : ℕ} {s t : Start} (byte : ℕ) → (byte == 10) ≡ false → Reading a b f g s → ReadsByte b c (Some byte) → h ≡ g →
+pub reading_more : {a b c : Option (List ℕ)} {f g h : ℕ} {s t : LineStart} (byte : ℕ) → (byte == 10) ≡ false → Reading a b f g s → ReadsByte b c (Some byte) → h ≡ g →
     ((taken : List ℕ) → IsKept taken s → IsKept (taken ++ byte ∷ []) t) → Reading a c f h t
 reading_more byte other r reads same adds = record {
   taken = r.taken ++ byte ∷ [];
@@ -37,7 +37,7 @@ reading_more byte other r reads same adds = record {
 abbrev pub GivesLine : Option (List ℕ) → Option (List ℕ) → Line → Type 0
 GivesLine old new line = (xs : List ℕ) → old ≡ Some xs → (ys : List ℕ) × (new ≡ Some ys) × ReadsLine line xs ys
 
-pub read_feed : {a b c : Option (List ℕ)} {f g : ℕ} {s : Start} (byte : ℕ) (line : Line) → byte ≡ 10 → Reading a b f g s → ReadsByte b c (Some byte) →
+pub read_feed : {a b c : Option (List ℕ)} {f g : ℕ} {s : LineStart} (byte : ℕ) (line : Line) → byte ≡ 10 → Reading a b f g s → ReadsByte b c (Some byte) →
     ((taken : List ℕ) → IsKept taken s → IsLine (without_cr taken) line) → GivesLine a c line
 read_feed byte line feed r reads gives xs e =
     let before = r.input xs e in
@@ -45,7 +45,7 @@ read_feed byte line feed r reads gives xs e =
     let whole : xs ≡ r.taken ++ 10 ∷ after.0 = before.2 ∙ ap (λ l. r.taken ++ l) after.2 ∙ ap (λ b. r.taken ++ b ∷ after.0) feed in
     (after.0, after.1, inr (without_cr r.taken, gives r.taken r.kept, ap lines_of whole ∙ line_at_feed r.taken after.0 r.no_feed))
 
-pub read_end : {a b c : Option (List ℕ)} {f g : ℕ} {s : Start} (line : Line) → Reading a b f g s → ReadsByte b c None → ((taken : List ℕ) → IsKept taken s → IsLast taken line) → GivesLine a c line
+pub read_end : {a b c : Option (List ℕ)} {f g : ℕ} {s : LineStart} (line : Line) → Reading a b f g s → ReadsByte b c None → ((taken : List ℕ) → IsKept taken s → IsLast taken line) → GivesLine a c line
 read_end line r reads gives xs e =
     let before = r.input xs e in
     let after = reads before.0 before.1 in

@@ -4,9 +4,9 @@ use Rattle.std.specs.Prelude.{Result, Ok, Err, IsErr, OnErr, OnOk}
 use Rattle.ia_text.specs.Listing.{listing_line, shown_bytes}
 use Rattle.ia_text.specs.Writing.{Device, Stopped, Writes, Wrote}
 use Rattle.ia_text.proofs.Writing.{stopped_then, writes_stopped, writes_then, wrote_none, wrote_then}
-use Rattle.tm_debug.specs.declared.state.Turn.{Turn}
-use Rattle.tm_debug.specs.declared.state.Turn.TheVariants.{Go}
-use Rattle.tm_debug.specs.Session.{GoAnswer, Place, Ran, RunPart, RunWhole, ending, some_lines, turn_of}
+use Rattle.tm_debug.specs.declared.state.RunCheck.{RunCheck}
+use Rattle.tm_debug.specs.declared.state.RunCheck.TheVariants.{Go}
+use Rattle.tm_debug.specs.Session.{GoAnswer, SessionValue, IsRunOf, RunPart, RunWhole, run_ending, some_lines, run_check}
 
 pub no_lines : (d : Device) (n : ℕ) (code : List ℕ) (at : ℕ) → n ≡ 0 → Wrote d d (some_lines n code at)
 unfolding some_lines
@@ -35,12 +35,12 @@ lines_then {T} {E} {a} {b} c n m shown code rest at next r h em es er en wrote w
 
 -- ---- runs
 
-abbrev pub SoFar : ℕ → Place → Place → Device → Device → Type 0
-SoFar n p q a b = (text : List ℕ) × Ran n p text q × Wrote a b text
+abbrev pub SoFar : ℕ → SessionValue → SessionValue → Device → Device → Type 0
+SoFar n p q a b = (text : List ℕ) × IsRunOf n p text q × Wrote a b text
 
-ran_more : (n : ℕ) (p q s : Place) (core : ℕ) (text line : List ℕ) → turn_of q (n == 0) ≡ Go core → Ran n p text q → GoAnswer q core line s → Ran (n + 1) p (text ++ line) s
+ran_more : (n : ℕ) (p q s : SessionValue) (core : ℕ) (text line : List ℕ) → run_check q (n == 0) ≡ Go core → IsRunOf n p text q → GoAnswer q core line s → IsRunOf (n + 1) p (text ++ line) s
 ran_more n p q s core text line turn ran go =
-    let more : Ran (suc n) p (text ++ line) s = record {
+    let more : IsRunOf (suc n) p (text ++ line) s = record {
       before = q;
       lines = text;
       core = core;
@@ -51,9 +51,9 @@ ran_more n p q s core text line turn ran go =
       line = ap (λ l. text ++ l) go.2;
     } in
     let same : suc n ≡ n + 1 = omega arith in
-    subst (λ (k : ℕ). Ran k p (text ++ line) s) same more
+    subst (λ (k : ℕ). IsRunOf k p (text ++ line) s) same more
 
-pub steps_more : {a b c : Device} (n : ℕ) (p q s : Place) (core : ℕ) → turn_of q (n == 0) ≡ Go core → SoFar n p q a b → (line : List ℕ) × GoAnswer q core line s × Wrote b c line → SoFar (n + 1) p s a c
+pub steps_more : {a b c : Device} (n : ℕ) (p q s : SessionValue) (core : ℕ) → run_check q (n == 0) ≡ Go core → SoFar n p q a b → (line : List ℕ) × GoAnswer q core line s × Wrote b c line → SoFar (n + 1) p s a c
 steps_more n p q s core turn so_far told = (so_far.0 ++ told.0, ran_more n p q s core so_far.0 told.0 turn so_far.1 told.1, wrote_then so_far.2 told.2)
 
 pub on_err : {T E : Type 0} (r : Result T E) (P : Type 0) → P → OnErr r P
@@ -61,7 +61,7 @@ on_err (Ok x) P h = tt
 on_err (Err e) P h = h
 
 -- the line of the last step was not written whole
-pub step_broken : {a b c : Device} (count n : ℕ) (p q s : Place) (core : ℕ) → n < count → turn_of q (n == 0) ≡ Go core → SoFar n p q a b → (line : List ℕ) × GoAnswer q core line s × Stopped b c line →
+pub step_broken : {a b c : Device} (count n : ℕ) (p q s : SessionValue) (core : ℕ) → n < count → run_check q (n == 0) ≡ Go core → SoFar n p q a b → (line : List ℕ) × GoAnswer q core line s × Stopped b c line →
     (text : List ℕ) × RunPart count p text s × Stopped a c text
 step_broken count n p q s core below turn so_far told = (
   so_far.0 ++ told.0,
@@ -78,17 +78,17 @@ step_broken count n p q s core below turn so_far told = (
 )
 
 -- a test ends the run
-pub run_ended : {E : Type 0} (a b c : Device) (count n : ℕ) (p q : Place) (turn : Turn) (r : Result (Unit {0}) E) → n < count → turn ≡ turn_of q (n == 0) → ((core : ℕ) → turn ≡ Go core → ⊥) → SoFar n p q a b → Writes b c (ending turn) r →
+pub run_ended : {E : Type 0} (a b c : Device) (count n : ℕ) (p q : SessionValue) (turn : RunCheck) (r : Result (Unit {0}) E) → n < count → turn ≡ run_check q (n == 0) → ((core : ℕ) → turn ≡ Go core → ⊥) → SoFar n p q a b → Writes b c (run_ending turn) r →
     OnOk r ((text : List ℕ) × RunWhole count p text q × Wrote a c text) × OnErr r ((text : List ℕ) × RunPart count p text q × Stopped a c text)
 run_ended a b c count n p q turn (Ok done) below same ends so_far writes = (
   (
-    so_far.0 ++ ending turn,
+    so_far.0 ++ run_ending turn,
     record {
       count = n;
       lines = so_far.0;
-      tail = ending turn;
+      tail = run_ending turn;
       ran = so_far.1;
-      end = inr (below, ap ending same, λ core e. ends core (same ∙ e));
+      end = inr (below, ap run_ending same, λ core e. ends core (same ∙ e));
       whole = refl;
     },
     wrote_then so_far.2 writes,
@@ -98,14 +98,14 @@ run_ended a b c count n p q turn (Ok done) below same ends so_far writes = (
 run_ended a b c count n p q turn (Err fault) below same ends so_far writes = (
   tt,
   (
-    so_far.0 ++ ending turn,
+    so_far.0 ++ run_ending turn,
     record {
       count = n;
       lines = so_far.0;
-      tail = ending turn;
+      tail = run_ending turn;
       few = omega arith;
       ran = so_far.1;
-      tail_is = inr (ap ending same);
+      tail_is = inr (ap run_ending same);
       whole = refl;
     },
     stopped_then so_far.2 writes,

@@ -1,5 +1,7 @@
 -- What a session answers to the lines of its input, by cases on one line at a time (docs/FORMATS.md, "Debugger").
-use Rattle.std.specs.Prelude.{◌≡◌, ◌⊎◌, ℕ, zero, suc, ◌+◌, ◌-◌, ◌%◌, ◌^◌, ◌<◌, ◌≤◌, ◌==◌, ◌&&◌, ◌||◌, Bool, true, false, not, if◌then◌else◌, List, [], ◌∷◌, ◌++◌, codes, drop, take, length, nat_eq, nat_le, nat_lt, Option, Some, None, is_some, Result, Ok, Err}
+use Rattle.std.specs.Prelude.{◌≡◌, ◌⊎◌, ℕ, zero, suc, ◌+◌, ◌-◌, ◌%◌, ◌^◌, ◌<◌, ◌≤◌, ◌==◌, ◌&&◌, ◌||◌, Bool, true, false}
+use Rattle.std.specs.Prelude.{not, if◌then◌else◌, List, [], ◌∷◌, ◌++◌, codes, drop, take, length, nat_eq, nat_le}
+use Rattle.std.specs.Prelude.{nat_lt, Option, Some, None, is_some, Result, Ok, Err}
 use Rattle.std.specs.List.{flat_map, list_any, position, remove}
 use Rattle.std.specs.List.Sorted.{IsStrictlyIncreasing}
 use Rattle.std.specs.FinSet as set
@@ -15,31 +17,34 @@ use Rattle.tm_hist.specs.Board.{IsHistory, SameBoard, Shown as Board, stop_shown
 use Rattle.tm_hist.specs.Lines.{core_text, dump_lines, line_end, number_text, outcome_line, state_word}
 use Rattle.tm_hist.specs.Machine.{shown_regs, shown_state}
 use Rattle.tm_debug.specs.declared.command.Command.{Command}
-use Rattle.tm_debug.specs.declared.command.Command.TheVariants.{Step, Run, Break, Clear, Regs, Mem, Sets, List as Listing, Quit}
+use Rattle.tm_debug.specs.declared.command.Command.TheVariants.{Step, Run, Break, Clear, Regs, Mem, Sets}
+use Rattle.tm_debug.specs.declared.command.Command.TheVariants.{List as Listing, Quit}
 use Rattle.tm_debug.specs.declared.refusal.Refusal.{Refusal}
-use Rattle.tm_debug.specs.declared.refusal.Refusal.TheVariants.{NoSuchCore, OutOfRange, LimitReached, TooManyBreakpoints}
-use Rattle.tm_debug.specs.declared.trouble.Trouble.{Trouble}
-use Rattle.tm_debug.specs.declared.trouble.Trouble.TheVariants as trouble
-use Rattle.tm_debug.specs.declared.state.Turn.{Turn}
-use Rattle.tm_debug.specs.declared.state.Turn.TheVariants.{AllStopped, Full, AtBreakpoint, Go}
-use Rattle.tm_debug.specs.declared.state.State.{State}
+use Rattle.tm_debug.specs.declared.refusal.Refusal.TheVariants.{NoSuchCore, OutOfRange, LimitReached}
+use Rattle.tm_debug.specs.declared.refusal.Refusal.TheVariants.{TooManyBreakpoints}
+use Rattle.tm_debug.specs.declared.interruption.Interruption.{Interruption}
+use Rattle.tm_debug.specs.declared.interruption.Interruption.TheVariants as interruption
+use Rattle.tm_debug.specs.declared.state.RunCheck.{RunCheck}
+use Rattle.tm_debug.specs.declared.state.RunCheck.TheVariants.{AllStopped, Full, AtBreakpoint, Go}
+use Rattle.tm_debug.specs.declared.state.SessionState.{SessionState}
 use Rattle.tm_debug.specs.Commands.{refusal_line}
 
--- between two lines: the board, the breakpoints, and the number behind that of the core that was stepped last, 0 before the first step
-pub record Place : Type 0 where
+-- between two lines: the board, the breakpoints, and the number behind that of the core that was stepped last, 0 before
+-- the first step
+pub record SessionValue : Type 0 where
   pub board : Board
   pub breaks : List ℕ
   pub next : ℕ
 
-abbrev pub place_of : State → Place
-place_of s = record { board = s.board; breaks = s.breakpoints.items; next = s.next }
+abbrev pub value_of : SessionState → SessionValue
+value_of state = record { board = state.board; breaks = state.breakpoints.items; next = state.next }
 
 -- before the first line
-abbrev pub start : Board → Place
-start b = record { board = b; breaks = []; next = 0 }
+abbrev pub start : Board → SessionValue
+start board = record { board = board; breaks = []; next = 0 }
 
-abbrev pub cores_of : Place → ℕ
-cores_of p = length p.board.program.entries
+abbrev pub cores_of : SessionValue → ℕ
+cores_of session = length session.board.program.entries
 
 -- ---- the lines that are answered
 
@@ -61,123 +66,130 @@ unfoldable pub sets_head : ℕ → CoreState → List ℕ
 sets_head core state = codes "sets " ++ number_text core ++ codes " " ++ state_word state ++ codes " reads"
 
 abbrev pub sets_line : ℕ → CoreState → List ℕ → List ℕ → List ℕ
-sets_line core state reads writes = sets_head core state ++ lines_text reads ++ codes " writes" ++ lines_text writes ++ line_end
+sets_line core state reads writes = sets_head core state ++ lines_text reads ++ codes " writes" ++ lines_text writes
+    ++ line_end
 
 -- so many listing lines of some code at an address, fewer at its end
 unfoldable pub some_lines : ℕ → List ℕ → ℕ → List ℕ
 some_lines zero code at = []
-some_lines (suc n) code at = listing_line code at ++ some_lines n (drop (shown_bytes code) code) ((at + shown_bytes code) % 2 ^ 32)
+some_lines (suc number) code at = listing_line code at
+    ++ some_lines number (drop (shown_bytes code) code) ((at + shown_bytes code) % 2 ^ 32)
 
 -- ---- steps
 
 abbrev pub is_stopped : Board → ℕ → Bool
-is_stopped b core = is_some (stop_shown (shown_state b.machine core))
+is_stopped board core = is_some (stop_shown (shown_state board.machine core))
 
 -- the first core from this number on that has not stopped, round by round, of so many that are asked
 abbrev pub running_from : Board → ℕ → ℕ → Option ℕ
-running_from b core zero = None
-running_from b core (suc left) =
-    if is_stopped b (core % length b.program.entries) then running_from b (core + 1) left else Some (core % length b.program.entries)
+running_from board core zero = None
+running_from board core (suc left) =
+    if is_stopped board (core % length board.program.entries) then running_from board (core + 1) left
+    else Some (core % length board.program.entries)
 
-abbrev pub running : Place → Option ℕ
-running p = running_from p.board p.next (cores_of p)
+abbrev pub next_running : SessionValue → Option ℕ
+next_running session = running_from session.board session.next (cores_of session)
 
--- before a step of a run, in this order: whether all cores have stopped, the history is full, or a breakpoint stands at the address that the core shows, which is not asked before the first step
-abbrev pub turn_by : Option ℕ → Bool → Place → Turn
-turn_by None first p = AllStopped
-turn_by (Some c) first p =
-    if nat_eq (length p.board.history) p.board.limit then Full
-    else if not first && list_any (λ b. b == (shown_regs p.board.machine c).eip) p.breaks then AtBreakpoint c (shown_regs p.board.machine c).eip
-    else Go c
+-- before a step of a run, in this order: whether all cores have stopped, the history is full, or a breakpoint stands at
+-- the address that the core shows, which is not asked before the first step
+abbrev pub run_check_by : Option ℕ → Bool → SessionValue → RunCheck
+run_check_by None first session = AllStopped
+run_check_by (Some core) first session =
+    if nat_eq (length session.board.history) session.board.limit then Full
+    else if not first && list_any (λ b. b == (shown_regs session.board.machine core).eip) session.breaks
+    then AtBreakpoint core (shown_regs session.board.machine core).eip
+    else Go core
 
-unfoldable pub turn_of : Place → Bool → Turn
-turn_of p first = turn_by (running p) first p
+unfoldable pub run_check : SessionValue → Bool → RunCheck
+run_check session first = run_check_by (next_running session) first session
 
 -- the line that ends a run
-abbrev pub ending : Turn → List ℕ
-ending AllStopped = codes "all stopped\n"
-ending Full = refusal_line LimitReached
-ending (AtBreakpoint core address) = break_line core address
-ending (Go core) = []
+abbrev pub run_ending : RunCheck → List ℕ
+run_ending AllStopped = codes "all stopped\n"
+run_ending Full = refusal_line LimitReached
+run_ending (AtBreakpoint core address) = break_line core address
+run_ending (Go core) = []
 
 -- one step of a core
-pub record Stepped (p : Place) (core : ℕ) (outcome : Outcome) (q : Place) : Type 0 where
-  pub same : SameBoard p.board q.board
-  pub history : q.board.history ≡ p.board.history ++ (core, outcome) ∷ []
-  pub law : IsHistory q.board
-  pub breaks : q.breaks ≡ p.breaks
-  pub next : q.next ≡ core + 1
+pub record IsStep (from : SessionValue) (core : ℕ) (outcome : Outcome) (to : SessionValue) : Type 0 where
+  pub same : SameBoard from.board to.board
+  pub history : to.board.history ≡ from.board.history ++ (core, outcome) ∷ []
+  pub law : IsHistory to.board
+  pub breaks : to.breaks ≡ from.breaks
+  pub next : to.next ≡ core + 1
 
 -- the last of some steps of a run
-pub record LastStep (ran : List ℕ → Place → Type 0) (first : Bool) (text : List ℕ) (q : Place) : Type 0 where
-  pub before : Place
+pub record LastStep (ran : List ℕ → SessionValue → Type 0) (first : Bool) (text : List ℕ)
+    (to : SessionValue) : Type 0 where
+  pub before : SessionValue
   pub lines : List ℕ
   pub core : ℕ
   pub outcome : Outcome
   pub steps_before : ran lines before
-  pub goes_on : turn_of before first ≡ Go core
-  pub step : Stepped before core outcome q
+  pub goes_on : run_check before first ≡ Go core
+  pub step : IsStep before core outcome to
   pub line : text ≡ lines ++ outcome_line core outcome
 
 -- so many steps of a run lead from p to q, with these outcome lines
-abbrev pub Ran : ℕ → Place → List ℕ → Place → Type 0
-Ran zero p text q = (text ≡ []) × (q ≡ p)
-Ran (suc n) p text q = LastStep (λ lines before. Ran n p lines before) (n == 0) text q
+abbrev pub IsRunOf : ℕ → SessionValue → List ℕ → SessionValue → Type 0
+IsRunOf zero from text to = (text ≡ []) × (to ≡ from)
+IsRunOf (suc number) from text to = LastStep (λ lines before. IsRunOf number from lines before) (number == 0) text to
 
 -- a run of at most n steps, up to one of its ends or, where it was broken off, before
-pub record RunPart (n : ℕ) (p : Place) (text : List ℕ) (q : Place) : Type 0 where
+pub record RunPart (number : ℕ) (from : SessionValue) (text : List ℕ) (to : SessionValue) : Type 0 where
   pub count : ℕ
   pub lines : List ℕ
   pub tail : List ℕ
-  pub few : count ≤ n
-  pub ran : Ran count p lines q
-  pub tail_is : (tail ≡ []) ⊎ (tail ≡ ending (turn_of q (count == 0)))
+  pub few : count ≤ number
+  pub ran : IsRunOf count from lines to
+  pub tail_is : (tail ≡ []) ⊎ (tail ≡ run_ending (run_check to (count == 0)))
   pub whole : text ≡ lines ++ tail
 
 -- a run of n steps, or up to a test that ends it
-pub record RunWhole (n : ℕ) (p : Place) (text : List ℕ) (q : Place) : Type 0 where
+pub record RunWhole (number : ℕ) (from : SessionValue) (text : List ℕ) (to : SessionValue) : Type 0 where
   pub count : ℕ
   pub lines : List ℕ
   pub tail : List ℕ
-  pub ran : Ran count p lines q
-  pub end : ((count ≡ n) × (tail ≡ [])) ⊎ ((count < n) × (tail ≡ ending (turn_of q (count == 0))) × ((core : ℕ) → turn_of q (count == 0) ≡ Go core → ⊥))
+  pub ran : IsRunOf count from lines to
+  pub end : ((count ≡ number) × (tail ≡ [])) ⊎ ((count < number) × (tail ≡ run_ending (run_check to (count == 0)))
+      × ((core : ℕ) → run_check to (count == 0) ≡ Go core → ⊥))
   pub whole : text ≡ lines ++ tail
 
 -- ---- the answer of a command at p: its text, and what it leads to
 
-abbrev pub core_named : Place → ℕ → Option ℕ
-core_named p core = if nat_lt core (cores_of p) then Some core else None
+abbrev pub core_named : SessionValue → ℕ → Option ℕ
+core_named session core = if nat_lt core (cores_of session) then Some core else None
 
-abbrev pub step_by : Place → Option ℕ → List ℕ → Place → Type 0
-step_by p None text q = (text ≡ refusal_line NoSuchCore) × (q ≡ p)
-step_by p (Some core) text q =
-    ((length p.board.history ≡ p.board.limit) × (text ≡ refusal_line LimitReached) × (q ≡ p))
-    ⊎ ((outcome : Outcome) × Stepped p core outcome q × (text ≡ outcome_line core outcome))
+abbrev pub step_by : SessionValue → Option ℕ → List ℕ → SessionValue → Type 0
+step_by from None text to = (text ≡ refusal_line NoSuchCore) × (to ≡ from)
+step_by from (Some core) text to =
+    ((length from.board.history ≡ from.board.limit) × (text ≡ refusal_line LimitReached) × (to ≡ from))
+    ⊎ ((outcome : Outcome) × IsStep from core outcome to × (text ≡ outcome_line core outcome))
 
-abbrev pub StepAnswer : Place → ℕ → List ℕ → Place → Type 0
-StepAnswer p core text q = step_by p (core_named p core) text q
+abbrev pub StepAnswer : SessionValue → ℕ → List ℕ → SessionValue → Type 0
+StepAnswer from core text to = step_by from (core_named from core) text to
 
 -- the step of a core whose turn it is
-abbrev pub GoAnswer : Place → ℕ → List ℕ → Place → Type 0
-GoAnswer p core text q = (outcome : Outcome) × Stepped p core outcome q × (text ≡ outcome_line core outcome)
+abbrev pub GoAnswer : SessionValue → ℕ → List ℕ → SessionValue → Type 0
+GoAnswer from core text to = (outcome : Outcome) × IsStep from core outcome to × (text ≡ outcome_line core outcome)
 
 -- 1 to 100000 steps
-abbrev pub run_by : Bool → ℕ → Place → List ℕ → Place → Type 0
-run_by true n p text q = RunWhole n p text q
-run_by false n p text q = (text ≡ refusal_line OutOfRange) × (q ≡ p)
+abbrev pub run_by : Bool → ℕ → SessionValue → List ℕ → SessionValue → Type 0
+run_by true number from text to = RunWhole number from text to
+run_by false number from text to = (text ≡ refusal_line OutOfRange) × (to ≡ from)
 
-abbrev pub run_part_by : Bool → ℕ → Place → List ℕ → Place → Type 0
-run_part_by true n p text q = RunPart n p text q
-run_part_by false n p text q = (text ≡ refusal_line OutOfRange) × (q ≡ p)
+abbrev pub run_part_by : Bool → ℕ → SessionValue → List ℕ → SessionValue → Type 0
+run_part_by true number from text to = RunPart number from text to
+run_part_by false number from text to = (text ≡ refusal_line OutOfRange) × (to ≡ from)
 
 abbrev pub is_run_length : ℕ → Bool
-is_run_length n = nat_le 1 n && nat_le n 100000
+is_run_length number = nat_le 1 number && nat_le number 100000
 
-abbrev pub RunAnswer : ℕ → Place → List ℕ → Place → Type 0
-RunAnswer n p text q = run_by (is_run_length n) n p text q
+abbrev pub RunAnswer : ℕ → SessionValue → List ℕ → SessionValue → Type 0
+RunAnswer number from text to = run_by (is_run_length number) number from text to
 
-abbrev pub RunBroken : ℕ → Place → List ℕ → Place → Type 0
-RunBroken n p text q = run_part_by (is_run_length n) n p text q
+abbrev pub RunAnswerPart : ℕ → SessionValue → List ℕ → SessionValue → Type 0
+RunAnswerPart number from text to = run_part_by (is_run_length number) number from text to
 
 -- ok, or the refusal
 abbrev pub done_line : Result (Unit {0}) Refusal → List ℕ
@@ -185,92 +197,99 @@ done_line (Ok done) = ok_line
 done_line (Err refusal) = refusal_line refusal
 
 -- a breakpoint is set at most once, and at most 64 are
-abbrev pub set_at : Option ℕ → Place → ℕ → Result (Unit {0}) Refusal × Place
-set_at (Some i) p address = (Ok tt, p)
-set_at None p address =
-    if length p.breaks == 64 then (Err TooManyBreakpoints, p)
-    else (Ok tt, record { board = p.board; breaks = p.breaks ++ address ∷ []; next = p.next })
+abbrev pub set_at : Option ℕ → SessionValue → ℕ → Result (Unit {0}) Refusal × SessionValue
+set_at (Some i) session address = (Ok tt, session)
+set_at None session address =
+    if length session.breaks == 64 then (Err TooManyBreakpoints, session)
+    else (Ok tt, record { board = session.board; breaks = session.breaks ++ address ∷ []; next = session.next })
 
-abbrev pub set_break : Place → ℕ → Result (Unit {0}) Refusal × Place
-set_break p address = if nat_lt (2 ^ 32 - 1) address then (Err OutOfRange, p) else set_at (position (λ b. b == address) p.breaks) p address
+abbrev pub set_break : SessionValue → ℕ → Result (Unit {0}) Refusal × SessionValue
+set_break session address = if nat_lt (2 ^ 32 - 1) address then (Err OutOfRange, session)
+    else set_at (position (λ b. b == address) session.breaks) session address
 
-abbrev pub unset_at : Option ℕ → Place → Place
-unset_at None p = p
-unset_at (Some i) p = record { board = p.board; breaks = remove p.breaks i; next = p.next }
+abbrev pub unset_at : Option ℕ → SessionValue → SessionValue
+unset_at None session = session
+unset_at (Some i) session = record { board = session.board; breaks = remove session.breaks i; next = session.next }
 
-abbrev pub unset_break : Place → ℕ → Result (Unit {0}) Refusal × Place
-unset_break p address = if nat_lt (2 ^ 32 - 1) address then (Err OutOfRange, p) else (Ok tt, unset_at (position (λ b. b == address) p.breaks) p)
+abbrev pub unset_break : SessionValue → ℕ → Result (Unit {0}) Refusal × SessionValue
+unset_break session address = if nat_lt (2 ^ 32 - 1) address then (Err OutOfRange, session)
+    else (Ok tt, unset_at (position (λ b. b == address) session.breaks) session)
 
-abbrev pub regs_by : Place → Option ℕ → List ℕ
-regs_by p None = refusal_line NoSuchCore
-regs_by p (Some core) = core_text p.board.machine core
+abbrev pub regs_by : SessionValue → Option ℕ → List ℕ
+regs_by session None = refusal_line NoSuchCore
+regs_by session (Some core) = core_text session.board.machine core
 
-abbrev pub regs_answer : Place → ℕ → List ℕ
-regs_answer p core = regs_by p (core_named p core)
+abbrev pub regs_answer : SessionValue → ℕ → List ℕ
+regs_answer session core = regs_by session (core_named session core)
 
 -- 1 to 256 bytes, all of them in memory
 abbrev pub mem_answer : Machine → ℕ → ℕ → List ℕ
-mem_answer m at n =
-    if nat_lt n 1 || nat_lt 256 n || nat_lt (2 ^ 32 - 1) at || nat_lt (length m.memory) at || nat_lt (length m.memory - at) n then refusal_line OutOfRange
-    else dump_lines (take n (drop at m.memory)) at
+mem_answer machine at count =
+    if nat_lt count 1 || nat_lt 256 count || nat_lt (2 ^ 32 - 1) at || nat_lt (length machine.memory) at
+    || nat_lt (length machine.memory - at) count then refusal_line OutOfRange
+    else dump_lines (take count (drop at machine.memory)) at
 
 -- 1 to 64 lines, the first of them in the code
 abbrev pub list_answer : Program → ℕ → ℕ → List ℕ
-list_answer p at n =
-    if nat_lt n 1 || nat_lt 64 n || nat_lt at p.base || nat_le (length (code_of p)) (at - p.base) then refusal_line OutOfRange
-    else some_lines n (drop (at - p.base) (code_of p)) at
+list_answer program at count =
+    if nat_lt count 1 || nat_lt 64 count || nat_lt at program.base || nat_le (length (code_of program)) (at - program.base)
+    then refusal_line OutOfRange
+    else some_lines count (drop (at - program.base) (code_of program)) at
 
 -- the lines of a core's sets, ascending
-pub record SetsOf (m : Machine) (core : ℕ) (text : List ℕ) : Type 0 where
+pub record SetsOf (machine : Machine) (core : ℕ) (text : List ℕ) : Type 0 where
   pub reads : List ℕ
   pub writes : List ℕ
   pub reads_ascend : IsStrictlyIncreasing reads
   pub writes_ascend : IsStrictlyIncreasing writes
-  pub are_reads : set.from_list reads ≡ (view_at m core).reads
-  pub are_writes : set.from_list writes ≡ (view_at m core).writes
-  pub line : text ≡ sets_line core (shown_state m core) reads writes
+  pub are_reads : set.from_list reads ≡ (view_at machine core).reads
+  pub are_writes : set.from_list writes ≡ (view_at machine core).writes
+  pub line : text ≡ sets_line core (shown_state machine core) reads writes
 
-abbrev pub sets_by : Place → Option ℕ → List ℕ → Type 0
-sets_by p None text = text ≡ refusal_line NoSuchCore
-sets_by p (Some core) text = SetsOf p.board.machine core text
+abbrev pub sets_by : SessionValue → Option ℕ → List ℕ → Type 0
+sets_by session None text = text ≡ refusal_line NoSuchCore
+sets_by session (Some core) text = SetsOf session.board.machine core text
 
-abbrev pub SetsAnswer : Place → ℕ → List ℕ → Place → Type 0
-SetsAnswer p core text q = sets_by p (core_named p core) text × (q ≡ p)
+abbrev pub SetsAnswer : SessionValue → ℕ → List ℕ → SessionValue → Type 0
+SetsAnswer from core text to = sets_by from (core_named from core) text × (to ≡ from)
 
 -- a text with this answer was written, or a beginning of it
-abbrev pub Told : {T E : Type 0} → (List ℕ → Place → Type 0) → Device → Device → Place → Result T E → Type 0
-Told answer old new q result = (text : List ℕ) × answer text q × Writes old new text result
+abbrev pub TellsAnswer : {T E : Type 0} → (List ℕ → SessionValue → Type 0) → Device → Device → SessionValue → Result T E
+    → Type 0
+TellsAnswer answer old new to result = (text : List ℕ) × answer text to × Writes old new text result
 
 -- what each command answers at p, and what it leads to
-abbrev pub Answers : Command → Place → List ℕ → Place → Type 0
-Answers (Step core) p text q = StepAnswer p core text q
-Answers (Run n) p text q = RunAnswer n p text q
-Answers (Break address) p text q = (text ≡ done_line (set_break p address).0) × (q ≡ (set_break p address).1)
-Answers (Clear address) p text q = (text ≡ done_line (unset_break p address).0) × (q ≡ (unset_break p address).1)
-Answers (Regs core) p text q = (text ≡ regs_answer p core) × (q ≡ p)
-Answers (Mem at n) p text q = (text ≡ mem_answer p.board.machine at n) × (q ≡ p)
-Answers (Sets core) p text q = SetsAnswer p core text q
-Answers (Listing at n) p text q = (text ≡ list_answer p.board.program at n) × (q ≡ p)
-Answers Quit p text q = (text ≡ bye_line) × (q ≡ p)
+abbrev pub Answers : Command → SessionValue → List ℕ → SessionValue → Type 0
+Answers (Step core) from text to = StepAnswer from core text to
+Answers (Run number) from text to = RunAnswer number from text to
+Answers (Break address) from text to = (text ≡ done_line (set_break from address).0) × (to ≡ (set_break from address).1)
+Answers (Clear address) from text to = (text ≡ done_line (unset_break from address).0) × (to ≡ (unset_break from address).1)
+Answers (Regs core) from text to = (text ≡ regs_answer from core) × (to ≡ from)
+Answers (Mem at number) from text to = (text ≡ mem_answer from.board.machine at number) × (to ≡ from)
+Answers (Sets core) from text to = SetsAnswer from core text to
+Answers (Listing at number) from text to = (text ≡ list_answer from.board.program at number) × (to ≡ from)
+Answers Quit from text to = (text ≡ bye_line) × (to ≡ from)
 
 -- the same where it was broken off
-abbrev pub AnswersPart : Command → Place → List ℕ → Place → Type 0
-AnswersPart (Run n) p text q = RunBroken n p text q
-AnswersPart (Step core) p text q = Answers (Step core) p text q
-AnswersPart (Break address) p text q = Answers (Break address) p text q
-AnswersPart (Clear address) p text q = Answers (Clear address) p text q
-AnswersPart (Regs core) p text q = Answers (Regs core) p text q
-AnswersPart (Mem at n) p text q = Answers (Mem at n) p text q
-AnswersPart (Sets core) p text q = Answers (Sets core) p text q
-AnswersPart (Listing at n) p text q = Answers (Listing at n) p text q
-AnswersPart Quit p text q = Answers Quit p text q
+abbrev pub AnswersPart : Command → SessionValue → List ℕ → SessionValue → Type 0
+AnswersPart (Run number) from text to = RunAnswerPart number from text to
+AnswersPart (Step core) from text to = Answers (Step core) from text to
+AnswersPart (Break address) from text to = Answers (Break address) from text to
+AnswersPart (Clear address) from text to = Answers (Clear address) from text to
+AnswersPart (Regs core) from text to = Answers (Regs core) from text to
+AnswersPart (Mem at number) from text to = Answers (Mem at number) from text to
+AnswersPart (Sets core) from text to = Answers (Sets core) from text to
+AnswersPart (Listing at number) from text to = Answers (Listing at number) from text to
+AnswersPart Quit from text to = Answers Quit from text to
 
 -- what ended a call: its text was written; a beginning of a part of it; or, for want of memory, nothing
-abbrev pub Ends : (List ℕ → Place → Type 0) → (List ℕ → Place → Type 0) → Device → Device → Place → Place → Result (Unit {0}) Trouble → Type 0
-Ends whole part old new p q (Ok done) = (text : List ℕ) × whole text q × Wrote old new text
-Ends whole part old new p q (Err trouble.Write) = (text : List ℕ) × part text q × Stopped old new text
-Ends whole part old new p q (Err trouble.NoMemory) = (q ≡ p) × Wrote old new []
+abbrev pub Ends : (List ℕ → SessionValue → Type 0) → (List ℕ → SessionValue → Type 0) → Device → Device → SessionValue
+    → SessionValue → Result (Unit {0}) Interruption → Type 0
+Ends whole part old new from to (Ok done) = (text : List ℕ) × whole text to × Wrote old new text
+Ends whole part old new from to (Err interruption.Write) = (text : List ℕ) × part text to × Stopped old new text
+Ends whole part old new from to (Err interruption.NoMemory) = (to ≡ from) × Wrote old new []
+Ends whole part old new from to (Err interruption.Read) = ⊥
 
-abbrev pub with_trouble : Result (Unit {0}) WriteFault → Result (Unit {0}) Trouble
-with_trouble (Ok done) = Ok done
-with_trouble (Err fault) = Err trouble.Write
+abbrev pub answer_result : Result (Unit {0}) WriteFault → Result (Unit {0}) Interruption
+answer_result (Ok done) = Ok done
+answer_result (Err fault) = Err interruption.Write

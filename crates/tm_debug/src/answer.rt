@@ -4,11 +4,13 @@ ghost use Rattle.std.specs.Prelude.{◌≡◌, ◌==◌, ◌++◌, ◌<◌, IfSo
 ghost use Rattle.std.specs.List.{position};
 ghost use Rattle.arrayvec.specs.ArrayVec.{array_vec_len};
 ghost use Rattle.ia_text.specs.Writing.{Writes};
-ghost use Rattle.tm_debug.specs.Session.{StepAnswer, Told, break_line, core_named, done_line, ending, list_answer, mem_answer, ok_line, place_of, regs_answer, set_break, some_lines, unset_break};
+ghost use Rattle.tm_debug.specs.Session.{StepAnswer, TellsAnswer, break_line, core_named, done_line, run_ending};
+ghost use Rattle.tm_debug.specs.Session.{list_answer, mem_answer, ok_line, value_of, regs_answer, set_break};
+ghost use Rattle.tm_debug.specs.Session.{some_lines, unset_break};
 ghost use Rattle.tm_debug.specs.Commands.{refusal_line};
 
 use crate::refusal::Refusal;
-use crate::state::{MOST_BREAKPOINTS, State, Turn, core_count};
+use crate::state::{MOST_BREAKPOINTS, RunCheck, SessionState, core_count};
 use ia_image::Program;
 use ia_text::{Out, WriteFault, write_line};
 use tm_core::Machine;
@@ -32,8 +34,8 @@ fn agree<O: Out>(out: &mut O) -> Result<(), WriteFault>
 }
 
 /// The core of this number.
-pub fn core_of(state: &State, core: u64) -> Option<u8>
-    ensures named { result ≡ core_named (place_of state.now) core }
+pub fn core_of(state: &SessionState, core: u64) -> Option<u8>
+    ensures named { result ≡ core_named (value_of state.now) core }
     ensures exists { IfSome result (λ c. c < length state.now.board.machine.views) }
 {
     if core < u64::from(core_count(&state.board)) {
@@ -44,8 +46,9 @@ pub fn core_of(state: &State, core: u64) -> Option<u8>
 }
 
 /// A step of a core.
-pub fn step<O: Out>(state: &mut State, core: u64, out: &mut O) -> Result<(), WriteFault>
-    ensures { Told (StepAnswer (place_of state.old) core) (O.device out.old) (O.device out.new) (place_of state.new) result }
+pub fn step<O: Out>(state: &mut SessionState, core: u64, out: &mut O) -> Result<(), WriteFault>
+    ensures { TellsAnswer (StepAnswer (value_of state.old) core) (O.device out.old) (O.device out.new)
+        (value_of state.new) result }
 {
     let Some(core) = core_of(state, core) else {
         return refuse(Refusal::NoSuchCore, out);
@@ -69,38 +72,38 @@ fn push_break(row: &mut Row, core: u8, address: u32)
 }
 
 /// The line that ends a run, and none where it goes on.
-pub fn end_run<O: Out>(turn: Turn, out: &mut O) -> Result<(), WriteFault>
-    ensures { Writes (O.device out.old) (O.device out.new) (ending turn) result }
+pub fn end_run<O: Out>(check: RunCheck, out: &mut O) -> Result<(), WriteFault>
+    ensures { Writes (O.device out.old) (O.device out.new) (run_ending check) result }
 {
-    match turn {
-        Turn::AllStopped => out.put(b"all stopped\n")?,
-        Turn::Full => out.put(Refusal::LimitReached.line())?,
-        Turn::AtBreakpoint(core, address) => {
+    match check {
+        RunCheck::AllStopped => out.put(b"all stopped\n")?,
+        RunCheck::Full => out.put(Refusal::LimitReached.line())?,
+        RunCheck::AtBreakpoint(core, address) => {
             let mut row = Row::new();
             push_break(&mut row, core, address);
             out.put(row.as_slice())?;
         }
-        Turn::Go(_core) => out.put(b"")?,
+        RunCheck::Go(_core) => out.put(b"")?,
     }
     Ok(())
 }
 
 // Where a breakpoint stands in the list.
-fn place(breakpoints: &[u32], address: u32) -> Option<usize>
+fn position_of(breakpoints: &[u32], address: u32) -> Option<usize>
     ensures { result ≡ position (λ b. b == address) breakpoints.now }
 {
     breakpoints.iter().position(|b| *b == address)
 }
 
 // Sets a breakpoint, or says why not.
-fn set(state: &mut State, address: u64) -> Result<(), Refusal>
-    ensures { (result, place_of state.new) ≡ set_break (place_of state.old) address }
+fn set(state: &mut SessionState, address: u64) -> Result<(), Refusal>
+    ensures { (result, value_of state.new) ≡ set_break (value_of state.old) address }
 {
     if address > u64::from(u32::MAX) {
         return Err(Refusal::OutOfRange);
     }
     let address = address as u32;
-    if place(state.breakpoints.as_slice(), address).is_some() {
+    if position_of(state.breakpoints.as_slice(), address).is_some() {
         return Ok(());
     }
     if state.breakpoints.len() == MOST_BREAKPOINTS {
@@ -111,13 +114,13 @@ fn set(state: &mut State, address: u64) -> Result<(), Refusal>
 }
 
 // Takes a breakpoint away, or says why not.
-fn unset(state: &mut State, address: u64) -> Result<(), Refusal>
-    ensures { (result, place_of state.new) ≡ unset_break (place_of state.old) address }
+fn unset(state: &mut SessionState, address: u64) -> Result<(), Refusal>
+    ensures { (result, value_of state.new) ≡ unset_break (value_of state.old) address }
 {
     if address > u64::from(u32::MAX) {
         return Err(Refusal::OutOfRange);
     }
-    if let Some(index) = place(state.breakpoints.as_slice(), address as u32) {
+    if let Some(index) = position_of(state.breakpoints.as_slice(), address as u32) {
         let _ = state.breakpoints.remove(index);
     }
     Ok(())
@@ -134,12 +137,13 @@ fn tell<O: Out>(done: Result<(), Refusal>, out: &mut O) -> Result<(), WriteFault
 
 /// Sets a breakpoint.
 pub fn set_breakpoint<O: Out>(
-    state: &mut State,
+    state: &mut SessionState,
     address: u64,
     out: &mut O,
 ) -> Result<(), WriteFault>
-    ensures text { Writes (O.device out.old) (O.device out.new) (done_line (set_break (place_of state.old) address).0) result }
-    ensures place { place_of state.new ≡ (set_break (place_of state.old) address).1 }
+    ensures text { Writes (O.device out.old) (O.device out.new)
+        (done_line (set_break (value_of state.old) address).0) result }
+    ensures session { value_of state.new ≡ (set_break (value_of state.old) address).1 }
 {
     let done = set(state, address);
     tell(done, out)
@@ -147,20 +151,21 @@ pub fn set_breakpoint<O: Out>(
 
 /// Takes a breakpoint away.
 pub fn clear_breakpoint<O: Out>(
-    state: &mut State,
+    state: &mut SessionState,
     address: u64,
     out: &mut O,
 ) -> Result<(), WriteFault>
-    ensures text { Writes (O.device out.old) (O.device out.new) (done_line (unset_break (place_of state.old) address).0) result }
-    ensures place { place_of state.new ≡ (unset_break (place_of state.old) address).1 }
+    ensures text { Writes (O.device out.old) (O.device out.new)
+        (done_line (unset_break (value_of state.old) address).0) result }
+    ensures session { value_of state.new ≡ (unset_break (value_of state.old) address).1 }
 {
     let done = unset(state, address);
     tell(done, out)
 }
 
 /// The state line of a core.
-pub fn regs<O: Out>(state: &State, core: u64, out: &mut O) -> Result<(), WriteFault>
-    ensures { Writes (O.device out.old) (O.device out.new) (regs_answer (place_of state.now) core) result }
+pub fn regs<O: Out>(state: &SessionState, core: u64, out: &mut O) -> Result<(), WriteFault>
+    ensures { Writes (O.device out.old) (O.device out.new) (regs_answer (value_of state.now) core) result }
 {
     match core_of(state, core) {
         Some(core) => write_core(state.board.machine(), core, out),

@@ -9,7 +9,7 @@ use crate::words::split_word;
 
 /// The name of a command.
 #[derive(Clone, Copy, PartialEq, Eq, Debug)]
-pub enum Name {
+pub enum CommandName {
     Step,
     Run,
     Break,
@@ -45,27 +45,27 @@ pub enum Command {
 }
 
 #[tactic(auto, unfolding(crate::specs::Commands::name_of))]
-fn name_of(word: &[u8]) -> Option<Name>
+fn name_of(word: &[u8]) -> Option<CommandName>
     ensures { result ≡ name_of word.now }
 {
     if word == b"step".as_slice() {
-        Some(Name::Step)
+        Some(CommandName::Step)
     } else if word == b"run".as_slice() {
-        Some(Name::Run)
+        Some(CommandName::Run)
     } else if word == b"break".as_slice() {
-        Some(Name::Break)
+        Some(CommandName::Break)
     } else if word == b"clear".as_slice() {
-        Some(Name::Clear)
+        Some(CommandName::Clear)
     } else if word == b"regs".as_slice() {
-        Some(Name::Regs)
+        Some(CommandName::Regs)
     } else if word == b"mem".as_slice() {
-        Some(Name::Mem)
+        Some(CommandName::Mem)
     } else if word == b"sets".as_slice() {
-        Some(Name::Sets)
+        Some(CommandName::Sets)
     } else if word == b"list".as_slice() {
-        Some(Name::List)
+        Some(CommandName::List)
     } else if word == b"quit".as_slice() {
-        Some(Name::Quit)
+        Some(CommandName::Quit)
     } else {
         None
     }
@@ -98,25 +98,30 @@ fn two(first: &[u8], second: &[u8], third: &[u8]) -> Result<(u64, u64), Refusal>
 }
 
 // The command of this name with these words behind it.
-fn command_named(name: Name, first: &[u8], second: &[u8], third: &[u8]) -> Result<Command, Refusal>
+fn command_named(
+    name: CommandName,
+    first: &[u8],
+    second: &[u8],
+    third: &[u8],
+) -> Result<Command, Refusal>
     ensures { result ≡ command_named name first.now second.now third.now }
 {
     match name {
-        Name::Step => Ok(Command::Step(one(first, second)?)),
-        Name::Run => Ok(Command::Run(one(first, second)?)),
-        Name::Break => Ok(Command::Break(one(first, second)?)),
-        Name::Clear => Ok(Command::Clear(one(first, second)?)),
-        Name::Regs => Ok(Command::Regs(one(first, second)?)),
-        Name::Sets => Ok(Command::Sets(one(first, second)?)),
-        Name::Mem => {
+        CommandName::Step => Ok(Command::Step(one(first, second)?)),
+        CommandName::Run => Ok(Command::Run(one(first, second)?)),
+        CommandName::Break => Ok(Command::Break(one(first, second)?)),
+        CommandName::Clear => Ok(Command::Clear(one(first, second)?)),
+        CommandName::Regs => Ok(Command::Regs(one(first, second)?)),
+        CommandName::Sets => Ok(Command::Sets(one(first, second)?)),
+        CommandName::Mem => {
             let (at, count) = two(first, second, third)?;
             Ok(Command::Mem(at, count))
         }
-        Name::List => {
+        CommandName::List => {
             let (at, count) = two(first, second, third)?;
             Ok(Command::List(at, count))
         }
-        Name::Quit => {
+        CommandName::Quit => {
             if first.is_empty() {
                 Ok(Command::Quit)
             } else {

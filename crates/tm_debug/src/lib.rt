@@ -1,9 +1,18 @@
 //! A debugger: a session of commands over a board, and the devices that commands are read from.
+//!
+//! Promised: where the input tells its bytes, what `serve` writes is the answer to each line up to `quit` or the
+//! input's end, and the board that comes back has made the steps that these answers tell; where a device fails or
+//! memory is wanting, a beginning of the answers was written, and the fault gives the board back. It waits for its
+//! input only.
+//!
+//! It stands on `tm_hist` (boards, and the texts of outcomes, states and dumps), on `ia_text` (listings, and devices
+//! that are written to) and on `ia_lex` (lines and numbers).
 #![tactic(auto)]
 
 mod answer;
 mod command;
 mod input;
+mod interruption;
 mod line;
 mod number;
 mod refusal;
@@ -11,13 +20,9 @@ mod run;
 mod session;
 mod sets;
 mod state;
-mod trouble;
 mod words;
 
 pub use input::{FromReader, In};
 pub use refusal::Refusal;
 pub use session::{Session, SessionFault, serve};
 pub use state::MOST_BREAKPOINTS;
-
-#[cfg(test)]
-mod tests;

@@ -1,6 +1,7 @@
 //! Lines of the input.
 
-ghost use Rattle.std.specs.Prelude.{◌≡◌, ◌++◌, ◌∷◌, ℕ, List, [], IfOk, OnErr, OnOk, Option, Some, None, if◌then◌else◌, option_to_list};
+ghost use Rattle.std.specs.Prelude.{◌≡◌, ◌++◌, ◌∷◌, ℕ, List, [], IfOk, OnErr, OnOk, Option, Some, None, if◌then◌else◌};
+ghost use Rattle.std.specs.Prelude.{option_to_list};
 ghost use Rattle.ia_lex.specs.Lines.{without_cr};
 ghost use Rattle.ia_text.specs.Writing.{Rose};
 ghost use Rattle.tm_debug.specs.Serving.{IsKept, IsLast, IsLine, ReadsLine};
@@ -29,7 +30,7 @@ pub enum Line {
 
 /// The beginning of a line: its bytes, and whether there are more than have room.
 #[derive(Drop)]
-pub struct Start {
+pub struct LineStart {
     row: Bytes,
     long: bool,
 }
@@ -62,11 +63,11 @@ fn line_of(bytes: &[u8]) -> Line
     Line::Text(row)
 }
 
-impl Start {
-    fn new() -> Start
+impl LineStart {
+    fn new() -> LineStart
         ensures { IsKept [] result }
     {
-        Start {
+        LineStart {
             row: Bytes::new(),
             long: false,
         }
@@ -111,7 +112,8 @@ impl Start {
 
 // The next byte, or nothing at the end.
 fn next_byte<I: In>(input: &mut I) -> Result<Option<u8>, Failed>
-    ensures byte { IfOk result (λ byte. (xs : List ℕ) → I.remaining input.old ≡ Some xs → (ys : List ℕ) × (I.remaining input.new ≡ Some ys) × (xs ≡ option_to_list byte ++ ys) × (byte ≡ None → ys ≡ [])) }
+    ensures byte { IfOk result (λ byte. (xs : List ℕ) → I.remaining input.old ≡ Some xs → (ys : List ℕ)
+        × (I.remaining input.new ≡ Some ys) × (xs ≡ option_to_list byte ++ ys) × (byte ≡ None → ys ≡ [])) }
     ensures kept { OnOk result (I.failed input.new ≡ I.failed input.old) }
     ensures err { OnErr result (Rose (I.failed input.old) (I.failed input.new)) }
 {
@@ -122,11 +124,12 @@ fn next_byte<I: In>(input: &mut I) -> Result<Option<u8>, Failed>
 
 /// The next line, which is read a byte at a time, so that nothing behind it is taken.
 pub fn read_line<W: Wait, I: In>(rt: &W, input: &mut I) -> Result<Line, Failed>
-    ensures line { IfOk result (λ line. (xs : List ℕ) → I.remaining input.old ≡ Some xs → (ys : List ℕ) × (I.remaining input.new ≡ Some ys) × ReadsLine line xs ys) }
+    ensures line { IfOk result (λ line. (xs : List ℕ) → I.remaining input.old ≡ Some xs → (ys : List ℕ)
+        × (I.remaining input.new ≡ Some ys) × ReadsLine line xs ys) }
     ensures kept { OnOk result (I.failed input.new ≡ I.failed input.old) }
     ensures err { OnErr result (Rose (I.failed input.old) (I.failed input.new)) }
 {
-    let mut start = Start::new();
+    let mut start = LineStart::new();
     'bytes: for _ in rt.forever() {
         let found = next_byte(input)?;
         let byte = match found {

@@ -3,19 +3,20 @@
 ghost use Rattle.std.specs.Prelude.{◌≡◌, ◌<◌, ◌≤◌, List, ℕ, OnErr, OnOk, length};
 ghost use Rattle.ia_text.specs.Writing.{Stopped, Wrote};
 ghost use Rattle.tm_hist.specs.Board.{IsFull};
-ghost use Rattle.tm_debug.specs.Session.{GoAnswer, RunAnswer, RunBroken, RunPart, RunWhole, Told, place_of};
+ghost use Rattle.tm_debug.specs.Session.{GoAnswer, RunAnswer, RunAnswerPart, RunPart, RunWhole, TellsAnswer, value_of};
 
 use crate::answer::{end_run, refuse};
 use crate::refusal::Refusal;
-use crate::state::{State, Turn};
+use crate::state::{RunCheck, SessionState};
 use ia_text::{Out, WriteFault};
 use tm_hist::write_outcome;
 
 // The step of a core whose turn it is.
-fn go<O: Out>(state: &mut State, core: u8, out: &mut O) -> Result<(), WriteFault>
+fn go<O: Out>(state: &mut SessionState, core: u8, out: &mut O) -> Result<(), WriteFault>
     requires exists { core < length state.old.board.program.entries }
     requires room { IsFull state.old.board → ⊥ }
-    ensures { Told (GoAnswer (place_of state.old) core) (O.device out.old) (O.device out.new) (place_of state.new) result }
+    ensures { TellsAnswer (GoAnswer (value_of state.old) core) (O.device out.old) (O.device out.new)
+        (value_of state.new) result }
 {
     match state.step(core) {
         Ok(outcome) => write_outcome(core, &outcome, out),
@@ -23,24 +24,30 @@ fn go<O: Out>(state: &mut State, core: u8, out: &mut O) -> Result<(), WriteFault
     }
 }
 
-fn run_steps<O: Out>(state: &mut State, count: u64, out: &mut O) -> Result<(), WriteFault>
-    ensures ok { OnOk result ((text : List ℕ) × RunWhole count (place_of state.old) text (place_of state.new) × Wrote (O.device out.old) (O.device out.new) text) }
-    ensures err { OnErr result ((text : List ℕ) × RunPart count (place_of state.old) text (place_of state.new) × Stopped (O.device out.old) (O.device out.new) text) }
+fn run_steps<O: Out>(state: &mut SessionState, count: u64, out: &mut O) -> Result<(), WriteFault>
+    ensures ok { OnOk result ((text : List ℕ) × RunWhole count (value_of state.old) text (value_of state.new)
+        × Wrote (O.device out.old) (O.device out.new) text) }
+    ensures err { OnErr result ((text : List ℕ) × RunPart count (value_of state.old) text (value_of state.new)
+        × Stopped (O.device out.old) (O.device out.new) text) }
 {
     'steps: for done in 0..count {
-        let turn = state.turn(done == 0);
-        match turn {
-            Turn::Go(core) => go(state, core, out)?,
-            Turn::AllStopped | Turn::Full | Turn::AtBreakpoint(_, _) => return end_run(turn, out),
+        let check = state.check_run(done == 0);
+        match check {
+            RunCheck::Go(core) => go(state, core, out)?,
+            RunCheck::AllStopped | RunCheck::Full | RunCheck::AtBreakpoint(_, _) => return end_run(
+                check, out,
+            ),
         }
     }
     Ok(())
 }
 
 /// So many steps, of the cores in turn that have not stopped, or fewer where a test ends the run.
-pub fn run<O: Out>(state: &mut State, count: u64, out: &mut O) -> Result<(), WriteFault>
-    ensures ok { OnOk result ((text : List ℕ) × RunAnswer count (place_of state.old) text (place_of state.new) × Wrote (O.device out.old) (O.device out.new) text) }
-    ensures err { OnErr result ((text : List ℕ) × RunBroken count (place_of state.old) text (place_of state.new) × Stopped (O.device out.old) (O.device out.new) text) }
+pub fn run<O: Out>(state: &mut SessionState, count: u64, out: &mut O) -> Result<(), WriteFault>
+    ensures ok { OnOk result ((text : List ℕ) × RunAnswer count (value_of state.old) text (value_of state.new)
+        × Wrote (O.device out.old) (O.device out.new) text) }
+    ensures err { OnErr result ((text : List ℕ) × RunAnswerPart count (value_of state.old) text (value_of state.new)
+        × Stopped (O.device out.old) (O.device out.new) text) }
 {
     if (1..=100_000).contains(&count) {
         run_steps(state, count, out)

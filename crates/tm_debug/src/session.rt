@@ -1,21 +1,23 @@
 //! A session: lines are read and answered one after another.
 
-ghost use Rattle.std.specs.Prelude.{◌≡◌, ◌⊎◌, ◌≤◌, length, [], List, ℕ, Err, IfErr, IfOk, OnErr, OnOk, MatchResult, Some};
+ghost use Rattle.std.specs.Prelude.{◌≡◌, ◌⊎◌, ◌≤◌, length, [], List, ℕ, Err, IfErr, IfOk, OnErr, OnOk, MatchResult};
+ghost use Rattle.std.specs.Prelude.{Some};
 ghost use Rattle.ia_lex.specs.Lines.{lines_of};
 ghost use Rattle.ia_text.specs.Writing.{AppendsFront, Rose, Stopped, Writes, Wrote};
-ghost use Rattle.tm_debug.specs.Session.{Answers, AnswersPart, Ends, Place, bye_line, place_of, start};
-ghost use Rattle.tm_debug.specs.Serving.{BrokenOff, FoundNoMemory, IsLine, Replies, RepliesPart, Served, Serves, ServesBefore, ServesPart, TakesMemory, WantsMemory, ending_of, wish_of};
+ghost use Rattle.tm_debug.specs.Session.{Answers, AnswersPart, Ends, SessionValue, bye_line, value_of, start};
+ghost use Rattle.tm_debug.specs.Serving.{BreaksOff, FindsNoMemory, IsLine, Replies, RepliesPart, ServesInput, Serves};
+ghost use Rattle.tm_debug.specs.Serving.{ServesBefore, ServesPart, TakesMemory, WantsMemory, request_of};
 ghost use Rattle.tm_debug.specs.Faults.{session_board, session_code};
 
 use crate::answer::{clear_breakpoint, list, mem, refuse, regs, set_breakpoint, step};
 use crate::command::{Command, read_command};
 use crate::input::In;
+use crate::interruption::{Interruption, answer_result};
 use crate::line::{Line, MOST_BYTES, read_line};
 use crate::refusal::Refusal;
 use crate::run::run;
 use crate::sets::sets;
-use crate::state::State;
-use crate::trouble::{Trouble, with_trouble};
+use crate::state::SessionState;
 use crate::words::split_word;
 use ia_text::{Out, WriteFault};
 use std::alloc::Global;
@@ -73,9 +75,9 @@ impl SessionFault {
     }
 }
 
-/// What a line wishes.
+/// What a line requests.
 #[derive(Clone, Copy, PartialEq, Eq, Debug)]
-pub enum Wish {
+pub enum Request {
     /// The end of the session.
     Leave,
     /// Nothing: the line is blank.
@@ -86,53 +88,46 @@ pub enum Wish {
     Do(Command),
 }
 
-/// What ends the reading of lines early.
-#[derive(Clone, Copy, PartialEq, Eq, Debug)]
-pub enum Ending {
-    Read,
-    Write,
-    NoMemory,
-}
-
-// What the bytes of a line wish.
-#[tactic(auto, unfolding(crate::specs::Serving::wish_of))]
-fn text_wish(line: &[u8]) -> Wish
-    ensures { result ≡ wish_of line.now }
+// What the bytes of a line request.
+#[tactic(auto, unfolding(crate::specs::Serving::request_of))]
+fn text_request(line: &[u8]) -> Request
+    ensures { result ≡ request_of line.now }
 {
     if line.len() > MOST_BYTES {
-        return Wish::Refuse(Refusal::UnknownCommand);
+        return Request::Refuse(Refusal::UnknownCommand);
     }
     let (word, _) = split_word(line);
     if word.is_empty() {
-        return Wish::Nothing;
+        return Request::Nothing;
     }
     match read_command(line) {
-        Ok(Command::Quit) => Wish::Leave,
-        Ok(command) => Wish::Do(command),
-        Err(refusal) => Wish::Refuse(refusal),
+        Ok(Command::Quit) => Request::Leave,
+        Ok(command) => Request::Do(command),
+        Err(refusal) => Request::Refuse(refusal),
     }
 }
 
 // Does a command.
 fn act<O: Out>(
     alloc: Global,
-    state: &mut State,
+    state: &mut SessionState,
     command: Command,
     out: &mut O,
-) -> Result<(), Trouble>
-    ensures answer { Ends (Answers command (place_of state.old)) (AnswersPart command (place_of state.old)) (O.device out.old) (O.device out.new) (place_of state.old) (place_of state.new) result }
-    ensures memory { result ≡ Err Trouble.NoMemory → TakesMemory command }
+) -> Result<(), Interruption>
+    ensures answer { Ends (Answers command (value_of state.old)) (AnswersPart command (value_of state.old))
+        (O.device out.old) (O.device out.new) (value_of state.old) (value_of state.new) result }
+    ensures memory { result ≡ Err Interruption.NoMemory → TakesMemory command }
 {
     match command {
-        Command::Step(core) => with_trouble(step(state, core, out)),
-        Command::Run(count) => with_trouble(run(state, count, out)),
-        Command::Break(address) => with_trouble(set_breakpoint(state, address, out)),
-        Command::Clear(address) => with_trouble(clear_breakpoint(state, address, out)),
-        Command::Regs(core) => with_trouble(regs(state, core, out)),
-        Command::Mem(at, count) => with_trouble(mem(state.board.machine(), at, count, out)),
+        Command::Step(core) => answer_result(step(state, core, out)),
+        Command::Run(count) => answer_result(run(state, count, out)),
+        Command::Break(address) => answer_result(set_breakpoint(state, address, out)),
+        Command::Clear(address) => answer_result(clear_breakpoint(state, address, out)),
+        Command::Regs(core) => answer_result(regs(state, core, out)),
+        Command::Mem(at, count) => answer_result(mem(state.board.machine(), at, count, out)),
         Command::Sets(core) => sets(alloc, state, core, out),
-        Command::List(at, count) => with_trouble(list(state.board.program(), at, count, out)),
-        Command::Quit => with_trouble(part(out)),
+        Command::List(at, count) => answer_result(list(state.board.program(), at, count, out)),
+        Command::Quit => answer_result(part(out)),
     }
 }
 
@@ -145,47 +140,45 @@ fn part<O: Out>(out: &mut O) -> Result<(), WriteFault>
 }
 
 // Answers a line, and tells whether the session goes on.
-fn reply<O: Out>(alloc: Global, state: &mut State, wish: Wish, out: &mut O) -> Result<(), Trouble>
-    requires { wish ≡ Wish.Leave → ⊥ }
-    ensures answer { Ends (Replies wish (place_of state.old)) (RepliesPart wish (place_of state.old)) (O.device out.old) (O.device out.new) (place_of state.old) (place_of state.new) result }
-    ensures memory { result ≡ Err Trouble.NoMemory → WantsMemory wish }
+fn reply<O: Out>(
+    alloc: Global,
+    state: &mut SessionState,
+    request: Request,
+    out: &mut O,
+) -> Result<(), Interruption>
+    requires { request ≡ Request.Leave → ⊥ }
+    ensures answer { Ends (Replies request (value_of state.old)) (RepliesPart request (value_of state.old))
+        (O.device out.old) (O.device out.new) (value_of state.old) (value_of state.new) result }
+    ensures memory { result ≡ Err Interruption.NoMemory → WantsMemory request }
 {
-    match wish {
-        Wish::Leave => unreachable!(),
-        Wish::Nothing => Ok(()),
-        Wish::Refuse(refusal) => with_trouble(refuse(refusal, out)),
-        Wish::Do(command) => act(alloc, state, command, out),
+    match request {
+        Request::Leave => unreachable!(),
+        Request::Nothing => Ok(()),
+        Request::Refuse(refusal) => answer_result(refuse(refusal, out)),
+        Request::Do(command) => act(alloc, state, command, out),
     }
 }
 
-// What a line wishes.
-fn line_wish(line: &Line) -> Wish
-    ensures text { (text : List ℕ) → IsLine text line.now → result ≡ wish_of text }
-    ensures end { line.now ≡ Line.End → result ≡ Wish.Leave }
+// What a line requests.
+fn line_request(line: &Line) -> Request
+    ensures text { (text : List ℕ) → IsLine text line.now → result ≡ request_of text }
+    ensures end { line.now ≡ Line.End → result ≡ Request.Leave }
 {
     match line {
-        Line::End => Wish::Leave,
-        Line::Text(row) => text_wish(row.as_slice()),
-        Line::Long => Wish::Refuse(Refusal::UnknownCommand),
+        Line::End => Request::Leave,
+        Line::Text(row) => text_request(row.as_slice()),
+        Line::Long => Request::Refuse(Refusal::UnknownCommand),
     }
 }
 
 // The parting word at the end of the session.
-fn leave<O: Out>(out: &mut O) -> Result<(), Ending>
-    ensures { MatchResult result (λ _. Wrote (O.device out.old) (O.device out.new) bye_line) (λ fault. (fault ≡ Ending.Write) × Stopped (O.device out.old) (O.device out.new) bye_line) }
+fn leave<O: Out>(out: &mut O) -> Result<(), Interruption>
+    ensures { MatchResult result (λ _. Wrote (O.device out.old) (O.device out.new) bye_line)
+        (λ fault. (fault ≡ Interruption.Write) × Stopped (O.device out.old) (O.device out.new) bye_line) }
 {
     match part(out) {
         Ok(()) => Ok(()),
-        Err(_) => Err(Ending::Write),
-    }
-}
-
-fn as_ending(trouble: Trouble) -> Ending
-    ensures { result ≡ ending_of trouble }
-{
-    match trouble {
-        Trouble::Write => Ending::Write,
-        Trouble::NoMemory => Ending::NoMemory,
+        Err(_) => Err(Interruption::Write),
     }
 }
 
@@ -193,29 +186,35 @@ fn as_ending(trouble: Trouble) -> Ending
 fn serve_lines<W: Wait, I: In, O: Out>(
     rt: &W,
     alloc: Global,
-    state: &mut State,
+    state: &mut SessionState,
     input: &mut I,
     out: &mut O,
-) -> Result<(), Ending>
-    ensures ok { OnOk result ((xs : List ℕ) → I.remaining input.old ≡ Some xs → (text : List ℕ) × Serves (lines_of xs) (place_of state.old) text (place_of state.new) × Wrote (O.device out.old) (O.device out.new) text) }
-    ensures err { OnErr result ((xs : List ℕ) → I.remaining input.old ≡ Some xs → (text : List ℕ) × ServesPart (lines_of xs) (place_of state.old) text (place_of state.new) × AppendsFront (O.device out.old).contents (O.device out.new).contents text) }
-    ensures read { result ≡ Err Ending.Read → Rose (I.failed input.old) (I.failed input.new) }
-    ensures write { result ≡ Err Ending.Write → Rose (O.device out.old).failures (O.device out.new).failures }
-    ensures memory { result ≡ Err Ending.NoMemory → (xs : List ℕ) → I.remaining input.old ≡ Some xs → (text : List ℕ) × ServesBefore (lines_of xs) (place_of state.old) text (place_of state.new) × Wrote (O.device out.old) (O.device out.new) text }
+) -> Result<(), Interruption>
+    ensures ok { OnOk result ((xs : List ℕ) → I.remaining input.old ≡ Some xs → (text : List ℕ)
+        × Serves (lines_of xs) (value_of state.old) text (value_of state.new)
+        × Wrote (O.device out.old) (O.device out.new) text) }
+    ensures err { OnErr result ((xs : List ℕ) → I.remaining input.old ≡ Some xs → (text : List ℕ)
+        × ServesPart (lines_of xs) (value_of state.old) text (value_of state.new)
+        × AppendsFront (O.device out.old).contents (O.device out.new).contents text) }
+    ensures read { result ≡ Err Interruption.Read → Rose (I.failed input.old) (I.failed input.new) }
+    ensures write { result ≡ Err Interruption.Write → Rose (O.device out.old).failures (O.device out.new).failures }
+    ensures memory { result ≡ Err Interruption.NoMemory → (xs : List ℕ) → I.remaining input.old ≡ Some xs
+        → (text : List ℕ) × ServesBefore (lines_of xs) (value_of state.old) text (value_of state.new)
+        × Wrote (O.device out.old) (O.device out.new) text }
 {
     'lines: for _ in rt.forever() {
         let line = match read_line(rt, input) {
             Ok(line) => line,
-            Err(_) => return Err(Ending::Read),
+            Err(_) => return Err(Interruption::Read),
         };
-        let wish = line_wish(&line);
-        match wish {
-            Wish::Leave => return leave(out),
-            Wish::Nothing | Wish::Refuse(_) | Wish::Do(_) => {}
+        let request = line_request(&line);
+        match request {
+            Request::Leave => return leave(out),
+            Request::Nothing | Request::Refuse(_) | Request::Do(_) => {}
         }
-        match reply(alloc, state, wish, out) {
+        match reply(alloc, state, request, out) {
             Ok(()) => {}
-            Err(trouble) => return Err(as_ending(trouble)),
+            Err(interruption) => return Err(interruption),
         }
     }
     unreachable!()
@@ -225,22 +224,27 @@ fn serve_lines<W: Wait, I: In, O: Out>(
 fn serve_from<W: Wait, I: In, O: Out>(
     rt: &W,
     alloc: Global,
-    state: State,
+    state: SessionState,
     input: &mut I,
     out: &mut O,
 ) -> Result<Board, SessionFault>
-    ensures ok { IfOk result (Served (I.remaining input.old) (place_of state) (O.device out.old) (O.device out.new)) }
-    ensures err { IfErr result (λ fault. BrokenOff (I.remaining input.old) (place_of state) (O.device out.old) (O.device out.new) (session_board fault)) }
+    ensures ok { IfOk result (ServesInput (I.remaining input.old) (value_of state) (O.device out.old)
+        (O.device out.new)) }
+    ensures err { IfErr result (λ fault. BreaksOff (I.remaining input.old) (value_of state) (O.device out.old)
+        (O.device out.new) (session_board fault)) }
     ensures read { IfErr result (λ fault. session_code fault ≡ 76 → Rose (I.failed input.old) (I.failed input.new)) }
-    ensures write { IfErr result (λ fault. session_code fault ≡ 77 → Rose (O.device out.old).failures (O.device out.new).failures) }
-    ensures memory { IfErr result (λ fault. session_code fault ≡ 78 → FoundNoMemory (I.remaining input.old) (place_of state) (O.device out.old) (O.device out.new) (session_board fault)) }
+    ensures write { IfErr result (λ fault. session_code fault ≡ 77
+        → Rose (O.device out.old).failures (O.device out.new).failures) }
+    ensures memory { IfErr result (λ fault. session_code fault ≡ 78
+        → FindsNoMemory (I.remaining input.old) (value_of state) (O.device out.old) (O.device out.new)
+        (session_board fault)) }
 {
     let mut state = state;
     match serve_lines(rt, alloc, &mut state, input, out) {
         Ok(()) => Ok(state.board),
-        Err(Ending::Read) => Err(SessionFault::Read(state.board)),
-        Err(Ending::Write) => Err(SessionFault::Write(state.board)),
-        Err(Ending::NoMemory) => Err(SessionFault::NoMemory(state.board)),
+        Err(Interruption::Read) => Err(SessionFault::Read(state.board)),
+        Err(Interruption::Write) => Err(SessionFault::Write(state.board)),
+        Err(Interruption::NoMemory) => Err(SessionFault::NoMemory(state.board)),
     }
 }
 
@@ -248,8 +252,8 @@ fn serve_from<W: Wait, I: In, O: Out>(
 pub struct Session<'a, I: In, O: Out, B = Board> {
     input: &'a mut I,
     out: &'a mut O,
-    // Its type is a parameter so that the clauses of a call that takes the session can speak of the devices that it left:
-    // they cannot where a field's declared type owns memory.
+    // Its type is a parameter so that the clauses of a call that takes the session can speak of the devices that it
+    // left: they cannot where a field's declared type owns memory.
     board: B,
 }
 
@@ -263,21 +267,27 @@ impl<'a, I: In, O: Out> Session<'a, I, O> {
         Session { input, out, board }
     }
 
-    /// Answers the lines of the input, up to `quit` or the input's end, and gives the board back after the steps that were
-    /// made. Waits for its input only.
+    /// Answers the lines of the input, up to `quit` or the input's end, and gives the board back after the steps that
+    /// were made. Waits for its input only.
     ///
-    /// [`SessionFault`] tells what ended the session before: then a beginning of the answers was written, and the board has
-    /// made the steps that these tell, the last of which may not stand there whole.
+    /// [`SessionFault`] tells what ended the session before: then a beginning of the answers was written, and the board
+    /// has made the steps that these tell, the last of which may not stand there whole.
     // `self.exit.0` is the input that the call left, and `self.exit.1.0` the device for answers.
     pub fn serve<W: Wait>(self, rt: &W, alloc: Global) -> Result<Board, SessionFault>
-        ensures ok { IfOk result (Served (I.remaining self.entry.input.now) (start self.entry.board) (O.device self.entry.out.now) (O.device self.exit.1.0.now)) }
-        ensures err { IfErr result (λ fault. BrokenOff (I.remaining self.entry.input.now) (start self.entry.board) (O.device self.entry.out.now) (O.device self.exit.1.0.now) (session_board fault)) }
-        ensures read { IfErr result (λ fault. session_code fault ≡ 76 → Rose (I.failed self.entry.input.now) (I.failed self.exit.0.now)) }
-        ensures write { IfErr result (λ fault. session_code fault ≡ 77 → Rose (O.device self.entry.out.now).failures (O.device self.exit.1.0.now).failures) }
-        ensures memory { IfErr result (λ fault. session_code fault ≡ 78 → FoundNoMemory (I.remaining self.entry.input.now) (start self.entry.board) (O.device self.entry.out.now) (O.device self.exit.1.0.now) (session_board fault)) }
+        ensures ok { IfOk result (ServesInput (I.remaining self.entry.input.now) (start self.entry.board)
+            (O.device self.entry.out.now) (O.device self.exit.1.0.now)) }
+        ensures err { IfErr result (λ fault. BreaksOff (I.remaining self.entry.input.now) (start self.entry.board)
+            (O.device self.entry.out.now) (O.device self.exit.1.0.now) (session_board fault)) }
+        ensures read { IfErr result (λ fault. session_code fault ≡ 76
+            → Rose (I.failed self.entry.input.now) (I.failed self.exit.0.now)) }
+        ensures write { IfErr result (λ fault. session_code fault ≡ 77
+            → Rose (O.device self.entry.out.now).failures (O.device self.exit.1.0.now).failures) }
+        ensures memory { IfErr result (λ fault. session_code fault ≡ 78
+            → FindsNoMemory (I.remaining self.entry.input.now) (start self.entry.board) (O.device self.entry.out.now)
+            (O.device self.exit.1.0.now) (session_board fault)) }
     {
         let Session { input, out, board } = self;
-        serve_from(rt, alloc, State::new(board), input, out)
+        serve_from(rt, alloc, SessionState::new(board), input, out)
     }
 }
 
@@ -289,11 +299,15 @@ pub fn serve<W: Wait, I: In, O: Out>(
     input: &mut I,
     out: &mut O,
 ) -> Result<Board, SessionFault>
-    ensures ok { IfOk result (Served (I.remaining input.old) (start board) (O.device out.old) (O.device out.new)) }
-    ensures err { IfErr result (λ fault. BrokenOff (I.remaining input.old) (start board) (O.device out.old) (O.device out.new) (session_board fault)) }
+    ensures ok { IfOk result (ServesInput (I.remaining input.old) (start board) (O.device out.old) (O.device out.new)) }
+    ensures err { IfErr result (λ fault. BreaksOff (I.remaining input.old) (start board) (O.device out.old)
+        (O.device out.new) (session_board fault)) }
     ensures read { IfErr result (λ fault. session_code fault ≡ 76 → Rose (I.failed input.old) (I.failed input.new)) }
-    ensures write { IfErr result (λ fault. session_code fault ≡ 77 → Rose (O.device out.old).failures (O.device out.new).failures) }
-    ensures memory { IfErr result (λ fault. session_code fault ≡ 78 → FoundNoMemory (I.remaining input.old) (start board) (O.device out.old) (O.device out.new) (session_board fault)) }
+    ensures write { IfErr result (λ fault. session_code fault ≡ 77
+        → Rose (O.device out.old).failures (O.device out.new).failures) }
+    ensures memory { IfErr result (λ fault. session_code fault ≡ 78
+        → FindsNoMemory (I.remaining input.old) (start board) (O.device out.old) (O.device out.new)
+        (session_board fault)) }
 {
     Session::new(board, input, out).serve(rt, alloc)
 }

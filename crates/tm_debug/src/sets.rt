@@ -7,12 +7,12 @@ ghost use Rattle.arrayvec.specs.ArrayVec.{array_vec_len};
 ghost use Rattle.ia_text.specs.Number.{hex_digits};
 ghost use Rattle.ia_text.specs.Writing.{Writes};
 ghost use Rattle.tm_core.specs.Machine.{lines_of, view_at};
-ghost use Rattle.tm_debug.specs.Session.{Ends, SetsAnswer, SetsOf, lines_text, place_of, sets_head};
+ghost use Rattle.tm_debug.specs.Session.{Ends, SetsAnswer, SetsOf, lines_text, value_of, sets_head};
 
 use crate::answer::{core_of, refuse};
+use crate::interruption::{Interruption, answer_result};
 use crate::refusal::Refusal;
-use crate::state::State;
-use crate::trouble::{Trouble, with_trouble};
+use crate::state::SessionState;
 use ia_text::page::{Page, push_hex};
 use ia_text::{Out, WriteFault};
 use std::alloc::{AllocError, Global};
@@ -94,14 +94,20 @@ fn put_line<O: Out>(text: &[u8], out: &mut O) -> Result<(), WriteFault>
 }
 
 /// The read set and the write set of a core.
-pub fn sets<O: Out>(alloc: Global, state: &State, core: u64, out: &mut O) -> Result<(), Trouble>
-    ensures { Ends (SetsAnswer (place_of state.now) core) (SetsAnswer (place_of state.now) core) (O.device out.old) (O.device out.new) (place_of state.now) (place_of state.now) result }
+pub fn sets<O: Out>(
+    alloc: Global,
+    state: &SessionState,
+    core: u64,
+    out: &mut O,
+) -> Result<(), Interruption>
+    ensures { Ends (SetsAnswer (value_of state.now) core) (SetsAnswer (value_of state.now) core) (O.device out.old)
+        (O.device out.new) (value_of state.now) (value_of state.now) result }
 {
     let Some(core) = core_of(state, core) else {
-        return with_trouble(refuse(Refusal::NoSuchCore, out));
+        return answer_result(refuse(Refusal::NoSuchCore, out));
     };
     match sets_line(alloc, state.board.machine(), core) {
-        Ok(text) => with_trouble(put_line(text.as_slice(), out)),
-        Err(_) => Err(Trouble::NoMemory),
+        Ok(text) => answer_result(put_line(text.as_slice(), out)),
+        Err(_) => Err(Interruption::NoMemory),
     }
 }

@@ -1,9 +1,10 @@
 //! What a session keeps between two lines.
 
-ghost use Rattle.std.specs.Prelude.{◌≡◌, ◌↔◌, ℕ, ◌+◌, ◌<◌, ◌≤◌, ◌^◌, ◌++◌, ◌∷◌, [], Err, IfOk, IfSome, OnErr, is_some, length};
+ghost use Rattle.std.specs.Prelude.{◌≡◌, ◌↔◌, ℕ, ◌+◌, ◌<◌, ◌≤◌, ◌^◌, ◌++◌, ◌∷◌, [], Err, IfOk, IfSome, OnErr, is_some};
+ghost use Rattle.std.specs.Prelude.{length};
 ghost use Rattle.tm_hist.specs.Board.{IsFull, stop_shown};
 ghost use Rattle.tm_hist.specs.Machine.{shown_regs, shown_state};
-ghost use Rattle.tm_debug.specs.Session.{Stepped, is_stopped, place_of, running, running_from, start, turn_of};
+ghost use Rattle.tm_debug.specs.Session.{IsStep, is_stopped, value_of, next_running, running_from, start, run_check};
 
 use arrayvec::ArrayVec;
 use tm_core::{CoreState, Outcome};
@@ -14,7 +15,7 @@ pub const MOST_BREAKPOINTS: usize = 64;
 
 /// A board, its breakpoints, and the number behind that of the core that was stepped last.
 #[derive(Drop)]
-pub struct State {
+pub struct SessionState {
     pub board: Board,
     pub breakpoints: ArrayVec<u32, MOST_BREAKPOINTS>,
     pub next: u8,
@@ -22,7 +23,7 @@ pub struct State {
 
 /// What the tests before a step of a run come to.
 #[derive(Clone, Copy, PartialEq, Eq, Debug)]
-pub enum Turn {
+pub enum RunCheck {
     /// All cores have stopped.
     AllStopped,
     /// The history is full.
@@ -73,12 +74,12 @@ fn running_from(board: &Board, core: u32, left: u8) -> Option<u8>
     }
 }
 
-impl State {
+impl SessionState {
     /// A session's state before its first line.
-    pub fn new(board: Board) -> State
-        ensures { place_of result ≡ start board }
+    pub fn new(board: Board) -> SessionState
+        ensures { value_of result ≡ start board }
     {
-        State {
+        SessionState {
             board,
             breakpoints: ArrayVec::new(),
             next: 0,
@@ -86,8 +87,8 @@ impl State {
     }
 
     // The core whose turn it is.
-    fn running(&self) -> Option<u8>
-        ensures first { result ≡ running (place_of self.now) }
+    fn next_running(&self) -> Option<u8>
+        ensures first { result ≡ next_running (value_of self.now) }
         ensures exists { IfSome result (λ c. c < length self.now.board.machine.views) }
         ensures known { IfSome result (λ c. c < length self.now.board.program.entries) }
     {
@@ -106,31 +107,33 @@ impl State {
     }
 
     /// The tests before a step of a run.
-    #[tactic(auto, unfolding(crate::specs::Session::turn_of))]
-    pub fn turn(&self, first: bool) -> Turn
-        ensures turn { result ≡ turn_of (place_of self.now) first }
-        ensures room { (core : ℕ) → result ≡ Turn.Go core → (core < length self.now.board.program.entries) × (IsFull self.now.board → ⊥) }
+    #[tactic(auto, unfolding(crate::specs::Session::run_check))]
+    pub fn check_run(&self, first: bool) -> RunCheck
+        ensures check { result ≡ run_check (value_of self.now) first }
+        ensures room { (core : ℕ) → result ≡ RunCheck.Go core → (core < length self.now.board.program.entries)
+            × (IsFull self.now.board → ⊥) }
     {
-        let Some(core) = self.running() else {
-            return Turn::AllStopped;
+        let Some(core) = self.next_running() else {
+            return RunCheck::AllStopped;
         };
         if self.board.made() == self.board.limit() {
-            return Turn::Full;
+            return RunCheck::Full;
         }
         let eip = self.eip(core);
         if !first && self.breakpoints.contains(&eip) {
-            Turn::AtBreakpoint(core, eip)
+            RunCheck::AtBreakpoint(core, eip)
         } else {
-            Turn::Go(core)
+            RunCheck::Go(core)
         }
     }
 
     /// One step of a core.
     pub fn step(&mut self, core: u8) -> Result<Outcome, StepFault>
         ensures none { result ≡ Err StepFault.NoSuchCore ↔ (length self.old.board.program.entries ≤ core) }
-        ensures full { result ≡ Err StepFault.LimitReached ↔ ((core < length self.old.board.program.entries) × IsFull self.old.board) }
-        ensures ok { IfOk result (λ outcome. Stepped (place_of self.old) core outcome (place_of self.new)) }
-        ensures err { OnErr result (place_of self.new ≡ place_of self.old) }
+        ensures full { result ≡ Err StepFault.LimitReached ↔
+            ((core < length self.old.board.program.entries) × IsFull self.old.board) }
+        ensures ok { IfOk result (λ outcome. IsStep (value_of self.old) core outcome (value_of self.new)) }
+        ensures err { OnErr result (value_of self.new ≡ value_of self.old) }
     {
         let _count = core_count(&self.board);
         let outcome = self.board.step(core)?;

@@ -2,7 +2,7 @@
 
 ghost use Rattle.std.specs.Prelude.{◌≡◌, ◌==◌, not};
 ghost use Rattle.std.specs.List.{position};
-ghost use Rattle.tm_debug.specs.Words.{behind, first_word, trimmed};
+ghost use Rattle.tm_debug.specs.Words.{after_first_word, first_word, without_front_spaces};
 
 // Where the first word begins.
 fn word_start(line: &[u8]) -> Option<usize>
@@ -19,9 +19,9 @@ fn space(line: &[u8]) -> Option<usize>
 }
 
 // A line without the spaces in front.
-#[tactic(auto, unfolding(crate::specs::Words::trimmed))]
+#[tactic(auto, unfolding(crate::specs::Words::without_front_spaces))]
 fn trim(line: &[u8]) -> &[u8]
-    ensures { result.now ≡ trimmed line.now }
+    ensures { result.now ≡ without_front_spaces line.now }
 {
     match word_start(line) {
         Some(at) => &line[at..],
@@ -30,10 +30,10 @@ fn trim(line: &[u8]) -> &[u8]
 }
 
 /// The first word of a line, empty where there is none, and what stands behind it.
-#[tactic(auto, unfolding(crate::specs::Words::first_word, crate::specs::Words::behind))]
+#[tactic(auto, unfolding(crate::specs::Words::first_word, crate::specs::Words::after_first_word))]
 pub fn split_word(line: &[u8]) -> (&[u8], &[u8])
     ensures word { result.0.now ≡ first_word line.now }
-    ensures behind { result.1.now ≡ behind line.now }
+    ensures rest { result.1.now ≡ after_first_word line.now }
 {
     let text = trim(line);
     match space(text) {

@@ -11,6 +11,3 @@ pub use ia_addr::Access;
 pub use ia_exec::Store;
 pub use kinds::{Code, Fetched, Outside, Stop, Within};
 pub use rule::{fallback, fetch, inside, load_at, outside};
-
-#[cfg(test)]
-mod tests;

@@ -6,10 +6,7 @@ use Rattle.std.specs.List.Sorted.{IsPermutation, IsStrictlyIncreasing, IsNonDecr
 use Rattle.std.specs.Ordering.{nat_cmp, eq_by_cmp}
 use Rattle.std.specs.Cmp.{nat_cmp_total, unsigned_tied}
 use Rattle.std.specs.FinSet as set
-use Rattle.tm_sets.specs.Row.{Lines}
-
-abbrev pub lines_of : List ℕ → Lines
-lines_of xs = set.from_list xs
+use Rattle.tm_sets.specs.LineSet.{Lines, lines_of}
 
 pub len_push : (s : Lines) (l : ℕ) → set.contains s l ≡ false → set.len (set.insert s l) ≡ set.len s + 1
 len_push s l new = set.len-insert nat_cmp_total s l ∙ ap (λ t. cond t (set.len s) (set.len s + 1)) new

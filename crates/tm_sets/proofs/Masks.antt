@@ -3,17 +3,17 @@ use Rattle.std.proofs.Common.{◌≡◌, ℕ, ◌+◌, ◌*◌, ◌/◌, ◌%◌
 use Rattle.std.proofs.lemmas.Bool.{cases_eq}
 use Rattle.std.proofs.lemmas.Nat.{or_lt, one_shl, pow_below, div_below}
 use Rattle.std.proofs.lemmas.Nat.Bits.{bit_at_set_same, bit_at_set_other}
-use Rattle.std.specs.Int.{w16}
+use Rattle.std.specs.Int.{w64}
 use Rattle.std.specs.Int.RustNames.{bit_or}
 use Rattle.tm_sets.specs.Content.{bit}
 
 abbrev pub with_bit : ℕ → ℕ → ℕ
-with_bit mask k = bit_or mask (1 * 2 ^ k % 2 ^ 16)
+with_bit mask k = bit_or mask (1 * 2 ^ k % 2 ^ 64)
 
-pub bits_set : (mask k : ℕ) (wanted : ℕ → Bool) → k < 16 → ((j : ℕ) → j < k → bit mask j ≡ wanted j) → wanted k ≡ true → (j : ℕ) → j < k + 1 → bit (with_bit mask k) j ≡ wanted j
+pub bits_set : (mask k : ℕ) (wanted : ℕ → Bool) → k < 64 → ((j : ℕ) → j < k → bit mask j ≡ wanted j) → wanted k ≡ true → (j : ℕ) → j < k + 1 → bit (with_bit mask k) j ≡ wanted j
 bits_set mask k wanted small h one j below = ⊎_elim
-    (λ (e : j ≡ k). ap (bit (with_bit mask k)) e ∙ ap (λ b. eqb b 1) (bit_at_set_same w16 mask k small) ∙ sym one ∙ sym (ap wanted e))
-    (λ (e : j ≡ k → ⊥). ap (λ b. eqb b 1) (bit_at_set_other w16 mask k small j e) ∙ h j (omega arith))
+    (λ (e : j ≡ k). ap (bit (with_bit mask k)) e ∙ ap (λ b. eqb b 1) (bit_at_set_same w64 mask k small) ∙ sym one ∙ sym (ap wanted e))
+    (λ (e : j ≡ k → ⊥). ap (λ b. eqb b 1) (bit_at_set_other w64 mask k small j e) ∙ h j (omega arith))
     (cases_eq j k)
 
 no_bit : (mask k : ℕ) → mask < 2 ^ k → bit mask k ≡ false
@@ -31,6 +31,6 @@ bits_unset mask k wanted below h no_one j b = ⊎_elim
 pub mask_below : (mask k : ℕ) → mask < 2 ^ k → mask < 2 ^ (k + 1)
 mask_below mask k h = omega (arith, pow_below k (k + 1) (omega arith))
 
-pub mask_set_below : (mask k : ℕ) → k < 16 → mask < 2 ^ k → with_bit mask k < 2 ^ (k + 1)
+pub mask_set_below : (mask k : ℕ) → k < 64 → mask < 2 ^ k → with_bit mask k < 2 ^ (k + 1)
 mask_set_below mask k small h =
-    or_lt (k + 1) mask (1 * 2 ^ k % 2 ^ 16) (mask_below mask k h) (subst (λ n. n < 2 ^ (k + 1)) (sym (one_shl k 16 small)) (pow_below k (k + 1) (omega arith)))
+    or_lt (k + 1) mask (1 * 2 ^ k % 2 ^ 64) (mask_below mask k h) (subst (λ n. n < 2 ^ (k + 1)) (sym (one_shl k 64 small)) (pow_below k (k + 1) (omega arith)))

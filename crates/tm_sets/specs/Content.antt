@@ -1,11 +1,11 @@
 -- The read sets and write sets of all cores, as one value (SDM volume 1, chapter "Programming with Intel Transactional
 -- Synchronization Extensions").
-use Rattle.std.specs.Prelude.{ℕ, Bool, true, false, ◌&&◌, ◌||◌, not, nat_eq, nat_le, if◌then◌else◌}
-use Rattle.tm_sets.specs.Row.{Lines}
+use Rattle.std.specs.Prelude.{ℕ, ◌≡◌, ◌<◌, Bool, true, false, ◌&&◌, ◌||◌, not, nat_eq, nat_le, if◌then◌else◌}
+use Rattle.tm_sets.specs.LineSet.{Lines}
 use Rattle.std.specs.Int.{bit_at}
 use Rattle.std.specs.FinSet as set
-use Rattle.tm_sets.specs.declared.touched.Kind.{Kind}
-use Rattle.tm_sets.specs.declared.touched.Kind.TheVariants.{Read, Write}
+use Rattle.tm_sets.specs.declared.interface.Kind.{Kind}
+use Rattle.tm_sets.specs.declared.interface.Kind.TheVariants.{Read, Write}
 
 -- what stays: how many lines of each kind a core has room for, and the numbers of cores and of lines of memory
 pub record Fixed : Type 0 where
@@ -29,30 +29,55 @@ abbrev pub by_kind : ℕ → ℕ → Kind → ℕ
 by_kind read write Read = read
 by_kind read write Write = write
 
--- no line of any core
+-- the sets of so many cores and lines of memory, with room for so many lines: no line of any core
 abbrev pub empty_content : ℕ → ℕ → ℕ → ℕ → Content
 empty_content cores line_count read_lines write_lines = record {
   lines = λ _ _. set.empty;
   fixed = record { room = by_kind read_lines write_lines; cores = cores; line_count = line_count };
 }
 
-abbrev pub added : Content → ℕ → Kind → ℕ → Content
-added a core kind line = record {
-  lines = λ c k. if nat_eq c core && same_kind k kind then set.insert (a.lines c k) line else a.lines c k;
-  fixed = a.fixed;
+-- the core's set of the kind has the line too
+abbrev pub with_line : Content → ℕ → Kind → ℕ → Content
+with_line content core kind line = record {
+  lines = λ other other_kind. if nat_eq other core && same_kind other_kind kind
+      then set.insert (content.lines other other_kind) line
+      else content.lines other other_kind;
+  fixed = content.fixed;
 }
 
-abbrev pub cleared : Content → ℕ → Content
-cleared a core = record { lines = λ c k. if nat_eq c core then set.empty else a.lines c k; fixed = a.fixed }
+-- the core has no line of either kind
+abbrev pub without_core : Content → ℕ → Content
+without_core content core = record {
+  lines = λ other kind. if nat_eq other core then set.empty else content.lines other kind;
+  fixed = content.fixed;
+}
 
 -- the line is new, and there is no room for it
 abbrev pub is_full : Content → ℕ → Kind → ℕ → Bool
-is_full a core kind line = not (set.contains (a.lines core kind) line) && nat_le (a.fixed.room kind) (set.len (a.lines core kind))
+is_full content core kind line =
+    not (set.contains (content.lines core kind) line)
+    && nat_le (content.fixed.room kind) (set.len (content.lines core kind))
 
 -- the core has the line, of either kind
 abbrev pub on_line : Content → ℕ → ℕ → Bool
-on_line a core line = set.contains (a.lines core Read) line || set.contains (a.lines core Write) line
+on_line content core line = set.contains (content.lines core Read) line || set.contains (content.lines core Write) line
+
+-- the core has the line in its write set
+abbrev pub writes_line : Content → ℕ → ℕ → Bool
+writes_line content core line = set.contains (content.lines core Write) line
+
+-- core k is another core than this one, and has the line
+abbrev pub other_on_line : Content → ℕ → ℕ → ℕ → Bool
+other_on_line content line core k = not (nat_eq k core) && on_line content k line
+
+-- core k is another core than this one, and has the line in its write set
+abbrev pub other_writes_line : Content → ℕ → ℕ → ℕ → Bool
+other_writes_line content line core k = not (nat_eq k core) && writes_line content k line
 
 -- bit k of a mask
 abbrev pub bit : ℕ → ℕ → Bool
 bit mask k = nat_eq (bit_at mask k) 1
+
+-- of so many bits of the mask, those are set that are wanted
+abbrev pub IsMaskOf : ℕ → ℕ → (ℕ → Bool) → Type 0
+IsMaskOf mask count wanted = (k : ℕ) → k < count → bit mask k ≡ wanted k

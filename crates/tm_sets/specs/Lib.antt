@@ -1,3 +1,3 @@
-pub mod Row
+pub mod LineSet
 pub mod Content
 pub mod Plain

@@ -19,7 +19,7 @@ impl Full {
     }
 }
 
-/// There is no memory for the rows of a set, or for a list of its lines.
+/// There is no memory for the sets, or for a list of their lines.
 #[derive(Clone, Copy, PartialEq, Eq, Debug, Drop, Error)]
 #[error("NoMemory")]
 pub struct NoMemory;

@@ -1,18 +1,24 @@
-//! The lines that open transactions have touched: their read sets and write sets.
+//! The lines that open transactions have loaded from and stored to: their read sets and write sets.
 //!
 //! A line is 64 bytes of memory. What is kept is a set of triples of a core, a line and a kind, of which each core has
 //! room for so many of each kind (SDM volume 1, chapter "Programming with Intel Transactional Synchronization
-//! Extensions": read set and write set).
+//! Extensions": read set and write set). `Sets` is what every representation answers, for up to 64 cores and 4,194,304
+//! lines, and `PlainSets` is one: lists that are searched.
+//!
+//! Promised: `add` refuses a line exactly where its set has no room; `has`, `others_on`, `writers_on`, `count` and
+//! `listing` tell what the set of triples has, and change none; `clear` takes away one core's triples alone.
+//!
+//! It stands on no other crate of the machine.
 #![tactic(auto)]
 
 mod fault;
+mod interface;
+mod line_set;
 mod plain;
-mod row;
-mod touched;
 
 pub use fault::{Full, NoMemory};
+pub use interface::{Kind, Sets};
 pub use plain::PlainSets;
-pub use touched::{Kind, Sets};
 
 #[cfg(test)]
 mod tests;

@@ -1,26 +1,27 @@
-//! The sets as plain rows, one a core and kind.
+//! The sets as plain lists of lines, one a core and kind.
 
-ghost use Rattle.std.specs.Prelude.{◌≡◌, ◌<◌, ◌≤◌, ◌^◌, ℕ, Bool, ◌&&◌, ◌||◌, not, nat_eq, length, is_err, IfOk, IfSome, OnOk, OnErr};
+ghost use Rattle.std.specs.Prelude.{◌≡◌, ◌<◌, ◌≤◌, ◌^◌, ℕ, Bool, ◌&&◌, ◌||◌, not, nat_eq, length, is_err, IfOk, IfSome};
+ghost use Rattle.std.specs.Prelude.{OnOk, OnErr};
 ghost use Rattle.std.specs.FinSet as set;
-ghost use Rattle.tm_sets.specs.Plain.{plain_content, HaveRoom, is_other, row_at};
-ghost use Rattle.tm_sets.specs.Content.{bit};
+ghost use Rattle.tm_sets.specs.Plain.{plain_content, HaveRoom, is_other, is_writer, line_set_at};
+ghost use Rattle.tm_sets.specs.Content.{IsMaskOf};
 
 use crate::fault::{Full, NoMemory};
-use crate::row::Row;
-use crate::touched::{Kind, Sets};
+use crate::interface::{Kind, Sets};
+use crate::line_set::LineSet;
 use std::alloc::Global;
 
-/// Sets of lines as plain rows, all reserved when they are made. A question for a line is a search through the rows.
+/// Sets of lines as plain lists, all reserved when they are made. A question for a line is a search through the lists.
 #[derive(Drop)]
 pub struct PlainSets {
-    reads: Vec<Row>,
-    writes: Vec<Row>,
+    reads: Vec<LineSet>,
+    writes: Vec<LineSet>,
     line_count: u32,
     read_lines: u32,
     write_lines: u32,
     visits: u64,
     ghost cores: { length writes.items ≡ length reads.items },
-    ghost few: { length reads.items ≤ 16 },
+    ghost few: { length reads.items ≤ 64 },
     ghost read_room: { HaveRoom reads.items read_lines },
     ghost write_room: { HaveRoom writes.items write_lines },
 }
@@ -28,8 +29,8 @@ pub struct PlainSets {
 impl PlainSets {
     ghost use Rattle.tm_sets.specs.Content.{empty_content};
 
-    /// Empty sets for 1 to 16 cores, at most 1,048,576 lines of memory, and room for 1 to 4096 lines of each kind a
-    /// core. `NoMemory` (32) where the rows cannot be reserved.
+    /// Empty sets for 1 to 64 cores, at most 4,194,304 lines of memory, and room for 1 to 4096 lines of each kind a
+    /// core. `NoMemory` (32) where the lists cannot be reserved.
     pub fn new(
         alloc: Global,
         cores: u8,
@@ -38,18 +39,20 @@ impl PlainSets {
         write_lines: u32,
     ) -> Result<PlainSets, NoMemory>
         requires cores { 1 ≤ cores }
-        requires most_cores { cores ≤ 16 }
-        requires lines { lines ≤ 1048576 }
+        requires most_cores { cores ≤ 64 }
+        requires lines { lines ≤ 4194304 }
         requires read_lines { 1 ≤ read_lines }
         requires most_read_lines { read_lines ≤ 4096 }
         requires write_lines { 1 ≤ write_lines }
         requires most_write_lines { write_lines ≤ 4096 }
-        ensures content { IfOk result (λ s. plain_content s.reads.items s.writes.items s.line_count s.read_lines s.write_lines ≡ empty_content cores lines read_lines write_lines) }
-        ensures visits { IfOk result (λ s. s.visits ≡ 0) }
+        ensures content { IfOk result (λ made.
+            plain_content made.reads.items made.writes.items made.line_count made.read_lines made.write_lines
+            ≡ empty_content cores lines read_lines write_lines) }
+        ensures visits { IfOk result (λ made. made.visits ≡ 0) }
     {
         Ok(PlainSets {
-            reads: rows(alloc, cores, read_lines)?,
-            writes: rows(alloc, cores, write_lines)?,
+            reads: empty_sets(alloc, cores, read_lines)?,
+            writes: empty_sets(alloc, cores, write_lines)?,
             line_count: lines,
             read_lines,
             write_lines,
@@ -58,48 +61,56 @@ impl PlainSets {
     }
 }
 
-/// Empty rows, one a core.
-fn rows(alloc: Global, cores: u8, room: u32) -> Result<Vec<Row>, NoMemory>
+/// Empty sets of one kind, one a core.
+fn empty_sets(alloc: Global, cores: u8, room: u32) -> Result<Vec<LineSet>, NoMemory>
     requires { room ≤ 4096 }
-    ensures count { IfOk result (λ rows. length rows.items ≡ cores) }
-    ensures empty { IfOk result (λ rows. (core : ℕ) → (row_at rows.items core).lines ≡ set.empty) }
-    ensures room { IfOk result (λ rows. HaveRoom rows.items room) }
+    ensures count { IfOk result (λ sets. length sets.items ≡ cores) }
+    ensures empty { IfOk result (λ sets. (core : ℕ) → (line_set_at sets.items core).lines ≡ set.empty) }
+    ensures room { IfOk result (λ sets. HaveRoom sets.items room) }
 {
-    let mut rows = Vec::with_capacity(alloc, usize::from(cores))?;
+    let mut sets = Vec::with_capacity(alloc, usize::from(cores))?;
     for _ in 0..cores {
-        rows.push(Row::with_room(alloc, room)?)?;
+        sets.push(LineSet::with_room(alloc, room)?)?;
     }
-    Ok(rows)
+    Ok(sets)
 }
 
-/// Whether a row has a line. The count of entries visited rises by those that were read for it, and stops at
+/// Whether a set has a line. The count of entries visited rises by those that were read for it, and stops at
 /// `u64::MAX`.
-fn search(row: &Row, line: u32, visits: &mut u64) -> bool
-    ensures value { result ≡ set.contains row.now.lines line }
+fn search(lines: &LineSet, line: u32, visits: &mut u64) -> bool
+    ensures value { result ≡ set.contains lines.now.lines line }
     ensures visits { visits.old ≤ visits.new }
 {
-    let place = row.place(line);
+    let place = lines.place(line);
     let read = match place {
         Some(place) => place as u64 + 1,
-        None => u64::from(row.count()),
+        None => u64::from(lines.count()),
     };
     *visits = visits.saturating_add(read);
     place.is_some()
 }
 
-/// Whether a core that is not `core` has a line, in its row of lines read or that of lines written.
-fn is_other(other: u8, core: u8, reads: &Row, writes: &Row, line: u32, visits: &mut u64) -> bool
-    ensures value { result ≡ (not (nat_eq other core) && (set.contains reads.now.lines line || set.contains writes.now.lines line)) }
+/// Whether a core that is not `core` has a line, among the lines that it has read or those that it has written.
+fn is_other(
+    other: u8,
+    core: u8,
+    reads: &LineSet,
+    writes: &LineSet,
+    line: u32,
+    visits: &mut u64,
+) -> bool
+    ensures value { result ≡ (not (nat_eq other core)
+        && (set.contains reads.now.lines line || set.contains writes.now.lines line)) }
     ensures visits { visits.old ≤ visits.new }
 {
     other != core && (search(reads, line, visits) || search(writes, line, visits))
 }
 
-/// The cores but `core` that have a line: bit k for core k.
-fn others(reads: &[Row], writes: &[Row], line: u32, core: u8, visits: &mut u64) -> u16
+/// The cores but `core` that have a line in either set: bit k for core k.
+fn others(reads: &[LineSet], writes: &[LineSet], line: u32, core: u8, visits: &mut u64) -> u64
     requires same { length writes.now ≡ length reads.now }
-    requires few { length reads.now ≤ 16 }
-    ensures mask { (k : ℕ) → k < length reads.now → bit result k ≡ is_other reads.now writes.now line core k }
+    requires few { length reads.now ≤ 64 }
+    ensures mask { IsMaskOf result (length reads.now) (is_other reads.now writes.now line core) }
     ensures below { result < 2 ^ length reads.now }
     ensures visits { visits.old ≤ visits.new }
 {
@@ -117,6 +128,30 @@ fn others(reads: &[Row], writes: &[Row], line: u32, core: u8, visits: &mut u64) 
         }
     }
     others
+}
+
+/// Whether a core that is not `core` has a line among those that it has written.
+fn is_writer(other: u8, core: u8, writes: &LineSet, line: u32, visits: &mut u64) -> bool
+    ensures value { result ≡ (not (nat_eq other core) && set.contains writes.now.lines line) }
+    ensures visits { visits.old ≤ visits.new }
+{
+    other != core && search(writes, line, visits)
+}
+
+/// The cores but `core` that have a line in their write set: bit k for core k.
+fn writers(writes: &[LineSet], line: u32, core: u8, visits: &mut u64) -> u64
+    requires few { length writes.now ≤ 64 }
+    ensures mask { IsMaskOf result (length writes.now) (is_writer writes.now line core) }
+    ensures below { result < 2 ^ length writes.now }
+    ensures visits { visits.old ≤ visits.new }
+{
+    let mut writers = 0;
+    for other in 0..writes.len() {
+        if is_writer(other as u8, core, &writes[other], line, visits) {
+            writers |= 1 << other;
+        }
+    }
+    writers
 }
 
 impl Sets for PlainSets {
@@ -138,8 +173,12 @@ impl Sets for PlainSets {
         }
     }
 
-    fn others_on(&mut self, line: u32, core: u8) -> u16 {
+    fn others_on(&mut self, line: u32, core: u8) -> u64 {
         others(&self.reads, &self.writes, line, core, &mut self.visits)
+    }
+
+    fn writers_on(&mut self, line: u32, core: u8) -> u64 {
+        writers(&self.writes, line, core, &mut self.visits)
     }
 
     fn count(&self, core: u8, kind: Kind) -> u32 {

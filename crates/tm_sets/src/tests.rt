@@ -11,11 +11,22 @@ fn two_cores_on_one_line(rt: HostRuntime) {
     assert_eq!(rt; sets.others_on(0x40, 0), 0b10);
     assert_eq!(rt; sets.others_on(0x40, 1), 0b01);
     assert_eq!(rt; sets.others_on(0x41, 1), 0);
+    assert_eq!(rt; sets.writers_on(0x40, 0), 0);
+    assert_eq!(rt; sets.writers_on(0x40, 1), 0b01);
     sets.clear(0);
     assert_eq!(rt; sets.others_on(0x40, 1), 0);
     assert!(rt; sets.has(1, 0x40, Kind::Read));
     assert!(rt; !sets.has(1, 0x40, Kind::Write));
     assert!(rt; sets.visits() > 0);
+}
+
+#[test]
+fn the_last_of_64_cores(rt: HostRuntime) {
+    let mut sets = PlainSets::new(rt.alloc(), 64, 0x40_0000, 1, 1).expect(&rt, "memory");
+    assert!(rt; sets.add(63, 0x3f_ffff, Kind::Write).is_ok());
+    assert!(rt; sets.add(62, 0x3f_ffff, Kind::Read).is_ok());
+    assert_eq!(rt; sets.writers_on(0x3f_ffff, 0), 1 << 63);
+    assert_eq!(rt; sets.others_on(0x3f_ffff, 0), 3 << 62);
 }
 
 #[test]

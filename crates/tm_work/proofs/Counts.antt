@@ -4,39 +4,39 @@ use Rattle.std.specs.Prelude.{slice_get, slice_index, All, IfNone, IfSome}
 use mathlib.Core.Logic.{dite}
 use native.Mathlib.Decide.{ℕ_discrete}
 use Rattle.std.proofs.lemmas.Option.{slice_get-get_or, slice_get_within}
-use Rattle.tm_book.proofs.Moves.{slice_get_front, slice_get_last}
+use Rattle.tm_ledger.proofs.Moves.{slice_get_front, slice_get_last}
 use Rattle.tm_hist.specs.Board.{Shown, IsHistory}
-use Rattle.tm_work.specs.Seats.{Seated, seated, fresh, Told, Tells, GoesOn}
-use Rattle.tm_work.specs.Served.{IsDone, AreLeft, EachDone, Served, IsReport, IsRefused}
+use Rattle.tm_work.specs.Seats.{SeatProgress, seat_with, no_progress, SeatTells, Tells, GoesOn}
+use Rattle.tm_work.specs.Workers.{IsDone, AreLeft, EachDone, KeepsBudget, IsReport, IsRefused}
 
-nobody : Seated
-nobody = seated 0 fresh
+no_seat : SeatProgress
+no_seat = seat_with 0 no_progress
 
 -- a seat that tells what is so of its core, and whose worker is done
-served_at : (given b : Shown) (budget c : ℕ) (s : Seated) → Told given b s → IsDone c budget s → Served given b budget c s.mark.steps
+served_at : (given b : Shown) (budget c : ℕ) (s : SeatProgress) → SeatTells given b s → IsDone c budget s → KeepsBudget given b budget c s.progress.steps
 served_at given b budget c s told done =
-    let t = subst (λ (k : ℕ). Tells given b k s.mark) done.core told in
+    let t = subst (λ (k : ℕ). Tells given b k s.progress) done.core told in
     record { steps = t.steps; within = done.within; used = λ less. t.ended (done.used less) }
 
-served_in : (given b : Shown) (budgets : List ℕ) (done : List Seated) (c : ℕ) → All (Told given b) done → EachDone budgets done → c < length done
-    → (s : Seated) × (slice_get done c ≡ Some s) × Served given b (slice_index budgets c) c s.mark.steps
+served_in : (given b : Shown) (budgets : List ℕ) (done : List SeatProgress) (c : ℕ) → All (SeatTells given b) done → EachDone budgets done → c < length done
+    → (s : SeatProgress) × (slice_get done c ≡ Some s) × KeepsBudget given b (slice_index budgets c) c s.progress.steps
 served_in given b budgets done c told each below =
-    let s : Seated = get_or done c nobody in
-    let at : slice_get done c ≡ Some s = slice_get-get_or done c nobody below in
-    (s, at, served_at given b (slice_index budgets c) c s (told c nobody below) (each c s at))
+    let s : SeatProgress = get_or done c no_seat in
+    let at : slice_get done c ≡ Some s = slice_get-get_or done c no_seat below in
+    (s, at, served_at given b (slice_index budgets c) c s (told c no_seat below) (each c s at))
 
-pub report_of : (given b : Shown) (budgets : List ℕ) (done : List Seated) (steps : List ℕ) → GoesOn given b → IsHistory b → All (Told given b) done → EachDone budgets done → length done ≡ length budgets → length steps ≡ length done
-    → ((k : ℕ) (s : Seated) → slice_get done k ≡ Some s → slice_index steps k ≡ s.mark.steps) → IsReport given budgets b steps
+pub report_of : (given b : Shown) (budgets : List ℕ) (done : List SeatProgress) (steps : List ℕ) → GoesOn given b → IsHistory b → All (SeatTells given b) done → EachDone budgets done → length done ≡ length budgets → length steps ≡ length done
+    → ((k : ℕ) (s : SeatProgress) → slice_get done k ≡ Some s → slice_index steps k ≡ s.progress.steps) → IsReport given budgets b steps
 report_of given b budgets done steps goes_on run told each all count_is steps_are = record {
   goes_on = goes_on;
   run = run;
   cores = count_is ∙ all;
   each = λ c below.
       let t = served_in given b budgets done c told each (omega arith) in
-      subst (Served given b (slice_index budgets c) c) (sym (steps_are c t.0 t.1)) t.2;
+      subst (KeepsBudget given b (slice_index budgets c) c) (sym (steps_are c t.0 t.1)) t.2;
 }
 
-pub refused_of : (given b : Shown) (budgets : List ℕ) (done left : List Seated) (k : ℕ) → k ≡ length done → GoesOn given b → IsHistory b → All (Told given b) done → All (Told given b) left → EachDone budgets done
+pub refused_of : (given b : Shown) (budgets : List ℕ) (done left : List SeatProgress) (k : ℕ) → k ≡ length done → GoesOn given b → IsHistory b → All (SeatTells given b) done → All (SeatTells given b) left → EachDone budgets done
     → length done < length budgets → AreLeft left (length done + 1) (length budgets) → IsRefused given budgets k b
 refused_of given b budgets done left k here goes_on run told others each less rest = record {
   goes_on = goes_on;
@@ -44,46 +44,46 @@ refused_of given b budgets done left k here goes_on run told others each less re
   core = omega arith;
   lower = λ c below.
       let t = served_in given b budgets done c told each (omega arith) in
-      subst (Served given b (slice_index budgets c) c) t.2.steps t.2;
+      subst (KeepsBudget given b (slice_index budgets c) c) t.2.steps t.2;
   higher = λ c above below.
       let counted = rest.count in
       let j : ℕ = c - (length done + 1) in
       let j_is : length done + 1 + j ≡ c = omega arith in
       let inside : j < length left = omega arith in
-      let is : Some (get_or left j nobody) ≡ Some (seated (length done + 1 + j) fresh) = sym (slice_get-get_or left j nobody inside) ∙ rest.each j inside in
-      let same : get_or left j nobody ≡ seated c fresh = let s : get_or left j nobody ≡ seated (length done + 1 + j) fresh = cc in s ∙ ap (λ n. seated n fresh) j_is in
-      let t : Told given b (seated c fresh) = subst (Told given b) same (others j nobody inside) in
+      let is : Some (get_or left j no_seat) ≡ Some (seat_with (length done + 1 + j) no_progress) = sym (slice_get-get_or left j no_seat inside) ∙ rest.each j inside in
+      let same : get_or left j no_seat ≡ seat_with c no_progress = let s : get_or left j no_seat ≡ seat_with (length done + 1 + j) no_progress = cc in s ∙ ap (λ n. seat_with n no_progress) j_is in
+      let t : SeatTells given b (seat_with c no_progress) = subst (SeatTells given b) same (others j no_seat inside) in
       sym t.steps;
 }
 
 -- the seat in front is the one of the next core
-pub left_next : (seats rest : List Seated) (s : Seated) (from n : ℕ) → AreLeft seats from n → seats ≡ s ∷ rest → (s ≡ seated from fresh) × AreLeft rest (from + 1) n
+pub left_next : (seats rest : List SeatProgress) (s : SeatProgress) (from n : ℕ) → AreLeft seats from n → seats ≡ s ∷ rest → (s ≡ seat_with from no_progress) × AreLeft rest (from + 1) n
 left_next seats rest s from n a is =
-    let b : AreLeft (s ∷ rest) from n = subst (λ (l : List Seated). AreLeft l from n) is a in
+    let b : AreLeft (s ∷ rest) from n = subst (λ (l : List SeatProgress). AreLeft l from n) is a in
     let counted = b.count in
-    let first : Some s ≡ Some (seated (from + 0) fresh) = b.each 0 (omega arith) in
-    let one : s ≡ seated (from + 0) fresh = cc in
+    let first : Some s ≡ Some (seat_with (from + 0) no_progress) = b.each 0 (omega arith) in
+    let one : s ≡ seat_with (from + 0) no_progress = cc in
     let zero_more : from + 0 ≡ from = omega arith in (
-      one ∙ ap (λ k. seated k fresh) zero_more,
+      one ∙ ap (λ k. seat_with k no_progress) zero_more,
       record {
         count = omega arith;
-        each = λ k below. let more : from + (suc k) ≡ from + 1 + k = omega arith in b.each (suc k) (omega arith) ∙ ap (λ i. Some (seated i fresh)) more;
+        each = λ k below. let more : from + (suc k) ≡ from + 1 + k = omega arith in b.each (suc k) (omega arith) ∙ ap (λ i. Some (seat_with i no_progress)) more;
       },
     )
 
 -- one more worker is done
-pub done_more : (budgets : List ℕ) (done : List Seated) (s : Seated) (c budget : ℕ) → EachDone budgets done → IsDone c budget s → c ≡ length done → budget ≡ slice_index budgets (length done) → EachDone budgets (done ++ s ∷ [])
+pub done_more : (budgets : List ℕ) (done : List SeatProgress) (s : SeatProgress) (c budget : ℕ) → EachDone budgets done → IsDone c budget s → c ≡ length done → budget ≡ slice_index budgets (length done) → EachDone budgets (done ++ s ∷ [])
 done_more budgets done s c budget each this here has k x is =
     dite (ℕ_discrete k (length done))
     (λ (e : k ≡ length done).
     let two : Some s ≡ Some x = sym (slice_get_last done s) ∙ ap (λ i. slice_get (done ++ s ∷ []) i) (sym e) ∙ is in
     let same : s ≡ x = cc in
     let at : IsDone (length done) (slice_index budgets (length done)) s = subst (λ (y : ℕ × ℕ). IsDone y.0 y.1 s) (λ i. (here i, has i)) this in
-    subst (λ (y : ℕ × Seated). IsDone y.0 (slice_index budgets y.0) y.1) (λ i. (sym e i, same i)) at)
+    subst (λ (y : ℕ × SeatProgress). IsDone y.0 (slice_index budgets y.0) y.1) (λ i. (sym e i, same i)) at)
     (λ ne. each k x (let within = slice_get_within (done ++ s ∷ []) k x is in
     let below : k < length done = omega (arith, length-append done (s ∷ [])) in
-    let old : slice_get done k ≡ Some (get_or done k nobody) = slice_get-get_or done k nobody below in
-    old ∙ sym (slice_get_front done (s ∷ []) k (get_or done k nobody) old) ∙ is))
+    let old : slice_get done k ≡ Some (get_or done k no_seat) = slice_get-get_or done k no_seat below in
+    old ∙ sym (slice_get_front done (s ∷ []) k (get_or done k no_seat) old) ∙ is))
 
 -- what holds of each place holds of one more
 pub snoc_each : {A : Type 0} (P : ℕ → A → Type 0) (xs : List A) (x : A) → ((k : ℕ) (y : A) → slice_get xs k ≡ Some y → P k y) → P (length xs) x → (k : ℕ) (y : A) → slice_get (xs ++ x ∷ []) k ≡ Some y → P k y

@@ -1,4 +1,4 @@
 pub mod Faults
-pub mod Opened
+pub mod Opening
 pub mod Seats
-pub mod Served
+pub mod Workers

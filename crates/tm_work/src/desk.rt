@@ -2,27 +2,28 @@
 
 ghost use Rattle.std.specs.Prelude.{◌≡◌, ◌<◌, ◌++◌, ◌∷◌, [], length, All, IfOk, IfErr, IfSome, IfNone};
 ghost use Rattle.tm_hist.specs.Board.{IsHistory};
-ghost use Rattle.tm_work.specs.Seats.{AreSeats, GoesOn, Told, fresh, seated, stepped_mark, ended_mark};
+ghost use Rattle.tm_work.specs.Seats.{AreSeats, GoesOn, SeatTells};
+ghost use Rattle.tm_work.specs.Seats.{no_progress, seat_with, progress_after_step, progress_at_end};
 ghost use Rattle.tm_work.specs.Faults.{board_in, IsNoMemory};
 
+use crate::desk_state::DeskState;
 use crate::fault::WorkFault;
-use crate::held::Held;
-use crate::mark::{Mark, Receipt};
 use crate::opening::Opening;
-use crate::seat::{Seat, Session};
+use crate::progress::{Progress, Receipt};
+use crate::seat::{DeskIdentity, Seat};
 use std::alloc::Global;
 use std::collections::VecDeque;
 use std::sync::{Mutex, Wait};
-use tm_book::Book;
 use tm_hist::Board;
+use tm_ledger::Ledger;
 
 /// A board under a lock, for threads that have a seat each. Only `open` takes memory, and only `turn` waits.
 #[derive(Drop)]
-pub struct Desk<J: Session> {
-    held: Mutex<Held<J>>,
+pub struct Desk<J: DeskIdentity> {
+    state: Mutex<DeskState<J>>,
 }
 
-impl<J: Session> Desk<J> {
+impl<J: DeskIdentity> Desk<J> {
     /// The desk, and one seat a core, in order, of which none had a turn. `NoMemory` (61), with the board as it was.
     pub fn open(alloc: Global, opening: Opening) -> Result<(Desk<J>, Vec<Seat<J>>), WorkFault>
         requires name { opening.table ≡ J.table }
@@ -30,66 +31,67 @@ impl<J: Session> Desk<J> {
         ensures seats { IfOk result (λ r. AreSeats r.1.items (length J.given.program.entries)) }
         ensures refused { IfErr result (λ e. IsNoMemory e × (board_in e ≡ J.given)) }
     {
-        let (mut book, board) = opening.named::<J>();
+        let (mut ledger, board) = opening.named::<J>();
         let cores = board.cores();
         let Ok(mut seats) = Vec::with_capacity(alloc, usize::from(cores)) else {
             return Err(WorkFault::NoMemory(board));
         };
         for core in 0..cores {
-            seats.push_reserved(seat_of(&mut book, core));
+            seats.push_reserved(seat_of(&mut ledger, core));
         }
-        let held = Mutex::new(Held::new(board, book));
-        Ok((Desk { held }, seats))
+        let state = Mutex::new(DeskState::new(board, ledger));
+        Ok((Desk { state }, seats))
     }
 
-    /// One step of the seat's core, which is one more pair of the board's history; or nothing, where the core is stopped or
-    /// the history full. The receipt is then the seat's last one, and its index is greater than that of the one before.
+    /// One step of the seat's core, which is one more pair of the board's history; or nothing, where the core is
+    /// stopped or the history full. The receipt is then the seat's last one, and its index is greater than that of the
+    /// one before.
     pub fn turn(&self, rt: &impl Wait, seat: &mut Seat<J>) -> Option<Receipt>
         ensures core { seat.new.core ≡ seat.old.core }
-        ensures some { IfSome result (λ r. seat.new.mark ≡ stepped_mark seat.old.mark r) }
-        ensures later { IfSome result (λ r. IfSome seat.old.mark.last (λ q. q.index < r.index)) }
-        ensures none { IfNone result (seat.new.mark ≡ ended_mark seat.old.mark) }
+        ensures some { IfSome result (λ r. seat.new.progress ≡ progress_after_step seat.old.progress r) }
+        ensures later { IfSome result (λ r. IfSome seat.old.progress.last (λ q. q.index < r.index)) }
+        ensures none { IfNone result (seat.new.progress ≡ progress_at_end seat.old.progress) }
     {
-        self.held.lock(rt).turn(seat)
+        self.state.lock(rt).turn(seat)
     }
 
-    /// The board, with what the seats' turns made of it. Its history goes on from the one that the board had when the desk was
-    /// opened, its machine is the run of it, each outcome is the owed one, and what these seats say is so.
+    /// The board, with what the seats' turns made of it. Its history goes on from the one that the board had when the
+    /// desk was opened, its machine is the run of it, each outcome is the owed one, and what these seats say is so.
     pub fn close(self, seats: Vec<Seat<J>>) -> Board
         ensures goes_on { GoesOn J.given result }
         ensures run { IsHistory result }
-        ensures seats { All (Told J.given result) seats.items }
+        ensures seats { All (SeatTells J.given result) seats.items }
     {
-        let mut held = self.held.into_inner();
-        held.settle_all(seats);
-        held.into_board()
+        let mut state = self.state.into_inner();
+        state.settle_all(seats);
+        state.into_board()
     }
 
     // The same of seats in two lists.
     pub(crate) fn close_both(self, seats: Vec<Seat<J>>, others: VecDeque<Seat<J>>) -> Board
         ensures goes_on { GoesOn J.given result }
         ensures run { IsHistory result }
-        ensures seats { All (Told J.given result) seats.items }
-        ensures others { All (Told J.given result) others.items }
+        ensures seats { All (SeatTells J.given result) seats.items }
+        ensures others { All (SeatTells J.given result) others.items }
     {
-        let mut held = self.held.into_inner();
-        held.settle_all(seats);
-        held.settle_others(others);
-        held.into_board()
+        let mut state = self.state.into_inner();
+        state.settle_all(seats);
+        state.settle_others(others);
+        state.into_board()
     }
 }
 
-// The seat of the next core, with a line of the book.
-fn seat_of<J: Session>(book: &mut Book<J, Mark>, core: u8) -> Seat<J>
-    requires next { core ≡ length book.old }
+// The seat of the next core, with a line of the ledger.
+fn seat_of<J: DeskIdentity>(ledger: &mut Ledger<J, Progress>, core: u8) -> Seat<J>
+    requires next { core ≡ length ledger.old }
     requires core { core < length J.given.program.entries }
-    ensures book { book.new ≡ book.old ++ fresh ∷ [] }
-    ensures seat { result ≡ seated core fresh }
+    ensures ledger { ledger.new ≡ ledger.old ++ no_progress ∷ [] }
+    ensures seat { result ≡ seat_with core no_progress }
 {
-    let mark = Mark {
+    let progress = Progress {
         steps: 0,
         last: None,
         ended: false,
     };
-    Seat::new(core, mark, book.open(&mark))
+    Seat::new(core, progress, ledger.open(&progress))
 }

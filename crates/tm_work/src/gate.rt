@@ -2,8 +2,8 @@
 
 use tm_core::Outcome;
 
-/// What hears of each turn of a worker. It is called in the worker's thread, without the desk's lock, so it may wait for
-/// another worker.
+/// What hears of each turn of a worker. It is called in the worker's thread, without the desk's lock, so it may wait
+/// for another worker.
 pub trait Gate: Sync {
     /// Before each turn of this core's worker, which has made so many steps.
     fn before(&self, core: u8, done: u32);

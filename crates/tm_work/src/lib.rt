@@ -1,26 +1,27 @@
 //! A board that threads share: one seat a core, and a desk that makes their steps one at a time.
 //!
-//! Each turn of a seat is under the desk's one lock, and is one step of the board or only a look at it. So the history of
-//! the board is a list of whole steps in one order, whatever the threads did. No clause says which thread comes first, or
-//! that a turn returns.
+//! Each turn of a seat is under the desk's one lock, and is one step of the board or only a look at it. So the history
+//! of the board is a list of whole steps in one order, whatever the threads did. Promised: the board that comes back is
+//! the run of its history, each outcome the owed one, and what each seat and each report says of its core is so. No
+//! clause says which thread comes first, or that a turn returns.
+//!
+//! It stands on `tm_hist` (boards and their histories) and on `tm_ledger` (what a worker knows of its own line while
+//! others write theirs).
 #![tactic(auto)]
 
 mod desk;
+mod desk_state;
 mod fault;
 mod gate;
-mod held;
-mod mark;
 mod opening;
+mod progress;
 mod seat;
 mod workers;
 
 pub use desk::Desk;
 pub use fault::WorkFault;
 pub use gate::Gate;
-pub use mark::{Mark, Receipt};
 pub use opening::Opening;
-pub use seat::{Seat, Session};
+pub use progress::{Progress, Receipt};
+pub use seat::{DeskIdentity, Seat};
 pub use workers::{Report, run_workers};
-
-#[cfg(test)]
-mod tests;

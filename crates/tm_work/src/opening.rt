@@ -4,30 +4,30 @@ ghost use Rattle.std.specs.Prelude.{◌≡◌, [], IfErr, IfOk};
 ghost use Rattle.tm_work.specs.Faults.{IsNoMemory, board_in};
 
 use crate::fault::WorkFault;
-use crate::mark::Mark;
+use crate::progress::Progress;
 use std::alloc::Global;
 use std::marker::Model;
-use tm_book::{Blank, Book, Naming};
 use tm_hist::Board;
+use tm_ledger::{Ledger, LedgerIdentity, UnnamedLedger};
 
-/// A board, and an empty book for what its seats will know. Contracts see both: the name that the book can get, and the
-/// board.
+/// A board, and an empty ledger for what its seats will know. Contracts see both: the identity that the ledger can get,
+/// and the board.
 #[derive(Drop)]
 pub struct Opening {
-    blank: Blank<Mark>,
+    unnamed: UnnamedLedger<Progress>,
     board: Board,
 }
 
 impl Model for Opening {
     ghost use Rattle.atomic_table.specs.Seated.{table_id_coded};
     ghost use Rattle.tm_hist.specs.contracts.board.Board.{the_row as board_row};
-    ghost use Rattle.tm_work.specs.Opened.{Opened, opened_code};
+    ghost use Rattle.tm_work.specs.Opening.{NamedBoard, named_board_code};
 
-    ghost Value = { Opened };
+    ghost Value = { NamedBoard };
 
-    ghost coded = { opened_code table_id_coded board_row.coded };
+    ghost coded = { named_board_code table_id_coded board_row.coded };
 
-    ghost view = { λ o. record { table = o.blank; given = o.board } };
+    ghost view = { λ o. record { table = o.unnamed; given = o.board } };
 }
 
 impl Opening {
@@ -36,8 +36,8 @@ impl Opening {
         ensures given { IfOk result (λ o. o.given ≡ board) }
         ensures refused { IfErr result (λ e. IsNoMemory e × (board_in e ≡ board)) }
     {
-        match Blank::new(alloc) {
-            Ok(blank) => Ok(Opening { blank, board }),
+        match UnnamedLedger::new(alloc) {
+            Ok(unnamed) => Ok(Opening { unnamed, board }),
             Err(_) => Err(WorkFault::NoMemory(board)),
         }
     }
@@ -49,13 +49,13 @@ impl Opening {
         self.board
     }
 
-    // The book under its name, and the board.
-    pub(crate) fn named<J: Naming>(self) -> (Book<J, Mark>, Board)
+    // The ledger under its identity, and the board.
+    pub(crate) fn named<J: LedgerIdentity>(self) -> (Ledger<J, Progress>, Board)
         requires { self.table ≡ J.table }
-        ensures book { result.0 ≡ [] }
+        ensures ledger { result.0 ≡ [] }
         ensures board { result.1 ≡ self.given }
     {
-        let Opening { blank, board } = self;
-        (blank.named::<J>(), board)
+        let Opening { unnamed, board } = self;
+        (unnamed.named::<J>(), board)
     }
 }

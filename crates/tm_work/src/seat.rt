@@ -1,70 +1,70 @@
 //! Seats, and the desk that they belong to.
 
 ghost use Rattle.std.specs.Prelude.{◌≡◌, ◌<◌, length, Some, slice_get, slice_set};
-ghost use Rattle.tm_work.specs.Seats.{seated};
+ghost use Rattle.tm_work.specs.Seats.{seat_with};
 
-use crate::mark::{Mark, Receipt};
+use crate::progress::{Progress, Receipt};
 use std::marker::{Brand, Model};
-use tm_book::{Book, Naming, Ticket};
+use tm_ledger::{Ledger, LedgerIdentity, Token};
 
 /// Which desk it is, and the board that the desk was given. Each call of a function generic in it picks both.
-pub trait Session: Naming {
+pub trait DeskIdentity: LedgerIdentity {
     ghost use Rattle.tm_hist.specs.Board.{Shown};
 
     ghost given: { Shown };
 }
 
-impl Session for Brand {
-    ghost use Rattle.tm_work.specs.Opened.{no_board};
+impl DeskIdentity for Brand {
+    ghost use Rattle.tm_work.specs.Opening.{no_board};
 
     ghost given = { no_board };
 }
 
 /// One core's place at the desk. Contracts see it as the core and what its turns came to.
 #[derive(Drop)]
-pub struct Seat<J: Session> {
+pub struct Seat<J: DeskIdentity> {
     core: u8,
-    mark: Mark,
-    ticket: Option<Ticket<J, Mark>>,
+    progress: Progress,
+    token: Option<Token<J, Progress>>,
 }
 
-impl<J: Session> Model for Seat<J> {
+impl<J: DeskIdentity> Model for Seat<J> {
     ghost use Rattle.std.specs.Prelude.{◌≡◌, ◌<◌, length, Some};
-    ghost use Rattle.tm_work.specs.Seats.{Seated, seated};
+    ghost use Rattle.tm_work.specs.Seats.{SeatProgress, seat_with};
 
-    ghost Value = { Seated };
+    ghost Value = { SeatProgress };
 
-    ghost view = { λ s. seated s.core s.mark };
+    ghost view = { λ s. seat_with s.core s.progress };
 
-    ghost invariant = { λ s. (s.ticket ≡ Some (s.core, Some s.mark)) × (s.core < length J.given.program.entries) };
+    ghost invariant = { λ s. (s.token ≡ Some (s.core, Some s.progress)) × (s.core < length J.given.program.entries) };
 }
 
-impl<J: Session> Seat<J> {
-    // The seat that has this ticket.
-    pub(crate) fn new(core: u8, mark: Mark, ticket: Ticket<J, Mark>) -> Seat<J>
-        requires ticket { ticket ≡ (core, Some mark) }
+impl<J: DeskIdentity> Seat<J> {
+    // The seat that has this token.
+    pub(crate) fn new(core: u8, progress: Progress, token: Token<J, Progress>) -> Seat<J>
+        requires token { token ≡ (core, Some progress) }
         requires core { core < length J.given.program.entries }
-        ensures { result ≡ seated core mark }
+        ensures { result ≡ seat_with core progress }
     {
         Seat {
             core,
-            mark,
-            ticket: Some(ticket),
+            progress,
+            token: Some(token),
         }
     }
 
-    // Writes a mark here and into the book, which had the mark that was here.
-    pub(crate) fn note(&mut self, book: &mut Book<J, Mark>, mark: Mark)
-        ensures was { slice_get book.old self.old.core ≡ Some self.old.mark }
-        ensures book { book.new ≡ slice_set book.old self.old.core mark }
-        ensures seat { self.new ≡ seated self.old.core mark }
+    // Writes a progress here and into the ledger, which had the progress that was here.
+    pub(crate) fn note(&mut self, ledger: &mut Ledger<J, Progress>, progress: Progress)
+        ensures was { slice_get ledger.old self.old.core ≡ Some self.old.progress }
+        ensures ledger { ledger.new ≡ slice_set ledger.old self.old.core progress }
+        ensures seat { self.new ≡ seat_with self.old.core progress }
         ensures core { self.old.core < length J.given.program.entries }
     {
-        let Some(ticket) = self.ticket.take() else {
+        let Some(token) = self.token.take() else {
             unreachable!()
         };
-        self.ticket = Some(book.note(ticket, &mark));
-        self.mark = mark;
+        self.token = Some(ledger.note(token, &progress));
+        self.progress = progress;
     }
 
     /// The core's number.
@@ -77,22 +77,22 @@ impl<J: Session> Seat<J> {
 
     /// How many steps its turns made.
     pub fn steps(&self) -> u64
-        ensures { result ≡ self.now.mark.steps }
+        ensures { result ≡ self.now.progress.steps }
     {
-        self.mark.steps
+        self.progress.steps
     }
 
     /// The last of these steps.
     pub fn last(&self) -> Option<Receipt>
-        ensures { result ≡ self.now.mark.last }
+        ensures { result ≡ self.now.progress.last }
     {
-        self.mark.last
+        self.progress.last
     }
 
     /// Whether a turn found the core stopped or the history full.
     pub fn ended(&self) -> bool
-        ensures { result ≡ self.now.mark.ended }
+        ensures { result ≡ self.now.progress.ended }
     {
-        self.mark.ended
+        self.progress.ended
     }
 }

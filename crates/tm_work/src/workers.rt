@@ -1,15 +1,16 @@
 //! One worker a core, each in a thread of its own.
 
-ghost use Rattle.std.specs.Prelude.{◌≡◌, ◌<◌, ◌≤◌, ◌+◌, [], ℕ, length, IfOk, IfErr, Some, slice_get, slice_index, vec_capacity, vec_len, IfNone, IfSome};
-ghost use Rattle.tm_work.specs.Seats.{Seated};
-ghost use Rattle.tm_work.specs.Served.{IsDone, EachDone, AreLeft, IsReport};
+ghost use Rattle.std.specs.Prelude.{◌≡◌, ◌<◌, ◌≤◌, ◌+◌, [], ℕ, length, IfOk, IfErr, Some, slice_get, slice_index};
+ghost use Rattle.std.specs.Prelude.{vec_capacity, vec_len, IfNone, IfSome};
+ghost use Rattle.tm_work.specs.Seats.{SeatProgress};
+ghost use Rattle.tm_work.specs.Workers.{IsDone, EachDone, AreLeft, IsReport};
 ghost use Rattle.tm_work.specs.Faults.{IsFault};
 
 use crate::desk::Desk;
 use crate::fault::WorkFault;
 use crate::gate::Gate;
 use crate::opening::Opening;
-use crate::seat::{Seat, Session};
+use crate::seat::{DeskIdentity, Seat};
 use std::alloc::Global;
 use std::collections::VecDeque;
 use std::marker::Brand;
@@ -34,8 +35,8 @@ struct Job {
     budget: u32,
 }
 
-impl<J: Session> Promise<Seat<J>> for Job {
-    ghost use Rattle.tm_work.specs.Served.{IsDone};
+impl<J: DeskIdentity> Promise<Seat<J>> for Job {
+    ghost use Rattle.tm_work.specs.Workers.{IsDone};
 
     ghost kept_by = { λ p s. IsDone p.core p.budget s };
 }
@@ -45,8 +46,8 @@ type Handles<J> = Vec<PromisedHandle<Seat<J>, Job>>;
 /// Starts one worker a core, in the order of the cores, and joins them all. Each repeats [`Gate::before`], a turn and
 /// [`Gate::after`] until it has made as many steps as its budget, or a turn finds its core stopped or the history full.
 ///
-/// [`WorkFault::NoMemory`] (61): no worker was started, and the board is as it was. [`WorkFault::SpawnRefused`] (60): the
-/// workers of the cores below this one ran by these rules, and the other cores made no step.
+/// [`WorkFault::NoMemory`] (61): no worker was started, and the board is as it was. [`WorkFault::SpawnRefused`] (60):
+/// the workers of the cores below this one ran by these rules, and the other cores made no step.
 pub fn run_workers<G: Gate, R: Threads + Wait + Sync>(
     rt: &R,
     alloc: Global,
@@ -62,7 +63,7 @@ pub fn run_workers<G: Gate, R: Threads + Wait + Sync>(
     run_at::<Brand, G, R>(rt, alloc, opening, budgets, gate)
 }
 
-fn run_at<J: Session + Send + Sync, G: Gate, R: Threads + Wait + Sync>(
+fn run_at<J: DeskIdentity + Send + Sync, G: Gate, R: Threads + Wait + Sync>(
     rt: &R,
     alloc: Global,
     opening: Opening,
@@ -100,7 +101,7 @@ fn run_at<J: Session + Send + Sync, G: Gate, R: Threads + Wait + Sync>(
 }
 
 // Starts a worker for each seat, and joins those that there are.
-fn serve<'x, J: Session + Send + Sync, G: Gate, R: Threads + Wait + Sync>(
+fn serve<'x, J: DeskIdentity + Send + Sync, G: Gate, R: Threads + Wait + Sync>(
     rt: &'x R,
     desk: &'x Desk<J>,
     gate: &'x G,
@@ -114,7 +115,8 @@ fn serve<'x, J: Session + Send + Sync, G: Gate, R: Threads + Wait + Sync>(
     requires done { (done.items ≡ []) × (length budgets.now ≤ vec_capacity done) }
     ensures done { EachDone budgets.now result.0.items }
     ensures all { IfNone result.1 (vec_len result.0 ≡ length budgets.now) }
-    ensures left { IfSome result.1 (λ l. (vec_len result.0 < length budgets.now) × AreLeft l.items (vec_len result.0 + 1) (length budgets.now)) }
+    ensures left { IfSome result.1 (λ left. (vec_len result.0 < length budgets.now)
+        × AreLeft left.items (vec_len result.0 + 1) (length budgets.now)) }
 {
     thread::scope(
         thread::scope_env(),
@@ -125,7 +127,8 @@ fn serve<'x, J: Session + Send + Sync, G: Gate, R: Threads + Wait + Sync>(
             requires done { (done.items ≡ []) × (length budgets.now ≤ vec_capacity done) }
             ensures done { EachDone budgets.entry.now result.0.items }
             ensures all { IfNone result.1 (vec_len result.0 ≡ length budgets.entry.now) }
-            ensures left { IfSome result.1 (λ l. (vec_len result.0 < length budgets.entry.now) × AreLeft l.items (vec_len result.0 + 1) (length budgets.entry.now)) }
+            ensures left { IfSome result.1 (λ left. (vec_len result.0 < length budgets.entry.now)
+                × AreLeft left.items (vec_len result.0 + 1) (length budgets.entry.now)) }
         {
             let mut handles = handles;
             let left = start_all(scope, rt, desk, gate, budgets, seats, &mut handles);
@@ -134,8 +137,9 @@ fn serve<'x, J: Session + Send + Sync, G: Gate, R: Threads + Wait + Sync>(
     )
 }
 
-// Starts the workers in the order of their cores. Where no thread can be made, the seats of the cores behind that one come back.
-fn start_all<'s, E: 's, J: Session + Send + Sync + 's, G: Gate + 's, R: Wait + Sync + 's>(
+// Starts the workers in the order of their cores. Where no thread can be made, the seats of the cores behind that one
+// come back.
+fn start_all<'s, E: 's, J: DeskIdentity + Send + Sync + 's, G: Gate + 's, R: Wait + Sync + 's>(
     scope: &'s Scope<'s, E>,
     rt: &'s R,
     desk: &'s Desk<J>,
@@ -146,9 +150,11 @@ fn start_all<'s, E: 's, J: Session + Send + Sync + 's, G: Gate + 's, R: Wait + S
 ) -> Option<VecDeque<Seat<J>>>
     requires seats { AreLeft seats.items 0 (length budgets.now) }
     requires handles { (handles.old.items ≡ []) × (length budgets.now ≤ vec_capacity handles.old) }
-    ensures jobs { (k : ℕ) (h : _) → slice_get handles.new.items k ≡ Some h → (h.promise.core ≡ k) × (h.promise.budget ≡ slice_index budgets.now k) }
+    ensures jobs { (core : ℕ) (handle : _) → slice_get handles.new.items core ≡ Some handle
+        → (handle.promise.core ≡ core) × (handle.promise.budget ≡ slice_index budgets.now core) }
     ensures all { IfNone result (vec_len handles.new ≡ length budgets.now) }
-    ensures left { IfSome result (λ l. (vec_len handles.new < length budgets.now) × AreLeft l.items (vec_len handles.new + 1) (length budgets.now)) }
+    ensures left { IfSome result (λ left. (vec_len handles.new < length budgets.now)
+        × AreLeft left.items (vec_len handles.new + 1) (length budgets.now)) }
 {
     let mut seats = seats;
     for core in 0..budgets.len() {
@@ -160,7 +166,7 @@ fn start_all<'s, E: 's, J: Session + Send + Sync + 's, G: Gate + 's, R: Wait + S
             budget: budgets[core],
         };
         let work = move || -> Seat<J>
-            requires { seat.mark.steps ≡ 0 }
+            requires { seat.progress.steps ≡ 0 }
             ensures { IsDone seat.core job.budget result }
         { work(rt, desk, seat, job.budget, gate) };
         match scope.spawn_with(job, work) {
@@ -171,13 +177,14 @@ fn start_all<'s, E: 's, J: Session + Send + Sync + 's, G: Gate + 's, R: Wait + S
     None
 }
 
-fn join_all<J: Session, R: Threads>(
+fn join_all<J: DeskIdentity, R: Threads>(
     rt: &R,
     budgets: &[u32],
     handles: Handles<J>,
     done: Vec<Seat<J>>,
 ) -> Vec<Seat<J>>
-    requires jobs { (k : ℕ) (h : _) → slice_get handles.items k ≡ Some h → (h.promise.core ≡ k) × (h.promise.budget ≡ slice_index budgets.now k) }
+    requires jobs { (core : ℕ) (handle : _) → slice_get handles.items core ≡ Some handle
+        → (handle.promise.core ≡ core) × (handle.promise.budget ≡ slice_index budgets.now core) }
     requires done { (done.items ≡ []) × (vec_len handles ≤ vec_capacity done) }
     ensures done { EachDone budgets.now result.items }
     ensures count { vec_len result ≡ vec_len handles }
@@ -191,11 +198,12 @@ fn join_all<J: Session, R: Threads>(
 }
 
 // How many steps each worker made.
-fn steps_of<J: Session>(budgets: &[u32], seats: &Vec<Seat<J>>, steps: Vec<u32>) -> Vec<u32>
+fn steps_of<J: DeskIdentity>(budgets: &[u32], seats: &Vec<Seat<J>>, steps: Vec<u32>) -> Vec<u32>
     requires seats { EachDone budgets.now seats.now.items × (vec_len seats.now ≤ length budgets.now) }
     requires steps { (steps.items ≡ []) × (vec_len seats.now ≤ vec_capacity steps) }
     ensures count { vec_len result ≡ vec_len seats.now }
-    ensures each { (k : ℕ) (s : Seated) → slice_get seats.now.items k ≡ Some s → slice_index result.items k ≡ s.mark.steps }
+    ensures each { (core : ℕ) (seat : SeatProgress) → slice_get seats.now.items core ≡ Some seat
+        → slice_index result.items core ≡ seat.progress.steps }
 {
     let mut steps = steps;
     for seat in seats {
@@ -205,14 +213,14 @@ fn steps_of<J: Session>(budgets: &[u32], seats: &Vec<Seat<J>>, steps: Vec<u32>) 
 }
 
 // What the worker of a seat does.
-fn work<J: Session, G: Gate, R: Wait>(
+fn work<J: DeskIdentity, G: Gate, R: Wait>(
     rt: &R,
     desk: &Desk<J>,
     seat: Seat<J>,
     budget: u32,
     gate: &G,
 ) -> Seat<J>
-    requires { seat.mark.steps ≡ 0 }
+    requires { seat.progress.steps ≡ 0 }
     ensures { IsDone seat.core budget result }
 {
     let mut seat = seat;

@@ -5,7 +5,7 @@ use Rattle.std.specs.FinSet as finset
 use Rattle.ia_word.specs.Width.{bytes_of}
 use Rattle.ia_word.specs.Line.{line}
 use Rattle.tm_sets.specs.Content.{Content}
-use Rattle.tm_sets.specs.Row.{Lines}
+use Rattle.tm_sets.specs.LineSet.{Lines}
 use Rattle.tm_core.proofs.Adds.{adds_one, adds_two, none_fits, added_own, added_fixed}
 use Rattle.tm_core.proofs.transaction.add_lines.Goals as goal
 

@@ -4,7 +4,7 @@ use Rattle.std.specs.FinSet as finset
 use Rattle.ia_word.specs.Line.{lines as access_row}
 use Rattle.tm_buffer.specs.Held.{with_lines}
 use Rattle.tm_sets.specs.Content.{Content}
-use Rattle.tm_sets.specs.Row.{Lines}
+use Rattle.tm_sets.specs.LineSet.{Lines}
 use Rattle.tm_core.specs.Types.{Store, Read, Write}
 use Rattle.tm_core.specs.Access.{places, loaded_places}
 use Rattle.tm_core.specs.Owed.{fits}

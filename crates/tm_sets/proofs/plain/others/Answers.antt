@@ -2,8 +2,8 @@ use Rattle.std.proofs.Common.{◌≡◌, ◌<◌, ◌^◌, ◌+◌, ◌&&◌, �
 use Rattle.tm_sets.specs.Content.{bit}
 use Rattle.std.proofs.lemmas.List.{get_or_read}
 use Rattle.std.specs.FinSet as set
-use Rattle.tm_sets.specs.Row.{no_row}
-use Rattle.tm_sets.specs.Plain.{is_other, row_at}
+use Rattle.tm_sets.specs.LineSet.{no_line_set}
+use Rattle.tm_sets.specs.Plain.{is_other, line_set_at}
 use Rattle.tm_sets.proofs.Masks.{bits_set, bits_unset, mask_below, mask_set_below}
 use Rattle.tm_sets.proofs.plain.others.Goals as goal
 use Rattle.tm_sets.proofs.plain.others.Goals.{then-is_other, else-is_other}
@@ -11,15 +11,15 @@ use Rattle.tm_sets.proofs.plain.others.Goals.{then-is_other, else-is_other}
 pub loop-other-preserved : goal.loop-other-preserved
 loop-other-preserved c =
     let i = c.loop-other.invariant in
-    let few : c.loop-other.other < 16 = omega arith in
+    let few : c.loop-other.other < 64 = omega arith in
     let wanted : ℕ → Bool = is_other c.args.reads.now c.args.writes.now c.args.line c.args.core in
     let k : ℕ = c.loop-other.other in
-    let reads : c.index-reads-other.result ≡ row_at c.args.reads.now k = get_or_read c.args.reads.now k c.index-reads-other.result c.loop-other-test.true c.index-reads-other.is no_row in
-    let writes : c.index-writes-other.result ≡ row_at c.args.writes.now k = get_or_read c.args.writes.now k c.index-writes-other.result (omega arith) c.index-writes-other.is no_row in
+    let reads : c.index-reads-other.result ≡ line_set_at c.args.reads.now k = get_or_read c.args.reads.now k c.index-reads-other.result c.loop-other-test.true c.index-reads-other.is no_line_set in
+    let writes : c.index-writes-other.result ≡ line_set_at c.args.writes.now k = get_or_read c.args.writes.now k c.index-writes-other.result (omega arith) c.index-writes-other.is no_line_set in
     let value : c.is_other.result ≡ wanted k =
     c.is_other.ensures.value
     ∙ ap (λ row. not (nat_eq k c.args.core) && (set.contains row.lines c.args.line || set.contains c.index-writes-other.result.lines c.args.line)) reads
-    ∙ ap (λ row. not (nat_eq k c.args.core) && (set.contains (row_at c.args.reads.now k).lines c.args.line || set.contains row.lines c.args.line)) writes in
+    ∙ ap (λ row. not (nat_eq k c.args.core) && (set.contains (line_set_at c.args.reads.now k).lines c.args.line || set.contains row.lines c.args.line)) writes in
     record {
       mask = elim c.if-is_other.branch [
         | then-is_other w ↦ λ k below. ap (λ m. bit m k) w.others-is ∙ bits_set c.loop-other.others c.loop-other.other wanted few i.mask (sym value ∙ w.if-is_other.true) k below

@@ -1,6 +1,6 @@
 use Rattle.std.proofs.Common.{◌≡◌, ◌+◌, suc, length, sym, ap, ◌∙◌, subst, arith, rules}
 use Rattle.std.specs.Prelude.{slice_get, slice_index, vec_len}
-use Rattle.tm_work.specs.Served.{EachDone}
+use Rattle.tm_work.specs.Workers.{EachDone}
 use Rattle.tm_work.proofs.Counts.{done_more}
 use Rattle.tm_work.proofs.workers.join_all.Goals as goal
 

@@ -1,7 +1,7 @@
 use Rattle.std.proofs.Common.{◌≡◌, ◌+◌, ◌≤◌, ℕ, Some}
 use Rattle.std.specs.Prelude.{slice_get, slice_index, vec_items, vec_len, vec_capacity}
 use Rattle.std.specs.Vec.Iter.{into_iter_items, into_iter_len}
-use Rattle.tm_work.specs.Served.{EachDone}
+use Rattle.tm_work.specs.Workers.{EachDone}
 use Rattle.tm_work.proofs.workers.join_all.Given as goal
 
 abbrev pub invariant-loop-handle : goal.invariant-loop-handle

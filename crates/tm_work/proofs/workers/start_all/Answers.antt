@@ -1,7 +1,7 @@
 use Rattle.std.proofs.Common.{◌≡◌, ◌+◌, ◌++◌, length, sym, ap, ◌∙◌, subst, arith, rules}
 use Rattle.std.specs.Option.{option_to_list}
 use Rattle.std.specs.Prelude.{slice_get, slice_index, vec_len}
-use Rattle.tm_work.specs.Served.{AreLeft}
+use Rattle.tm_work.specs.Workers.{AreLeft}
 use Rattle.tm_work.proofs.Counts.{left_next, snoc_each}
 use Rattle.tm_work.proofs.workers.start_all.Goals as goal
 
@@ -10,7 +10,7 @@ spawn_with-requires-clause-runs g c κs within =
     let i = c.loop-core.invariant in
     let split = c.pop_front.ensures.items ∙ ap (λ o. option_to_list o ++ c.pop_front.new.self.items) c.in-Some.is in
     let n = left_next c.loop-core.seats.items c.pop_front.new.self.items c.in-Some.seat _ _ i.seats split in
-    (ap (λ s. s.mark.steps) n.0, search rules)
+    (ap (λ s. s.progress.steps) n.0, search rules)
 
 pub loop-core-preserved : goal.loop-core-preserved
 loop-core-preserved g c =

@@ -1,6 +1,6 @@
 use Rattle.std.proofs.Common.{◌≡◌, ◌≤◌, ℕ, Some, length}
 use Rattle.std.specs.Prelude.{slice_get, slice_index, vec_items, vec_len, vec_capacity}
-use Rattle.tm_work.specs.Served.{AreLeft}
+use Rattle.tm_work.specs.Workers.{AreLeft}
 use Rattle.tm_work.proofs.workers.start_all.Given as goal
 
 abbrev pub invariant-loop-core : goal.invariant-loop-core

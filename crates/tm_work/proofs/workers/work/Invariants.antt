@@ -3,6 +3,6 @@ use Rattle.tm_work.proofs.workers.work.Given as goal
 
 abbrev pub invariant-loop-done : goal.invariant-loop-done
 invariant-loop-done g l = record {
-  steps : l.seat.mark.steps ≡ l.done;
+  steps : l.seat.progress.steps ≡ l.done;
   core : l.seat.core ≡ l.initial.seat.core;
 }

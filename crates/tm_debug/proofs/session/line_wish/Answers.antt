@@ -1,8 +1,0 @@
-use Rattle.std.proofs.Common.{subst}
-use Rattle.tm_debug.specs.declared.line.Line.{Line}
-use Rattle.tm_debug.specs.Serving.{IsLine}
-use Rattle.tm_debug.proofs.Sessions.{long_wish}
-use Rattle.tm_debug.proofs.session.line_wish.Goals as goal
-
-pub returns-in-Long-clause-text : goal.returns-in-Long-clause-text
-returns-in-Long-clause-text c text is = long_wish text (subst (λ (l : Line). IsLine text l) c.in-Long.is is)

@@ -1,0 +1,28 @@
+//! What interrupts a session.
+
+ghost use Rattle.std.specs.Prelude.{◌≡◌, Err};
+ghost use Rattle.tm_debug.specs.Session.{answer_result};
+
+use ia_text::WriteFault;
+
+/// What ends a session before its input does: [`SessionFault`](crate::SessionFault) without the board.
+#[derive(Clone, Copy, PartialEq, Eq, Debug)]
+pub enum Interruption {
+    /// The device that commands come from failed.
+    Read,
+    /// The device that answers go to failed.
+    Write,
+    /// There was no memory for an answer.
+    NoMemory,
+}
+
+/// The result of writing an answer, with a fault in writing as what interrupts the session.
+pub fn answer_result(written: Result<(), WriteFault>) -> Result<(), Interruption>
+    ensures same { result ≡ answer_result written }
+    ensures not_memory { result ≡ Err Interruption.NoMemory → ⊥ }
+{
+    match written {
+        Ok(()) => Ok(()),
+        Err(WriteFault::Write) => Err(Interruption::Write),
+    }
+}

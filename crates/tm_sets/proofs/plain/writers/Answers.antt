@@ -1,0 +1,31 @@
+use Rattle.std.proofs.Common.{◌≡◌, ◌<◌, ◌^◌, ◌+◌, ◌&&◌, not, nat_eq, ℕ, Bool, sym, ap, ◌∙◌, arith, subst}
+use Rattle.tm_sets.specs.Content.{bit}
+use Rattle.std.proofs.lemmas.List.{get_or_read}
+use Rattle.std.specs.FinSet as set
+use Rattle.tm_sets.specs.LineSet.{no_line_set}
+use Rattle.tm_sets.specs.Plain.{is_writer, line_set_at}
+use Rattle.tm_sets.proofs.Masks.{bits_set, bits_unset, mask_below, mask_set_below}
+use Rattle.tm_sets.proofs.plain.writers.Goals as goal
+use Rattle.tm_sets.proofs.plain.writers.Goals.{then-is_writer, else-is_writer}
+
+pub loop-other-preserved : goal.loop-other-preserved
+loop-other-preserved c =
+    let i = c.loop-other.invariant in
+    let few : c.loop-other.other < 64 = omega arith in
+    let wanted : ℕ → Bool = is_writer c.args.writes.now c.args.line c.args.core in
+    let k : ℕ = c.loop-other.other in
+    let writes : c.index-writes-other.result ≡ line_set_at c.args.writes.now k = get_or_read c.args.writes.now k c.index-writes-other.result c.loop-other-test.true c.index-writes-other.is no_line_set in
+    let value : c.is_writer.result ≡ wanted k =
+    c.is_writer.ensures.value
+    ∙ ap (λ lines. not (nat_eq k c.args.core) && set.contains lines.lines c.args.line) writes in
+    record {
+      mask = elim c.if-is_writer.branch [
+        | then-is_writer w ↦ λ k below. ap (λ m. bit m k) w.writers-is ∙ bits_set c.loop-other.writers c.loop-other.other wanted few i.mask (sym value ∙ w.if-is_writer.true) k below
+        | else-is_writer w ↦ λ k below. ap (λ m. bit m k) w.writers-is ∙ bits_unset c.loop-other.writers c.loop-other.other wanted i.below i.mask (sym value ∙ w.if-is_writer.false) k below
+      ];
+      below = elim c.if-is_writer.branch [
+        | then-is_writer w ↦ subst (λ m. m < 2 ^ (c.loop-other.other + 1)) (sym w.writers-is) (mask_set_below c.loop-other.writers c.loop-other.other few i.below)
+        | else-is_writer w ↦ subst (λ m. m < 2 ^ (c.loop-other.other + 1)) (sym w.writers-is) (mask_below c.loop-other.writers c.loop-other.other i.below)
+      ];
+      visits = omega (arith, c.is_writer.ensures.visits, i.visits);
+    }

@@ -1,0 +1,88 @@
+//! What every representation of the sets answers.
+
+ghost use Rattle.std.specs.Prelude.{◌≡◌, ◌<◌, ◌≤◌, ◌^◌, ℕ, Bool, ◌&&◌, not, nat_eq, is_err, IfOk, OnOk, OnErr};
+ghost use Rattle.std.specs.FinSet as set;
+ghost use Rattle.std.specs.List.Sorted.{IsStrictlyIncreasing};
+ghost use Rattle.tm_sets.specs.Content.{Content, with_line, without_core, is_full};
+ghost use Rattle.tm_sets.specs.Content.{IsMaskOf, other_on_line, other_writes_line};
+
+use crate::fault::{Full, NoMemory};
+use std::alloc::Global;
+
+/// How a core used a line.
+#[derive(Clone, Copy, PartialEq, Eq, Debug)]
+pub enum Kind {
+    /// A load: the line is in the read set.
+    Read,
+    /// A store: the line is in the write set.
+    Write,
+}
+
+/// A set of triples of a core, a line and a kind, bounded for each core and kind.
+///
+/// Each call is asked for cores and lines below the numbers that the set was made for. Only `listing` takes memory.
+pub trait Sets {
+    /// What it contains, however it is kept.
+    ghost content: { Self → Content };
+
+    /// The number of entries visited so far by `has`, `others_on` and `writers_on`.
+    ghost visited: { Self → ℕ };
+
+    /// Adds a line to a core's read set or write set. `Full` (31), and nothing changed, exactly where the line is new
+    /// there and the core has as many lines of this kind as it has room for.
+    fn add(&mut self, core: u8, line: u32, kind: Kind) -> Result<(), Full>
+        requires core { core < (content self.old).fixed.cores }
+        requires line { line < (content self.old).fixed.line_count }
+        ensures full { is_err result ≡ is_full (content self.old) core kind line }
+        ensures ok { OnOk result (content self.new ≡ with_line (content self.old) core kind line) }
+        ensures err { OnErr result (content self.new ≡ content self.old) }
+        ensures visits { visited self.new ≡ visited self.old };
+
+    /// Whether the line is in this set of the core.
+    fn has(&mut self, core: u8, line: u32, kind: Kind) -> bool
+        requires core { core < (content self.old).fixed.cores }
+        requires line { line < (content self.old).fixed.line_count }
+        ensures value { result ≡ set.contains ((content self.old).lines core kind) line }
+        ensures same { content self.new ≡ content self.old }
+        ensures visits { visited self.old ≤ visited self.new };
+
+    /// The other cores that have the line in either set: bit k for core k.
+    fn others_on(&mut self, line: u32, core: u8) -> u64
+        requires core { core < (content self.old).fixed.cores }
+        requires line { line < (content self.old).fixed.line_count }
+        ensures mask { IsMaskOf result (content self.old).fixed.cores (other_on_line (content self.old) line core) }
+        ensures below { result < 2 ^ (content self.old).fixed.cores }
+        ensures same { content self.new ≡ content self.old }
+        ensures visits { visited self.old ≤ visited self.new };
+
+    /// The other cores that have the line in their write set: bit k for core k.
+    fn writers_on(&mut self, line: u32, core: u8) -> u64
+        requires core { core < (content self.old).fixed.cores }
+        requires line { line < (content self.old).fixed.line_count }
+        ensures mask { IsMaskOf result (content self.old).fixed.cores (other_writes_line (content self.old) line core) }
+        ensures below { result < 2 ^ (content self.old).fixed.cores }
+        ensures same { content self.new ≡ content self.old }
+        ensures visits { visited self.old ≤ visited self.new };
+
+    /// How many lines this set of the core has.
+    fn count(&self, core: u8, kind: Kind) -> u32
+        requires { core < (content self.now).fixed.cores }
+        ensures { result ≡ set.len ((content self.now).lines core kind) };
+
+    /// Takes away the lines of a core, of both kinds, and no others.
+    fn clear(&mut self, core: u8)
+        requires { core < (content self.old).fixed.cores }
+        ensures content { content self.new ≡ without_core (content self.old) core }
+        ensures visits { visited self.new ≡ visited self.old };
+
+    /// The lines of this set of the core, ascending. `NoMemory` (32) where there is no memory for the list.
+    fn listing(&self, alloc: Global, core: u8, kind: Kind) -> Result<Vec<u32>, NoMemory>
+        requires { core < (content self.now).fixed.cores }
+        ensures ascending { IfOk result (λ lines. IsStrictlyIncreasing lines.items) }
+        ensures same { IfOk result (λ lines. set.from_list lines.items ≡ (content self.now).lines core kind) };
+
+    /// How many entries `has`, `others_on` and `writers_on` have visited so far. The count never falls, and stays at
+    /// `u64::MAX`.
+    fn visits(&self) -> u64
+        ensures { result ≡ visited self.now };
+}

@@ -1,0 +1,177 @@
+//! Texts that were written by hand, each as it is to be printed or read.
+
+use tm_hist::{
+    History, ScheduleFault, SerialFault, read_schedule, read_steps, serial, write_dump,
+    write_outcome, write_schedule,
+};
+use ia_image::load;
+use ia_text::{ToVec, WriteFault};
+use tm_core::Outcome;
+use tm_rule::Stop;
+
+#[test]
+fn outcome_lines(rt: HostRuntime) -> Result<(), WriteFault> {
+    let mut out = ToVec::new(Vec::new(rt.alloc()));
+    let steps = [
+        (0, Outcome::Plain),
+        (0, Outcome::Stopped(Stop::Protection)),
+        (0, Outcome::Stopped(Stop::Fetch)),
+        (9, Outcome::Idle),
+        (10, Outcome::Begun),
+        (100, Outcome::Inside),
+        (255, Outcome::Committed),
+        (1, Outcome::Aborted(0xab00_0021)),
+    ];
+    for (core, outcome) in &steps {
+        write_outcome(*core, outcome, &mut out)?;
+    }
+    let text =
+        b"0 plain\n0 stopped #GP\n0 stopped fetch\n9 idle\n10 begun\n100 inside\n255 committed\n1 aborted ab000021\n";
+    assert_eq!(rt; out.bytes.as_slice(), text.as_slice());
+    Ok(())
+}
+
+#[test]
+fn dump_lines(rt: HostRuntime) -> Result<(), WriteFault> {
+    let mut out = ToVec::new(Vec::new(rt.alloc()));
+    write_dump(&[1, 0, 0, 0], 0x1000, &mut out)?;
+    write_dump(&[], 0x1000, &mut out)?;
+    write_dump(b"0123456789abcdefg", 0xffff_fff8, &mut out)?;
+    let text = b"00001000 01000000\nfffffff8 30313233343536373839616263646566\n00000008 67\n";
+    assert_eq!(rt; out.bytes.as_slice(), text.as_slice());
+    Ok(())
+}
+
+#[test]
+fn schedules_read(rt: HostRuntime) -> Result<(), ScheduleFault> {
+    let readable = [
+        (
+            b"schedule 1\n0 0 1 1 0 0 0 1\n".as_slice(),
+            [0, 0, 1, 1, 0, 0, 0, 1].as_slice(),
+        ),
+        (b"schedule 1", [].as_slice()),
+        (b"schedule 1\r\n\r\n 7  007\r\n255 ", [7, 7, 255].as_slice()),
+    ];
+    for (text, cores) in &readable {
+        let read = read_schedule(rt.alloc(), text)?;
+        assert_eq!(rt; read.as_slice(), *cores);
+    }
+    let broken = [
+        (b"".as_slice(), 1),
+        (b"schedule 1 \n0".as_slice(), 1),
+        (b"schedule 1\r".as_slice(), 1),
+        (b"schedule 1\n0 x\n".as_slice(), 2),
+        (b"schedule 1\n0\n\n256".as_slice(), 4),
+        (b"schedule 1\n0001\n".as_slice(), 2),
+        (b"schedule 1\n1\t2\n".as_slice(), 2),
+        (b"schedule 1\n1\r".as_slice(), 2),
+        (b"schedule 1\n1,2\n".as_slice(), 2),
+    ];
+    for (text, line) in &broken {
+        match read_schedule(rt.alloc(), text) {
+            Ok(_) => assert!(rt; false, "read, though line {line} breaks it"),
+            Err(fault) => {
+                assert!(rt; fault == ScheduleFault::BadSchedule(*line), "line {line}");
+                assert_eq!(rt; fault.code(), 52);
+            }
+        }
+    }
+    Ok(())
+}
+
+#[test]
+fn steps_read(rt: HostRuntime) -> Result<(), ScheduleFault> {
+    let read = read_steps(rt.alloc(), b"0 2\n15")?;
+    assert_eq!(rt; read.as_slice(), [0, 2, 15].as_slice());
+    let none = read_steps(rt.alloc(), b"")?;
+    assert!(rt; none.is_empty());
+    assert!(rt; read_steps(rt.alloc(), b"0,1").is_err());
+    Ok(())
+}
+
+#[test]
+fn schedules_written(rt: HostRuntime) -> Result<(), WriteFault> {
+    let mut out = ToVec::new(Vec::new(rt.alloc()));
+    let cores = [200; 33];
+    write_schedule(&cores, &mut out)?;
+    let mut lines: u8 = 0;
+    for byte in out.bytes.as_slice() {
+        if *byte == b'\n' {
+            lines = lines.saturating_add(1);
+        }
+    }
+    assert_eq!(rt; lines, 3);
+    match read_schedule(rt.alloc(), out.bytes.as_slice()) {
+        Ok(back) => assert_eq!(rt; back.as_slice(), cores.as_slice()),
+        Err(fault) => assert!(rt; false, "{fault}"),
+    }
+    Ok(())
+}
+
+// XBEGIN at 100h with fallback 115h, a load of [1000h], INC EAX, a store to [1000h], XEND at 111h, and two HLT.
+const INCREMENT: [u8; 22] = [
+    0xc7, 0xf8, 0x0f, 0, 0, 0, 0xa1, 0, 0x10, 0, 0, 0x40, 0xa3, 0, 0x10, 0, 0, 0x0f, 0x01, 0xd5,
+    0xf4, 0xf4,
+];
+
+#[test]
+fn serial_runs(rt: HostRuntime) -> Result<(), SerialFault> {
+    let Ok(program) = load(rt.alloc(), &INCREMENT, 0x100, 22, 65536, &[0x100, 0x100]) else {
+        assert!(rt; false, "the program is loaded");
+        return Ok(());
+    };
+    let committed = [
+        (0, Outcome::Begun),
+        (1, Outcome::Begun),
+        (0, Outcome::Inside),
+        (0, Outcome::Inside),
+        (0, Outcome::Inside),
+        (0, Outcome::Committed),
+        (1, Outcome::Aborted(6)),
+        (1, Outcome::Stopped(Stop::Halt)),
+        (1, Outcome::Idle),
+    ];
+    let end = serial(rt.alloc(), &program, History::new(&committed))?;
+    assert!(rt; end.memory().get(0x1000) == Some(&1));
+    assert_eq!(rt; end.memory().len(), 65536);
+    match (end.regs(0), end.regs(1), end.stop(0), end.stop(1)) {
+        (Ok(first), Ok(second), Ok(runs), Ok(stops)) => {
+            assert_eq!(rt; first.gpr[0], 1);
+            assert_eq!(rt; first.eip, 0x114);
+            assert_eq!(rt; second.gpr[0], 6);
+            assert_eq!(rt; second.eip, 0x115);
+            assert!(rt; runs.is_none());
+            assert!(rt; stops == Some(Stop::Halt));
+        }
+        _ => assert!(rt; false, "both cores are there"),
+    }
+    assert!(rt; end.regs(2).is_err());
+    assert!(rt; end.stop(2).is_err());
+    let refused = [
+        ([(0, Outcome::Committed)].as_slice(), 0),
+        ([(0, Outcome::Begun), (0, Outcome::Plain)].as_slice(), 1),
+        (
+            [
+                (0, Outcome::Begun),
+                (0, Outcome::Inside),
+                (0, Outcome::Committed),
+            ]
+            .as_slice(),
+            2,
+        ),
+        ([(2, Outcome::Begun)].as_slice(), 0),
+    ];
+    for (history, index) in &refused {
+        match serial(rt.alloc(), &program, History::new(history)) {
+            Ok(_) => assert!(rt; false, "no run from {index} on"),
+            Err(fault) => {
+                assert!(rt; fault == SerialFault::NotARun(*index), "at {index}");
+                assert_eq!(rt; fault.code(), 53);
+            }
+        }
+    }
+    let allowed = [(0, Outcome::Begun), (0, Outcome::Aborted(0))];
+    let end = serial(rt.alloc(), &program, History::new(&allowed))?;
+    assert!(rt; end.regs(0).is_ok());
+    Ok(())
+}

@@ -1,0 +1,140 @@
+//! What lies under the desk's lock.
+
+ghost use Rattle.std.specs.Prelude.{◌≡◌, ◌<◌, ◌⊎◌, length, All, IfSome, IfNone};
+ghost use Rattle.tm_hist.specs.Board.{IsFull, IsHistory, IsStopped};
+ghost use Rattle.tm_work.specs.Seats.{GoesOn, HaveNoProgress, IsStepMade, SeatTells, Tells};
+ghost use Rattle.tm_work.specs.Seats.{progress_after_step, progress_at_end};
+
+use crate::progress::{Progress, Receipt};
+use crate::seat::{DeskIdentity, Seat};
+use std::collections::VecDeque;
+use std::marker::Model;
+use tm_hist::Board;
+use tm_ledger::Ledger;
+
+/// The board, with a ledger of what each seat knows of it.
+#[derive(Drop)]
+pub(crate) struct DeskState<J: DeskIdentity> {
+    board: Board,
+    ledger: Ledger<J, Progress>,
+}
+
+impl<J: DeskIdentity> Model for DeskState<J> {
+    ghost use Rattle.std.specs.Prelude.{List};
+    ghost use Rattle.std.specs.Coded.{coded×, coded_list};
+    ghost use Rattle.tm_hist.specs.Board.{Shown};
+    ghost use Rattle.tm_hist.specs.contracts.board.Board.{the_row as board_row};
+    ghost use Rattle.tm_work.specs.declared.progress.Progress.{Progress};
+    ghost use Rattle.tm_work.specs.contracts.progress.Progress.{the_row as progress_row};
+    ghost use Rattle.tm_work.specs.Seats.{LedgerAgrees};
+
+    ghost Value = { Shown × List Progress };
+
+    ghost coded = { coded× board_row.coded (coded_list progress_row.coded) };
+
+    ghost view = { λ h. (h.board, h.ledger) };
+
+    ghost invariant = { λ h. LedgerAgrees J.given h.board h.ledger };
+}
+
+impl<J: DeskIdentity> DeskState<J> {
+    // The board that was given, where no seat had a turn.
+    pub(crate) fn new(board: Board, ledger: Ledger<J, Progress>) -> DeskState<J>
+        requires board { board ≡ J.given }
+        requires ledger { HaveNoProgress ledger }
+    {
+        DeskState { board, ledger }
+    }
+
+    pub(crate) fn into_board(self) -> Board
+        ensures is { result ≡ self.0 }
+        ensures goes_on { GoesOn J.given result }
+        ensures run { IsHistory result }
+    {
+        let DeskState { board, ledger: _ } = self;
+        board.is_run();
+        board
+    }
+
+    // A step of the seat's core, or a look where there is none to make.
+    pub(crate) fn turn(&mut self, seat: &mut Seat<J>) -> Option<Receipt>
+        ensures core { seat.new.core ≡ seat.old.core }
+        ensures some { IfSome result (λ r. seat.new.progress ≡ progress_after_step seat.old.progress r) }
+        ensures later { IfSome result (λ r. IfSome seat.old.progress.last (λ q. q.index < r.index)) }
+        ensures none { IfNone result (seat.new.progress ≡ progress_at_end seat.old.progress) }
+    {
+        let DeskState { board, ledger } = self;
+        let Some(receipt) = try_step(board, seat.core()) else {
+            let progress = Progress {
+                steps: seat.steps(),
+                last: seat.last(),
+                ended: true,
+            };
+            seat.note(ledger, progress);
+            return None;
+        };
+        // The ledger tells that this does not wrap.
+        let steps = seat.steps().wrapping_add(1);
+        let progress = Progress {
+            steps,
+            last: Some(receipt),
+            ended: seat.ended(),
+        };
+        seat.note(ledger, progress);
+        Some(receipt)
+    }
+
+    // Compares a seat with the ledger, where it changes nothing.
+    fn settle(&mut self, seat: Seat<J>)
+        ensures same { self.new.0 ≡ self.old.0 }
+        ensures told { Tells J.given self.new.0 seat.core seat.progress }
+    {
+        let mut seat = seat;
+        let progress = Progress {
+            steps: seat.steps(),
+            last: seat.last(),
+            ended: seat.ended(),
+        };
+        seat.note(&mut self.ledger, progress);
+    }
+
+    pub(crate) fn settle_all(&mut self, seats: Vec<Seat<J>>)
+        ensures same { self.new.0 ≡ self.old.0 }
+        ensures told { All (SeatTells J.given self.new.0) seats.items }
+    {
+        for seat in seats {
+            self.settle(seat);
+        }
+    }
+
+    pub(crate) fn settle_others(&mut self, seats: VecDeque<Seat<J>>)
+        ensures same { self.new.0 ≡ self.old.0 }
+        ensures told { All (SeatTells J.given self.new.0) seats.items }
+    {
+        for seat in seats {
+            self.settle(seat);
+        }
+    }
+}
+
+// One step of the core, and its receipt. There is none where the core is stopped or the history full.
+fn try_step(board: &mut Board, core: u8) -> Option<Receipt>
+    requires { core < length board.old.program.entries }
+    ensures some { IfSome result (λ r. IsStepMade board.old board.new core r) }
+    ensures none { IfNone result ((board.new ≡ board.old) × (IsStopped board.old core ⊎ IsFull board.old)) }
+{
+    if board.is_stopped(core) {
+        return None;
+    }
+    let index = board.made();
+    if index == board.limit() {
+        return None;
+    }
+    let Ok(outcome) = board.step(core) else {
+        unreachable!()
+    };
+    Some(Receipt {
+        index: index as usize,
+        outcome,
+    })
+}

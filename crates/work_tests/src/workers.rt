@@ -1,0 +1,430 @@
+//! Desks and workers with real threads. Code lies from 100h on, in a memory of 65,536 bytes.
+
+ghost use Rattle.std.specs.Prelude.{◌≡◌, length, IfOk};
+
+use ia_image::load;
+use std::alloc::Global;
+use std::marker::Brand;
+use std::process::Abort;
+use std::sync::Wait;
+use std::sync::atomic::{AtomicU64, Ordering};
+use std::test::*;
+use std::thread;
+use std::thread::Threads;
+use tm_core::{Limits, Outcome};
+use tm_hist::Board;
+use tm_work::{Desk, DeskIdentity, Gate, Opening, Report, Seat, WorkFault, run_workers};
+
+const LIMITS: Limits = Limits {
+    read_lines: 512,
+    write_lines: 512,
+};
+
+// The most looks at a word before a wait counts as too long.
+const LOOKS: u32 = 100_000_000;
+
+// JMP to itself.
+const SPINS: [u8; 2] = [0xeb, 0xfe];
+
+// XBEGIN at 100h with fallback 115h, a load of [1000h], INC EAX, a store to [1000h], XEND at 111h, and HLT at 114h and at
+// 115h; then, at 116h, a store of the byte 7 to [1000h].
+const INCREMENT: [u8; 29] = [
+    0xc7, 0xf8, 0x0f, 0, 0, 0, 0xa1, 0, 0x10, 0, 0, 0x40, 0xa3, 0, 0x10, 0, 0, 0x0f, 0x01, 0xd5,
+    0xf4, 0xf4, 0xc6, 0x05, 0, 0x10, 0, 0, 7,
+];
+
+fn board_of(alloc: Global, code: &[u8], entries: &[u32], limit: u64) -> Result<Board, Fail>
+    ensures { IfOk result (λ b. length b.program.entries ≡ length entries.now) }
+{
+    let code_len = u32::try_from(code.len()).map_err(|_| "short code")?;
+    let Ok(program) = load(alloc, code, 0x100, code_len, 0x10000, entries) else {
+        return Err("a program".into());
+    };
+    let Ok(board) = Board::new(alloc, &program, LIMITS, limit) else {
+        return Err("a board".into());
+    };
+    Ok(board)
+}
+
+// How often the core stands in the history.
+fn steps_of(board: &Board, core: u8) -> usize {
+    let history = board.history();
+    let mut steps = 0usize;
+    for index in 0..history.len() {
+        if let Some((by, _)) = history.get(index)
+            && by == core
+        {
+            steps = steps.wrapping_add(1);
+        }
+    }
+    steps
+}
+
+// Waits until the word is at least this. False where that takes too long.
+fn reaches(word: &AtomicU64, least: u64) -> bool {
+    for _ in 0..LOOKS {
+        if word.load(Ordering::SeqCst) >= least {
+            return true;
+        }
+        thread::yield_now();
+    }
+    false
+}
+
+// Counts the calls of it.
+#[derive(Drop)]
+struct Counter {
+    before: AtomicU64,
+    after: AtomicU64,
+}
+
+impl Counter {
+    fn new() -> Counter {
+        Counter {
+            before: AtomicU64::new(0),
+            after: AtomicU64::new(0),
+        }
+    }
+}
+
+impl Gate for Counter {
+    fn before(&self, _core: u8, _done: u32) {
+        self.before.fetch_add(1, Ordering::SeqCst);
+    }
+
+    fn after(&self, _core: u8, _outcome: &Outcome) {
+        self.after.fetch_add(1, Ordering::SeqCst);
+    }
+}
+
+// So many turns of a seat. None where one of them made no step.
+fn take<J: DeskIdentity, R: Wait>(
+    rt: &R,
+    desk: &Desk<J>,
+    seat: Seat<J>,
+    turns: u32,
+) -> Option<Seat<J>> {
+    let mut seat = seat;
+    for _ in 0..turns {
+        desk.turn(rt, &mut seat)?;
+    }
+    Some(seat)
+}
+
+fn two_threads<J: DeskIdentity + Send + Sync, R: Threads + Wait + Abort + Sync>(
+    rt: &R,
+    alloc: Global,
+    opening: Opening,
+) -> Result<(), Fail>
+    requires name { opening.table ≡ J.table }
+    requires given { opening.given ≡ J.given }
+{
+    let Ok((desk, mut seats)) = Desk::<J>::open(alloc, opening) else {
+        return Err("a desk".into());
+    };
+    let one = seats.pop().ok_or("two seats")?;
+    let zero = seats.pop().ok_or("two seats")?;
+    assert!(rt; zero.core() == 0 && one.core() == 1 && seats.is_empty());
+    assert!(rt; zero.steps() == 0 && zero.last().is_none() && !zero.ended());
+    let shared = &desk;
+    let (zero, one) = thread::join(
+        rt,
+        move || take(rt, shared, zero, 1000),
+        move || take(rt, shared, one, 1000),
+    );
+    let mut zero = zero.ok_or("1000 steps")?;
+    let one = one.ok_or("1000 steps")?;
+    assert!(rt; zero.steps() == 1000 && !zero.ended());
+    assert!(rt; desk.turn(rt, &mut zero).is_none());
+    assert!(rt; zero.steps() == 1000 && zero.ended() && !one.ended());
+    let last = one.last().ok_or("a last step")?;
+    seats.push(zero)?;
+    seats.push(one)?;
+    let board = desk.close(seats);
+    assert!(rt; steps_of(&board, 0) == 1000 && steps_of(&board, 1) == 1000);
+    assert!(rt; board.history().get(last.index) == Some((1, last.outcome)));
+    Ok(())
+}
+
+#[test]
+fn two_seats(rt: HostRuntime) -> Result<(), Fail> {
+    let board = board_of(rt.alloc(), &SPINS, &[0x100, 0x100], 2000)?;
+    let Ok(opening) = Opening::new(rt.alloc(), board) else {
+        return Err("an opening".into());
+    };
+    two_threads::<Brand, _>(&rt, rt.alloc(), opening)
+}
+
+#[test]
+fn a_board_that_is_not_shared(rt: HostRuntime) -> Result<(), Fail> {
+    let mut board = board_of(rt.alloc(), &SPINS, &[0x100], 5)?;
+    assert!(rt; board.step(0).is_ok());
+    let Ok(opening) = Opening::new(rt.alloc(), board) else {
+        return Err("an opening".into());
+    };
+    let board = opening.into_board();
+    assert_eq!(rt; (board.made(), board.limit()), (1, 5));
+    Ok(())
+}
+
+// The workers of cores 0 and 1 wait for each other before their first turn.
+#[derive(Drop)]
+struct Handshake {
+    first: AtomicU64,
+    second: AtomicU64,
+    late: AtomicU64,
+    heard: AtomicU64,
+}
+
+impl Gate for Handshake {
+    fn before(&self, core: u8, done: u32) {
+        if done > 0 {
+            return;
+        }
+        let (mine, theirs) = if core == 0 {
+            (&self.first, &self.second)
+        } else {
+            (&self.second, &self.first)
+        };
+        mine.store(1, Ordering::SeqCst);
+        if !reaches(theirs, 1) {
+            self.late.store(1, Ordering::SeqCst);
+        }
+    }
+
+    fn after(&self, _core: u8, _outcome: &Outcome) {
+        self.heard.fetch_add(1, Ordering::SeqCst);
+    }
+}
+
+#[test]
+fn workers_meet(rt: HostRuntime) -> Result<(), Fail> {
+    let board = board_of(rt.alloc(), &SPINS, &[0x100, 0x100], 5000)?;
+    let gate = Handshake {
+        first: AtomicU64::new(0),
+        second: AtomicU64::new(0),
+        late: AtomicU64::new(0),
+        heard: AtomicU64::new(0),
+    };
+    let Ok(report) = run_workers(&rt, rt.alloc(), board, &[700, 800], &gate) else {
+        return Err("a report".into());
+    };
+    assert_eq!(rt; gate.late.load(Ordering::SeqCst), 0);
+    assert_eq!(rt; gate.heard.load(Ordering::SeqCst), 1500);
+    assert_eq!(rt; report.steps.as_slice(), [700, 800].as_slice());
+    assert_eq!(rt; report.board.made(), 1500);
+    Ok(())
+}
+
+// Core 0's fifth turn waits for core 1's first, and that one for core 0's fourth.
+#[derive(Drop)]
+struct Turns {
+    first: AtomicU64,
+    second: AtomicU64,
+    late: AtomicU64,
+}
+
+impl Gate for Turns {
+    fn before(&self, core: u8, done: u32) {
+        let in_time = match (core, done) {
+            (0, 4) => reaches(&self.second, 1),
+            (1, 0) => reaches(&self.first, 4),
+            _ => true,
+        };
+        if !in_time {
+            self.late.store(1, Ordering::SeqCst);
+        }
+    }
+
+    fn after(&self, core: u8, _outcome: &Outcome) {
+        let word = if core == 0 { &self.first } else { &self.second };
+        word.fetch_add(1, Ordering::SeqCst);
+    }
+}
+
+#[test]
+fn a_store_aborts_the_other_worker(rt: HostRuntime) -> Result<(), Fail> {
+    let board = board_of(rt.alloc(), &INCREMENT, &[0x100, 0x116], 100)?;
+    let gate = Turns {
+        first: AtomicU64::new(0),
+        second: AtomicU64::new(0),
+        late: AtomicU64::new(0),
+    };
+    let Ok(report) = run_workers(&rt, rt.alloc(), board, &[5, 1], &gate) else {
+        return Err("a report".into());
+    };
+    assert_eq!(rt; gate.late.load(Ordering::SeqCst), 0);
+    let history = report.board.history();
+    assert_eq!(rt; history.len(), 6);
+    assert!(rt; history.get(0) == Some((0, Outcome::Begun)));
+    assert!(rt; history.get(1) == Some((0, Outcome::Inside)));
+    assert!(rt; history.get(2) == Some((0, Outcome::Inside)));
+    assert!(rt; history.get(3) == Some((0, Outcome::Inside)));
+    assert!(rt; history.get(4) == Some((1, Outcome::Plain)));
+    assert!(rt; history.get(5) == Some((0, Outcome::Aborted(6))));
+    Ok(())
+}
+
+#[test]
+fn workers_stop(rt: HostRuntime) -> Result<(), Fail> {
+    let board = board_of(rt.alloc(), &[0xf4], &[0x100, 0x100], 100)?;
+    let gate = Counter::new();
+    let Ok(report) = run_workers(&rt, rt.alloc(), board, &[5, 5], &gate) else {
+        return Err("a report".into());
+    };
+    assert_eq!(rt; report.steps.as_slice(), [1, 1].as_slice());
+    assert_eq!(rt; gate.before.load(Ordering::SeqCst), 4);
+    assert_eq!(rt; gate.after.load(Ordering::SeqCst), 2);
+    let Report { board, steps: _ } = report;
+    assert!(rt; board.cores() == 2);
+    let Ok(report) = run_workers(&rt, rt.alloc(), board, &[5, 5], &gate) else {
+        return Err("a report".into());
+    };
+    assert_eq!(rt; report.steps.as_slice(), [0, 0].as_slice());
+    Ok(())
+}
+
+fn sum_of(steps: &[u32]) -> u64 {
+    steps
+        .iter()
+        .map(|x| u64::from(*x))
+        .fold(0u64, |a, b| a.wrapping_add(b))
+}
+
+#[test]
+fn workers_fill_the_history(rt: HostRuntime) -> Result<(), Fail> {
+    let board = board_of(rt.alloc(), &SPINS, &[0x100, 0x100], 10)?;
+    let gate = Counter::new();
+    let Ok(report) = run_workers(&rt, rt.alloc(), board, &[100, 100], &gate) else {
+        return Err("a report".into());
+    };
+    assert_eq!(rt; report.board.made(), 10);
+    assert_eq!(rt; sum_of(report.steps.as_slice()), 10);
+    let Report { board, steps: _ } = report;
+    assert!(rt; board.is_full() && board.cores() == 2);
+    let Ok(report) = run_workers(&rt, rt.alloc(), board, &[100, 100], &gate) else {
+        return Err("a report".into());
+    };
+    assert_eq!(rt; report.steps.as_slice(), [0, 0].as_slice());
+    assert_eq!(rt; gate.after.load(Ordering::SeqCst), 10);
+    Ok(())
+}
+
+#[test]
+fn no_budget(rt: HostRuntime) -> Result<(), Fail> {
+    let board = board_of(rt.alloc(), &SPINS, &[0x100, 0x100], 5000)?;
+    let gate = Counter::new();
+    let Ok(report) = run_workers(&rt, rt.alloc(), board, &[0, 3], &gate) else {
+        return Err("a report".into());
+    };
+    assert_eq!(rt; report.steps.as_slice(), [0, 3].as_slice());
+    assert_eq!(rt; steps_of(&report.board, 0), 0);
+    assert_eq!(rt; gate.before.load(Ordering::SeqCst), 3);
+    Ok(())
+}
+
+// What a gate hears of each core, in order: a number that depends on it.
+#[derive(Drop)]
+struct Recorder {
+    first: AtomicU64,
+    second: AtomicU64,
+}
+
+fn number_of(outcome: &Outcome) -> u64 {
+    match outcome {
+        Outcome::Plain => 1,
+        Outcome::Stopped(_) => 2,
+        Outcome::Idle => 3,
+        Outcome::Begun => 4,
+        Outcome::Inside => 5,
+        Outcome::Committed => 6,
+        Outcome::Aborted(status) => u64::from(*status).wrapping_add(1 << 32),
+    }
+}
+
+fn mixed(was: u64, outcome: &Outcome) -> u64 {
+    was.wrapping_mul(31).wrapping_add(number_of(outcome))
+}
+
+impl Gate for Recorder {
+    fn before(&self, _core: u8, _done: u32) {}
+
+    fn after(&self, core: u8, outcome: &Outcome) {
+        let word = if core == 0 { &self.first } else { &self.second };
+        let was = word.load(Ordering::SeqCst);
+        word.store(mixed(was, outcome), Ordering::SeqCst);
+    }
+}
+
+// The number of a core's part of the history.
+fn part_of(board: &Board, core: u8) -> u64 {
+    let history = board.history();
+    let mut all = 0;
+    for index in 0..history.len() {
+        if let Some((by, outcome)) = history.get(index)
+            && by == core
+        {
+            all = mixed(all, &outcome);
+        }
+    }
+    all
+}
+
+#[test]
+fn a_gate_hears_the_history(rt: HostRuntime) -> Result<(), Fail> {
+    let board = board_of(rt.alloc(), &INCREMENT, &[0x100, 0x100], 5000)?;
+    let gate = Recorder {
+        first: AtomicU64::new(0),
+        second: AtomicU64::new(0),
+    };
+    let Ok(report) = run_workers(&rt, rt.alloc(), board, &[100, 4], &gate) else {
+        return Err("a report".into());
+    };
+    let first = gate.first.load(Ordering::SeqCst);
+    let second = gate.second.load(Ordering::SeqCst);
+    assert!(rt; first == part_of(&report.board, 0) && first > 0);
+    assert!(rt; second == part_of(&report.board, 1) && second > 0);
+    assert_eq!(rt; report.steps.get(1), Some(&4));
+    Ok(())
+}
+
+// Three workers. With a request for memory refused, or threads, the board is as the fault says.
+#[test]
+fn three_workers(rt: HostRuntime) -> Result<(), Fail> {
+    let board = board_of(rt.alloc(), &SPINS, &[0x100, 0x100, 0x100], 100)?;
+    let gate = Counter::new();
+    match run_workers(&rt, rt.alloc(), board, &[7, 3, 2], &gate) {
+        Ok(report) => {
+            assert_eq!(rt; report.steps.as_slice(), [7, 3, 2].as_slice());
+            Ok(())
+        }
+        Err(WorkFault::NoMemory(board)) => {
+            assert_eq!(rt; (board.made(), gate.before.load(Ordering::SeqCst)), (0, 0));
+            Err("memory".into())
+        }
+        Err(WorkFault::SpawnRefused(core, board)) => {
+            assert!(rt; core < 3 && steps_of(&board, 2) == 0);
+            assert!(rt; steps_of(&board, 0) == if core > 0 { 7 } else { 0 });
+            assert!(rt; steps_of(&board, 1) == if core > 1 { 3 } else { 0 });
+            Err("threads".into())
+        }
+    }
+}
+
+#[test]
+fn without_memory(rt: HostRuntime) -> Result<(), Fail> {
+    let fault = WorkFault::NoMemory(board_of(rt.alloc(), &[0xf4], &[0x100], 1)?);
+    assert_eq!(rt; fault.code(), 61);
+    let text = format!(in rt.alloc(); "{fault} {fault:?}")?;
+    assert_eq!(rt; text.as_str(), "NoMemory NoMemory(..)");
+    Ok(())
+}
+
+#[test]
+fn without_a_thread(rt: HostRuntime) -> Result<(), Fail> {
+    let fault = WorkFault::SpawnRefused(3, board_of(rt.alloc(), &[0xf4], &[0x100], 1)?);
+    assert_eq!(rt; fault.code(), 60);
+    let text = format!(in rt.alloc(); "{fault} {fault:?}")?;
+    assert_eq!(rt; text.as_str(), "SpawnRefused SpawnRefused(3, ..)");
+    Ok(())
+}
