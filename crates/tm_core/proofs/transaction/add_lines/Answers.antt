@@ -6,7 +6,7 @@ use Rattle.ia_word.specs.Width.{bytes_of}
 use Rattle.ia_word.specs.Line.{line}
 use Rattle.tm_sets.specs.Content.{Content}
 use Rattle.tm_sets.specs.Row.{Lines}
-use Rattle.tm_core.proofs.Adds.{adds_one, adds_two, none_fits, added_own, added_fixed}
+use Rattle.tm_core.proofs.Adds.{added_fixed, added_own, adds_one, adds_two, none_fits}
 use Rattle.tm_core.proofs.transaction.add_lines.Goals as goal
 
 pub returns-then-last-first-clause-told : goal.returns-then-last-first-clause-told

@@ -10,13 +10,12 @@ use Rattle.std.specs.Ordering.{nat_cmp, eq_by_cmp}
 use Rattle.std.specs.Cmp.{nat_cmp_total, unsigned_tied}
 use Rattle.std.specs.FinSet as finset
 use Rattle.std.specs.FinMap as map_of
-use Rattle.tm_core.proofs.Sound.{InRange}
-use Rattle.tm_core.proofs.Frame.{Same, length-written}
-use Rattle.tm_core.specs.Access.{Stores, line_set, lines, places_of, written}
-use Rattle.tm_core.specs.Conflicts.{on_lines, touches}
-use Rattle.tm_core.specs.Shown.{Buffer, buffer_of}
+use Rattle.tm_model.specs.Access.{Stores, have_line_of, lines_of, memory_after, stored_addresses}
+use Rattle.tm_model.specs.Shown.{Buffer, buffer_of}
+use Rattle.tm_core.specs.StepRefinement.{add_all, lines_hit, seen}
 use Rattle.tm_core.specs.Types.{Lines}
-use Rattle.tm_core.specs.ViewSteps.{add_all, seen}
+use Rattle.tm_core.proofs.Frame.{Same, length-memory_after}
+use Rattle.tm_core.proofs.Sound.{InRange}
 
 -- ---- buffers
 
@@ -28,42 +27,42 @@ InRange-append size [] ys h g = g
 InRange-append size (x ∷ xs) ys h g = (h.0, InRange-append size xs ys h.1 g)
 
 -- a transaction sees memory with its own stores
-pub seen-written : (m : List ℕ) (ws : Stores) (q : ℕ) → InRange (length m) ws → seen (buffer_of ws) m q ≡ get_or (written m ws) q 0
-seen-written m [] q h = ap (λ o. unwrap_or o (get_or m q 0)) (map_of.get-empty nat_cmp q)
-seen-written m (w ∷ ws) q h =
+pub seen-memory_after : (m : List ℕ) (ws : Stores) (q : ℕ) → InRange (length m) ws → seen (buffer_of ws) m q ≡ get_or (memory_after m ws) q 0
+seen-memory_after m [] q h = ap (λ o. unwrap_or o (get_or m q 0)) (map_of.get-empty nat_cmp q)
+seen-memory_after m (w ∷ ws) q h =
     let e : map_of.get (buffer_of (w ∷ ws)) q ≡ cond (eqb q w.0) (Some w.1) (map_of.get (buffer_of ws) q) = get-put (buffer_of ws) w.0 w.1 q in
     ap (λ o. unwrap_or o (get_or m q 0)) e
     ∙ ⊎_elim (λ (same : q ≡ w.0).
     ap (λ t. unwrap_or (cond t (Some w.1) (map_of.get (buffer_of ws) q)) (get_or m q 0)) (eq-eqb q w.0 same)
-    ∙ sym (ap (λ x. get_or (set (written m ws) w.0 w.1) x 0) same ∙ get_or-set_same (written m ws) w.0 w.1 0 (subst (λ n. w.0 < n) (sym (length-written m ws)) h.0)))
+    ∙ sym (ap (λ x. get_or (set (memory_after m ws) w.0 w.1) x 0) same ∙ get_or-set_same (memory_after m ws) w.0 w.1 0 (subst (λ n. w.0 < n) (sym (length-memory_after m ws)) h.0)))
     (λ (other : q ≡ w.0 → ⊥).
     ap (λ t. unwrap_or (cond t (Some w.1) (map_of.get (buffer_of ws) q)) (get_or m q 0)) (ne_eqb q w.0 other)
-    ∙ seen-written m ws q h.1
-    ∙ sym (get_or-set_other (written m ws) w.0 q w.1 0 other))
+    ∙ seen-memory_after m ws q h.1
+    ∙ sym (get_or-set_other (memory_after m ws) w.0 q w.1 0 other))
     (cases_eq q w.0)
 
-pub map_seen : (m : List ℕ) (ws : Stores) (ps : List ℕ) → InRange (length m) ws → map (seen (buffer_of ws) m) ps ≡ map (λ p. get_or (written m ws) p 0) ps
+pub map_seen : (m : List ℕ) (ws : Stores) (ps : List ℕ) → InRange (length m) ws → map (seen (buffer_of ws) m) ps ≡ map (λ p. get_or (memory_after m ws) p 0) ps
 map_seen m ws [] h = refl
-map_seen m ws (p ∷ ps) h = λ i. seen-written m ws p h i ∷ map_seen m ws ps h i
+map_seen m ws (p ∷ ps) h = λ i. seen-memory_after m ws p h i ∷ map_seen m ws ps h i
 
 pub with_bytes-buffer_of : (xs ws : Stores) → with_bytes (buffer_of xs) ws ≡ buffer_of (ws ++ xs)
 with_bytes-buffer_of xs [] = refl
 with_bytes-buffer_of xs (w ∷ ws) = ap (λ b. map_of.insert b w.0 w.1) (with_bytes-buffer_of xs ws)
 
 -- a commit writes exactly the stored bytes
-pub drained-written : (m : List ℕ) (ws : Stores) → InRange (length m) ws → drained (buffer_of ws) m ≡ written m ws
-drained-written m ws h =
+pub drained-memory_after : (m : List ℕ) (ws : Stores) → InRange (length m) ws → drained (buffer_of ws) m ≡ memory_after m ws
+drained-memory_after m ws h =
     let f : ℕ → ℕ = seen (buffer_of ws) m in
-    ext_get_or 0 (map f (range_with_len 0 (length m))) (written m ws)
-    (length-map-range_with_len f 0 (length m) ∙ sym (length-written m ws))
-    (λ i below. get_or-map-range_with_len f 0 (length m) i i 0 (subst (λ n. i < n) (length-map-range_with_len f 0 (length m)) below) (omega arith) ∙ seen-written m ws i h)
+    ext_get_or 0 (map f (range_with_len 0 (length m))) (memory_after m ws)
+    (length-map-range_with_len f 0 (length m) ∙ sym (length-memory_after m ws))
+    (λ i below. get_or-map-range_with_len f 0 (length m) i i 0 (subst (λ n. i < n) (length-map-range_with_len f 0 (length m)) below) (omega arith) ∙ seen-memory_after m ws i h)
 
 -- ---- sets of lines
 
 pub contains-insert : (ls : Lines) (l q : ℕ) → finset.contains (finset.insert ls l) q ≡ (eqb q l || finset.contains ls q)
 contains-insert ls l q = finset.contains-insert nat_cmp_total ls l q ∙ ap (λ t. t || finset.contains ls q) (unsigned_tied q l)
 
-pub add_all-lines : (xs ps : List ℕ) → add_all (lines xs) ps ≡ lines (ps ++ xs)
+pub add_all-lines : (xs ps : List ℕ) → add_all (lines_of xs) ps ≡ lines_of (ps ++ xs)
 add_all-lines xs [] = refl
 add_all-lines xs (p ∷ ps) = ap (λ ls. finset.insert ls (line p)) (add_all-lines xs ps)
 
@@ -76,30 +75,43 @@ on_more : (ls : Lines) (l : ℕ) (ps : List ℕ) → OnLines ls ps → OnLines (
 on_more ls l [] h = tt
 on_more ls l (p ∷ ps) h = (contains-insert ls l (line p) ∙ or_right (eqb (line p) l) (finset.contains ls (line p)) h.0, on_more ls l ps h.1)
 
-pub lines_on : (ps : List ℕ) → OnLines (lines ps) ps
+pub lines_on : (ps : List ℕ) → OnLines (lines_of ps) ps
 lines_on [] = tt
 lines_on (p ∷ ps) = (
-  contains-insert (lines ps) (line p) (line p) ∙ or_left (eqb (line p) (line p)) (finset.contains (lines ps) (line p)) (eq-eqb (line p) (line p) refl),
-  on_more (lines ps) (line p) ps (lines_on ps),
+  contains-insert (lines_of ps) (line p) (line p) ∙ or_left (eqb (line p) (line p)) (finset.contains (lines_of ps) (line p)) (eq-eqb (line p) (line p) refl),
+  on_more (lines_of ps) (line p) ps (lines_on ps),
 )
 
--- ---- what is not touched
+-- ---- what is not hit
 
-apart : (m : List ℕ) (reads writes : Lines) (a : ℕ) (ws : Stores) → finset.contains reads (line a) ≡ true → touches reads writes (places_of ws) ≡ false → get_or (written m ws) a 0 ≡ get_or m a 0
-apart m reads writes a [] is h = refl
-apart m reads writes a (w ∷ ws) is h =
-    let parts : ((finset.contains reads (line w.0) || finset.contains writes (line w.0)) ≡ false) × (touches reads writes (places_of ws) ≡ false) = or_parts (finset.contains reads (line w.0) || finset.contains writes (line w.0)) (touches reads writes (places_of ws)) h in
-    let absent : finset.contains reads (line w.0) ≡ false = (or_parts (finset.contains reads (line w.0)) (finset.contains writes (line w.0)) parts.0).0 in
-    get_or-set_other (written m ws) w.0 a w.1 0 (λ same. both_ways (finset.contains reads (line w.0)) absent (ap (λ x. finset.contains reads (line x)) (sym same) ∙ is))
-    ∙ apart m reads writes a ws is parts.1
+apart : (m : List ℕ) (reads : Lines) (a : ℕ) (ws : Stores) → finset.contains reads (line a) ≡ true → have_line_of reads (stored_addresses ws) ≡ false → get_or (memory_after m ws) a 0 ≡ get_or m a 0
+apart m reads a [] is h = refl
+apart m reads a (w ∷ ws) is h =
+    let parts : (finset.contains reads (line w.0) ≡ false) × (have_line_of reads (stored_addresses ws) ≡ false) = or_parts (finset.contains reads (line w.0)) (have_line_of reads (stored_addresses ws)) h in
+    get_or-set_other (memory_after m ws) w.0 a w.1 0 (λ same. both_ways (finset.contains reads (line w.0)) parts.0 (ap (λ x. finset.contains reads (line x)) (sym same) ∙ is))
+    ∙ apart m reads a ws is parts.1
 
-pub untouched : (m : List ℕ) (reads writes : Lines) (ps : List ℕ) (ws : Stores) → OnLines reads ps → touches reads writes (places_of ws) ≡ false → Same m (written m ws) ps
-untouched m reads writes [] ws is h = tt
-untouched m reads writes (p ∷ ps) ws is h = (sym (apart m reads writes p ws is.0 h), untouched m reads writes ps ws is.1 h)
+pub not_hit : (m : List ℕ) (reads : Lines) (ps : List ℕ) (ws : Stores) → OnLines reads ps → have_line_of reads (stored_addresses ws) ≡ false → Same m (memory_after m ws) ps
+not_hit m reads [] ws is h = tt
+not_hit m reads (p ∷ ps) ws is h = (sym (apart m reads p ws is.0 h), not_hit m reads ps ws is.1 h)
 
-pub on_lines-empty : (ls : List ℕ) → on_lines finset.empty finset.empty ls ≡ false
-on_lines-empty [] = refl
-on_lines-empty (l ∷ ls) = ap (λ t. t || on_lines finset.empty finset.empty ls) (ap (λ t. t || t) (finset.contains-empty nat_cmp l)) ∙ on_lines-empty ls
+-- the test of one list against either set is that of each set
+pub either_set : (reads writes : Lines) (ls : List ℕ) → lines_hit reads writes ls ≡ (list_any (finset.contains reads) ls || list_any (finset.contains writes) ls)
+either_set reads writes [] = refl
+either_set reads writes (l ∷ ls) =
+    ap (λ t. (finset.contains reads l || finset.contains writes l) || t) (either_set reads writes ls)
+    ∙ crossed (finset.contains reads l) (finset.contains writes l) (list_any (finset.contains reads) ls) (list_any (finset.contains writes) ls)
+  where
+    crossed : (a b c d : Bool) → ((a || b) || (c || d)) ≡ ((a || c) || (b || d))
+    crossed true b c d = refl
+    crossed false true true d = refl
+    crossed false true false d = refl
+    crossed false false true d = refl
+    crossed false false false d = refl
+
+pub lines_hit-empty : (ls : List ℕ) → lines_hit finset.empty finset.empty ls ≡ false
+lines_hit-empty [] = refl
+lines_hit-empty (l ∷ ls) = ap (λ t. t || lines_hit finset.empty finset.empty ls) (ap (λ t. t || t) (finset.contains-empty nat_cmp l)) ∙ lines_hit-empty ls
 
 -- ---- a test over lists of the same members
 
@@ -130,6 +142,9 @@ any_tied q xs = λ i. list_any (λ y. sym (unsigned_tied q y) i) xs
 -- the members of a set, by its items or by a list that it was made of
 pub items_any : (s : Lines) (q : ℕ) → list_any (eqb q) (finset.items s) ≡ finset.contains s q
 items_any s q = any_tied q (finset.items s) ∙ sym (finset.contains-items s q)
+
+abbrev pub line_set : List ℕ → Lines
+line_set ls = finset.from_list ls
 
 pub list_any-from_list : (ls : List ℕ) (q : ℕ) → list_any (eqb q) ls ≡ finset.contains (line_set ls) q
 list_any-from_list ls q = any_tied q ls ∙ sym (finset.contains-from_list nat_cmp_total ls q)
