@@ -8,22 +8,24 @@ use tm_rule::Stop;
 
 /// A core between two steps.
 #[derive(Clone, Copy, Debug)]
-pub enum Shape {
+pub enum SerialCore {
     /// It is in no transaction.
     Closed(Regs),
     /// It has stopped.
     Halted(Regs, Stop),
-    /// It is in a transaction: its registers before the XBEGIN, and how many steps it made since then, that one included.
+    /// It is in a transaction: its registers before the XBEGIN, and how many steps it made since then, that one
+    /// included.
     Opened(Regs, u64),
 }
 
-impl Shape {
+impl SerialCore {
     /// The registers, those before the XBEGIN of an open transaction.
     pub fn base(&self) -> Regs
         ensures { result ≡ base_of (core_of self.now) }
     {
         match self {
-            Shape::Closed(regs) | Shape::Halted(regs, _) | Shape::Opened(regs, _) => *regs,
+            SerialCore::Closed(regs) | SerialCore::Halted(regs, _) | SerialCore::Opened(regs, _) =>
+                *regs,
         }
     }
 
@@ -32,8 +34,8 @@ impl Shape {
         ensures { result ≡ stop_of (core_of self.now) }
     {
         match self {
-            Shape::Halted(_, stop) => Some(*stop),
-            Shape::Closed(_) | Shape::Opened(_, _) => None,
+            SerialCore::Halted(_, stop) => Some(*stop),
+            SerialCore::Closed(_) | SerialCore::Opened(_, _) => None,
         }
     }
 }

@@ -9,10 +9,10 @@ ghost use Rattle.tm_hist.specs.Lines.{number_text};
 use arrayvec::ArrayVec;
 
 /// A line, of at most 160 bytes with its line feed.
-pub type Row = ArrayVec<u8, 160>;
+pub type TextLine = ArrayVec<u8, 160>;
 
 /// Adds bytes at the end.
-pub fn push(row: &mut Row, bytes: &[u8])
+pub fn push(row: &mut TextLine, bytes: &[u8])
     requires { array_vec_len row.old + length bytes.now ≤ 160 }
     ensures text { row.new.items ≡ row.old.items ++ bytes.now }
     ensures len { array_vec_len row.new ≡ array_vec_len row.old + length bytes.now }
@@ -21,7 +21,7 @@ pub fn push(row: &mut Row, bytes: &[u8])
 }
 
 /// Adds bytes in hex.
-pub fn push_hex(row: &mut Row, bytes: &[u8])
+pub fn push_hex(row: &mut TextLine, bytes: &[u8])
     requires room { array_vec_len row.old + 2 * length bytes.now ≤ 160 }
     requires few { length bytes.now ≤ 16 }
     ensures text { row.new.items ≡ row.old.items ++ encode_lower bytes.now }
@@ -34,7 +34,7 @@ pub fn push_hex(row: &mut Row, bytes: &[u8])
 }
 
 /// Adds a doubleword in eight hex digits.
-pub fn push_long(row: &mut Row, n: u32)
+pub fn push_long(row: &mut TextLine, n: u32)
     requires { array_vec_len row.old + 8 ≤ 160 }
     ensures text { row.new.items ≡ row.old.items ++ eight_digits n }
     ensures len { array_vec_len row.new ≡ array_vec_len row.old + 8 }
@@ -44,7 +44,7 @@ pub fn push_long(row: &mut Row, n: u32)
 
 /// Adds a number in decimal digits.
 #[tactic(auto, unfolding(crate::specs::Lines::number_text))]
-pub fn push_number(row: &mut Row, n: u8)
+pub fn push_number(row: &mut TextLine, n: u8)
     requires { array_vec_len row.old + 3 ≤ 160 }
     ensures text { row.new.items ≡ row.old.items ++ number_text n }
     ensures len { array_vec_len row.new ≤ array_vec_len row.old + 3 }
