@@ -6,7 +6,7 @@ use Rattle.std.specs.Option.{is_some}
 use Rattle.std.specs.Result.{OnOk, OnErr}
 use Rattle.std.specs.Ordering.{nat_cmp}
 use Rattle.std.specs.FinMap as bytes_map
-use Rattle.ia_word.specs.Operand.{placed}
+use Rattle.ia_word.specs.Operand.{placed_bytes}
 use Rattle.tm_buffer.specs.Held.{Bytes, Held, Fits, with_bytes}
 use Rattle.tm_buffer.proofs.Entries.{get_insert}
 
@@ -23,12 +23,12 @@ fits_insert m size a v below h q there = ⊎_elim
     (cases_eq q a)
 
 -- a store below the end of memory
-pub fits_placed : (m : Bytes) (size a : ℕ) (bytes : List ℕ) → a + length bytes ≤ size → Fits m size → Fits (with_bytes m (placed a bytes)) size
+pub fits_placed : (m : Bytes) (size a : ℕ) (bytes : List ℕ) → a + length bytes ≤ size → Fits m size → Fits (with_bytes m (placed_bytes a bytes)) size
 fits_placed m size a [] end h = h
-fits_placed m size a (b ∷ bs) end h = fits_insert (with_bytes m (placed (a + 1) bs)) size a b (omega arith) (fits_placed m size (a + 1) bs (omega arith) h)
+fits_placed m size a (b ∷ bs) end h = fits_insert (with_bytes m (placed_bytes (a + 1) bs)) size a b (omega arith) (fits_placed m size (a + 1) bs (omega arith) h)
 
 -- a `put`, taken or not
 pub fits_put : {A E : Type 0} (r : Result A E) (old new : Held) (size a : ℕ) (bytes : List ℕ)
-    → OnOk r (new.bytes ≡ with_bytes old.bytes (placed a bytes)) → OnErr r (new ≡ old) → a + length bytes ≤ size → Fits old.bytes size → Fits new.bytes size
+    → OnOk r (new.bytes ≡ with_bytes old.bytes (placed_bytes a bytes)) → OnErr r (new ≡ old) → a + length bytes ≤ size → Fits old.bytes size → Fits new.bytes size
 fits_put (Ok x) old new size a bytes done refused end h = subst (λ m. Fits m size) (sym done) (fits_placed old.bytes size a bytes end h)
 fits_put (Err e) old new size a bytes done refused end h = subst (λ b. Fits b.bytes size) (sym refused) h

@@ -5,7 +5,7 @@ use Rattle.std.specs.Ordering.{nat_cmp}
 use Rattle.std.specs.Coded.{Coded, code_by, coded×, coded_ℕ, coded_list}
 use Rattle.std.specs.FinMap as bytes_map
 use Rattle.std.specs.FinSet as set
-pub use Rattle.ia_word.specs.Operand.{operand_bytes, operand_of, placed}
+pub use Rattle.ia_word.specs.Operand.{operand_bytes, operand_of, placed_bytes}
 
 abbrev pub Bytes : Type 0
 Bytes = bytes_map.FinMap nat_cmp ℕ

@@ -5,7 +5,7 @@ ghost use Rattle.std.specs.FinMap as bytes_map;
 ghost use Rattle.std.specs.FinSet as set;
 ghost use Rattle.ia_word.specs.Width.{bits_of, bytes_of};
 ghost use Rattle.ia_word.specs.Line.{line, last_line, lines};
-ghost use Rattle.ia_word.specs.Operand.{operand_bytes, operand_of, placed};
+ghost use Rattle.ia_word.specs.Operand.{operand_bytes, operand_of, placed_bytes};
 ghost use Rattle.tm_buffer.specs.Held.{Fits, with_bytes, laid_over, drained, lines_of, holds, place_of, with_line, with_lines};
 
 use crate::fault::{Full, NoMemory};
@@ -91,7 +91,7 @@ impl Buffer {
         requires ends { address + bytes_of width ≤ 2 ^ 32 }
         requires fits { value < 2 ^ bits_of width }
         ensures full { is_err result ≡ nat_lt self.old.room (length (with_lines self.old.order (lines address width))) }
-        ensures bytes { OnOk result (self.new.bytes ≡ with_bytes self.old.bytes (placed address (operand_bytes width value))) }
+        ensures bytes { OnOk result (self.new.bytes ≡ with_bytes self.old.bytes (placed_bytes address (operand_bytes width value))) }
         ensures order { OnOk result (self.new.order ≡ with_lines self.old.order (lines address width)) }
         ensures lines { OnOk result (lines_of self.new.order ≡ lines_of (lines address width ++ self.old.order)) }
         ensures room { self.new.room ≡ self.old.room }
@@ -274,7 +274,7 @@ impl Buffer {
         requires ends { address + 4 ≤ 2 ^ 32 }
         requires first { IsTrue (holds self.old.order (line address)) }
         requires last { IsTrue (holds self.old.order (last_line address Width.D)) }
-        ensures bytes { self.new.bytes ≡ with_bytes self.old.bytes (placed address bytes) }
+        ensures bytes { self.new.bytes ≡ with_bytes self.old.bytes (placed_bytes address bytes) }
         ensures order { self.new.order ≡ self.old.order }
         ensures room { self.new.room ≡ self.old.room }
     {

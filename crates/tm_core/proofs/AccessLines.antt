@@ -5,7 +5,7 @@ use Rattle.ia_word.specs.declared.width.Width.{Width}
 use Rattle.ia_word.specs.declared.width.Width.TheVariants.{B, D}
 use Rattle.ia_word.specs.Width.{bytes_of}
 use Rattle.ia_word.specs.Line.{line}
-use Rattle.tm_core.specs.Access.{places}
+use Rattle.tm_model.specs.Access.{addresses_of}
 
 -- the line of a byte between two places of an access is the line of one of them
 between_lines : (a b c : ℕ) → a ≤ b → b ≤ c → c ≤ a + 3 → (b / 64 ≡ a / 64) ⊎ (b / 64 ≡ c / 64)
@@ -27,7 +27,7 @@ twice true b e = refl
 twice false b e = ap (λ t. t || false) e
 
 -- the bytes of an access lie on the lines of its first and its last
-pub access_lines : (a : ℕ) (w : Width) (q : ℕ) → list_any (eqb q) (line a ∷ line (a + (bytes_of w - 1)) ∷ []) ≡ list_any (eqb q) (map line (places a w))
+pub access_lines : (a : ℕ) (w : Width) (q : ℕ) → list_any (eqb q) (line a ∷ line (a + (bytes_of w - 1)) ∷ []) ≡ list_any (eqb q) (map line (addresses_of a w))
 access_lines a B q = let e : (a + (1 - 1)) / 64 ≡ a / 64 = omega arith in twice (eqb q (line a)) (eqb q (line (a + (1 - 1)))) (ap (eqb q) e)
 access_lines a D q =
     let e2 : ((a + 1) + 1) / 64 ≡ (a + 2) / 64 = omega arith in
@@ -40,5 +40,5 @@ access_lines a D q =
     ∙ ap (λ l. eqb q (line a) || (eqb q (line (a + 1)) || (eqb q (line (a + 2)) || (eqb q l || false)))) e3)
 
 -- the same where both ends lie on one line
-pub access_line : (a : ℕ) (w : Width) → line (a + (bytes_of w - 1)) ≡ line a → (q : ℕ) → list_any (eqb q) (line a ∷ []) ≡ list_any (eqb q) (map line (places a w))
+pub access_line : (a : ℕ) (w : Width) → line (a + (bytes_of w - 1)) ≡ line a → (q : ℕ) → list_any (eqb q) (line a ∷ []) ≡ list_any (eqb q) (map line (addresses_of a w))
 access_line a w e q = sym (twice (eqb q (line a)) (eqb q (line (a + (bytes_of w - 1)))) (ap (eqb q) e)) ∙ access_lines a w q

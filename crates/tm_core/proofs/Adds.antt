@@ -9,11 +9,11 @@ use Rattle.ia_word.specs.declared.width.Width.{Width}
 use Rattle.ia_word.specs.Width.{bytes_of}
 use Rattle.ia_word.specs.Line.{line}
 use Rattle.tm_sets.specs.Content.{Content, with_line, same_kind}
-use Rattle.tm_core.proofs.Pieces.{contains-insert}
-use Rattle.tm_core.proofs.AccessLines.{access_lines, access_line}
-use Rattle.tm_core.specs.Access.{places}
+use Rattle.tm_model.specs.Access.{addresses_of}
+use Rattle.tm_core.specs.StepRefinement.{add_all}
 use Rattle.tm_core.specs.Types.{Kind, Lines, Read, Write}
-use Rattle.tm_core.specs.ViewSteps.{add_all}
+use Rattle.tm_core.proofs.AccessLines.{access_line, access_lines}
+use Rattle.tm_core.proofs.BufferLemmas.{contains-insert}
 
 or_assoc : (a b c : Bool) → (a || (b || c)) ≡ ((a || b) || c)
 or_assoc true b c = refl
@@ -32,21 +32,21 @@ one_more false true c = refl
 one_more false false c = refl
 
 -- what an access adds to a set: the line of its first byte, and the line of its last
-pub adds_two : (s : Lines) (a : ℕ) (w : Width) → finset.insert (finset.insert s (line a)) (line (a + (bytes_of w - 1))) ≡ add_all s (places a w)
+pub adds_two : (s : Lines) (a : ℕ) (w : Width) → finset.insert (finset.insert s (line a)) (line (a + (bytes_of w - 1))) ≡ add_all s (addresses_of a w)
 adds_two s a w =
     let last : ℕ = line (a + (bytes_of w - 1)) in
-    finset.same_set nat_cmp_total map_of.nat_cmp-IsAntisymmetric (finset.insert (finset.insert s (line a)) last) (add_all s (places a w)) (λ q.
+    finset.same_set nat_cmp_total map_of.nat_cmp-IsAntisymmetric (finset.insert (finset.insert s (line a)) last) (add_all s (addresses_of a w)) (λ q.
     contains-insert (finset.insert s (line a)) last q ∙ ap (λ t. eqb q last || t) (contains-insert s (line a) q)
     ∙ one_more (eqb q last) (eqb q (line a)) (finset.contains s q)
     ∙ ap (λ t. t || finset.contains s q) (access_lines a w q)
-    ∙ sym (contains-add_all s (places a w) q))
+    ∙ sym (contains-add_all s (addresses_of a w) q))
 
-pub adds_one : (s : Lines) (a : ℕ) (w : Width) → line (a + (bytes_of w - 1)) ≡ line a → finset.insert s (line a) ≡ add_all s (places a w)
+pub adds_one : (s : Lines) (a : ℕ) (w : Width) → line (a + (bytes_of w - 1)) ≡ line a → finset.insert s (line a) ≡ add_all s (addresses_of a w)
 adds_one s a w e =
-    finset.same_set nat_cmp_total map_of.nat_cmp-IsAntisymmetric (finset.insert s (line a)) (add_all s (places a w)) (λ q.
+    finset.same_set nat_cmp_total map_of.nat_cmp-IsAntisymmetric (finset.insert s (line a)) (add_all s (addresses_of a w)) (λ q.
     contains-insert s (line a) q ∙ ap (λ t. t || finset.contains s q) (or_none (eqb q (line a)))
     ∙ ap (λ t. t || finset.contains s q) (access_line a w e q)
-    ∙ sym (contains-add_all s (places a w) q))
+    ∙ sym (contains-add_all s (addresses_of a w) q))
   where
     or_none : (b : Bool) → b ≡ (b || false)
     or_none true = refl

@@ -9,15 +9,14 @@ use Rattle.std.proofs.lemmas.List.{length-append}
 use Rattle.ia_word.specs.declared.width.Width.{Width}
 use Rattle.ia_word.specs.Line.{line, last_line, lines as access_row}
 use Rattle.ia_word.specs.declared.width.Width.TheVariants.{B, D}
-use Rattle.ia_word.specs.Operand.{placed, operand_bytes}
+use Rattle.ia_word.specs.Operand.{placed_bytes, operand_bytes}
 use Rattle.tm_buffer.specs.Held.{place_of, with_line, with_lines}
-use Rattle.tm_core.proofs.Pieces.{contains-insert}
-use Rattle.tm_core.proofs.Adds.{adds_one, adds_two}
-use Rattle.tm_core.specs.Access.{places, places_of, stores_of}
-use Rattle.tm_core.specs.Owed.{fits}
-use Rattle.tm_core.specs.Parts.{IsHeld, Kept}
+use Rattle.tm_model.specs.Access.{addresses_of, stored_addresses, stores_of}
+use Rattle.tm_core.specs.Representation.{IsHeld, KeptCore}
+use Rattle.tm_core.specs.StepRefinement.{add_all, store_addresses}
 use Rattle.tm_core.specs.Types.{Lines, Store}
-use Rattle.tm_core.specs.ViewSteps.{add_all, stored_places}
+use Rattle.tm_core.proofs.Adds.{adds_one, adds_two}
+use Rattle.tm_core.proofs.BufferLemmas.{contains-insert}
 
 -- an order has just the members of a set, each once
 pub record Ordered (order : List ℕ) (s : Lines) : Type 0 where
@@ -93,31 +92,31 @@ ordered_line order s l h =
     ]) refl
 
 -- the lines of an access
-pub ordered_access : (order : List ℕ) (s : Lines) (a : ℕ) (w : Width) → Ordered order s → Ordered (with_lines order (access_row a w)) (add_all s (places a w))
+pub ordered_access : (order : List ℕ) (s : Lines) (a : ℕ) (w : Width) → Ordered order s → Ordered (with_lines order (access_row a w)) (add_all s (addresses_of a w))
 ordered_access order s a w h =
-    (elim (eqb (last_line a w) (line a)) as (λ t. eqb (last_line a w) (line a) ≡ t → Ordered (with_lines (with_line order (line a)) (cond t [] (last_line a w ∷ []))) (add_all s (places a w))) [
+    (elim (eqb (last_line a w) (line a)) as (λ t. eqb (last_line a w) (line a) ≡ t → Ordered (with_lines (with_line order (line a)) (cond t [] (last_line a w ∷ []))) (add_all s (addresses_of a w))) [
       | true ↦ λ e. subst (Ordered (with_line order (line a))) (adds_one s a w (eqb-true (last_line a w) (line a) e)) (ordered_line order s (line a) h)
       | false ↦ λ e. subst (Ordered (with_line (with_line order (line a)) (last_line a w))) (adds_two s a w) (ordered_line (with_line order (line a)) (finset.insert s (line a)) (last_line a w) (ordered_line order s (line a) h))
     ]) refl
 
-pub stored_places_are : (w : Option Store) → stored_places w ≡ places_of (stores_of w)
-stored_places_are None = refl
-stored_places_are (Some w) = by_width w.addr w.width w.value
+pub store_addresses_are : (w : Option Store) → store_addresses w ≡ stored_addresses (stores_of w)
+store_addresses_are None = refl
+store_addresses_are (Some w) = by_width w.addr w.width w.value
   where
-    by_width : (a : ℕ) (w : Width) (v : ℕ) → places a w ≡ places_of (placed a (operand_bytes w v))
+    by_width : (a : ℕ) (w : Width) (v : ℕ) → addresses_of a w ≡ stored_addresses (placed_bytes a (operand_bytes w v))
     by_width a B v = refl
     by_width a D v = refl
 
 -- a buffer that has just the lines of the write set is not full where the write set has room
-pub never_full : (order : List ℕ) (s : Lines) (a : ℕ) (w : Width) (room : ℕ) → Ordered order s → finset.len (add_all s (places a w)) ≤ room → ltb room (length (with_lines order (access_row a w))) ≡ false
-never_full order s a w room h fits = ap (ltb room) (ordered_access order s a w h).count ∙ le-ltb room (finset.len (add_all s (places a w))) fits
+pub never_full : (order : List ℕ) (s : Lines) (a : ℕ) (w : Width) (room : ℕ) → Ordered order s → finset.len (add_all s (addresses_of a w)) ≤ room → ltb room (length (with_lines order (access_row a w))) ≡ false
+never_full order s a w room h fits = ap (ltb room) (ordered_access order s a w h).count ∙ le-ltb room (finset.len (add_all s (addresses_of a w))) fits
 
-pub ordered_of : (room : ℕ) (x : Kept) → IsHeld room x → Ordered x.order x.view.writes
+pub ordered_of : (room : ℕ) (x : KeptCore) → IsHeld room x → Ordered x.order x.view.writes
 ordered_of room x h = record { count = h.count; same = h.same }
 
-pub held_of : (room : ℕ) (x : Kept) → x.room ≡ room → Ordered x.order x.view.writes → IsHeld room x
+pub held_of : (room : ℕ) (x : KeptCore) → x.room ≡ room → Ordered x.order x.view.writes → IsHeld room x
 held_of room x e h = record { same_room = e; count = h.count; same = h.same }
 
 -- a closed core's buffer is empty
-pub held_plain : (room : ℕ) (x : Kept) → x.room ≡ room → x.order ≡ [] → x.view.writes ≡ finset.empty → IsHeld room x
+pub held_plain : (room : ℕ) (x : KeptCore) → x.room ≡ room → x.order ≡ [] → x.view.writes ≡ finset.empty → IsHeld room x
 held_plain room x e f g = held_of room x e (ordered_as [] x.order finset.empty x.view.writes f g no_order)

@@ -5,7 +5,7 @@ use Rattle.std.proofs.lemmas.Option.{same_Some}
 use Rattle.ia_regs.specs.declared.flags.Flags.{Flags}
 use Rattle.ia_regs.specs.Flags.{flags_of}
 use Rattle.ia_regs.specs.declared.Regs.{Regs}
-use Rattle.ia_image.specs.Program.{Shown as Program, opening_memory, start_regs}
+use Rattle.ia_image.specs.Program.{ProgramValue as Program, opening_memory, start_regs}
 
 take_none : (n : ℕ) → take {A = ℕ} n [] ≡ []
 take_none n = take_all n [] (omega arith)

@@ -1,6 +1,6 @@
 use Rattle.std.proofs.Common.{◌≡◌, ℕ, ◌<◌, List, [], ◌∷◌, Option}
-use Rattle.tm_core.specs.Access.{Stores, stores_of}
-use Rattle.tm_core.specs.Setting.{Setting}
+use Rattle.tm_model.specs.Access.{Stores, stores_of}
+use Rattle.tm_model.specs.Setting.{Setting}
 use Rattle.tm_core.specs.Types.{Begins, Goes, GoesOn, Nests, Regs, Store}
 
 -- each place is below the memory's size

@@ -3,14 +3,14 @@ use Rattle.std.specs.Prelude.{IfSome}
 use Rattle.ia_word.specs.Width.{bytes_of, bits_of}
 use Rattle.ia_word.specs.declared.width.Width.{Width}
 use Rattle.ia_word.specs.declared.width.Width.TheVariants.{B, D}
-use Rattle.ia_word.specs.Operand.{placed, operand_bytes}
+use Rattle.ia_word.specs.Operand.{placed_bytes, operand_bytes}
 use Rattle.tm_rule.proofs.Facts.{LoadIn, StoreIn, store_within, store_within_inside, nests_below, begins_without_load}
-use Rattle.tm_core.proofs.Sound.{Sound, InRange}
-use Rattle.tm_core.specs.Access.{loaded_places, stores_of}
-use Rattle.tm_core.specs.Setting.{setting}
+use Rattle.tm_model.specs.Access.{loaded_addresses, stores_of}
+use Rattle.tm_model.specs.Setting.{setting_of}
 use Rattle.tm_core.specs.Types.{Access, Store}
+use Rattle.tm_core.proofs.Sound.{InRange, Sound}
 
-placed_in : (size a : ℕ) (w : Width) (v : ℕ) → a + bytes_of w ≤ size → InRange size (placed a (operand_bytes w v))
+placed_in : (size a : ℕ) (w : Width) (v : ℕ) → a + bytes_of w ≤ size → InRange size (placed_bytes a (operand_bytes w v))
 placed_in size a B v h = (omega arith, tt)
 placed_in size a D v h = (omega arith, (omega arith, (omega arith, (omega arith, tt))))
 
@@ -19,12 +19,12 @@ in_range size None h = tt
 in_range size (Some w) h = placed_in size w.addr w.width w.value h.0
 
 -- the facts of the table that the machine rests on
-pub sound : (code : List ℕ) (base size reads writes : ℕ) → Sound (setting code base size reads writes)
+pub sound : (code : List ℕ) (base size reads writes : ℕ) → Sound (setting_of code base size reads writes)
 sound code base size reads writes = record {
   goes = λ s bs t w e. in_range size w (store_within code base size s _ t w e);
   goes_on = λ s depth bs t w e. in_range size w (store_within_inside code base size s depth _ t w e);
   nests = λ s depth bs t e. nests_below code base size s depth _ t e;
-  begins = λ s bs t e. ap loaded_places (begins_without_load code base size s _ t e);
+  begins = λ s bs t e. ap loaded_addresses (begins_without_load code base size s _ t e);
 }
 
 -- an access of memory lies on its lines

@@ -1,8 +1,8 @@
 //! One core.
 
-use crate::outcome::CoreState;
 use ia_regs::Regs;
 use tm_buffer::Buffer;
+use tm_model::CoreState;
 
 /// A core. Outside a transaction, and where it is condemned, `regs` is `base` and the buffer is empty.
 #[derive(Drop)]

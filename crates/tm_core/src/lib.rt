@@ -1,4 +1,14 @@
 //! The machine: IA-32 cores over one flat memory, with Intel's restricted transactional memory.
+//!
+//! What it promises stands on one page, `specs/Theorem.antt`, in the words of `tm_model`: it stands for a state of
+//! one flat memory with its doomed cores, and each step is the owed one of that memory, on which each committed
+//! transaction ran alone at its XEND. `Machine` is that promise's type, over any sets that keep the laws of
+//! `tm_sets`. What serves the proofs alone is named for it: `specs/StepRefinement.antt` (a step on what is shown),
+//! `specs/Representation.antt` (how a core's parts show it) and `specs/Machine.antt` (the machine as one value).
+//!
+//! Stands on `tm_rule` (one instruction), `tm_status`, `tm_sets` (read and write sets), `tm_buffer` (a transaction's
+//! bytes) and `ia_image` (programs). Memory is asked for only where a machine is made and by the answers of `run` and
+//! `sets`.
 #![tactic(auto)]
 
 mod conflict;
@@ -7,9 +17,9 @@ mod fault;
 mod laws;
 mod limits;
 mod machine;
-mod memory;
+pub mod memory;
 mod opening;
-mod outcome;
+mod start;
 mod step;
 mod transaction;
 
@@ -17,5 +27,5 @@ pub use fault::{MachineFault, NoSuchCore, RunFault};
 pub use laws::transactions_are_as_they_went;
 pub use limits::Limits;
 pub use machine::Machine;
-pub use outcome::{CoreState, Outcome};
-pub use tm_rule::Stop;
+pub use start::{opening_memory, start_regs};
+pub use tm_model::{CoreState, Outcome, Stop};

@@ -1,63 +1,25 @@
 //! A machine before its first step.
 
-ghost use Rattle.std.specs.Prelude.{◌≡◌, ◌<◌, ◌≤◌, ◌*◌, ◌^◌, ◌↔◌, ℕ, List, Option, None, Err, true, length, IfOk};
+ghost use Rattle.std.specs.Prelude.{◌≡◌, ◌<◌, ◌≤◌, ◌*◌, ◌↔◌, ℕ, None, Err, true, length, IfOk};
 ghost use Rattle.std.specs.FinSet as set;
 ghost use Rattle.ia_image.specs.Program.{opening_memory as memory_of, code_of};
 ghost use Rattle.tm_sets.specs.declared.interface.Kind as AnyKind;
-ghost use Rattle.tm_core.specs.State.{opening};
-ghost use Rattle.tm_core.specs.Setting.{setting};
-ghost use Rattle.tm_core.specs.Parts.{cpu_at};
-ghost use Rattle.tm_core.specs.Machine.{StandsFor, IsStart, bad_limits, rules_of};
+ghost use Rattle.tm_model.specs.Setting.{program_setting};
+ghost use Rattle.tm_model.specs.State.{opening_state};
+ghost use Rattle.tm_core.specs.Machine.{IsStart, bad_limits};
+ghost use Rattle.tm_core.specs.Representation.{cpu_at};
+ghost use Rattle.tm_core.specs.Theorem.{StandsFor, machine_setting};
 
 use crate::cpu::Cpu;
 use crate::fault::MachineFault;
 use crate::limits::Limits;
 use crate::machine::Machine;
-use crate::outcome::CoreState;
+use crate::start::{opening_memory, start_regs};
 use ia_image::Program;
-use ia_regs::{Flags, Regs};
 use std::alloc::{AllocError, Global};
 use tm_buffer::Buffer;
+use tm_model::CoreState;
 use tm_sets::{Kind, PlainSets, Sets};
-
-// Memory: the image at its base, and zeros.
-fn opening_memory(alloc: Global, program: &Program) -> Result<Vec<u8>, AllocError>
-    ensures memory { IfOk result (λ memory. memory.items ≡ memory_of program.now) }
-    ensures size { IfOk result (λ memory. length memory.items ≡ program.now.mem_size) }
-{
-    let size = program.mem_size() as usize;
-    let mut memory = Vec::with_capacity(alloc, size)?;
-    memory.resize(program.base() as usize, 0)?;
-    memory.extend_from_slice(program.bytes())?;
-    memory.resize(size, 0)?;
-    Ok(memory)
-}
-
-// The registers of a core before its first step.
-fn start_regs(program: &Program, core: u8) -> Regs
-    requires { core < length program.now.entries }
-    ensures { result ≡ Rattle.ia_image.specs.Program.start_regs program.now core }
-{
-    let stack = program.mem_size() - 4096 * u32::from(core);
-    let eip = match program.entry(core) {
-        Some(entry) => entry,
-        None => unreachable!(),
-    };
-    Regs {
-        gpr: [
-            u32::from(core),
-            u32::from(program.cores()),
-            0,
-            0,
-            stack,
-            0,
-            0,
-            0,
-        ],
-        flags: Flags::of(false, false, false, false, false, false),
-        eip,
-    }
-}
 
 // A core before its first step.
 fn start_cpu(
@@ -87,7 +49,8 @@ fn start_cpu(
 fn start_cpus(alloc: Global, program: &Program, write_lines: u32) -> Result<Vec<Cpu>, AllocError>
     requires some { 1 ≤ write_lines }
     requires most { write_lines ≤ 4096 }
-    ensures { IfOk result (λ cpus. (length cpus.items ≡ length program.now.entries) × ((i : ℕ) → i < length program.now.entries → IsStart program.now write_lines i (cpu_at cpus.items i))) }
+    ensures { IfOk result (λ cpus. (length cpus.items ≡ length program.now.entries)
+        × ((i : ℕ) → i < length program.now.entries → IsStart program.now write_lines i (cpu_at cpus.items i))) }
 {
     let mut cpus = Vec::new(alloc);
     for core in 0..program.cores() {
@@ -108,7 +71,8 @@ fn start_parts(
     ensures memory { IfOk result (λ parts. parts.1.items ≡ memory_of program.now) }
     ensures size { IfOk result (λ parts. length parts.1.items ≡ program.now.mem_size) }
     ensures cores { IfOk result (λ parts. length parts.2.items ≡ length program.now.entries) }
-    ensures starts { IfOk result (λ parts. (i : ℕ) → i < length program.now.entries → IsStart program.now write_lines i (cpu_at parts.2.items i)) }
+    ensures starts { IfOk result (λ parts. (i : ℕ) → i < length program.now.entries →
+        IsStart program.now write_lines i (cpu_at parts.2.items i)) }
 {
     let code = Vec::from_slice(alloc, program.code())?;
     let memory = opening_memory(alloc, program)?;
@@ -131,8 +95,9 @@ impl<S: Sets + Drop> Machine<S> {
         requires read_lines { (S.content sets).fixed.room Kind.Read ≡ limits.read_lines }
         requires write_lines { (S.content sets).fixed.room Kind.Write ≡ limits.write_lines }
         ensures limits { result ≡ Err MachineFault.BadLimits ↔ (bad_limits limits ≡ true) }
-        ensures opening { IfOk result (λ machine. StandsFor machine (opening program.now) (λ _. None)) }
-        ensures rules { IfOk result (λ machine. rules_of machine ≡ setting (code_of program.now) program.now.base program.now.mem_size limits.read_lines limits.write_lines) }
+        ensures opening { IfOk result (λ machine. StandsFor machine (opening_state program.now) (λ _. None)) }
+        ensures rules { IfOk result (λ machine. machine_setting machine
+            ≡ program_setting program.now limits.read_lines limits.write_lines) }
         ensures cores { IfOk result (λ machine. length machine.views ≡ length program.now.entries) }
     {
         if limits.are_bad() {
@@ -160,8 +125,9 @@ impl Machine<PlainSets> {
         limits: Limits,
     ) -> Result<Machine<PlainSets>, MachineFault>
         ensures limits { result ≡ Err MachineFault.BadLimits ↔ (bad_limits limits ≡ true) }
-        ensures opening { IfOk result (λ machine. StandsFor machine (opening program.now) (λ _. None)) }
-        ensures rules { IfOk result (λ machine. rules_of machine ≡ setting (code_of program.now) program.now.base program.now.mem_size limits.read_lines limits.write_lines) }
+        ensures opening { IfOk result (λ machine. StandsFor machine (opening_state program.now) (λ _. None)) }
+        ensures rules { IfOk result (λ machine. machine_setting machine
+            ≡ program_setting program.now limits.read_lines limits.write_lines) }
         ensures cores { IfOk result (λ machine. length machine.views ≡ length program.now.entries) }
     {
         if limits.are_bad() {

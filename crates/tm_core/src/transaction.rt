@@ -1,26 +1,27 @@
 //! One core's transaction: its instructions, its commit and its abort.
 
-ghost use Rattle.std.specs.Prelude.{◌≡◌, ◌+◌, ◌-◌, ◌*◌, ◌/◌, ◌^◌, ◌<◌, ◌≤◌, ℕ, List, Option, None, [], ◌∷◌, true, false, length, map, nat_lt, not, slice_set, IfSome};
+ghost use Rattle.std.specs.Prelude.{◌≡◌, ◌+◌, ◌-◌, ◌*◌, ◌/◌, ◌^◌, ◌<◌, ◌≤◌, ℕ, List, Option, None, [], ◌∷◌, true};
+ghost use Rattle.std.specs.Prelude.{false, length, map, nat_lt, not, slice_set, IfSome};
 ghost use Rattle.std.specs.FinSet as set;
 ghost use Rattle.ia_word.specs.Width.{bytes_of, bits_of};
 ghost use Rattle.tm_buffer.specs.Held.{drained, Fits};
 ghost use Rattle.tm_rule.specs.Rule.{load_at as load_by, fallback_of};
 ghost use Rattle.tm_sets.specs.Content.{Content, with_line};
 ghost use Rattle.tm_sets.specs.declared.interface.Kind as AnyKind;
-ghost use Rattle.tm_core.specs.Access.{places, places_of, stores_of, loaded_places, loaded_value};
-ghost use Rattle.tm_core.specs.Owed.{fits};
-ghost use Rattle.tm_core.specs.Shown.{plain_view};
-ghost use Rattle.tm_core.specs.ViewSteps.{seen, add_all, grows, stepped, stored_places};
-ghost use Rattle.tm_core.specs.Parts.{view_of, kept_of, Elsewhere, IsHeld, AreLines, setting_of, left_inside};
+ghost use Rattle.tm_model.specs.Access.{addresses_of, loaded_addresses, loaded_value, stores_of};
+ghost use Rattle.tm_model.specs.Owed.{have_room};
+ghost use Rattle.tm_model.specs.Shown.{view_outside};
+ghost use Rattle.tm_core.specs.Representation.{Elsewhere, IsHeld, cpu_view, kept_of, left_inside, parts_setting};
+ghost use Rattle.tm_core.specs.StepRefinement.{add_all, grows, seen, stepped, store_addresses};
 
 use crate::cpu::Cpu;
 use crate::memory::read;
-use crate::outcome::{CoreState, Outcome};
 use ia_addr::Access;
 use ia_exec::Store;
 use ia_regs::Regs;
 use ia_word::{Width, line_of};
-use tm_rule::{Code, Within, fallback, fetch, inside, load_at};
+use tm_model::{CoreState, Outcome};
+use tm_rule::{Code, InsideResult, fallback, fetch, inside, load_at};
 use tm_sets::{Kind, Sets};
 use tm_status::{Cause, status};
 
@@ -34,8 +35,13 @@ pub fn abort<S: Sets>(
     depth: u8,
 ) -> Outcome
     requires { c < (S.content sets.old).fixed.cores }
-    ensures result { result ≡ Outcome.Aborted (Rattle.tm_core.specs.Owed.status cause depth) }
-    ensures view { view_of (S.content sets.new) c cpu.new ≡ plain_view CoreState.Running (record cpu.old.base { gpr = slice_set cpu.old.base.gpr 0 (Rattle.tm_core.specs.Owed.status cause depth); eip = fallback_of code.now.bytes.now code.now.base cpu.old.base }) }
+    ensures result { result ≡ Outcome.Aborted (Rattle.tm_model.specs.Owed.status_at cause depth) }
+    ensures view { cpu_view (S.content sets.new) c cpu.new
+        ≡ view_outside CoreState.Running (record cpu.old.base {
+          gpr = slice_set cpu.old.base.gpr 0 (Rattle.tm_model.specs.Owed.status_at cause depth);
+          eip =
+              fallback_of code.now.bytes.now code.now.base cpu.old.base;
+        }) }
     ensures elsewhere { Elsewhere (S.content sets.old) (S.content sets.new) c }
     ensures order { cpu.new.buffer.order ≡ [] }
     ensures room { cpu.new.buffer.room ≡ cpu.old.buffer.room }
@@ -52,11 +58,11 @@ pub fn abort<S: Sets>(
     Outcome::Aborted(status)
 }
 
-/// Ends a commit: the stored bytes go to memory, and the core is closed.
-pub fn settle<S: Sets>(memory: &mut [u8], cpu: &mut Cpu, sets: &mut S, c: u8)
+/// A commit: the stored bytes go to memory, and the core is closed.
+pub fn commit<S: Sets>(memory: &mut [u8], cpu: &mut Cpu, sets: &mut S, c: u8)
     requires core { c < (S.content sets.old).fixed.cores }
     requires fits { Fits cpu.old.buffer.bytes (length memory.old) }
-    ensures view { view_of (S.content sets.new) c cpu.new ≡ plain_view CoreState.Running cpu.old.regs }
+    ensures view { cpu_view (S.content sets.new) c cpu.new ≡ view_outside CoreState.Running cpu.old.regs }
     ensures memory { memory.new ≡ drained cpu.old.buffer.bytes memory.old }
     ensures elsewhere { Elsewhere (S.content sets.old) (S.content sets.new) c }
     ensures order { cpu.new.buffer.order ≡ [] }
@@ -72,7 +78,7 @@ pub fn settle<S: Sets>(memory: &mut [u8], cpu: &mut Cpu, sets: &mut S, c: u8)
 fn load(memory: &[u8], cpu: &Cpu, access: Option<Access>) -> u32
     requires small { length memory.now < 2 ^ 32 }
     requires within { IfSome access (λ a. a.addr + bytes_of a.width ≤ length memory.now) }
-    ensures { result ≡ loaded_value access (map (seen cpu.now.buffer.bytes memory.now) (loaded_places access)) }
+    ensures { result ≡ loaded_value access (map (seen cpu.now.buffer.bytes memory.now) (loaded_addresses access)) }
 {
     match access {
         Some(a) => cpu
@@ -88,7 +94,8 @@ fn add_line<S: Sets>(sets: &mut S, c: u8, line: u32, kind: Kind) -> bool
     requires core { c < (S.content sets.old).fixed.cores }
     requires line { line < (S.content sets.old).fixed.line_count }
     requires room { set.len ((S.content sets.old).lines c kind) ≤ (S.content sets.old).fixed.room kind }
-    ensures told { result ≡ not (nat_lt ((S.content sets.old).fixed.room kind) (set.len (set.insert ((S.content sets.old).lines c kind) line))) }
+    ensures told { result ≡ not (nat_lt ((S.content sets.old).fixed.room kind)
+        (set.len (set.insert ((S.content sets.old).lines c kind) line))) }
     ensures ok { result ≡ true → S.content sets.new ≡ with_line (S.content sets.old) c kind line }
     ensures err { result ≡ false → S.content sets.new ≡ S.content sets.old }
 {
@@ -101,9 +108,12 @@ fn add_lines<S: Sets>(sets: &mut S, c: u8, addr: u32, width: Width, kind: Kind) 
     requires within { addr + bytes_of width ≤ (S.content sets.old).fixed.line_count * 64 }
     requires small { addr + bytes_of width ≤ 2 ^ 32 }
     requires room { set.len ((S.content sets.old).lines c kind) ≤ (S.content sets.old).fixed.room kind }
-    ensures told { result ≡ not (nat_lt ((S.content sets.old).fixed.room kind) (set.len (add_all ((S.content sets.old).lines c kind) (places addr width)))) }
-    ensures ok { result ≡ true → (S.content sets.new).lines c kind ≡ add_all ((S.content sets.old).lines c kind) (places addr width) }
-    ensures others { (other : AnyKind.Kind) → Rattle.tm_sets.specs.Content.same_kind other kind ≡ false → (S.content sets.new).lines c other ≡ (S.content sets.old).lines c other }
+    ensures told { result ≡ not (nat_lt ((S.content sets.old).fixed.room kind)
+        (set.len (add_all ((S.content sets.old).lines c kind) (addresses_of addr width)))) }
+    ensures ok { result ≡ true → (S.content sets.new).lines c kind
+        ≡ add_all ((S.content sets.old).lines c kind) (addresses_of addr width) }
+    ensures others { (other : AnyKind.Kind) → Rattle.tm_sets.specs.Content.same_kind other kind ≡ false →
+        (S.content sets.new).lines c other ≡ (S.content sets.old).lines c other }
     ensures elsewhere { Elsewhere (S.content sets.old) (S.content sets.new) c }
 {
     let first = line_of(addr);
@@ -114,13 +124,20 @@ fn add_lines<S: Sets>(sets: &mut S, c: u8, addr: u32, width: Width, kind: Kind) 
 // Adds the lines of an instruction to a core's sets, or answers that there is no room.
 fn touch<S: Sets>(sets: &mut S, c: u8, access: Option<Access>, store: Option<Store>) -> bool
     requires core { c < (S.content sets.old).fixed.cores }
-    requires access { IfSome access (λ a. (a.addr + bytes_of a.width ≤ (S.content sets.old).fixed.line_count * 64) × (a.addr + bytes_of a.width ≤ 2 ^ 32)) }
-    requires store { IfSome store (λ w. (w.addr + bytes_of w.width ≤ (S.content sets.old).fixed.line_count * 64) × (w.addr + bytes_of w.width ≤ 2 ^ 32)) }
+    requires access { IfSome access (λ a. (a.addr + bytes_of a.width ≤ (S.content sets.old).fixed.line_count * 64)
+        × (a.addr + bytes_of a.width ≤ 2 ^ 32)) }
+    requires store { IfSome store (λ w. (w.addr + bytes_of w.width ≤ (S.content sets.old).fixed.line_count * 64)
+        × (w.addr + bytes_of w.width ≤ 2 ^ 32)) }
     requires reads { set.len ((S.content sets.old).lines c Kind.Read) ≤ (S.content sets.old).fixed.room Kind.Read }
     requires writes { set.len ((S.content sets.old).lines c Kind.Write) ≤ (S.content sets.old).fixed.room Kind.Write }
-    ensures told { (code : List ℕ) (base size : ℕ) → result ≡ fits (setting_of code base size (S.content sets.old)) (add_all ((S.content sets.old).lines c Kind.Read) (loaded_places access)) (add_all ((S.content sets.old).lines c Kind.Write) (stored_places store)) }
-    ensures reads { result ≡ true → (S.content sets.new).lines c Kind.Read ≡ add_all ((S.content sets.old).lines c Kind.Read) (loaded_places access) }
-    ensures writes { result ≡ true → (S.content sets.new).lines c Kind.Write ≡ add_all ((S.content sets.old).lines c Kind.Write) (stored_places store) }
+    ensures told { (code : List ℕ) (base size : ℕ) → result
+        ≡ have_room (parts_setting code base size (S.content sets.old))
+        (add_all ((S.content sets.old).lines c Kind.Read) (loaded_addresses access))
+        (add_all ((S.content sets.old).lines c Kind.Write) (store_addresses store)) }
+    ensures reads { result ≡ true → (S.content sets.new).lines c Kind.Read
+        ≡ add_all ((S.content sets.old).lines c Kind.Read) (loaded_addresses access) }
+    ensures writes { result ≡ true → (S.content sets.new).lines c Kind.Write
+        ≡ add_all ((S.content sets.old).lines c Kind.Write) (store_addresses store) }
     ensures elsewhere { Elsewhere (S.content sets.old) (S.content sets.new) c }
 {
     let read = match access {
@@ -145,14 +162,19 @@ fn grow<S: Sets>(
     depth: u8,
 ) -> bool
     requires core { c < (S.content sets.old).fixed.cores }
-    requires access { IfSome access (λ a. (a.addr + bytes_of a.width ≤ (S.content sets.old).fixed.line_count * 64) × (a.addr + bytes_of a.width ≤ 2 ^ 32)) }
-    requires store { IfSome store (λ w. (w.addr + bytes_of w.width ≤ (S.content sets.old).fixed.line_count * 64) × (w.addr + bytes_of w.width ≤ 2 ^ 32)) }
+    requires access { IfSome access (λ a. (a.addr + bytes_of a.width ≤ (S.content sets.old).fixed.line_count * 64)
+        × (a.addr + bytes_of a.width ≤ 2 ^ 32)) }
+    requires store { IfSome store (λ w. (w.addr + bytes_of w.width ≤ (S.content sets.old).fixed.line_count * 64)
+        × (w.addr + bytes_of w.width ≤ 2 ^ 32)) }
     requires value { IfSome store (λ w. w.value < 2 ^ bits_of w.width) }
     requires reads { set.len ((S.content sets.old).lines c Kind.Read) ≤ (S.content sets.old).fixed.room Kind.Read }
     requires writes { set.len ((S.content sets.old).lines c Kind.Write) ≤ (S.content sets.old).fixed.room Kind.Write }
     requires held { IsHeld ((S.content sets.old).fixed.room Kind.Write) (kept_of (S.content sets.old) c cpu.old) }
-    ensures told { (code : List ℕ) (base size : ℕ) → let new = grows (view_of (S.content sets.old) c cpu.old) depth next (loaded_places access) (stores_of store) in result ≡ fits (setting_of code base size (S.content sets.old)) new.reads new.writes }
-    ensures grown { result ≡ true → view_of (S.content sets.new) c cpu.new ≡ grows (view_of (S.content sets.old) c cpu.old) depth next (loaded_places access) (stores_of store) }
+    ensures told { (code : List ℕ) (base size : ℕ) → let new =
+        grows (cpu_view (S.content sets.old) c cpu.old) depth next (loaded_addresses access) (stores_of store) in
+        result ≡ have_room (parts_setting code base size (S.content sets.old)) new.reads new.writes }
+    ensures grown { result ≡ true → cpu_view (S.content sets.new) c cpu.new
+        ≡ grows (cpu_view (S.content sets.old) c cpu.old) depth next (loaded_addresses access) (stores_of store) }
     ensures held { result ≡ true → IsHeld ((S.content sets.old).fixed.room Kind.Write) (kept_of (S.content sets.new) c cpu.new) }
     ensures base { cpu.new.base ≡ cpu.old.base }
     ensures elsewhere { Elsewhere (S.content sets.old) (S.content sets.new) c }
@@ -173,7 +195,16 @@ fn grow<S: Sets>(
     room
 }
 
-/// A step of an open core, but for what a commit does to memory and to other cores: `None` where the core is to commit.
+/// What a step of an open core comes to.
+#[derive(Clone, Copy, Debug)]
+pub enum InsideStep {
+    /// The step is made, with this outcome.
+    Made(Outcome),
+    /// It is the XEND that commits: memory and the other cores are still as they were.
+    Commits,
+}
+
+/// A step of an open core, but for what a commit does to memory and to other cores.
 pub fn step_inside<S: Sets>(
     code: &Code,
     memory: &[u8],
@@ -182,7 +213,7 @@ pub fn step_inside<S: Sets>(
     c: u8,
     size: u32,
     depth: u8,
-) -> Option<Outcome>
+) -> InsideStep
     requires core { c < (S.content sets.old).fixed.cores }
     requires lines { size ≤ (S.content sets.old).fixed.line_count * 64 }
     requires size { size ≡ length memory.now }
@@ -192,39 +223,41 @@ pub fn step_inside<S: Sets>(
     requires reads { set.len ((S.content sets.old).lines c Kind.Read) ≤ (S.content sets.old).fixed.room Kind.Read }
     requires writes { set.len ((S.content sets.old).lines c Kind.Write) ≤ (S.content sets.old).fixed.room Kind.Write }
     requires held { IsHeld ((S.content sets.old).fixed.room Kind.Write) (kept_of (S.content sets.old) c cpu.old) }
-    ensures step { stepped (setting_of code.now.bytes.now code.now.base size (S.content sets.old)) memory.now (view_of (S.content sets.old) c cpu.old) (CoreState.Open depth) ≡ left_inside memory.now result (view_of (S.content sets.new) c cpu.new) }
+    ensures step { stepped (parts_setting code.now.bytes.now code.now.base size (S.content sets.old)) memory.now
+        (cpu_view (S.content sets.old) c cpu.old) (CoreState.Open depth)
+        ≡ left_inside memory.now result (cpu_view (S.content sets.new) c cpu.new) }
     ensures held { IsHeld ((S.content sets.old).fixed.room Kind.Write) (kept_of (S.content sets.new) c cpu.new) }
     ensures elsewhere { Elsewhere (S.content sets.old) (S.content sets.new) c }
-    ensures buffer { result ≡ None → cpu.new.buffer.bytes ≡ cpu.old.buffer.bytes }
-    ensures order { result ≡ None → cpu.new.buffer.order ≡ cpu.old.buffer.order }
+    ensures buffer { result ≡ InsideStep.Commits → cpu.new.buffer.bytes ≡ cpu.old.buffer.bytes }
+    ensures order { result ≡ InsideStep.Commits → cpu.new.buffer.order ≡ cpu.old.buffer.order }
 {
     let regs = cpu.regs;
     let fetched = fetch(code, regs.eip);
     let access = load_at(&fetched, &regs, size);
     let loaded = load(memory, cpu, access);
     match inside(&fetched, code, size, &regs, loaded, depth) {
-        Within::Fails(cause) => Some(abort(code, cpu, sets, c, cause, depth)),
-        Within::GoesOn(next, store) => {
+        InsideResult::Fails(cause) => InsideStep::Made(abort(code, cpu, sets, c, cause, depth)),
+        InsideResult::GoesOn(next, store) => {
             if grow(cpu, sets, c, access, store, next, depth) {
-                Some(Outcome::Inside)
+                InsideStep::Made(Outcome::Inside)
             } else {
-                Some(abort(code, cpu, sets, c, Cause::Capacity, depth))
+                InsideStep::Made(abort(code, cpu, sets, c, Cause::Capacity, depth))
             }
         }
-        Within::Nests(next) => {
+        InsideResult::Nests(next) => {
             if grow(cpu, sets, c, access, None, next, depth + 1) {
-                Some(Outcome::Inside)
+                InsideStep::Made(Outcome::Inside)
             } else {
-                Some(abort(code, cpu, sets, c, Cause::Capacity, depth))
+                InsideStep::Made(abort(code, cpu, sets, c, Cause::Capacity, depth))
             }
         }
-        Within::Ends(next) => {
+        InsideResult::Ends(next) => {
             if !grow(cpu, sets, c, access, None, next, depth - 1) {
-                Some(abort(code, cpu, sets, c, Cause::Capacity, depth))
+                InsideStep::Made(abort(code, cpu, sets, c, Cause::Capacity, depth))
             } else if depth == 1 {
-                None
+                InsideStep::Commits
             } else {
-                Some(Outcome::Inside)
+                InsideStep::Made(Outcome::Inside)
             }
         }
     }

@@ -3,7 +3,7 @@ use Rattle.std.specs.Prelude.{⊤, ◌≡◌, ◌⊎◌, ℕ, ◌==◌, ◌<◌,
 use Rattle.std.specs.Prelude.{Option, Some, Result, Ok, Err}
 use Rattle.ia_lex.specs.Lines.{lines_of}
 use Rattle.ia_text.specs.Writing.{AppendsFront, Device, Wrote}
-use Rattle.tm_hist.specs.Board.{Shown as Board}
+use Rattle.tm_hist.specs.Board.{ShownBoard as Board}
 use Rattle.tm_debug.specs.declared.command.Command.{Command}
 use Rattle.tm_debug.specs.declared.command.Command.TheVariants.{Quit}
 use Rattle.tm_debug.specs.declared.command.Command.TheVariants as command

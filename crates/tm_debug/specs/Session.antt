@@ -5,15 +5,15 @@ use Rattle.std.specs.Prelude.{nat_lt, Option, Some, None, is_some, Result, Ok, E
 use Rattle.std.specs.List.{flat_map, list_any, position, remove}
 use Rattle.std.specs.List.Sorted.{IsStrictlyIncreasing}
 use Rattle.std.specs.FinSet as set
-use Rattle.ia_image.specs.Program.{Shown as Program, code_of}
+use Rattle.ia_image.specs.Program.{ProgramValue as Program, code_of}
 use Rattle.ia_text.specs.Listing.{listing_line, shown_bytes}
 use Rattle.ia_text.specs.Number.{eight_digits, hex_digits}
 use Rattle.ia_text.specs.declared.out.WriteFault.{WriteFault}
 use Rattle.ia_text.specs.Writing.{Device, Stopped, Writes, Wrote}
-use Rattle.tm_core.specs.declared.outcome.CoreState.{CoreState}
-use Rattle.tm_core.specs.declared.outcome.Outcome.{Outcome}
-use Rattle.tm_core.specs.Machine.{Shown as Machine, view_at}
-use Rattle.tm_hist.specs.Board.{IsHistory, SameBoard, Shown as Board, stop_shown}
+use Rattle.tm_model.specs.declared.outcome.CoreState.{CoreState}
+use Rattle.tm_model.specs.declared.outcome.Outcome.{Outcome}
+use Rattle.tm_core.specs.Theorem.{ShownMachine as Machine, view_at}
+use Rattle.tm_hist.specs.Board.{IsHistory, SameBoard, ShownBoard as Board, stop_shown}
 use Rattle.tm_hist.specs.Lines.{core_text, dump_lines, line_end, number_text, outcome_line, state_word}
 use Rattle.tm_hist.specs.Machine.{shown_regs, shown_state}
 use Rattle.tm_debug.specs.declared.command.Command.{Command}

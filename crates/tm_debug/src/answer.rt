@@ -14,7 +14,7 @@ use crate::state::{MOST_BREAKPOINTS, RunCheck, SessionState, core_count};
 use ia_image::Program;
 use ia_text::{Out, WriteFault, write_line};
 use tm_core::Machine;
-use tm_hist::row::{Row, push, push_long, push_number};
+use tm_hist::text_line::{TextLine, push, push_long, push_number};
 use tm_hist::{StepFault, write_core, write_dump, write_outcome};
 
 /// Tells a refusal.
@@ -60,7 +60,7 @@ pub fn step<O: Out>(state: &mut SessionState, core: u64, out: &mut O) -> Result<
     }
 }
 
-fn push_break(row: &mut Row, core: u8, address: u32)
+fn push_break(row: &mut TextLine, core: u8, address: u32)
     requires { array_vec_len row.old ≡ 0 }
     ensures { row.new.items ≡ row.old.items ++ break_line core address }
 {
@@ -79,7 +79,7 @@ pub fn end_run<O: Out>(check: RunCheck, out: &mut O) -> Result<(), WriteFault>
         RunCheck::AllStopped => out.put(b"all stopped\n")?,
         RunCheck::Full => out.put(Refusal::LimitReached.line())?,
         RunCheck::AtBreakpoint(core, address) => {
-            let mut row = Row::new();
+            let mut row = TextLine::new();
             push_break(&mut row, core, address);
             out.put(row.as_slice())?;
         }

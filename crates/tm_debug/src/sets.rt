@@ -6,7 +6,7 @@ ghost use Rattle.std.specs.List.Sorted.{IsStrictlyIncreasing};
 ghost use Rattle.arrayvec.specs.ArrayVec.{array_vec_len};
 ghost use Rattle.ia_text.specs.Number.{hex_digits};
 ghost use Rattle.ia_text.specs.Writing.{Writes};
-ghost use Rattle.tm_core.specs.Machine.{lines_of, view_at};
+ghost use Rattle.tm_core.specs.Theorem.{lines_shown, view_at};
 ghost use Rattle.tm_debug.specs.Session.{Ends, SetsAnswer, SetsOf, lines_text, value_of, sets_head};
 
 use crate::answer::{core_of, refuse};
@@ -18,7 +18,7 @@ use ia_text::{Out, WriteFault};
 use std::alloc::{AllocError, Global};
 use tm_core::{CoreState, Machine};
 use tm_hist::push_state;
-use tm_hist::row::{Row, push, push_number};
+use tm_hist::text_line::{TextLine, push, push_number};
 use tm_sets::Kind;
 
 // Adds the number of a line in hex, behind a space.
@@ -46,7 +46,7 @@ fn add_lines(text: &mut Vec<u8>, lines: &[u32]) -> Result<(), AllocError>
 
 // What stands before the lines.
 #[tactic(auto, unfolding(crate::specs::Session::sets_head))]
-fn push_head(row: &mut Row, core: u8, state: CoreState)
+fn push_head(row: &mut TextLine, core: u8, state: CoreState)
     requires { array_vec_len row.old ≡ 0 }
     ensures { row.new.items ≡ row.old.items ++ sets_head core state }
 {
@@ -61,7 +61,7 @@ fn push_head(row: &mut Row, core: u8, state: CoreState)
 fn lines_of(alloc: Global, machine: &Machine, core: u8, kind: Kind) -> Result<Vec<u32>, AllocError>
     requires { core < length machine.now.views }
     ensures ascending { IfOk result (λ lines. IsStrictlyIncreasing lines.items) }
-    ensures shown { IfOk result (λ lines. set.from_list lines.items ≡ lines_of (view_at machine.now core) kind) }
+    ensures shown { IfOk result (λ lines. set.from_list lines.items ≡ lines_shown (view_at machine.now core) kind) }
 {
     match machine.sets(alloc, core, kind) {
         Ok(lines) => Ok(lines),
@@ -76,7 +76,7 @@ fn sets_line(alloc: Global, machine: &Machine, core: u8) -> Result<Vec<u8>, Allo
 {
     let reads = lines_of(alloc, machine, core, Kind::Read)?;
     let writes = lines_of(alloc, machine, core, Kind::Write)?;
-    let mut head = Row::new();
+    let mut head = TextLine::new();
     push_head(&mut head, core, machine.state(core).unwrap());
     let mut text = Vec::from_slice(alloc, head.as_slice())?;
     add_lines(&mut text, reads.as_slice())?;

@@ -8,7 +8,8 @@ use Rattle.std.specs.Char.{is_ascii_digit}
 use Rattle.std.specs.List.{AllByRecursion, slice_split, flat_map, range_with_len, join_with_byte}
 use Rattle.ia_lex.specs.Lines.{lines_of}
 use Rattle.tm_hist.specs.Lines.{number_text}
-use Rattle.tm_hist.specs.Schedule.{small, three_digits, core_number, word_numbers, joined, numbers_of, in_front, behind, numbers_from, schedule_of, schedule_row, schedule_text}
+use Rattle.tm_hist.specs.Schedule.{behind, core_number, in_front, joined, numbers_from, numbers_of, schedule_of}
+use Rattle.tm_hist.specs.Schedule.{schedule_row, schedule_text, small, three_digits, word_numbers}
 
 abbrev Above : ℕ → List ℕ → Type 0
 Above k xs = AllByRecursion (λ b. k < b) xs

@@ -2,27 +2,26 @@
 use Rattle.std.proofs.Common.{◌≡◌, ℕ, zero, suc, cond, ltb, List, [], ◌∷◌, take, Option, Some, None, refl, ap, ◌∙◌}
 use Rattle.std.specs.Option.{option_and_then, option_map}
 use Rattle.ia_regs.specs.declared.Regs.{Regs}
-use Rattle.tm_core.specs.Isolated.{isolated, longer}
-use Rattle.tm_core.specs.Setting.{Setting, setting}
-use Rattle.tm_core.specs.State.{Closed, Core, Halted, Opened, State}
-use Rattle.tm_core.specs.Steps.{committed, moved, put, run, step}
-use Rattle.tm_core.specs.declared.outcome.Outcome.{Outcome}
-use Rattle.tm_core.specs.declared.outcome.Outcome.TheVariants.{Plain, Stopped, Idle, Begun, Inside, Committed, Aborted}
-use Rattle.tm_hist.specs.Serial.{rules}
+use Rattle.tm_model.specs.Isolated.{isolated_body, longer_body}
+use Rattle.tm_model.specs.Setting.{Setting, setting_of}
+use Rattle.tm_model.specs.State.{Closed, Core, Halted, Opened, State}
+use Rattle.tm_model.specs.Steps.{after_commit, after_step_of, run, state_with, step}
+use Rattle.tm_model.specs.declared.outcome.Outcome.{Outcome}
+use Rattle.tm_model.specs.declared.outcome.Outcome.TheVariants.{Plain, Stopped, Idle, Begun, Inside, Committed, Aborted}
 
 module _ (code : List ℕ) (base size reads writes : ℕ) where
   abbrev limited : Setting
-  limited = setting code base size reads writes
+  limited = setting_of code base size reads writes
 
   abbrev free : Setting
-  free = rules code base size
+  free = setting_of code base size 0 0
 
-  same_body : (s : Regs) (m : List ℕ) (n : ℕ) → isolated limited s m n ≡ isolated free s m n
+  same_body : (s : Regs) (m : List ℕ) (n : ℕ) → isolated_body limited s m n ≡ isolated_body free s m n
   same_body s m zero = refl
   same_body s m (suc zero) = refl
-  same_body s m (suc (suc n)) = ap (option_and_then (longer limited m)) (same_body s m (suc n))
+  same_body s m (suc (suc n)) = ap (option_and_then (longer_body limited m)) (same_body s m (suc n))
 
-  same_moved : (m : List ℕ) (x : Core) (o : Outcome) → moved limited m x o ≡ moved free m x o
+  same_moved : (m : List ℕ) (x : Core) (o : Outcome) → after_step_of limited m x o ≡ after_step_of free m x o
   same_moved m (Closed s) Plain = refl
   same_moved m (Closed s) (Stopped why) = refl
   same_moved m (Closed s) Idle = refl
@@ -42,11 +41,11 @@ module _ (code : List ℕ) (base size reads writes : ℕ) where
   same_moved m (Opened s n) Idle = refl
   same_moved m (Opened s n) Begun = refl
   same_moved m (Opened s n) Inside = refl
-  same_moved m (Opened s n) Committed = ap (option_and_then (committed m)) (same_body s m (suc n))
+  same_moved m (Opened s n) Committed = ap (option_and_then (after_commit m)) (same_body s m (suc n))
   same_moved m (Opened s n) (Aborted status) = refl
 
   same_step : (a : State) (c : ℕ) (o : Outcome) → step limited a c o ≡ step free a c o
-  same_step a c o = ap (λ x. cond (ltb c a.count) (option_map (put a c) x) None) (same_moved a.memory (a.cores c) o)
+  same_step a c o = ap (λ x. cond (ltb c a.count) (option_map (state_with a c) x) None) (same_moved a.memory (a.cores c) o)
 
   same_then : (ps : List (ℕ × Outcome)) → ((a : State) → run limited a ps ≡ run free a ps) → (x : Option State) →
       option_and_then (λ b. run limited b ps) x ≡ option_and_then (λ b. run free b ps) x

@@ -6,16 +6,17 @@ use Rattle.std.specs.List.{AllByRecursion, range_with_len, slice_get}
 use Rattle.std.proofs.lemmas.Option.{get_or_from_slice_get, slice_get_within}
 use Rattle.std.proofs.lemmas.List.{length-append, length-replicate, take_at}
 use Rattle.std.proofs.lemmas.List.FromFn.{map-range_with_len_more, length-map-range_with_len, get_or-map-range_with_len}
-use Rattle.ia_image.specs.Program.{Shown as Program, code_of, opening_memory, IsSound}
+use Rattle.ia_image.specs.Program.{ProgramValue as Program, code_of, opening_memory, IsSound}
 use Rattle.std.specs.Prelude.{⊤}
 use Rattle.std.specs.Option.{option_and_then, option_map}
-use Rattle.tm_core.specs.declared.outcome.Outcome.{Outcome}
-use Rattle.tm_core.specs.Setting.{Setting}
-use Rattle.tm_core.specs.State.{Core, State, opening}
-use Rattle.tm_core.specs.Steps.{moved, put, step, run}
-use Rattle.tm_hist.specs.declared.shape.Shape.{Shape}
-use Rattle.tm_hist.specs.declared.shape.Shape.TheVariants as shape
-use Rattle.tm_hist.specs.Serial.{core_of, steps_of, first_shape, rules, rules_of, Agrees, EndsWith, IsStuck, ListStuck, core_at, with_core, list_step, list_run}
+use Rattle.tm_model.specs.declared.outcome.Outcome.{Outcome}
+use Rattle.tm_model.specs.Setting.{Setting, program_setting, setting_of}
+use Rattle.tm_model.specs.State.{Core, State, opening_state}
+use Rattle.tm_model.specs.Steps.{after_step_of, run, state_with, step}
+use Rattle.tm_hist.specs.Serial.{Agrees, EndsWith, IsStuck, ListStuck, core_at, core_of, first_core, list_run}
+use Rattle.tm_hist.specs.Serial.{list_step, steps_of, with_core}
+use Rattle.tm_hist.specs.declared.serial_core.SerialCore.{SerialCore}
+use Rattle.tm_hist.specs.declared.serial_core.SerialCore.TheVariants as serial_core
 
 Same : Option State → Option (List ℕ × List Core) → Type 0
 Same None None = ⊤
@@ -30,7 +31,7 @@ same_if false x y h = tt
 
 -- the core that steps, and the others
 each_after : (a : State) (m : List ℕ) (cores : List Core) (c : ℕ) (p : List ℕ × Core) → Agrees a m cores → c < length cores →
-    (j : ℕ) → j < length (slice_set cores c p.1) → core_at (slice_set cores c p.1) j ≡ (put a c p).cores j
+    (j : ℕ) → j < length (slice_set cores c p.1) → core_at (slice_set cores c p.1) j ≡ (state_with a c p).cores j
 each_after a m cores c p h l j below =
     let size = length-set cores c p.1 in
     elim (nat_eq j c) as (λ b. nat_eq j c ≡ b → core_at (slice_set cores c p.1) j ≡ (if b then p.1 else a.cores j)) [
@@ -39,7 +40,7 @@ each_after a m cores c p h l j below =
     ] refl
 
 same_put : (a : State) (m : List ℕ) (cores : List Core) (c : ℕ) → Agrees a m cores → c < length cores → (o : Option (List ℕ × Core)) →
-    Same (option_map (put a c) o) (with_core cores c o)
+    Same (option_map (state_with a c) o) (with_core cores c o)
 unfolding Same
 same_put a m cores c h l None = tt
 same_put a m cores c h l (Some p) = record {
@@ -51,14 +52,14 @@ same_put a m cores c h l (Some p) = record {
 same_step : (k : Setting) (a : State) (m : List ℕ) (cores : List Core) (c : ℕ) (o : Outcome) → Agrees a m cores →
     Same (step k a c o) (list_step k m cores c o)
 same_step k a m cores c o h =
-    let P : ℕ → Type 0 = λ n. Same (if nat_lt n a.count then option_map (put a c) (moved k a.memory (a.cores c) o) else None) (list_step k m cores c o) in
-    let Q : ℕ → Type 0 = λ n. Same (if nat_lt c n then option_map (put a c) (moved k a.memory (a.cores c) o) else None) (list_step k m cores c o) in
+    let P : ℕ → Type 0 = λ n. Same (if nat_lt n a.count then option_map (state_with a c) (after_step_of k a.memory (a.cores c) o) else None) (list_step k m cores c o) in
+    let Q : ℕ → Type 0 = λ n. Same (if nat_lt c n then option_map (state_with a c) (after_step_of k a.memory (a.cores c) o) else None) (list_step k m cores c o) in
     subst Q h.count
-    (same_if (nat_lt c (length cores)) (option_map (put a c) (moved k a.memory (a.cores c) o)) (with_core cores c (moved k m (core_at cores c) o)) λ e.
+    (same_if (nat_lt c (length cores)) (option_map (state_with a c) (after_step_of k a.memory (a.cores c) o)) (with_core cores c (after_step_of k m (core_at cores c) o)) λ e.
     let l : c < length cores = ltb-true c (length cores) e in
-    let R : List ℕ → Type 0 = λ x. Same (option_map (put a c) (moved k x (a.cores c) o)) (with_core cores c (moved k m (core_at cores c) o)) in
-    let S : Core → Type 0 = λ x. Same (option_map (put a c) (moved k m x o)) (with_core cores c (moved k m (core_at cores c) o)) in
-    subst R h.memory (subst S (h.each c l) (same_put a m cores c h l (moved k m (core_at cores c) o))))
+    let R : List ℕ → Type 0 = λ x. Same (option_map (state_with a c) (after_step_of k x (a.cores c) o)) (with_core cores c (after_step_of k m (core_at cores c) o)) in
+    let S : Core → Type 0 = λ x. Same (option_map (state_with a c) (after_step_of k m x o)) (with_core cores c (after_step_of k m (core_at cores c) o)) in
+    subst R h.memory (subst S (h.each c l) (same_put a m cores c h l (after_step_of k m (core_at cores c) o))))
 
 same_then : (k : Setting) (ps : List (ℕ × Outcome)) → ((a : State) (m : List ℕ) (cores : List Core) → Agrees a m cores → Same (run k a ps) (list_run k m cores ps)) →
     (x : Option State) (y : Option (List ℕ × List Core)) → Same x y → Same (option_and_then (λ b. run k b ps) x) (option_and_then (λ q. list_run k q.0 q.1 ps) y)
@@ -129,42 +130,42 @@ all_more P Q [] f h = tt
 all_more P Q (x ∷ xs) f h = (f x h.0, all_more P Q xs f h.1)
 
 -- a step at a place of the list
-pub step_at : (k : Setting) (m : List ℕ) (shapes : List Shape) (c : ℕ) (o : Outcome) (x d : Shape) → c < length shapes → x ≡ get_or shapes c d →
-    list_step k m (map core_of shapes) c o ≡ with_core (map core_of shapes) c (moved k m (core_of x) o)
-step_at k m shapes c o x d l e =
-    let size = length-map shapes core_of in
-    let inside : nat_lt c (length (map core_of shapes)) ≡ true = lt-ltb c (length (map core_of shapes)) (omega arith) in
-    let here : core_at (map core_of shapes) c ≡ core_of x = get_or-map core_of shapes c d _ l ∙ ap core_of (sym e) in
-    ap (λ b. if b then with_core (map core_of shapes) c (moved k m (core_at (map core_of shapes) c) o) else None) inside
-    ∙ ap (λ y. with_core (map core_of shapes) c (moved k m y o)) here
+pub step_at : (k : Setting) (m : List ℕ) (serial_cores : List SerialCore) (c : ℕ) (o : Outcome) (x d : SerialCore) → c < length serial_cores → x ≡ get_or serial_cores c d →
+    list_step k m (map core_of serial_cores) c o ≡ with_core (map core_of serial_cores) c (after_step_of k m (core_of x) o)
+step_at k m serial_cores c o x d l e =
+    let size = length-map serial_cores core_of in
+    let inside : nat_lt c (length (map core_of serial_cores)) ≡ true = lt-ltb c (length (map core_of serial_cores)) (omega arith) in
+    let here : core_at (map core_of serial_cores) c ≡ core_of x = get_or-map core_of serial_cores c d _ l ∙ ap core_of (sym e) in
+    ap (λ b. if b then with_core (map core_of serial_cores) c (after_step_of k m (core_at (map core_of serial_cores) c) o) else None) inside
+    ∙ ap (λ y. with_core (map core_of serial_cores) c (after_step_of k m y o)) here
 
-pub no_step : (k : Setting) (m : List ℕ) (shapes : List Shape) (c : ℕ) (o : Outcome) → length shapes ≤ c → list_step k m (map core_of shapes) c o ≡ None
-no_step k m shapes c o l =
-    let size = length-map shapes core_of in
-    let outside : nat_lt c (length (map core_of shapes)) ≡ false = le-ltb c (length (map core_of shapes)) (omega arith) in
-    ap (λ b. if b then with_core (map core_of shapes) c (moved k m (core_at (map core_of shapes) c) o) else None) outside
+pub no_step : (k : Setting) (m : List ℕ) (serial_cores : List SerialCore) (c : ℕ) (o : Outcome) → length serial_cores ≤ c → list_step k m (map core_of serial_cores) c o ≡ None
+no_step k m serial_cores c o l =
+    let size = length-map serial_cores core_of in
+    let outside : nat_lt c (length (map core_of serial_cores)) ≡ false = le-ltb c (length (map core_of serial_cores)) (omega arith) in
+    ap (λ b. if b then with_core (map core_of serial_cores) c (after_step_of k m (core_at (map core_of serial_cores) c) o) else None) outside
 
-pub step_some : (k : Setting) (m now : List ℕ) (shapes : List Shape) (i c : ℕ) (o : Outcome) (x d next : Shape) → i ≡ c → i < length shapes → x ≡ get_or shapes i d →
-    moved k m (core_of x) o ≡ Some (now, core_of next) → list_step k m (map core_of shapes) c o ≡ Some (now, map core_of (slice_set shapes i next))
-step_some k m now shapes i c o x d next at l e done =
-    ap (λ j. list_step k m (map core_of shapes) j o) (sym at)
-    ∙ step_at k m shapes i o x d l e
-    ∙ ap (with_core (map core_of shapes) i) done
-    ∙ ap (λ cs. Some (now, cs)) (sym (map-set core_of shapes i next))
+pub step_some : (k : Setting) (m now : List ℕ) (serial_cores : List SerialCore) (i c : ℕ) (o : Outcome) (x d next : SerialCore) → i ≡ c → i < length serial_cores → x ≡ get_or serial_cores i d →
+    after_step_of k m (core_of x) o ≡ Some (now, core_of next) → list_step k m (map core_of serial_cores) c o ≡ Some (now, map core_of (slice_set serial_cores i next))
+step_some k m now serial_cores i c o x d next at l e done =
+    ap (λ j. list_step k m (map core_of serial_cores) j o) (sym at)
+    ∙ step_at k m serial_cores i o x d l e
+    ∙ ap (with_core (map core_of serial_cores) i) done
+    ∙ ap (λ cs. Some (now, cs)) (sym (map-set core_of serial_cores i next))
 
-pub growth_none : (shapes : List Shape) (most : ℕ) → AllByRecursion (λ c. steps_of c ≤ most) shapes → AllByRecursion (λ c. steps_of c ≤ most + 1) shapes
-growth_none shapes most h = all_more (λ c. steps_of c ≤ most) (λ c. steps_of c ≤ most + 1) shapes (λ c l. omega arith) h
+pub growth_none : (serial_cores : List SerialCore) (most : ℕ) → AllByRecursion (λ c. steps_of c ≤ most) serial_cores → AllByRecursion (λ c. steps_of c ≤ most + 1) serial_cores
+growth_none serial_cores most h = all_more (λ c. steps_of c ≤ most) (λ c. steps_of c ≤ most + 1) serial_cores (λ c l. omega arith) h
 
-pub growth_some : (shapes : List Shape) (i most : ℕ) (x d next : Shape) → i < length shapes → x ≡ get_or shapes i d → steps_of next ≤ steps_of x + 1 →
-    AllByRecursion (λ c. steps_of c ≤ most) shapes → AllByRecursion (λ c. steps_of c ≤ most + 1) (slice_set shapes i next)
-growth_some shapes i most x d next l e g h =
-    let had = all_at (λ c. steps_of c ≤ most) shapes i d h l in
+pub growth_some : (serial_cores : List SerialCore) (i most : ℕ) (x d next : SerialCore) → i < length serial_cores → x ≡ get_or serial_cores i d → steps_of next ≤ steps_of x + 1 →
+    AllByRecursion (λ c. steps_of c ≤ most) serial_cores → AllByRecursion (λ c. steps_of c ≤ most + 1) (slice_set serial_cores i next)
+growth_some serial_cores i most x d next l e g h =
+    let had = all_at (λ c. steps_of c ≤ most) serial_cores i d h l in
     let same = ap steps_of e in
-    all_set (λ c. steps_of c ≤ most + 1) shapes i next (growth_none shapes most h) (omega arith)
+    all_set (λ c. steps_of c ≤ most + 1) serial_cores i next (growth_none serial_cores most h) (omega arith)
 
 -- a place of the list that holds nothing
-abbrev pub no_shape : Shape
-no_shape = shape.Closed (record { gpr = []; flags = record { 0 = 0 }; eip = 0 })
+abbrev pub no_core : SerialCore
+no_core = serial_core.Closed (record { gpr = []; flags = record { 0 = 0 }; eip = 0 })
 
 pub run_next : (k : Setting) (m now : List ℕ) (cores after : List Core) (history : List (ℕ × Outcome)) (i : ℕ) (d : ℕ × Outcome) → i < length history →
     list_run k m cores (take i history) ≡ Some (now, after) →
@@ -181,42 +182,29 @@ run_at k m now cores after history i p at ran =
     run_next k m now cores after history i p (slice_get_within history i p at) ran
     ∙ ap (λ (q : ℕ × Outcome). list_step k now after q.0 q.1) (get_or_from_slice_get history i p p at)
 
--- memory before the first step
-pub memory_made : (p : Program) (z a bs b c : List ℕ) (base size : ℕ) → z ≡ [] → base ≡ p.base → bs ≡ p.bytes → size ≡ p.mem_size →
-    a ≡ z ++ replicate (base - length z) 0 → b ≡ a ++ bs → c ≡ b ++ replicate (size - length b) 0 → c ≡ opening_memory p
-unfolding opening_memory
-memory_made p z a bs b c base size ez eb es em ea eab ec =
-    let none : length z ≡ 0 = ap length ez in
-    let n : base - length z ≡ p.base = omega arith in
-    let front : a ≡ replicate p.base 0 = ea ∙ ap (λ k. z ++ replicate k 0) n ∙ ap (λ x. x ++ replicate p.base 0) ez in
-    let mid : b ≡ replicate p.base 0 ++ p.bytes = eab ∙ ap (λ x. x ++ bs) front ∙ ap (λ x. replicate p.base 0 ++ x) es in
-    let whole : length b ≡ p.base + length p.bytes = ap length mid ∙ length-append (replicate p.base 0) p.bytes ∙ ap (λ k. k + length p.bytes) (length-replicate p.base 0) in
-    let m : size - length b ≡ p.mem_size - (p.base + length p.bytes) = omega arith in
-    ec ∙ ap (λ k. b ++ replicate k 0) m ∙ ap (λ x. x ++ replicate (p.mem_size - (p.base + length p.bytes)) 0) mid
+-- the cores before the first step
+pub cores_more : (p : Program) (n : ℕ) (xs ys : List SerialCore) → xs ≡ map (first_core p) (range_with_len 0 n) → ys ≡ xs ++ first_core p n ∷ [] →
+    ys ≡ map (first_core p) (range_with_len 0 (n + 1))
+cores_more p n xs ys h e = e ∙ ap (λ zs. zs ++ first_core p n ∷ []) h ∙ sym (map-range_with_len_more (first_core p) 0 n n (zero-add n))
 
--- the cores before it
-pub cores_more : (p : Program) (n : ℕ) (xs ys : List Shape) → xs ≡ map (first_shape p) (range_with_len 0 n) → ys ≡ xs ++ first_shape p n ∷ [] →
-    ys ≡ map (first_shape p) (range_with_len 0 (n + 1))
-cores_more p n xs ys h e = e ∙ ap (λ zs. zs ++ first_shape p n ∷ []) h ∙ sym (map-range_with_len_more (first_shape p) 0 n n (zero-add n))
-
-cores_closed : (p : Program) (a n : ℕ) → AllByRecursion (λ c. steps_of c ≤ 0) (map (first_shape p) (range_with_len a n))
+cores_closed : (p : Program) (a n : ℕ) → AllByRecursion (λ c. steps_of c ≤ 0) (map (first_core p) (range_with_len a n))
 cores_closed p a zero = tt
 cores_closed p a (suc n) = (omega arith, cores_closed p (a + 1) n)
 
-pub first_closed : (p : Program) (xs : List Shape) → xs ≡ map (first_shape p) (range_with_len 0 (length p.entries)) → AllByRecursion (λ c. steps_of c ≤ 0) xs
-first_closed p xs e = let P : List Shape → Type 0 = λ ys. AllByRecursion (λ c. steps_of c ≤ 0) ys in subst P (sym e) (cores_closed p 0 (length p.entries))
+pub first_closed : (p : Program) (xs : List SerialCore) → xs ≡ map (first_core p) (range_with_len 0 (length p.entries)) → AllByRecursion (λ c. steps_of c ≤ 0) xs
+first_closed p xs e = let P : List SerialCore → Type 0 = λ ys. AllByRecursion (λ c. steps_of c ≤ 0) ys in subst P (sym e) (cores_closed p 0 (length p.entries))
 
-pub first_agrees : (p : Program) (m : List ℕ) (xs : List Shape) → m ≡ opening_memory p → xs ≡ map (first_shape p) (range_with_len 0 (length p.entries)) → Agrees (opening p) m (map core_of xs)
+pub first_agrees : (p : Program) (m : List ℕ) (xs : List SerialCore) → m ≡ opening_memory p → xs ≡ map (first_core p) (range_with_len 0 (length p.entries)) → Agrees (opening_state p) m (map core_of xs)
 first_agrees p m xs em ex =
     let n = length p.entries in
-    let count : length (map core_of xs) ≡ n = length-map xs core_of ∙ ap length ex ∙ length-map-range_with_len (first_shape p) 0 n in
+    let count : length (map core_of xs) ≡ n = length-map xs core_of ∙ ap length ex ∙ length-map-range_with_len (first_core p) 0 n in
     record {
       memory = em;
       count = count;
       each = λ j below.
           let inside : j < length xs = let s = length-map xs core_of in omega arith in
-          get_or-map core_of xs j no_shape _ inside
-          ∙ ap core_of (ap (λ ys. get_or ys j no_shape) ex ∙ get_or-map-range_with_len (first_shape p) 0 n j j no_shape (omega arith) (zero-add j));
+          get_or-map core_of xs j no_core _ inside
+          ∙ ap core_of (ap (λ ys. get_or ys j no_core) ex ∙ get_or-map-range_with_len (first_core p) 0 n j j no_core (omega arith) (zero-add j));
     }
 
 -- a lent vector comes back as it was left
@@ -225,29 +213,29 @@ written_back xs ys n e f = take_at ys (drop (length ys) xs) n (e ∙ sym f)
 
 -- the run by the rules of the program
 by_rules : (p : Program) (history : List (ℕ × Outcome)) (code : List ℕ) (base size : ℕ) (m : List ℕ) (cores : List Core) → code ≡ code_of p → base ≡ p.base → size ≡ p.mem_size →
-    list_run (rules_of p) m cores history ≡ list_run (rules code base size) m cores history
+    list_run (program_setting p 0 0) m cores history ≡ list_run (setting_of code base size 0 0) m cores history
 by_rules p history code base size m cores ec eb es =
-    ap (λ x. list_run (rules x p.base p.mem_size) m cores history) (sym ec)
-    ∙ ap (λ x. list_run (rules code x p.mem_size) m cores history) (sym eb)
-    ∙ ap (λ x. list_run (rules code base x) m cores history) (sym es)
+    ap (λ x. list_run (setting_of x p.base p.mem_size 0 0) m cores history) (sym ec)
+    ∙ ap (λ x. list_run (setting_of code x p.mem_size 0 0) m cores history) (sym eb)
+    ∙ ap (λ x. list_run (setting_of code base x 0 0) m cores history) (sym es)
 
-pub replayed : (p : Program) (history : List (ℕ × Outcome)) (code : List ℕ) (base size : ℕ) (m now : List ℕ) (xs : List Shape) (after : List Core) →
-    code ≡ code_of p → base ≡ p.base → size ≡ p.mem_size → m ≡ opening_memory p → xs ≡ map (first_shape p) (range_with_len 0 (length p.entries)) →
-    list_run (rules code base size) m (map core_of xs) history ≡ Some (now, after) → EndsWith (rules_of p) (opening p) history now after
+pub replayed : (p : Program) (history : List (ℕ × Outcome)) (code : List ℕ) (base size : ℕ) (m now : List ℕ) (xs : List SerialCore) (after : List Core) →
+    code ≡ code_of p → base ≡ p.base → size ≡ p.mem_size → m ≡ opening_memory p → xs ≡ map (first_core p) (range_with_len 0 (length p.entries)) →
+    list_run (setting_of code base size 0 0) m (map core_of xs) history ≡ Some (now, after) → EndsWith (program_setting p 0 0) (opening_state p) history now after
 replayed p history code base size m now xs after ec eb es em ex ran =
-    ends (rules_of p) (opening p) m (map core_of xs) history now after (first_agrees p m xs em ex) (by_rules p history code base size m (map core_of xs) ec eb es ∙ ran)
+    ends (program_setting p 0 0) (opening_state p) m (map core_of xs) history now after (first_agrees p m xs em ex) (by_rules p history code base size m (map core_of xs) ec eb es ∙ ran)
 
-pub refused : (p : Program) (history : List (ℕ × Outcome)) (code : List ℕ) (base size : ℕ) (m : List ℕ) (xs : List Shape) (i : ℕ) →
-    code ≡ code_of p → base ≡ p.base → size ≡ p.mem_size → m ≡ opening_memory p → xs ≡ map (first_shape p) (range_with_len 0 (length p.entries)) →
-    ListStuck (rules code base size) m (map core_of xs) history i → IsStuck (rules_of p) (opening p) history i
+pub refused : (p : Program) (history : List (ℕ × Outcome)) (code : List ℕ) (base size : ℕ) (m : List ℕ) (xs : List SerialCore) (i : ℕ) →
+    code ≡ code_of p → base ≡ p.base → size ≡ p.mem_size → m ≡ opening_memory p → xs ≡ map (first_core p) (range_with_len 0 (length p.entries)) →
+    ListStuck (setting_of code base size 0 0) m (map core_of xs) history i → IsStuck (program_setting p 0 0) (opening_state p) history i
 refused p history code base size m xs i ec eb es em ex h =
     let start = first_agrees p m xs em ex in
-    let good = ends (rules_of p) (opening p) m (map core_of xs) (take i history) h.before.0 h.before.1 start (by_rules p (take i history) code base size m (map core_of xs) ec eb es ∙ h.ran) in
+    let good = ends (program_setting p 0 0) (opening_state p) m (map core_of xs) (take i history) h.before.0 h.before.1 start (by_rules p (take i history) code base size m (map core_of xs) ec eb es ∙ h.ran) in
     record {
       within = h.within;
       before = good.end;
       ran = good.ran;
-      stuck = fails (rules_of p) (opening p) m (map core_of xs) (take (i + 1) history) start (by_rules p (take (i + 1) history) code base size m (map core_of xs) ec eb es ∙ h.stuck);
+      stuck = fails (program_setting p 0 0) (opening_state p) m (map core_of xs) (take (i + 1) history) start (by_rules p (take (i + 1) history) code base size m (map core_of xs) ec eb es ∙ h.stuck);
     }
 
 whole_size : (a b n : ℕ) → a + b ≤ n → a + b + (n - (a + b)) ≡ n

@@ -6,48 +6,48 @@ use Rattle.std.proofs.lemmas.List.{get_or_past}
 use Rattle.std.proofs.lemmas.Option.{option_and_then_some, same_Some}
 use Rattle.ia_regs.specs.declared.Regs.{Regs}
 use Rattle.tm_rule.specs.declared.kinds.Stop.{Stop}
-use Rattle.tm_core.specs.Conflicts.{after_own, doomed, hit, stored}
-use Rattle.tm_core.specs.Isolated.{Body, isolated}
-use Rattle.tm_core.specs.Machine.{SameMachine, Shown as Machine, StandsFor, TakesStep, rules_of, view_at}
-use Rattle.tm_core.specs.Parts.{no_regs}
-use Rattle.tm_core.specs.Setting.{Setting}
-use Rattle.tm_core.specs.Shown.{View, open_shown, open_view, plain_view, shown}
-use Rattle.tm_core.specs.State.{Closed, Core, Halted, Opened, State}
-use Rattle.tm_core.specs.Steps.{moved, put, step}
-use Rattle.tm_core.specs.declared.outcome.Outcome.{Outcome}
-use Rattle.tm_core.specs.declared.outcome.Outcome.TheVariants.{Plain, Stopped, Idle, Begun, Inside, Committed, Aborted}
-use Rattle.tm_core.specs.declared.outcome.CoreState.{CoreState}
-use Rattle.tm_core.specs.declared.outcome.CoreState.TheVariants.{Running, Open, Condemned, Stopped as AtStop}
+use Rattle.tm_model.specs.Conflicts.{addresses_stored_by, doom_after_other, doom_after_own, doomed_after}
+use Rattle.tm_model.specs.Isolated.{Body, isolated_body}
+use Rattle.tm_model.specs.Setting.{Setting}
+use Rattle.tm_model.specs.Shown.{View, view_inside, view_of, view_of_body, view_outside}
+use Rattle.tm_model.specs.State.{Closed, Core, Halted, Opened, State}
+use Rattle.tm_model.specs.Steps.{after_step_of, state_with, step}
+use Rattle.tm_core.specs.Theorem.{SameMachine, ShownMachine as Machine, StandsFor, TakesStep, machine_setting}
+use Rattle.tm_core.specs.Theorem.{no_regs, view_at}
 use Rattle.tm_hist.specs.Board.{stop_shown}
+use Rattle.tm_model.specs.declared.outcome.Outcome.{Outcome}
+use Rattle.tm_model.specs.declared.outcome.Outcome.TheVariants.{Plain, Stopped, Idle, Begun, Inside, Committed, Aborted}
+use Rattle.tm_model.specs.declared.outcome.CoreState.{CoreState}
+use Rattle.tm_model.specs.declared.outcome.CoreState.TheVariants.{Running, Open, Condemned, Stopped as AtStop}
 
 -- a core that shows a stop is halted, and not doomed
 record IsHalted (x : Core) (dx : Option ℕ) (why : Stop) : Type 0 where
   pub regs : Regs
   pub core : x ≡ Halted regs why
-  pub doom : dx ≡ None
+  pub condemn_view : dx ≡ None
 
 module _ (k : Setting) (m : List ℕ) (why : Stop) where
-  no_stop : (mode : CoreState) (s : Regs) (v : View) → stop_shown mode ≡ None → plain_view mode s ≡ v → stop_shown v.mode ≡ Some why → ⊥
+  no_stop : (mode : CoreState) (s : Regs) (v : View) → stop_shown mode ≡ None → view_outside mode s ≡ v → stop_shown v.mode ≡ Some why → ⊥
   no_stop mode s v none e stop = let e2 : stop_shown mode ≡ Some why = ap (λ (u : View). stop_shown u.mode) e ∙ stop in cc
 
-  no_open : (s : Regs) (b : Body) (v : View) → open_shown s b ≡ Some v → stop_shown v.mode ≡ Some why → ⊥
+  no_open : (s : Regs) (b : Body) (v : View) → view_inside s b ≡ Some v → stop_shown v.mode ≡ Some why → ⊥
   no_open s b v =
-      elim (eqb b.depth 0) as (λ t. cond t None (Some (open_view s b)) ≡ Some v → stop_shown v.mode ≡ Some why → ⊥) [
+      elim (eqb b.depth 0) as (λ t. cond t None (Some (view_of_body s b)) ≡ Some v → stop_shown v.mode ≡ Some why → ⊥) [
         | true ↦ λ e stop. cc
-        | false ↦ λ e stop. let e2 : stop_shown (Open b.depth) ≡ Some why = ap (λ (u : View). stop_shown u.mode) (same_Some (open_view s b) v e) ∙ stop in cc
+        | false ↦ λ e stop. let e2 : stop_shown (Open b.depth) ≡ Some why = ap (λ (u : View). stop_shown u.mode) (same_Some (view_of_body s b) v e) ∙ stop in cc
       ]
 
-  is_halted : (x : Core) (dx : Option ℕ) (v : View) → shown k m x dx ≡ Some v → stop_shown v.mode ≡ Some why → IsHalted x dx why
-  is_halted (Closed s) None v e stop = absurd (no_stop Running s v refl (same_Some (plain_view Running s) v e) stop)
+  is_halted : (x : Core) (dx : Option ℕ) (v : View) → view_of k m x dx ≡ Some v → stop_shown v.mode ≡ Some why → IsHalted x dx why
+  is_halted (Closed s) None v e stop = absurd (no_stop Running s v refl (same_Some (view_outside Running s) v e) stop)
   is_halted (Closed s) (Some depth) v e stop = cc
   is_halted (Halted s y) None v e stop =
-      let same : y ≡ why = same_Some y why (ap (λ (u : View). stop_shown u.mode) (same_Some (plain_view (AtStop y) s) v e) ∙ stop) in
-      record { regs = s; core = ap (Halted s) same; doom = refl }
+      let same : y ≡ why = same_Some y why (ap (λ (u : View). stop_shown u.mode) (same_Some (view_outside (AtStop y) s) v e) ∙ stop) in
+      record { regs = s; core = ap (Halted s) same; condemn_view = refl }
   is_halted (Halted s y) (Some depth) v e stop = cc
-  is_halted (Opened s n) (Some depth) v e stop = absurd (no_stop (Condemned depth) s v refl (same_Some (plain_view (Condemned depth) s) v e) stop)
-  is_halted (Opened s n) None v e stop = absurd (option_and_then_some (open_shown s) (isolated k s m n) v e (λ b is e2. no_open s b v e2 stop))
+  is_halted (Opened s n) (Some depth) v e stop = absurd (no_stop (Condemned depth) s v refl (same_Some (view_outside (Condemned depth) s) v e) stop)
+  is_halted (Opened s n) None v e stop = absurd (option_and_then_some (view_inside s) (isolated_body k s m n) v e (λ b is e2. no_open s b v e2 stop))
 
-halted_moved : (k : Setting) (m : List ℕ) (s : Regs) (why : Stop) (o : Outcome) (p : List ℕ × Core) → moved k m (Halted s why) o ≡ Some p → p.1 ≡ Halted s why
+halted_moved : (k : Setting) (m : List ℕ) (s : Regs) (why : Stop) (o : Outcome) (p : List ℕ × Core) → after_step_of k m (Halted s why) o ≡ Some p → p.1 ≡ Halted s why
 halted_moved k m s why Plain p e = cc
 halted_moved k m s why (Stopped x) p e = cc
 halted_moved k m s why Idle p e = ap (λ (q : List ℕ × Core). q.1) (sym (same_Some (m, Halted s why) p e))
@@ -56,7 +56,7 @@ halted_moved k m s why Inside p e = cc
 halted_moved k m s why Committed p e = cc
 halted_moved k m s why (Aborted status) p e = cc
 
-not_doomed : (o : Outcome) → after_own o None ≡ None
+not_doomed : (o : Outcome) → doom_after_own o None ≡ None
 not_doomed Plain = refl
 not_doomed (Stopped x) = refl
 not_doomed Idle = refl
@@ -68,42 +68,42 @@ not_doomed (Aborted status) = refl
 -- the step of a core, by its move
 record Moved (k : Setting) (a : State) (c : ℕ) (o : Outcome) (next : State) : Type 0 where
   pub to : List ℕ × Core
-  pub moves : moved k a.memory (a.cores c) o ≡ Some to
-  pub is : put a c to ≡ next
+  pub moves : after_step_of k a.memory (a.cores c) o ≡ Some to
+  pub is : state_with a c to ≡ next
 
-by_move : (k : Setting) (a : State) (c : ℕ) (o : Outcome) (next : State) (b : Bool) (x : Option (List ℕ × Core)) → moved k a.memory (a.cores c) o ≡ x →
-    cond b (option_map (put a c) x) None ≡ Some next → Moved k a c o next
+by_move : (k : Setting) (a : State) (c : ℕ) (o : Outcome) (next : State) (b : Bool) (x : Option (List ℕ × Core)) → after_step_of k a.memory (a.cores c) o ≡ x →
+    cond b (option_map (state_with a c) x) None ≡ Some next → Moved k a c o next
 by_move k a c o next false x moves e = cc
 by_move k a c o next true None moves e = cc
-by_move k a c o next true (Some p) moves e = record { to = p; moves = moves; is = same_Some (put a c p) next e }
+by_move k a c o next true (Some p) moves e = record { to = p; moves = moves; is = same_Some (state_with a c p) next e }
 
 -- a halted core after a step of any core
 still_halted : (k : Setting) (a : State) (d : ℕ → Option ℕ) (c j : ℕ) (o : Outcome) (why : Stop) (next : State) → step k a c o ≡ Some next →
-    (h : IsHalted (a.cores j) (d j) why) → IsHalted (next.cores j) (doomed k a d c o j) why
+    (h : IsHalted (a.cores j) (d j) why) → IsHalted (next.cores j) (doomed_after k a d c o j) why
 still_halted k a d c j o why next e h =
-    let move : Moved k a c o next = by_move k a c o next (ltb c a.count) (moved k a.memory (a.cores c) o) refl e in
-    subst (λ (x : State). IsHalted (x.cores j) (doomed k a d c o j) why) move.is
-    (elim (eqb j c) as (λ t. eqb j c ≡ t → IsHalted (cond t move.to.1 (a.cores j)) (cond t (after_own o (d c)) (hit k a.memory (stored k a.memory (a.cores c) o) (a.cores j) (d j))) why) [
+    let move : Moved k a c o next = by_move k a c o next (ltb c a.count) (after_step_of k a.memory (a.cores c) o) refl e in
+    subst (λ (x : State). IsHalted (x.cores j) (doomed_after k a d c o j) why) move.is
+    (elim (eqb j c) as (λ t. eqb j c ≡ t → IsHalted (cond t move.to.1 (a.cores j)) (cond t (doom_after_own o (d c)) (doom_after_other k a.memory (addresses_stored_by k a.memory (a.cores c) o) (a.cores j) (d j))) why) [
       | true ↦ λ same.
           let at : j ≡ c = eqb-true j c same in
           let core : a.cores c ≡ Halted h.regs why = ap a.cores (sym at) ∙ h.core in
-          let doom : d c ≡ None = ap d (sym at) ∙ h.doom in
+          let condemn_view : d c ≡ None = ap d (sym at) ∙ h.condemn_view in
           record {
             regs = h.regs;
-            core = halted_moved k a.memory h.regs why o move.to (ap (λ x. moved k a.memory x o) (sym core) ∙ move.moves);
-            doom = ap (after_own o) doom ∙ not_doomed o;
+            core = halted_moved k a.memory h.regs why o move.to (ap (λ x. after_step_of k a.memory x o) (sym core) ∙ move.moves);
+            condemn_view = ap (doom_after_own o) condemn_view ∙ not_doomed o;
           }
       | false ↦ λ other. record {
         regs = h.regs;
         core = h.core;
-        doom = ap (λ x. hit k a.memory (stored k a.memory (a.cores c) o) x (d j)) h.core ∙ h.doom;
+        condemn_view = ap (λ x. doom_after_other k a.memory (addresses_stored_by k a.memory (a.cores c) o) x (d j)) h.core ∙ h.condemn_view;
       }
     ] refl)
 
-shows_stop : (k : Setting) (m : List ℕ) (x : Core) (dx : Option ℕ) (v : View) (why : Stop) → IsHalted x dx why → shown k m x dx ≡ Some v → stop_shown v.mode ≡ Some why
+shows_stop : (k : Setting) (m : List ℕ) (x : Core) (dx : Option ℕ) (v : View) (why : Stop) → IsHalted x dx why → view_of k m x dx ≡ Some v → stop_shown v.mode ≡ Some why
 shows_stop k m x dx v why h e =
-    let e2 : shown k m (Halted h.regs why) None ≡ Some v = ap (λ y. shown k m y None) (sym h.core) ∙ ap (shown k m x) (sym h.doom) ∙ e in
-    ap (λ (u : View). stop_shown u.mode) (sym (same_Some (plain_view (AtStop why) h.regs) v e2))
+    let e2 : view_of k m (Halted h.regs why) None ≡ Some v = ap (λ y. view_of k m y None) (sym h.core) ∙ ap (view_of k m x) (sym h.condemn_view) ∙ e in
+    ap (λ (u : View). stop_shown u.mode) (sym (same_Some (view_outside (AtStop why) h.regs) v e2))
 
 -- a core that shows a stop is there
 is_there : (machine : Machine) (j : ℕ) (why : Stop) → stop_shown (view_at machine j).mode ≡ Some why → j < length machine.views
@@ -111,7 +111,7 @@ is_there machine j why stop =
     elim (ltb j (length machine.views)) as (λ t. ltb j (length machine.views) ≡ t → j < length machine.views) [
       | true ↦ λ e. ltb-true j (length machine.views) e
       | false ↦ λ e.
-          let e2 : stop_shown Running ≡ Some why = ap (λ (u : View). stop_shown u.mode) (sym (get_or_past machine.views j (plain_view Running no_regs) (ltb-false j (length machine.views) e))) ∙ stop in
+          let e2 : stop_shown Running ≡ Some why = ap (λ (u : View). stop_shown u.mode) (sym (get_or_past machine.views j (view_outside Running no_regs) (ltb-false j (length machine.views) e))) ∙ stop in
           cc
     ] refl
 
@@ -121,6 +121,6 @@ stays_stopped old new a d c o stands same takes j why stop =
     let below : j < length old.views = is_there old j why stop in
     let cores : length new.views ≡ length old.views = same.cores in
     let within : j < length new.views = omega arith in
-    let before : IsHalted (a.cores j) (d j) why = is_halted (rules_of old) a.memory why (a.cores j) (d j) (view_at old j) (stands.each j below) stop in
-    let after : IsHalted (takes.next.cores j) (doomed (rules_of old) a d c o j) why = still_halted (rules_of old) a d c j o why takes.next takes.is_step before in
-    shows_stop (rules_of new) takes.next.memory (takes.next.cores j) (doomed (rules_of old) a d c o j) (view_at new j) why after (takes.stands.each j within)
+    let before : IsHalted (a.cores j) (d j) why = is_halted (machine_setting old) a.memory why (a.cores j) (d j) (view_at old j) (stands.each j below) stop in
+    let after : IsHalted (takes.next.cores j) (doomed_after (machine_setting old) a d c o j) why = still_halted (machine_setting old) a d c j o why takes.next takes.is_step before in
+    shows_stop (machine_setting new) takes.next.memory (takes.next.cores j) (doomed_after (machine_setting old) a d c o j) (view_at new j) why after (takes.stands.each j within)

@@ -1,17 +1,17 @@
 -- Lists of steps, as they are kept: of each step its core and its outcome.
 use Rattle.std.specs.Prelude.{ℕ, List, map}
 use Rattle.ia_word.specs.Bytes.{long_of}
-use Rattle.tm_core.specs.declared.outcome.Outcome.{Outcome}
-use Rattle.tm_core.specs.declared.outcome.Outcome.TheVariants.{Plain, Stopped, Idle, Begun, Inside, Committed, Aborted}
-use Rattle.tm_hist.specs.declared.pair.Kept.{Kept}
-use Rattle.tm_hist.specs.declared.pair.Kept.TheVariants as kept
+use Rattle.tm_model.specs.declared.outcome.Outcome.{Outcome}
+use Rattle.tm_model.specs.declared.outcome.Outcome.TheVariants.{Plain, Stopped, Idle, Begun, Inside, Committed, Aborted}
+use Rattle.tm_hist.specs.declared.pair.PackedOutcome.{PackedOutcome}
+use Rattle.tm_hist.specs.declared.pair.PackedOutcome.TheVariants as kept
 use Rattle.tm_hist.specs.declared.pair.Pair.{Pair}
 use Rattle.tm_hist.specs.declared.history.History.{History}
 use Rattle.tm_hist.specs.declared.history.Steps.{Steps}
 use Rattle.tm_hist.specs.declared.history.Steps.TheVariants.{Given, Made}
 
 -- the status of an abort is kept in its four bytes
-abbrev pub outcome_of : Kept → Outcome
+abbrev pub outcome_of : PackedOutcome → Outcome
 outcome_of kept.Plain = Plain
 outcome_of (kept.Stopped why) = Stopped why
 outcome_of kept.Idle = Idle

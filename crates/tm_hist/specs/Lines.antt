@@ -1,5 +1,7 @@
--- The lines that are printed of a run: state lines, outcome lines and dumps of memory (docs/FORMATS.md, "Printed lines").
-use Rattle.std.specs.Prelude.{ℕ, ◌+◌, ◌*◌, ◌/◌, ◌%◌, ◌^◌, List, [], ◌∷◌, ◌++◌, codes, drop, take, length, slice_index, nat_lt, if◌then◌else◌}
+-- The lines that are printed of a run: state lines, outcome lines and dumps of memory (docs/FORMATS.md, "Printed
+-- lines").
+use Rattle.std.specs.Prelude.{ℕ, ◌+◌, ◌*◌, ◌/◌, ◌%◌, ◌^◌, List, [], ◌∷◌, ◌++◌, codes, drop, take, length, slice_index}
+use Rattle.std.specs.Prelude.{nat_lt, if◌then◌else◌}
 use Rattle.std.specs.List.{flat_map, range_with_len}
 use Rattle.std.specs.Int.{w16, to_be_bytes}
 use Rattle.hex.specs.Hex.{encode_lower}
@@ -9,12 +11,12 @@ use Rattle.ia_regs.specs.declared.flags.Flags.{Flags}
 use Rattle.tm_rule.specs.declared.kinds.Stop.TheVariants as stop
 use Rattle.ia_regs.specs.declared.Regs.{Regs}
 use Rattle.tm_rule.specs.declared.kinds.Stop.{Stop}
-use Rattle.tm_core.specs.declared.outcome.CoreState.{CoreState}
-use Rattle.tm_core.specs.declared.outcome.Outcome.{Outcome}
-use Rattle.tm_core.specs.declared.outcome.CoreState.TheVariants as state
-use Rattle.tm_core.specs.declared.outcome.Outcome.TheVariants as outcome
-use Rattle.tm_core.specs.Machine.{Shown}
-use Rattle.tm_hist.specs.Machine.{core_count, shown_state, shown_regs}
+use Rattle.tm_model.specs.declared.outcome.CoreState.{CoreState}
+use Rattle.tm_model.specs.declared.outcome.Outcome.{Outcome}
+use Rattle.tm_model.specs.declared.outcome.CoreState.TheVariants as state
+use Rattle.tm_model.specs.declared.outcome.Outcome.TheVariants as outcome
+use Rattle.tm_core.specs.Theorem.{ShownMachine}
+use Rattle.tm_hist.specs.Machine.{core_count, shown_regs, shown_state}
 
 -- a line feed
 abbrev pub line_end : List ℕ
@@ -67,13 +69,14 @@ regs_text regs =
 
 -- a state line
 unfoldable pub core_line : ℕ → CoreState → Regs → List ℕ
-core_line core state regs = codes "core " ++ number_text core ++ codes " " ++ state_word state ++ regs_text regs ++ line_end
+core_line core state regs =
+    codes "core " ++ number_text core ++ codes " " ++ state_word state ++ regs_text regs ++ line_end
 
 -- the state line of a core of a machine, and those of all its cores
-abbrev pub core_text : Shown → ℕ → List ℕ
+abbrev pub core_text : ShownMachine → ℕ → List ℕ
 core_text machine core = core_line core (shown_state machine core) (shown_regs machine core)
 
-abbrev pub state_text : Shown → List ℕ
+abbrev pub state_text : ShownMachine → List ℕ
 state_text machine = flat_map (core_text machine) (range_with_len 0 (core_count machine))
 
 abbrev pub outcome_words : Outcome → List ℕ
@@ -91,7 +94,8 @@ outcome_line core outcome = number_text core ++ codes " " ++ outcome_words outco
 
 -- the line with this index of a dump: the address, and up to 16 bytes in hex
 abbrev pub dump_line : List ℕ → ℕ → ℕ → List ℕ
-dump_line bytes at i = eight_digits ((at + 16 * i) % 2 ^ 32) ++ codes " " ++ encode_lower (take 16 (drop (16 * i) bytes)) ++ line_end
+dump_line bytes at i =
+    eight_digits ((at + 16 * i) % 2 ^ 32) ++ codes " " ++ encode_lower (take 16 (drop (16 * i) bytes)) ++ line_end
 
 -- the dump of bytes that stand at an address
 abbrev pub dump_lines : List ℕ → ℕ → List ℕ

@@ -1,14 +1,14 @@
 -- What a machine shows of its cores.
 use Rattle.std.specs.Prelude.{ℕ, length}
 use Rattle.ia_regs.specs.declared.Regs.{Regs}
-use Rattle.tm_core.specs.declared.outcome.CoreState.{CoreState}
-use Rattle.tm_core.specs.Machine.{Shown, view_at}
+use Rattle.tm_model.specs.declared.outcome.CoreState.{CoreState}
+use Rattle.tm_core.specs.Theorem.{ShownMachine, view_at}
 
-abbrev pub core_count : Shown → ℕ
+abbrev pub core_count : ShownMachine → ℕ
 core_count machine = length machine.views
 
-abbrev pub shown_state : Shown → ℕ → CoreState
+abbrev pub shown_state : ShownMachine → ℕ → CoreState
 shown_state machine core = (view_at machine core).mode
 
-abbrev pub shown_regs : Shown → ℕ → Regs
+abbrev pub shown_regs : ShownMachine → ℕ → Regs
 shown_regs machine core = (view_at machine core).regs

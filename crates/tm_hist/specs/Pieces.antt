@@ -7,7 +7,9 @@ use Rattle.tm_hist.specs.Schedule.{words_of}
 -- a text was cut at the first such byte, or nowhere
 abbrev pub IsCut : ℕ → List ℕ → List ℕ → Option (Bor (List ℕ)) → Type 0
 IsCut byte text piece None = slice_split (λ b. b == byte) text ≡ piece ∷ []
-IsCut byte text piece (Some rest) = (slice_split (λ b. b == byte) text ≡ piece ∷ slice_split (λ b. b == byte) rest.now) × (length rest.now < length text)
+IsCut byte text piece (Some rest) =
+    (slice_split (λ b. b == byte) text ≡ piece ∷ slice_split (λ b. b == byte) rest.now)
+    × (length rest.now < length text)
 
 -- the words that are left, and how many bytes hold them
 abbrev pub words_left : Option (Bor (List ℕ)) → List (List ℕ)

@@ -1,12 +1,13 @@
 -- The text of a schedule (docs/FORMATS.md, "Schedules").
-use Rattle.std.specs.Prelude.{ℕ, ◌+◌, ◌-◌, ◌*◌, ◌/◌, ◌==◌, ◌&&◌, List, [], ◌∷◌, ◌++◌, codes, map, take, drop, length, Option, Some, None, option_map, Result, Ok, Err, nat_lt, nat_eq, if◌then◌else◌}
+use Rattle.std.specs.Prelude.{ℕ, ◌+◌, ◌-◌, ◌*◌, ◌/◌, ◌==◌, ◌&&◌, List, [], ◌∷◌, ◌++◌, codes, map, take, drop, length}
+use Rattle.std.specs.Prelude.{Option, Some, None, option_map, Result, Ok, Err, nat_lt, nat_eq, if◌then◌else◌}
 use Rattle.std.specs.Char.{is_ascii_digit}
 use Rattle.std.specs.List.{slice_split, flat_map, range_with_len, join_with_byte}
 use Rattle.std.specs.Cmp.Lexicographic.{pointwise}
 use Rattle.ia_lex.specs.Lines.{lines_of}
 use Rattle.tm_hist.specs.declared.schedule.ScheduleFault.{ScheduleFault}
 use Rattle.tm_hist.specs.declared.schedule.ScheduleFault.TheVariants.{BadSchedule, NoMemory}
-use Rattle.tm_hist.specs.Lines.{number_text, line_end}
+use Rattle.tm_hist.specs.Lines.{line_end, number_text}
 
 abbrev pub fault_code : ScheduleFault → ℕ
 fault_code (BadSchedule line) = 52
@@ -24,7 +25,9 @@ small n = if nat_lt n 256 then Some n else None
 -- the number of three decimal digits, at most 255
 abbrev pub three_digits : ℕ → ℕ → ℕ → Option ℕ
 three_digits a b c =
-    if is_ascii_digit a && is_ascii_digit b && is_ascii_digit c then small ((a - 48) * 100 + (b - 48) * 10 + (c - 48)) else None
+    if is_ascii_digit a && is_ascii_digit b && is_ascii_digit c
+    then small ((a - 48) * 100 + (b - 48) * 10 + (c - 48))
+    else None
 
 -- a core's number: one to three decimal digits
 unfoldable pub core_number : List ℕ → Option ℕ

@@ -1,6 +1,7 @@
 //! A machine with the history of its steps.
 
-ghost use Rattle.std.specs.Prelude.{◌≡◌, ◌↔◌, ◌<◌, ◌≤◌, ℕ, List, [], ◌∷◌, ◌++◌, Err, IfErr, IfOk, IsTrue, OnErr, false, length, true};
+ghost use Rattle.std.specs.Prelude.{◌≡◌, ◌↔◌, ◌<◌, ◌≤◌, ℕ, List, [], ◌∷◌, ◌++◌, Err, IfErr, IfOk, IsTrue, OnErr};
+ghost use Rattle.std.specs.Prelude.{false, length, true};
 ghost use Rattle.tm_core.specs.Machine.{bad_limits};
 ghost use Rattle.tm_hist.specs.Board.{IsFull, IsHistory, IsNew, IsStopped, SameBoard, bad_limit};
 ghost use Rattle.tm_hist.specs.BoardFaults.{board_code, step_code};
@@ -76,8 +77,8 @@ pub const MOST_STEPS: u64 = 16_777_216;
 
 /// A program's machine, with each step that it made.
 ///
-/// Its machine is always the run of its history from the program's opening state, and each outcome of the history is the
-/// owed one ([`Board::is_run`]).
+/// Its machine is always the run of its history from the program's opening state, and each outcome of the history is
+/// the owed one ([`Board::is_run`]).
 #[derive(Drop)]
 pub struct Board {
     program: Program,
@@ -91,19 +92,33 @@ impl Model for Board {
     ghost use Rattle.std.specs.Prelude.{map, vec_capacity};
     ghost use Rattle.ia_regs.specs.contracts.Regs.{the_row as regs_row};
     ghost use Rattle.tm_core.specs.contracts.limits.Limits.{the_row as limits_row};
-    ghost use Rattle.tm_core.specs.contracts.outcome.CoreState.{the_row as state_row};
-    ghost use Rattle.tm_core.specs.contracts.outcome.Outcome.{the_row as outcome_row};
+    ghost use Rattle.tm_model.specs.contracts.outcome.CoreState.{the_row as state_row};
+    ghost use Rattle.tm_model.specs.contracts.outcome.Outcome.{the_row as outcome_row};
     ghost use Rattle.tm_core.specs.Machine.{shown_code};
     ghost use Rattle.tm_hist.specs.History.{pair_of};
-    ghost use Rattle.tm_hist.specs.Board.{Shown, board_code, IsBoard};
+    ghost use Rattle.tm_hist.specs.Board.{ShownBoard, board_code, IsBoard};
 
-    ghost Value = { Shown };
+    ghost Value = { ShownBoard };
 
     ghost coded = { board_code limits_row.coded outcome_row.coded (shown_code state_row.coded regs_row.coded) };
 
-    ghost view = { λ b. record { program = b.program; limits = b.limits; limit = b.limit; history = map pair_of b.made.items; machine = b.machine } };
+    ghost view = { λ b. record {
+      program = b.program;
+      limits = b.limits;
+      limit = b.limit;
+      history =
+          map pair_of b.made.items;
+      machine = b.machine;
+    } };
 
-    ghost invariant = { λ b. IsBoard (record { program = b.program; limits = b.limits; limit = b.limit; history = map pair_of b.made.items; machine = b.machine }) (vec_capacity b.made) };
+    ghost invariant = { λ b. IsBoard (record {
+      program = b.program;
+      limits = b.limits;
+      limit = b.limit;
+      history =
+          map pair_of b.made.items;
+      machine = b.machine;
+    }) (vec_capacity b.made) };
 }
 
 // Whether a limit on steps is out of range.
@@ -116,8 +131,8 @@ fn is_bad(limit: u64) -> bool
 impl Board {
     /// A board before its first step, whose history has room for as many steps as the limit says.
     ///
-    /// In this order: [`BoardFault::BadLimit`], where the limit is not 1 to 16,777,216; [`BoardFault::BadLimits`], where a
-    /// limit on lines is not 1 to 4096; [`BoardFault::NoMachine`] and [`BoardFault::NoMemory`].
+    /// In this order: [`BoardFault::BadLimit`], where the limit is not 1 to 16,777,216; [`BoardFault::BadLimits`],
+    /// where a limit on lines is not 1 to 4096; [`BoardFault::NoMachine`] and [`BoardFault::NoMemory`].
     pub fn new(
         alloc: Global,
         program: &Program,
@@ -253,8 +268,9 @@ impl Board {
         let _limit = self.limit;
     }
 
-    /// The run of the history on one flat memory ([`serial`]), which is never refused but for want of memory, and which ends
-    /// with the machine's memory, and with each core's registers before its open transaction, and its stop.
+    /// The run of the history on one flat memory ([`serial`]), which is never refused but for want of memory, and
+    /// which ends with the machine's memory, and with each core's registers before its open transaction, and its
+    /// stop.
     ///
     /// [`SerialFault::NoMemory`], where memory or the list of cores found no memory.
     pub fn replay(&self, alloc: Global) -> Result<Serial, SerialFault>

@@ -1,5 +1,13 @@
-//! A machine with the history of its steps, the serial run of a history, and what is printed and read of a run: state lines,
-//! outcome lines, dumps of memory and schedules.
+//! A machine with the history of its steps, the serial run of a history, and what is printed and read of a run.
+//!
+//! A `Board` keeps that its machine is the run of its history, whose outcomes are the owed ones (`Board::is_run`), so
+//! each history replays: `serial` runs it on one flat memory, without buffers, sets or marks, and ends with the
+//! machine's memory, registers and stops, or names the first pair at which a list is no run. State lines, outcome
+//! lines, dumps and schedules are those of docs/FORMATS.md; a schedule that is written reads as the list that it was
+//! written from.
+//!
+//! Stands on `tm_core` (the machine), `tm_rule` (one instruction), `ia_image` (programs) and `ia_text` (numbers,
+//! writing).
 #![tactic(auto)]
 
 mod board;
@@ -10,10 +18,10 @@ mod one_memory;
 mod pair;
 mod pieces;
 mod replay;
-pub mod row;
 mod schedule;
-mod shape;
+mod serial_core;
 mod step;
+pub mod text_line;
 
 pub use board::{Board, BoardFault, MOST_STEPS, StepFault};
 pub use history::History;

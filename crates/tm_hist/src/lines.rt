@@ -3,10 +3,11 @@
 ghost use Rattle.std.specs.Prelude.{◌≡◌, ◌+◌, ◌-◌, ◌*◌, ◌%◌, ◌^◌, ◌≤◌, ◌<◌, ◌++◌, length};
 ghost use Rattle.arrayvec.specs.ArrayVec.{array_vec_len};
 ghost use Rattle.ia_text.specs.Writing.{Writes};
+ghost use Rattle.tm_hist.specs.Lines.{core_line, core_text, dump_line, dump_lines, flag_sum, flags_text};
+ghost use Rattle.tm_hist.specs.Lines.{outcome_line, register_text, regs_text, state_text, state_word, stop_word};
 ghost use Rattle.tm_hist.specs.Machine.{core_count};
-ghost use Rattle.tm_hist.specs.Lines.{flag_sum, flags_text, stop_word, state_word, regs_text, core_line, core_text, state_text, outcome_words, outcome_line, register_text, dump_line, dump_lines};
 
-use crate::row::{Row, push, push_hex, push_long, push_number};
+use crate::text_line::{TextLine, push, push_hex, push_long, push_number};
 use ia_regs::{Flags, Regs};
 use ia_text::{Out, WriteFault};
 use tm_core::{CoreState, Machine, Outcome};
@@ -31,7 +32,7 @@ fn stop_text(stop: Stop) -> &'static [u8]
 }
 
 /// Adds what a core is doing: `run`, `tx` and the depth, `condemned`, or `stop:` and why.
-pub fn push_state(row: &mut Row, state: CoreState)
+pub fn push_state(row: &mut TextLine, state: CoreState)
     requires { array_vec_len row.old + 18 ≤ 160 }
     ensures text { row.new.items ≡ row.old.items ++ state_word state }
     ensures len { array_vec_len row.new ≤ array_vec_len row.old + 18 }
@@ -66,7 +67,7 @@ fn flag_bits(flags: Flags) -> u16
     .bits()
 }
 
-fn push_flags(row: &mut Row, flags: Flags)
+fn push_flags(row: &mut TextLine, flags: Flags)
     requires { array_vec_len row.old + 3 ≤ 160 }
     ensures text { row.new.items ≡ row.old.items ++ flags_text flags }
     ensures len { array_vec_len row.new ≡ array_vec_len row.old + 3 }
@@ -78,7 +79,7 @@ fn push_flags(row: &mut Row, flags: Flags)
 
 // A register's value behind its name.
 #[tactic(auto, unfolding(crate::specs::Lines::register_text))]
-fn push_register(row: &mut Row, name: &[u8], value: u32)
+fn push_register(row: &mut TextLine, name: &[u8], value: u32)
     requires room { array_vec_len row.old + 13 ≤ 160 }
     requires short { length name.now ≡ 5 }
     ensures text { row.new.items ≡ row.old.items ++ register_text name.now value }
@@ -89,7 +90,7 @@ fn push_register(row: &mut Row, name: &[u8], value: u32)
 }
 
 #[tactic(auto, unfolding(crate::specs::Lines::regs_text))]
-fn push_regs(row: &mut Row, regs: &Regs)
+fn push_regs(row: &mut TextLine, regs: &Regs)
     requires { array_vec_len row.old + 127 ≤ 160 }
     ensures text { row.new.items ≡ row.old.items ++ regs_text regs.now }
     ensures len { array_vec_len row.new ≡ array_vec_len row.old + 127 }
@@ -108,7 +109,7 @@ fn push_regs(row: &mut Row, regs: &Regs)
 }
 
 #[tactic(auto, unfolding(crate::specs::Lines::core_line))]
-fn push_core(row: &mut Row, core: u8, state: CoreState, regs: &Regs)
+fn push_core(row: &mut TextLine, core: u8, state: CoreState, regs: &Regs)
     requires { array_vec_len row.old ≡ 0 }
     ensures { row.new.items ≡ row.old.items ++ core_line core state regs.now }
 {
@@ -127,7 +128,7 @@ pub fn write_core<O: Out>(machine: &Machine, core: u8, out: &mut O) -> Result<()
     requires { core < core_count machine.now }
     ensures { Writes (O.device out.old) (O.device out.new) (core_text machine.now core) result }
 {
-    let mut row = Row::new();
+    let mut row = TextLine::new();
     let state = machine.state(core).unwrap();
     let regs = machine.regs(core).unwrap();
     push_core(&mut row, core, state, &regs);
@@ -148,7 +149,7 @@ pub fn write_state<O: Out>(machine: &Machine, out: &mut O) -> Result<(), WriteFa
 }
 
 #[tactic(auto, unfolding(crate::specs::Lines::outcome_line))]
-fn push_outcome(row: &mut Row, core: u8, outcome: &Outcome)
+fn push_outcome(row: &mut TextLine, core: u8, outcome: &Outcome)
     requires { array_vec_len row.old ≡ 0 }
     ensures { row.new.items ≡ row.old.items ++ outcome_line core outcome.now }
 {
@@ -178,7 +179,7 @@ fn push_outcome(row: &mut Row, core: u8, outcome: &Outcome)
 pub fn write_outcome<O: Out>(core: u8, outcome: &Outcome, out: &mut O) -> Result<(), WriteFault>
     ensures { Writes (O.device out.old) (O.device out.new) (outcome_line core outcome.now) result }
 {
-    let mut row = Row::new();
+    let mut row = TextLine::new();
     push_outcome(&mut row, core, outcome);
     out.put(row.as_slice())?;
     Ok(())
@@ -191,7 +192,7 @@ fn line_address(at: u32, index: usize) -> u32
     at.wrapping_add((index % 0x1000_0000) as u32 * 16)
 }
 
-fn push_dump_line(row: &mut Row, bytes: &[u8], at: u32, index: usize)
+fn push_dump_line(row: &mut TextLine, bytes: &[u8], at: u32, index: usize)
     requires empty { array_vec_len row.old ≡ 0 }
     requires within { 16 * index < length bytes.now }
     ensures { row.new.items ≡ row.old.items ++ dump_line bytes.now at index }
@@ -212,7 +213,7 @@ fn write_dump_line<O: Out>(
     requires { 16 * index < length bytes.now }
     ensures { Writes (O.device out.old) (O.device out.new) (dump_line bytes.now at index) result }
 {
-    let mut row = Row::new();
+    let mut row = TextLine::new();
     push_dump_line(&mut row, bytes, at, index);
     out.put(row.as_slice())?;
     Ok(())

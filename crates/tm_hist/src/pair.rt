@@ -8,7 +8,7 @@ use tm_core::{Outcome, Stop};
 
 /// An outcome, with the status of an abort in bytes, so that it needs no alignment.
 #[derive(Clone, Copy, Debug)]
-pub enum Kept {
+pub enum PackedOutcome {
     Plain,
     Stopped(Stop),
     Idle,
@@ -22,20 +22,20 @@ pub enum Kept {
 #[derive(Clone, Copy, Debug)]
 pub struct Pair {
     pub core: u8,
-    pub outcome: Kept,
+    pub outcome: PackedOutcome,
 }
 
-fn pack(outcome: Outcome) -> Kept
+fn pack(outcome: Outcome) -> PackedOutcome
     ensures { outcome_of result ≡ outcome }
 {
     match outcome {
-        Outcome::Plain => Kept::Plain,
-        Outcome::Stopped(stop) => Kept::Stopped(stop),
-        Outcome::Idle => Kept::Idle,
-        Outcome::Begun => Kept::Begun,
-        Outcome::Inside => Kept::Inside,
-        Outcome::Committed => Kept::Committed,
-        Outcome::Aborted(status) => Kept::Aborted(le_bytes(status)),
+        Outcome::Plain => PackedOutcome::Plain,
+        Outcome::Stopped(stop) => PackedOutcome::Stopped(stop),
+        Outcome::Idle => PackedOutcome::Idle,
+        Outcome::Begun => PackedOutcome::Begun,
+        Outcome::Inside => PackedOutcome::Inside,
+        Outcome::Committed => PackedOutcome::Committed,
+        Outcome::Aborted(status) => PackedOutcome::Aborted(le_bytes(status)),
     }
 }
 
@@ -55,13 +55,13 @@ impl Pair {
         ensures { result ≡ outcome_of self.now.outcome }
     {
         match self.outcome {
-            Kept::Plain => Outcome::Plain,
-            Kept::Stopped(stop) => Outcome::Stopped(stop),
-            Kept::Idle => Outcome::Idle,
-            Kept::Begun => Outcome::Begun,
-            Kept::Inside => Outcome::Inside,
-            Kept::Committed => Outcome::Committed,
-            Kept::Aborted(status) => Outcome::Aborted(from_le(status)),
+            PackedOutcome::Plain => Outcome::Plain,
+            PackedOutcome::Stopped(stop) => Outcome::Stopped(stop),
+            PackedOutcome::Idle => Outcome::Idle,
+            PackedOutcome::Begun => Outcome::Begun,
+            PackedOutcome::Inside => Outcome::Inside,
+            PackedOutcome::Committed => Outcome::Committed,
+            PackedOutcome::Aborted(status) => Outcome::Aborted(from_le(status)),
         }
     }
 }

@@ -3,7 +3,7 @@
 ghost use Rattle.std.specs.Prelude.{◌≡◌, ◌↔◌, ◌<◌, length, IfOk, IsOk};
 ghost use Rattle.tm_hist.specs.Serial.{serial_code};
 
-use crate::shape::Shape;
+use crate::serial_core::SerialCore;
 use ia_regs::Regs;
 use thiserror::Error;
 use tm_core::NoSuchCore;
@@ -36,7 +36,7 @@ impl SerialFault {
 #[derive(Debug, Drop)]
 pub struct Serial {
     pub(crate) memory: Vec<u8>,
-    pub(crate) cores: Vec<Shape>,
+    pub(crate) cores: Vec<SerialCore>,
 }
 
 impl Serial {
@@ -58,7 +58,7 @@ impl Serial {
         ensures value { IfOk result (λ regs. regs ≡ base_of (core_at (cores_of self.now) core)) }
     {
         match self.cores.as_slice().get(usize::from(core)) {
-            Some(shape) => Ok(shape.base()),
+            Some(core) => Ok(core.base()),
             None => Err(NoSuchCore),
         }
     }
@@ -71,7 +71,7 @@ impl Serial {
         ensures value { IfOk result (λ stop. stop ≡ stop_of (core_at (cores_of self.now) core)) }
     {
         match self.cores.as_slice().get(usize::from(core)) {
-            Some(shape) => Ok(shape.stop()),
+            Some(core) => Ok(core.stop()),
             None => Err(NoSuchCore),
         }
     }

@@ -1,15 +1,17 @@
 //! Schedules: lists of core numbers as text.
 
-ghost use Rattle.std.specs.Prelude.{◌≡◌, ◌+◌, ◌-◌, ◌*◌, ◌≤◌, ◌<◌, ◌^◌, ◌⊎◌, ◌++◌, Ok, Err, Some, None, IfOk, IfErr, OnOk, length, map, take, drop};
+ghost use Rattle.std.specs.Prelude.{◌≡◌, ◌+◌, ◌-◌, ◌*◌, ◌≤◌, ◌<◌, ◌^◌, ◌⊎◌, ◌++◌, Ok, Err, Some, None, IfOk, IfErr};
+ghost use Rattle.std.specs.Prelude.{OnOk, length, map, take, drop};
 ghost use Rattle.std.specs.List.{join_with_byte};
 ghost use Rattle.arrayvec.specs.ArrayVec.{array_vec_len};
 ghost use Rattle.ia_text.specs.Writing.{Writes};
 ghost use Rattle.tm_hist.specs.Lines.{number_text};
-ghost use Rattle.tm_hist.specs.Schedule.{three_digits, core_number, word_numbers, line_numbers, numbers_from, joined, schedule_of, steps_of, schedule_row, schedule_rows, schedule_text};
+ghost use Rattle.tm_hist.specs.Schedule.{core_number, joined, line_numbers, numbers_from, schedule_of, schedule_row};
+ghost use Rattle.tm_hist.specs.Schedule.{schedule_rows, schedule_text, steps_of, three_digits, word_numbers};
 ghost use Rattle.ia_lex.specs.Lines.{lines_of};
 
 use crate::pieces::cut;
-use crate::row::{Row, push, push_number};
+use crate::text_line::{TextLine, push, push_number};
 use ia_lex::first_line;
 use ia_text::{Out, WriteFault};
 use std::alloc::Global;
@@ -69,7 +71,8 @@ fn core_of(word: &[u8]) -> Option<u8>
 #[tactic(auto, unfolding(crate::specs::Schedule::word_numbers))]
 fn read_word(word: &[u8], line: usize, cores: &mut Vec<u8>) -> Result<(), ScheduleFault>
     ensures ok { OnOk result (joined (Some cores.old.items) (word_numbers word.now) ≡ Some cores.new.items) }
-    ensures err { IfErr result (λ fault. (fault ≡ ScheduleFault.NoMemory) ⊎ ((fault ≡ ScheduleFault.BadSchedule line) × (word_numbers word.now ≡ None))) }
+    ensures err { IfErr result (λ fault. (fault ≡ ScheduleFault.NoMemory)
+        ⊎ ((fault ≡ ScheduleFault.BadSchedule line) × (word_numbers word.now ≡ None))) }
 {
     if word.is_empty() {
         return Ok(());
@@ -86,7 +89,8 @@ fn read_word(word: &[u8], line: usize, cores: &mut Vec<u8>) -> Result<(), Schedu
 // Adds the numbers of a line.
 fn read_line(text: &[u8], line: usize, cores: &mut Vec<u8>) -> Result<(), ScheduleFault>
     ensures ok { OnOk result (joined (Some cores.old.items) (line_numbers text.now) ≡ Some cores.new.items) }
-    ensures err { IfErr result (λ fault. (fault ≡ ScheduleFault.NoMemory) ⊎ ((fault ≡ ScheduleFault.BadSchedule line) × (line_numbers text.now ≡ None))) }
+    ensures err { IfErr result (λ fault. (fault ≡ ScheduleFault.NoMemory)
+        ⊎ ((fault ≡ ScheduleFault.BadSchedule line) × (line_numbers text.now ≡ None))) }
 {
     let mut left = Some(text);
     'words: while let Some(rest) = left {
@@ -101,7 +105,8 @@ fn read_line(text: &[u8], line: usize, cores: &mut Vec<u8>) -> Result<(), Schedu
 fn read_lines(alloc: Global, text: &[u8], first: usize) -> Result<Vec<u8>, ScheduleFault>
     requires { first + length text.now < 2 ^ 64 }
     ensures ok { IfOk result (λ cores. numbers_from first (lines_of text.now) ≡ Ok cores.items) }
-    ensures err { IfErr result (λ fault. (fault ≡ ScheduleFault.NoMemory) ⊎ (numbers_from first (lines_of text.now) ≡ Err fault)) }
+    ensures err { IfErr result (λ fault. (fault ≡ ScheduleFault.NoMemory)
+        ⊎ (numbers_from first (lines_of text.now) ≡ Err fault)) }
 {
     let mut cores = Vec::new(alloc);
     let mut left = text;
@@ -117,8 +122,9 @@ fn read_lines(alloc: Global, text: &[u8], first: usize) -> Result<Vec<u8>, Sched
 
 /// The core numbers of a schedule.
 ///
-/// A schedule is `schedule 1` alone on the first line, and below it core numbers in decimal digits, one to three and at
-/// most 255, between spaces and line ends. A line ends at a line feed, and a carriage return before it is no part of it.
+/// A schedule is `schedule 1` alone on the first line, and below it core numbers in decimal digits, one to three and
+/// at most 255, between spaces and line ends. A line ends at a line feed, and a carriage return before it is no part
+/// of it.
 ///
 /// [`ScheduleFault::BadSchedule`] names the first line that breaks the form; [`ScheduleFault::NoMemory`], where the
 /// list of cores found no memory.
@@ -147,7 +153,7 @@ pub fn read_steps(alloc: Global, text: &[u8]) -> Result<Vec<u8>, ScheduleFault>
 }
 
 // Adds numbers with a space between each two.
-fn push_cores(row: &mut Row, cores: &[u8])
+fn push_cores(row: &mut TextLine, cores: &[u8])
     requires { array_vec_len row.old + 4 * length cores.now ≤ 160 }
     ensures text { row.new.items ≡ row.old.items ++ join_with_byte 32 (map number_text cores.now) }
     ensures len { array_vec_len row.new ≤ array_vec_len row.old + 4 * length cores.now }
@@ -171,7 +177,7 @@ fn row_of(cores: &[u8], index: usize) -> &[u8]
     &rest[..rest.len().min(32)]
 }
 
-fn push_row(row: &mut Row, cores: &[u8], index: usize)
+fn push_row(row: &mut TextLine, cores: &[u8], index: usize)
     requires empty { array_vec_len row.old ≡ 0 }
     requires within { 32 * index < length cores.now }
     ensures { row.new.items ≡ row.old.items ++ schedule_row cores.now index }
@@ -184,7 +190,7 @@ fn write_row<O: Out>(cores: &[u8], index: usize, out: &mut O) -> Result<(), Writ
     requires { 32 * index < length cores.now }
     ensures { Writes (O.device out.old) (O.device out.new) (schedule_row cores.now index) result }
 {
-    let mut row = Row::new();
+    let mut row = TextLine::new();
     push_row(&mut row, cores, index);
     out.put(row.as_slice())?;
     Ok(())

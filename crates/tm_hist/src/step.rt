@@ -1,31 +1,33 @@
 //! One step of a run on one flat memory.
 
-ghost use Rattle.std.specs.Prelude.{◌≡◌, ℕ, ◌+◌, ◌<◌, ◌^◌, ◌≤◌, length, map, Some, None, IfSome, option_map, if◌then◌else◌};
+ghost use Rattle.std.specs.Prelude.{◌≡◌, ℕ, ◌+◌, ◌<◌, ◌^◌, ◌≤◌, length, map, Some, None, IfSome, option_map};
+ghost use Rattle.std.specs.Prelude.{if◌then◌else◌};
 ghost use Rattle.std.specs.List.{AllByRecursion};
-ghost use Rattle.tm_core.specs.Setting.{outside_at};
-ghost use Rattle.tm_core.specs.Isolated.{isolated};
-ghost use Rattle.tm_core.specs.State.{Closed, Halted, Opened};
-ghost use Rattle.tm_core.specs.Steps.{aborted, gone, halted, moved, stop_number};
-ghost use Rattle.tm_hist.specs.Serial.{rules, core_of, opened, steps_of, list_step};
+ghost use Rattle.tm_model.specs.Setting.{outside_at, setting_of};
+ghost use Rattle.tm_model.specs.State.{Closed, Halted, Opened};
+ghost use Rattle.tm_model.specs.Steps.{after_begin, after_plain, after_step_of, after_stop, registers_after_abort};
+ghost use Rattle.tm_model.specs.Steps.{stop_number};
+ghost use Rattle.tm_hist.specs.Serial.{core_of, list_step, steps_of};
 
 use crate::flat::{outside_on, run_body, write};
-use crate::shape::Shape;
+use crate::serial_core::SerialCore;
 use ia_regs::Regs;
 use tm_core::Outcome;
-use tm_rule::{Code, Outside, Stop, fallback, fetch};
+use tm_rule::{Code, OutsideResult, Stop, fallback, fetch};
 
 // One instruction outside of transactions that goes on.
-fn plain_step(code: &Code<'_>, size: u32, memory: &mut [u8], regs: &Regs) -> Option<Shape>
+fn plain_step(code: &Code<'_>, size: u32, memory: &mut [u8], regs: &Regs) -> Option<SerialCore>
     requires { length memory.old ≡ size }
-    ensures step { gone memory.old (outside_at (rules code.now.bytes.now code.now.base size) regs.now memory.old) ≡ option_map (λ c. (memory.new, core_of c)) result }
+    ensures step { after_plain memory.old (outside_at (setting_of code.now.bytes.now code.now.base size 0 0) regs.now memory.old)
+        ≡ option_map (λ c. (memory.new, core_of c)) result }
     ensures growth { IfSome result (λ c. steps_of c ≤ 1) }
 {
     match outside_on(code, size, memory, regs) {
-        Outside::Goes(next, store) => {
+        OutsideResult::Goes(next, store) => {
             write(memory, store);
-            Some(Shape::Closed(next))
+            Some(SerialCore::Closed(next))
         }
-        Outside::Begins(_) | Outside::Stops(_) => None,
+        OutsideResult::Begins(_) | OutsideResult::Stops(_) => None,
     }
 }
 
@@ -47,32 +49,40 @@ fn number(stop: Stop) -> u8
 }
 
 // One instruction outside of transactions that stops for this reason.
-fn stop_step(code: &Code<'_>, size: u32, memory: &[u8], regs: &Regs, stop: Stop) -> Option<Shape>
+fn stop_step(
+    code: &Code<'_>,
+    size: u32,
+    memory: &[u8],
+    regs: &Regs,
+    stop: Stop,
+) -> Option<SerialCore>
     requires { length memory.now ≡ size }
-    ensures step { halted memory.now regs.now stop (outside_at (rules code.now.bytes.now code.now.base size) regs.now memory.now) ≡ option_map (λ c. (memory.now, core_of c)) result }
+    ensures step { after_stop memory.now regs.now stop (outside_at (setting_of code.now.bytes.now code.now.base size 0 0)
+        regs.now memory.now) ≡ option_map (λ c. (memory.now, core_of c)) result }
     ensures growth { IfSome result (λ c. steps_of c ≤ 1) }
 {
     match outside_on(code, size, memory, regs) {
-        Outside::Stops(why) => {
+        OutsideResult::Stops(why) => {
             if number(stop) == number(why) {
-                Some(Shape::Halted(*regs, stop))
+                Some(SerialCore::Halted(*regs, stop))
             } else {
                 None
             }
         }
-        Outside::Goes(_, _) | Outside::Begins(_) => None,
+        OutsideResult::Goes(_, _) | OutsideResult::Begins(_) => None,
     }
 }
 
 // An XBEGIN outside of transactions.
-fn begin_step(code: &Code<'_>, size: u32, memory: &[u8], regs: &Regs) -> Option<Shape>
+fn begin_step(code: &Code<'_>, size: u32, memory: &[u8], regs: &Regs) -> Option<SerialCore>
     requires { length memory.now ≡ size }
-    ensures step { opened memory.now regs.now (isolated (rules code.now.bytes.now code.now.base size) regs.now memory.now 1) ≡ option_map (λ c. (memory.now, core_of c)) result }
+    ensures step { after_begin memory.now regs.now (outside_at (setting_of code.now.bytes.now code.now.base size 0 0) regs.now
+        memory.now) ≡ option_map (λ c. (memory.now, core_of c)) result }
     ensures growth { IfSome result (λ c. steps_of c ≤ 1) }
 {
     match outside_on(code, size, memory, regs) {
-        Outside::Begins(_) => Some(Shape::Opened(*regs, 1)),
-        Outside::Goes(_, _) | Outside::Stops(_) => None,
+        OutsideResult::Begins(_) => Some(SerialCore::Opened(*regs, 1)),
+        OutsideResult::Goes(_, _) | OutsideResult::Stops(_) => None,
     }
 }
 
@@ -83,9 +93,10 @@ fn closed_step(
     memory: &mut [u8],
     regs: &Regs,
     outcome: &Outcome,
-) -> Option<Shape>
+) -> Option<SerialCore>
     requires { length memory.old ≡ size }
-    ensures step { moved (rules code.now.bytes.now code.now.base size) memory.old (Closed regs.now) outcome.now ≡ option_map (λ c. (memory.new, core_of c)) result }
+    ensures step { after_step_of (setting_of code.now.bytes.now code.now.base size 0 0) memory.old (Closed regs.now) outcome.now
+        ≡ option_map (λ c. (memory.new, core_of c)) result }
     ensures growth { IfSome result (λ c. steps_of c ≤ 1) }
 {
     match outcome {
@@ -97,8 +108,9 @@ fn closed_step(
 }
 
 // The registers after an abort with this status.
-fn aborted(code: &Code<'_>, regs: &Regs, status: u32) -> Regs
-    ensures { (size : ℕ) → result ≡ aborted (rules code.now.bytes.now code.now.base size) regs.now status }
+fn registers_after_abort(code: &Code<'_>, regs: &Regs, status: u32) -> Regs
+    ensures { (size : ℕ) → result ≡ registers_after_abort (setting_of code.now.bytes.now code.now.base size 0 0) regs.now
+        status }
 {
     let fetched = fetch(code, regs.eip);
     let mut next = *regs;
@@ -115,19 +127,22 @@ fn open_step(
     regs: &Regs,
     steps: u64,
     outcome: &Outcome,
-) -> Option<Shape>
+) -> Option<SerialCore>
     requires size { length memory.old ≡ size }
     requires few { steps + 1 < 2 ^ 64 }
-    ensures step { moved (rules code.now.bytes.now code.now.base size) memory.old (Opened regs.now steps) outcome.now ≡ option_map (λ c. (memory.new, core_of c)) result }
+    ensures step { after_step_of (setting_of code.now.bytes.now code.now.base size 0 0) memory.old (Opened regs.now steps)
+        outcome.now ≡ option_map (λ c. (memory.new, core_of c)) result }
     ensures growth { IfSome result (λ c. steps_of c ≤ steps + 1) }
 {
     match outcome {
-        Outcome::Inside => Some(Shape::Opened(*regs, steps + 1)),
+        Outcome::Inside => Some(SerialCore::Opened(*regs, steps + 1)),
         Outcome::Committed => match run_body(code, size, memory, regs, steps + 1) {
-            Some(regs) => Some(Shape::Closed(regs)),
+            Some(regs) => Some(SerialCore::Closed(regs)),
             None => None,
         },
-        Outcome::Aborted(status) => Some(Shape::Closed(aborted(code, regs, *status))),
+        Outcome::Aborted(status) => Some(SerialCore::Closed(registers_after_abort(
+            code, regs, *status,
+        ))),
         Outcome::Plain | Outcome::Stopped(_) | Outcome::Idle | Outcome::Begun => None,
     }
 }
@@ -137,19 +152,20 @@ pub fn core_step(
     code: &Code<'_>,
     size: u32,
     memory: &mut [u8],
-    core: &Shape,
+    core: &SerialCore,
     outcome: &Outcome,
-) -> Option<Shape>
+) -> Option<SerialCore>
     requires size { length memory.old ≡ size }
     requires few { steps_of core.now + 1 < 2 ^ 64 }
-    ensures step { moved (rules code.now.bytes.now code.now.base size) memory.old (core_of core.now) outcome.now ≡ option_map (λ c. (memory.new, core_of c)) result }
+    ensures step { after_step_of (setting_of code.now.bytes.now code.now.base size 0 0) memory.old (core_of core.now) outcome.now
+        ≡ option_map (λ c. (memory.new, core_of c)) result }
     ensures growth { IfSome result (λ c. steps_of c ≤ steps_of core.now + 1) }
 {
     match core {
-        Shape::Closed(regs) => closed_step(code, size, memory, regs, outcome),
-        Shape::Opened(regs, steps) => open_step(code, size, memory, regs, *steps, outcome),
-        Shape::Halted(regs, stop) => match outcome {
-            Outcome::Idle => Some(Shape::Halted(*regs, *stop)),
+        SerialCore::Closed(regs) => closed_step(code, size, memory, regs, outcome),
+        SerialCore::Opened(regs, steps) => open_step(code, size, memory, regs, *steps, outcome),
+        SerialCore::Halted(regs, stop) => match outcome {
+            Outcome::Idle => Some(SerialCore::Halted(*regs, *stop)),
             _ => None,
         },
     }
@@ -160,14 +176,16 @@ pub fn step(
     code: &Code<'_>,
     size: u32,
     memory: &mut [u8],
-    cores: &mut [Shape],
+    cores: &mut [SerialCore],
     core: u8,
     outcome: &Outcome,
 ) -> bool
     requires size { length memory.old ≡ size }
     requires few { AllByRecursion (λ c. steps_of c + 1 < 2 ^ 64) cores.old }
-    ensures step { list_step (rules code.now.bytes.now code.now.base size) memory.old (map core_of cores.old) core outcome.now ≡ (if result then Some (memory.new, map core_of cores.new) else None) }
-    ensures growth { (most : ℕ) → AllByRecursion (λ c. steps_of c ≤ most) cores.old → AllByRecursion (λ c. steps_of c ≤ most + 1) cores.new }
+    ensures step { list_step (setting_of code.now.bytes.now code.now.base size 0 0) memory.old (map core_of cores.old) core
+        outcome.now ≡ (if result then Some (memory.new, map core_of cores.new) else None) }
+    ensures growth { (most : ℕ) → AllByRecursion (λ c. steps_of c ≤ most) cores.old →
+        AllByRecursion (λ c. steps_of c ≤ most + 1) cores.new }
 {
     let index = usize::from(core);
     if index >= cores.len() {

@@ -52,7 +52,7 @@ pub enum Fetched {
 
 /// What one instruction comes to outside of transactions.
 #[derive(Clone, Copy, PartialEq, Eq, Debug)]
-pub enum Outside {
+pub enum OutsideResult {
     /// It goes on with these registers, and with at most one store.
     Goes(Regs, Option<Store>),
     /// It opens a transaction, with these registers.
@@ -63,7 +63,7 @@ pub enum Outside {
 
 /// What one instruction comes to inside a transaction.
 #[derive(Clone, Copy, PartialEq, Eq, Debug)]
-pub enum Within {
+pub enum InsideResult {
     /// It goes on with these registers, and with at most one store.
     GoesOn(Regs, Option<Store>),
     /// It is an XBEGIN that raises the depth, with these registers.

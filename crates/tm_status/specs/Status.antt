@@ -1,5 +1,6 @@
--- The status of an abort (SDM volume 1, section 16.3.5, table 16-1): bit 0 XABORT, 1 may succeed on a retry, 2 conflict,
--- 3 internal buffer overflow, 4 debug breakpoint, 5 aborted while nested, 31 to 24 the argument of XABORT where bit 0 is set.
+-- The status of an abort (SDM volume 1, section 16.3.5, table 16-1): bit 0 XABORT, 1 may succeed on a retry, 2
+-- conflict, 3 internal buffer overflow, 4 debug breakpoint, 5 aborted while nested, 31 to 24 the argument of XABORT
+-- where bit 0 is set.
 use Rattle.std.specs.Prelude.{ℕ, ◌+◌, ◌*◌, ◌/◌, ◌^◌, Bool, true, false, ◌==◌, Option, Some, None, cond}
 use Rattle.std.specs.Int.{bit_at}
 use Rattle.tm_status.specs.declared.cause.Cause.{Cause}

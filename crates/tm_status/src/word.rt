@@ -51,8 +51,8 @@ fn is_set(word: u32, bit: u32) -> bool
 mod tests {
     use super::*;
 
-    /// Statuses by the manual's table of bits: 0 XABORT, 1 retry, 2 conflict, 3 overflow, 4 breakpoint, 5 nested, and the
-    /// argument of XABORT in bits 31 to 24.
+    /// Statuses by the manual's table of bits: 0 XABORT, 1 retry, 2 conflict, 3 overflow, 4 breakpoint, 5 nested, and
+    /// the argument of XABORT in bits 31 to 24.
     #[test]
     fn statuses(rt: HostRuntime) {
         for (cause, alone, nested) in [

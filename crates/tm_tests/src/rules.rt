@@ -1,7 +1,7 @@
 //! One instruction at a time, by the manual's pages and the table of docs/MACHINE.md, "One step".
 
 use tm_rule::{
-    Access, Code, Outside, Stop, Store, Within, fallback, fetch, inside, load_at, outside,
+    Access, Code, OutsideResult, Stop, Store, InsideResult, fallback, fetch, inside, load_at, outside,
 };
 use ia_regs::{Flags, Regs};
 use ia_word::Width;
@@ -21,13 +21,13 @@ fn registers() -> Regs {
     }
 }
 
-fn alone(bytes: &[u8], loaded: u32) -> Outside {
+fn alone(bytes: &[u8], loaded: u32) -> OutsideResult {
     let code = Code { bytes, base: BASE };
     let regs = registers();
     outside(&fetch(&code, regs.eip), &code, SIZE, &regs, loaded)
 }
 
-fn within(bytes: &[u8], loaded: u32, depth: u8) -> Within {
+fn within(bytes: &[u8], loaded: u32, depth: u8) -> InsideResult {
     let code = Code { bytes, base: BASE };
     let regs = registers();
     inside(&fetch(&code, regs.eip), &code, SIZE, &regs, loaded, depth)
@@ -62,7 +62,7 @@ fn stops(rt: HostRuntime) {
         ([0xa3, 0x00, 0x01, 0, 0].as_slice(), Stop::CodeStore),
         ([0xa3, 0xfd, 0x00, 0, 0].as_slice(), Stop::CodeStore),
     ] {
-        assert_eq!(rt; alone(bytes, 0), Outside::Stops(stop), "{bytes:?}");
+        assert_eq!(rt; alone(bytes, 0), OutsideResult::Stops(stop), "{bytes:?}");
     }
 }
 
@@ -71,12 +71,12 @@ fn goes_on_outside(rt: HostRuntime) {
     // xabort, pause, xbegin
     assert_eq!(rt;
         alone(&[0xc6, 0xf8, 0xab], 0),
-        Outside::Goes(behind(3), None)
+        OutsideResult::Goes(behind(3), None)
     );
-    assert_eq!(rt; alone(&[0xf3, 0x90], 0), Outside::Goes(behind(2), None));
+    assert_eq!(rt; alone(&[0xf3, 0x90], 0), OutsideResult::Goes(behind(2), None));
     assert_eq!(rt;
         alone(&[0xc7, 0xf8, 0x0f, 0, 0, 0], 0),
-        Outside::Begins(behind(6))
+        OutsideResult::Begins(behind(6))
     );
     // mov [0fch], eax ends right below the code; mov [105h], eax begins right behind it
     let store = |addr| Store {
@@ -86,16 +86,16 @@ fn goes_on_outside(rt: HostRuntime) {
     };
     assert_eq!(rt;
         alone(&[0xa3, 0xfc, 0, 0, 0], 0),
-        Outside::Goes(behind(5), Some(store(0xfc)))
+        OutsideResult::Goes(behind(5), Some(store(0xfc)))
     );
     assert_eq!(rt;
         alone(&[0xa3, 0x05, 1, 0, 0], 0),
-        Outside::Goes(behind(5), Some(store(0x105)))
+        OutsideResult::Goes(behind(5), Some(store(0x105)))
     );
     // mov [0fffch], eax ends at the memory's end
     assert_eq!(rt;
         alone(&[0xa3, 0xfc, 0xff, 0, 0], 0),
-        Outside::Goes(behind(5), Some(store(0xfffc)))
+        OutsideResult::Goes(behind(5), Some(store(0xfffc)))
     );
 }
 
@@ -117,18 +117,18 @@ fn fails_inside(rt: HostRuntime) {
         ([0xa3, 0xfd, 0xff, 0, 0].as_slice(), Cause::Other),
         ([0xa3, 0x00, 0x01, 0, 0].as_slice(), Cause::Other),
     ] {
-        assert_eq!(rt; within(bytes, 0, 1), Within::Fails(cause), "{bytes:?}");
+        assert_eq!(rt; within(bytes, 0, 1), InsideResult::Fails(cause), "{bytes:?}");
     }
 }
 
 #[test]
 fn nests_to_depth_seven(rt: HostRuntime) {
     let xbegin = [0xc7, 0xf8, 0, 0, 0, 0];
-    assert_eq!(rt; within(&xbegin, 0, 1), Within::Nests(behind(6)));
-    assert_eq!(rt; within(&xbegin, 0, 6), Within::Nests(behind(6)));
-    assert_eq!(rt; within(&xbegin, 0, 7), Within::Fails(Cause::Nest));
+    assert_eq!(rt; within(&xbegin, 0, 1), InsideResult::Nests(behind(6)));
+    assert_eq!(rt; within(&xbegin, 0, 6), InsideResult::Nests(behind(6)));
+    assert_eq!(rt; within(&xbegin, 0, 7), InsideResult::Fails(Cause::Nest));
     let xend = [0x0f, 0x01, 0xd5];
-    assert_eq!(rt; within(&xend, 0, 7), Within::Ends(behind(3)));
+    assert_eq!(rt; within(&xend, 0, 7), InsideResult::Ends(behind(3)));
 }
 
 #[test]

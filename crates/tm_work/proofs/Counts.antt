@@ -5,7 +5,7 @@ use mathlib.Core.Logic.{dite}
 use native.Mathlib.Decide.{ℕ_discrete}
 use Rattle.std.proofs.lemmas.Option.{slice_get-get_or, slice_get_within}
 use Rattle.tm_ledger.proofs.Moves.{slice_get_front, slice_get_last}
-use Rattle.tm_hist.specs.Board.{Shown, IsHistory}
+use Rattle.tm_hist.specs.Board.{ShownBoard, IsHistory}
 use Rattle.tm_work.specs.Seats.{SeatProgress, seat_with, no_progress, SeatTells, Tells, GoesOn}
 use Rattle.tm_work.specs.Workers.{IsDone, AreLeft, EachDone, KeepsBudget, IsReport, IsRefused}
 
@@ -13,19 +13,19 @@ no_seat : SeatProgress
 no_seat = seat_with 0 no_progress
 
 -- a seat that tells what is so of its core, and whose worker is done
-served_at : (given b : Shown) (budget c : ℕ) (s : SeatProgress) → SeatTells given b s → IsDone c budget s → KeepsBudget given b budget c s.progress.steps
+served_at : (given b : ShownBoard) (budget c : ℕ) (s : SeatProgress) → SeatTells given b s → IsDone c budget s → KeepsBudget given b budget c s.progress.steps
 served_at given b budget c s told done =
     let t = subst (λ (k : ℕ). Tells given b k s.progress) done.core told in
     record { steps = t.steps; within = done.within; used = λ less. t.ended (done.used less) }
 
-served_in : (given b : Shown) (budgets : List ℕ) (done : List SeatProgress) (c : ℕ) → All (SeatTells given b) done → EachDone budgets done → c < length done
+served_in : (given b : ShownBoard) (budgets : List ℕ) (done : List SeatProgress) (c : ℕ) → All (SeatTells given b) done → EachDone budgets done → c < length done
     → (s : SeatProgress) × (slice_get done c ≡ Some s) × KeepsBudget given b (slice_index budgets c) c s.progress.steps
 served_in given b budgets done c told each below =
     let s : SeatProgress = get_or done c no_seat in
     let at : slice_get done c ≡ Some s = slice_get-get_or done c no_seat below in
     (s, at, served_at given b (slice_index budgets c) c s (told c no_seat below) (each c s at))
 
-pub report_of : (given b : Shown) (budgets : List ℕ) (done : List SeatProgress) (steps : List ℕ) → GoesOn given b → IsHistory b → All (SeatTells given b) done → EachDone budgets done → length done ≡ length budgets → length steps ≡ length done
+pub report_of : (given b : ShownBoard) (budgets : List ℕ) (done : List SeatProgress) (steps : List ℕ) → GoesOn given b → IsHistory b → All (SeatTells given b) done → EachDone budgets done → length done ≡ length budgets → length steps ≡ length done
     → ((k : ℕ) (s : SeatProgress) → slice_get done k ≡ Some s → slice_index steps k ≡ s.progress.steps) → IsReport given budgets b steps
 report_of given b budgets done steps goes_on run told each all count_is steps_are = record {
   goes_on = goes_on;
@@ -36,7 +36,7 @@ report_of given b budgets done steps goes_on run told each all count_is steps_ar
       subst (KeepsBudget given b (slice_index budgets c) c) (sym (steps_are c t.0 t.1)) t.2;
 }
 
-pub refused_of : (given b : Shown) (budgets : List ℕ) (done left : List SeatProgress) (k : ℕ) → k ≡ length done → GoesOn given b → IsHistory b → All (SeatTells given b) done → All (SeatTells given b) left → EachDone budgets done
+pub refused_of : (given b : ShownBoard) (budgets : List ℕ) (done left : List SeatProgress) (k : ℕ) → k ≡ length done → GoesOn given b → IsHistory b → All (SeatTells given b) done → All (SeatTells given b) left → EachDone budgets done
     → length done < length budgets → AreLeft left (length done + 1) (length budgets) → IsRefused given budgets k b
 refused_of given b budgets done left k here goes_on run told others each less rest = record {
   goes_on = goes_on;

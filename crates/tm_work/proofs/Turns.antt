@@ -9,8 +9,8 @@ use Rattle.std.proofs.lemmas.List.{append_assoc, append-nil}
 use Rattle.std.proofs.lemmas.List.Sums.{sum_by-append, count_by-le-length}
 use Rattle.std.proofs.lemmas.Option.{slice_get_within}
 use Rattle.tm_ledger.proofs.Moves.{slice_get_front, slice_get_last, slice_get_same, slice_get_other}
-use Rattle.tm_core.specs.declared.outcome.Outcome.{Outcome}
-use Rattle.tm_hist.specs.Board.{Shown, IsStopped, IsFull}
+use Rattle.tm_model.specs.declared.outcome.Outcome.{Outcome}
+use Rattle.tm_hist.specs.Board.{ShownBoard, IsStopped, IsFull}
 use Rattle.tm_work.specs.declared.progress.Progress.{Progress}
 use Rattle.tm_work.specs.declared.progress.Receipt.{Receipt}
 use Rattle.tm_work.specs.Seats.{SeatProgress, seat_with, SeatTells, no_progress, HaveNoProgress, AreSeats, IsStepMade, progress_of, progress_after_step, progress_at_end, count, new_part, GoesOn, Tells, LedgerAgrees}
@@ -33,17 +33,17 @@ if_some_map : {A : Type 0} (o : Option A) (P Q : A → Type 0) → ((a : A) → 
 if_some_map (Some a) P Q f h = f a h
 if_some_map None P Q f h = tt
 
-part_next : (given b b' : Shown) (c : ℕ) (r : Receipt) → GoesOn given b → IsStepMade b b' c r → new_part given b' ≡ new_part given b ++ (c, r.outcome) ∷ []
+part_next : (given b b' : ShownBoard) (c : ℕ) (r : Receipt) → GoesOn given b → IsStepMade b b' c r → new_part given b' ≡ new_part given b ++ (c, r.outcome) ∷ []
 part_next given b b' c r g made = ap (λ l. drop (length given.history) l) made.history ∙ part_step given.history b.history (c, r.outcome) g.history
 
-goes_on_step : (given b b' : Shown) (c : ℕ) (r : Receipt) → GoesOn given b → IsStepMade b b' c r → GoesOn given b'
+goes_on_step : (given b b' : ShownBoard) (c : ℕ) (r : Receipt) → GoesOn given b → IsStepMade b b' c r → GoesOn given b'
 goes_on_step given b b' c r g made = record {
   same = record { program = made.same.program ∙ g.same.program; limits = made.same.limits ∙ g.same.limits; limit = made.same.limit ∙ g.same.limit };
   history = made.history ∙ ap (λ l. l ++ (c, r.outcome) ∷ []) g.history ∙ append_assoc given.history (new_part given b) ((c, r.outcome) ∷ []) ∙ ap (λ l. given.history ++ l) (sym (part_next given b b' c r g made));
 }
 
 -- what another core's progress says
-others : (given b b' : Shown) (c : ℕ) (r : Receipt) (k : ℕ) (m : Progress) → GoesOn given b → IsStepMade b b' c r → k ≢ c → Tells given b k m → Tells given b' k m
+others : (given b b' : ShownBoard) (c : ℕ) (r : Receipt) (k : ℕ) (m : Progress) → GoesOn given b → IsStepMade b b' c r → k ≢ c → Tells given b k m → Tells given b' k m
 others given b b' c r k m g made apart t = record {
   steps = t.steps ∙ sym (ap (λ l. count k l) (part_next given b b' c r g made) ∙ count_other c k (new_part given b) r.outcome (λ e. apart (sym e)));
   last = if_some_map m.last _ _ (λ q h. (h.0, ap (λ l. slice_get l q.index) made.history ∙ slice_get_front b.history ((c, r.outcome) ∷ []) q.index (k, q.outcome) h.1)) t.last;
@@ -54,7 +54,7 @@ others given b b' c r k m g made apart t = record {
 }
 
 -- what its own progress says
-own : (given b b' : Shown) (c : ℕ) (r : Receipt) (m : Progress) → GoesOn given b → IsStepMade b b' c r → Tells given b c m → Tells given b' c (progress_after_step m r)
+own : (given b b' : ShownBoard) (c : ℕ) (r : Receipt) (m : Progress) → GoesOn given b → IsStepMade b b' c r → Tells given b c m → Tells given b' c (progress_after_step m r)
 own given b b' c r m g made t = record {
   steps = ap (λ n. n + 1) t.steps ∙ sym (ap (λ l. count c l) (part_next given b b' c r g made) ∙ count_same c (new_part given b) r.outcome);
   last = (
@@ -75,13 +75,13 @@ line_cases ledger c old new P was mine rest k m is =
     subst (λ (y : ℕ × Progress). P y.0 y.1) (λ i. (sym e i, same i)) mine)
     (λ n. rest k m n (sym (slice_get_other ledger c k new n) ∙ is))
 
-pub step_agrees : (given b b' : Shown) (ledger : List Progress) (c : ℕ) (r : Receipt) (m : Progress) → LedgerAgrees given b ledger → IsStepMade b b' c r → slice_get ledger c ≡ Some m → LedgerAgrees given b' (slice_set ledger c (progress_after_step m r))
+pub step_agrees : (given b b' : ShownBoard) (ledger : List Progress) (c : ℕ) (r : Receipt) (m : Progress) → LedgerAgrees given b ledger → IsStepMade b b' c r → slice_get ledger c ≡ Some m → LedgerAgrees given b' (slice_set ledger c (progress_after_step m r))
 step_agrees given b b' ledger c r m a made was = record {
   goes_on = goes_on_step given b b' c r a.goes_on made;
   lines = line_cases ledger c m _ (Tells given b') was (own given b b' c r m a.goes_on made (a.lines c m was)) (λ k x n is. others given b b' c r k x a.goes_on made n (a.lines k x is));
 }
 
-pub look_agrees : (given b : Shown) (ledger : List Progress) (c : ℕ) (m : Progress) → LedgerAgrees given b ledger → IsStopped b c ⊎ IsFull b → slice_get ledger c ≡ Some m → LedgerAgrees given b (slice_set ledger c (progress_at_end m))
+pub look_agrees : (given b : ShownBoard) (ledger : List Progress) (c : ℕ) (m : Progress) → LedgerAgrees given b ledger → IsStopped b c ⊎ IsFull b → slice_get ledger c ≡ Some m → LedgerAgrees given b (slice_set ledger c (progress_at_end m))
 look_agrees given b ledger c m a end was =
     let t = a.lines c m was in record {
       goes_on = a.goes_on;
@@ -89,22 +89,22 @@ look_agrees given b ledger c m a end was =
     }
 
 -- where a line is written as it is
-pub same_agrees : (given b : Shown) (ledger : List Progress) (c : ℕ) (m : Progress) → LedgerAgrees given b ledger → slice_get ledger c ≡ Some m → LedgerAgrees given b (slice_set ledger c m)
+pub same_agrees : (given b : ShownBoard) (ledger : List Progress) (c : ℕ) (m : Progress) → LedgerAgrees given b ledger → slice_get ledger c ≡ Some m → LedgerAgrees given b (slice_set ledger c m)
 same_agrees given b ledger c m a was = record {
   goes_on = a.goes_on;
   lines = line_cases ledger c m m (Tells given b) was (a.lines c m was) (λ k x n is. a.lines k x is);
 }
 
-pub turned : (given b b' : Shown) (ledger ledger' : List Progress) (c c' : ℕ) (m : Progress) (r : Receipt) → LedgerAgrees given b ledger → c' ≡ c → IsStepMade b b' c' r → slice_get ledger c ≡ Some m → ledger' ≡ slice_set ledger c (progress_after_step m r) → LedgerAgrees given b' ledger'
+pub turned : (given b b' : ShownBoard) (ledger ledger' : List Progress) (c c' : ℕ) (m : Progress) (r : Receipt) → LedgerAgrees given b ledger → c' ≡ c → IsStepMade b b' c' r → slice_get ledger c ≡ Some m → ledger' ≡ slice_set ledger c (progress_after_step m r) → LedgerAgrees given b' ledger'
 turned given b b' ledger ledger' c c' m r a here made was written =
     subst (λ (l : List Progress). LedgerAgrees given b' l) (sym written) (step_agrees given b b' ledger c r m a (subst (λ (k : ℕ). IsStepMade b b' k r) here made) was)
 
-pub looked : (given b b' : Shown) (ledger ledger' : List Progress) (c c' : ℕ) (m : Progress) → LedgerAgrees given b ledger → c' ≡ c → b' ≡ b → IsStopped b c' ⊎ IsFull b → slice_get ledger c ≡ Some m → ledger' ≡ slice_set ledger c (progress_at_end m) → LedgerAgrees given b' ledger'
+pub looked : (given b b' : ShownBoard) (ledger ledger' : List Progress) (c c' : ℕ) (m : Progress) → LedgerAgrees given b ledger → c' ≡ c → b' ≡ b → IsStopped b c' ⊎ IsFull b → slice_get ledger c ≡ Some m → ledger' ≡ slice_set ledger c (progress_at_end m) → LedgerAgrees given b' ledger'
 looked given b b' ledger ledger' c c' m a here board end was written =
     let end' : IsStopped b c ⊎ IsFull b = subst (λ (k : ℕ). IsStopped b k ⊎ IsFull b) here end in
-    subst (λ (y : Shown × List Progress). LedgerAgrees given y.0 y.1) (λ i. (sym board i, sym written i)) (look_agrees given b ledger c m a end' was)
+    subst (λ (y : ShownBoard × List Progress). LedgerAgrees given y.0 y.1) (λ i. (sym board i, sym written i)) (look_agrees given b ledger c m a end' was)
 
-pub no_wrap : (given b : Shown) (ledger : List Progress) (c : ℕ) (m : Progress) → LedgerAgrees given b ledger → slice_get ledger c ≡ Some m → length b.history < b.limit → b.limit ≤ 16777216 → (m.steps + 1) % 18446744073709551616 ≡ m.steps + 1
+pub no_wrap : (given b : ShownBoard) (ledger : List Progress) (c : ℕ) (m : Progress) → LedgerAgrees given b ledger → slice_get ledger c ≡ Some m → length b.history < b.limit → b.limit ≤ 16777216 → (m.steps + 1) % 18446744073709551616 ≡ m.steps + 1
 no_wrap given b ledger c m a was room fits =
     let t = (a.lines c m was).steps in
     let k = count_by-le-length (λ (x : ℕ × Outcome). eqb x.0 c) (new_part given b) in
@@ -114,12 +114,12 @@ no_wrap given b ledger c m a was room fits =
 pub progress_of_turn : (m : Progress) (s : ℕ) (r : Receipt) (e : Bool) → s ≡ m.steps → e ≡ m.ended → (m.steps + 1) % 18446744073709551616 ≡ m.steps + 1 → progress_of ((s + 1) % 18446744073709551616) (Some r) e ≡ progress_after_step m r
 progress_of_turn m s r e steps ended fits = λ i. progress_of ((ap (λ n. (n + 1) % 18446744073709551616) steps ∙ fits) i) (Some r) (ended i)
 
-pub last_before : (given b : Shown) (ledger : List Progress) (c : ℕ) (m : Progress) (n : ℕ) → LedgerAgrees given b ledger → slice_get ledger c ≡ Some m → n ≡ length b.history → IfSome m.last (λ q. q.index < n)
+pub last_before : (given b : ShownBoard) (ledger : List Progress) (c : ℕ) (m : Progress) (n : ℕ) → LedgerAgrees given b ledger → slice_get ledger c ≡ Some m → n ≡ length b.history → IfSome m.last (λ q. q.index < n)
 last_before given b ledger c m n a was here = if_some_map m.last _ _ (λ q h. let k = slice_get_within b.history q.index (c, q.outcome) h.1 in omega arith) (a.lines c m was).last
 
 -- the board given, where no seat had a turn
-pub fresh_agrees : (given b : Shown) (ledger : List Progress) → b ≡ given → HaveNoProgress ledger → LedgerAgrees given b ledger
-fresh_agrees given b ledger same fresh_all = subst (λ (y : Shown). LedgerAgrees given y ledger) (sym same) record {
+pub fresh_agrees : (given b : ShownBoard) (ledger : List Progress) → b ≡ given → HaveNoProgress ledger → LedgerAgrees given b ledger
+fresh_agrees given b ledger same fresh_all = subst (λ (y : ShownBoard). LedgerAgrees given y ledger) (sym same) record {
   goes_on = record { same = record { program = refl; limits = refl; limit = refl }; history = sym (append-nil given.history) ∙ ap (λ l. given.history ++ l) (sym (drop-length given.history)) };
   lines = λ c m is. subst (Tells given given c) (sym (fresh_all c m is)) record {
     steps = ap (λ l. count c l) (sym (drop-length given.history));
@@ -146,6 +146,6 @@ All_one : {X : Type 0} (P : X → Type 0) (x : X) → P x → All P (x ∷ [])
 All_one P x h zero d below = h
 All_one P x h (suc k) d below = absurd (omega arith)
 
-pub told_more : (given b b' : Shown) (seats : List SeatProgress) (s : SeatProgress) → b' ≡ b → All (SeatTells given b) seats → SeatTells given b' s → All (SeatTells given b') (seats ++ s ∷ [])
+pub told_more : (given b b' : ShownBoard) (seats : List SeatProgress) (s : SeatProgress) → b' ≡ b → All (SeatTells given b) seats → SeatTells given b' s → All (SeatTells given b') (seats ++ s ∷ [])
 told_more given b b' seats s same h t =
-    All-append (SeatTells given b') seats (s ∷ []) (subst (λ (y : Shown). All (SeatTells given y) seats) (sym same) h) (All_one (SeatTells given b') s t)
+    All-append (SeatTells given b') seats (s ∷ []) (subst (λ (y : ShownBoard). All (SeatTells given y) seats) (sym same) h) (All_one (SeatTells given b') s t)

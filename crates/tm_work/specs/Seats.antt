@@ -1,8 +1,8 @@
 -- What seats know of a board, and when a ledger of that agrees with the board (docs/MACHINE.md, "Threads").
 use Rattle.std.specs.Prelude.{◌≡◌, ◌⊎◌, ℕ, ◌+◌, ◌<◌, ◌≤◌, ◌==◌, Bool, true, false, List, [], ◌∷◌, ◌++◌, length, drop}
 use Rattle.std.specs.Prelude.{count_by, Option, Some, None, IfSome, slice_get}
-use Rattle.tm_core.specs.declared.outcome.Outcome.{Outcome}
-use Rattle.tm_hist.specs.Board.{Shown, SameBoard, IsStopped, IsFull}
+use Rattle.tm_model.specs.declared.outcome.Outcome.{Outcome}
+use Rattle.tm_hist.specs.Board.{ShownBoard, SameBoard, IsStopped, IsFull}
 use Rattle.tm_work.specs.declared.progress.Progress.{Progress}
 use Rattle.tm_work.specs.declared.progress.Receipt.{Receipt}
 
@@ -34,37 +34,37 @@ abbrev pub count : ℕ → List (ℕ × Outcome) → ℕ
 count core history = count_by (λ (step : ℕ × Outcome). step.0 == core) history
 
 -- the part of the history that the board given did not have
-abbrev pub new_part : Shown → Shown → List (ℕ × Outcome)
+abbrev pub new_part : ShownBoard → ShownBoard → List (ℕ × Outcome)
 new_part given board = drop (length given.history) board.history
 
 -- the board has the program and the limits of the one given, and its history goes on from that one's
-pub record GoesOn (given board : Shown) : Type 0 where
+pub record GoesOn (given board : ShownBoard) : Type 0 where
   pub same : SameBoard given board
   pub history : board.history ≡ given.history ++ new_part given board
 
 -- the receipt is of a step of this core in the new part of the history
-abbrev pub IsReceipt : Shown → Shown → ℕ → Receipt → Type 0
+abbrev pub IsReceipt : ShownBoard → ShownBoard → ℕ → Receipt → Type 0
 IsReceipt given board core receipt =
     (length given.history ≤ receipt.index) × (slice_get board.history receipt.index ≡ Some (core, receipt.outcome))
 
 -- what progress says of its core is so: it counts the core's steps in the new part of the history, its last receipt is
 -- of one of them, and where it ended, the board shows the core stopped or the history full
-pub record Tells (given board : Shown) (core : ℕ) (progress : Progress) : Type 0 where
+pub record Tells (given board : ShownBoard) (core : ℕ) (progress : Progress) : Type 0 where
   pub steps : progress.steps ≡ count core (new_part given board)
   pub last : IfSome progress.last (IsReceipt given board core)
   pub ended : progress.ended ≡ true → IsStopped board core ⊎ IsFull board
 
 -- what a seat says of its core is so
-abbrev pub SeatTells : Shown → Shown → SeatProgress → Type 0
+abbrev pub SeatTells : ShownBoard → ShownBoard → SeatProgress → Type 0
 SeatTells given board seat = Tells given board seat.core seat.progress
 
 -- each line of the ledger tells what is so of the core with the line's number
-pub record LedgerAgrees (given board : Shown) (ledger : List Progress) : Type 0 where
+pub record LedgerAgrees (given board : ShownBoard) (ledger : List Progress) : Type 0 where
   pub goes_on : GoesOn given board
   pub lines : (core : ℕ) (progress : Progress) → slice_get ledger core ≡ Some progress → Tells given board core progress
 
 -- a step of this core with this receipt led from one board to the other
-pub record IsStepMade (before after : Shown) (core : ℕ) (receipt : Receipt) : Type 0 where
+pub record IsStepMade (before after : ShownBoard) (core : ℕ) (receipt : Receipt) : Type 0 where
   pub index : receipt.index ≡ length before.history
   pub same : SameBoard before after
   pub history : after.history ≡ before.history ++ (core, receipt.outcome) ∷ []

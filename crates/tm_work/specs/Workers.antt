@@ -1,6 +1,6 @@
 -- What workers did.
 use Rattle.std.specs.Prelude.{◌≡◌, ◌⊎◌, ℕ, ◌+◌, ◌<◌, ◌≤◌, true, List, length, Some, slice_get, slice_index}
-use Rattle.tm_hist.specs.Board.{Shown, IsStopped, IsFull, IsHistory}
+use Rattle.tm_hist.specs.Board.{ShownBoard, IsStopped, IsFull, IsHistory}
 use Rattle.tm_work.specs.Seats.{SeatProgress, seat_with, no_progress, count, new_part, GoesOn}
 
 -- the seat of this core made as many steps as the budget has, or fewer and ended
@@ -21,13 +21,13 @@ EachDone budgets done =
 
 -- the steps of a core are those that it has in the new part; at most its budget, and fewer only where it is stopped or
 -- the history full
-pub record KeepsBudget (given board : Shown) (budget core made : ℕ) : Type 0 where
+pub record KeepsBudget (given board : ShownBoard) (budget core made : ℕ) : Type 0 where
   pub steps : made ≡ count core (new_part given board)
   pub within : made ≤ budget
   pub used : made < budget → IsStopped board core ⊎ IsFull board
 
 -- what the report of workers that all ran says of the board and of each core's steps
-pub record IsReport (given : Shown) (budgets : List ℕ) (board : Shown) (steps : List ℕ) : Type 0 where
+pub record IsReport (given : ShownBoard) (budgets : List ℕ) (board : ShownBoard) (steps : List ℕ) : Type 0 where
   pub goes_on : GoesOn given board
   pub run : IsHistory board
   pub cores : length steps ≡ length budgets
@@ -35,7 +35,7 @@ pub record IsReport (given : Shown) (budgets : List ℕ) (board : Shown) (steps 
       → KeepsBudget given board (slice_index budgets core) core (slice_index steps core)
 
 -- where this core got no worker
-pub record IsRefused (given : Shown) (budgets : List ℕ) (refused : ℕ) (board : Shown) : Type 0 where
+pub record IsRefused (given : ShownBoard) (budgets : List ℕ) (refused : ℕ) (board : ShownBoard) : Type 0 where
   pub goes_on : GoesOn given board
   pub run : IsHistory board
   pub core : refused < length budgets

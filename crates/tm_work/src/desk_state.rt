@@ -22,13 +22,13 @@ pub(crate) struct DeskState<J: DeskIdentity> {
 impl<J: DeskIdentity> Model for DeskState<J> {
     ghost use Rattle.std.specs.Prelude.{List};
     ghost use Rattle.std.specs.Coded.{coded×, coded_list};
-    ghost use Rattle.tm_hist.specs.Board.{Shown};
+    ghost use Rattle.tm_hist.specs.Board.{ShownBoard};
     ghost use Rattle.tm_hist.specs.contracts.board.Board.{the_row as board_row};
     ghost use Rattle.tm_work.specs.declared.progress.Progress.{Progress};
     ghost use Rattle.tm_work.specs.contracts.progress.Progress.{the_row as progress_row};
     ghost use Rattle.tm_work.specs.Seats.{LedgerAgrees};
 
-    ghost Value = { Shown × List Progress };
+    ghost Value = { ShownBoard × List Progress };
 
     ghost coded = { coded× board_row.coded (coded_list progress_row.coded) };
 

@@ -9,9 +9,9 @@ use tm_ledger::{Ledger, LedgerIdentity, Token};
 
 /// Which desk it is, and the board that the desk was given. Each call of a function generic in it picks both.
 pub trait DeskIdentity: LedgerIdentity {
-    ghost use Rattle.tm_hist.specs.Board.{Shown};
+    ghost use Rattle.tm_hist.specs.Board.{ShownBoard};
 
-    ghost given: { Shown };
+    ghost given: { ShownBoard };
 }
 
 impl DeskIdentity for Brand {

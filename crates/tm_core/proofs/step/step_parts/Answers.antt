@@ -3,26 +3,27 @@ use Rattle.std.proofs.lemmas.List.{get_or_default}
 use Rattle.tm_sets.specs.Content.{Content}
 use Rattle.tm_core.specs.declared.cpu.Cpu.{Cpu}
 use Rattle.tm_buffer.specs.Held.{drained}
+use Rattle.tm_model.specs.Setting.{Setting}
+use Rattle.tm_model.specs.Shown.{View, view_outside}
+use Rattle.tm_core.specs.Representation.{IsHeld, Sane, cpu_at, cpu_view, cpu_views, kept_at, kept_of, no_cpu}
+use Rattle.tm_core.specs.Representation.{parts_setting}
+use Rattle.tm_core.specs.StepRefinement.{finished, stepped}
 use Rattle.tm_core.specs.Types.{Open, Running, Write}
-use Rattle.tm_core.specs.Setting.{Setting}
-use Rattle.tm_core.specs.Shown.{View, plain_view}
-use Rattle.tm_core.specs.ViewSteps.{finished, stepped}
-use Rattle.tm_core.specs.Parts.{kept_of, kept_at, cpu_at, no_cpu, view_of, views_of, setting_of, Sane, IsHeld}
+use Rattle.tm_core.proofs.Cores.{commit_step, cpu_same, held_after, held_as, hit_held_by, lines_below, nothing_else}
 use Rattle.tm_core.proofs.Held.{held_plain}
-use Rattle.tm_core.proofs.Cores.{held_as, held_after, struck_held_by, nothing_else, lines_below, cpu_same, commit_step}
 use Rattle.tm_core.proofs.step.step_parts.Goals as goal
 
-pub strike_all-requires-clause-lines : goal.strike_all-requires-clause-lines
-strike_all-requires-clause-lines g c =
+pub hit_written-requires-clause-lines : goal.hit_written-requires-clause-lines
+hit_written-requires-clause-lines g c =
     let a : Content = g.S.Sets.content c.args.sets.now in
     let cpus : List Cpu = c.args.cpus.now in
     let x : Cpu = c.step_inside.new.cpu in
     let size : ℕ = length c.args.memory.now in
     let here : get_or cpus c.args.c c.index-cpus-c-in-Open.result ≡ cpu_at cpus c.args.c = get_or_default cpus c.args.c c.index-cpus-c-in-Open.result no_cpu c.requires.exists in
     let state : (cpu_at cpus c.args.c).state ≡ Open c.in-Open.depth = ap (λ (z : Cpu). z.state) (sym (get_or_default cpus c.args.c _ no_cpu c.requires.exists)) ∙ c.in-Open.is in
-    let sane : Sane (setting_of c.args.code.now.bytes.now c.args.code.now.base size a) (views_of a cpus c.args.c) (Open c.in-Open.depth) = subst (Sane (setting_of c.args.code.now.bytes.now c.args.code.now.base size a) (views_of a cpus c.args.c)) state (c.requires.sound.sane c.args.c c.requires.exists) in
+    let sane : Sane (parts_setting c.args.code.now.bytes.now c.args.code.now.base size a) (cpu_views a cpus c.args.c) (Open c.in-Open.depth) = subst (Sane (parts_setting c.args.code.now.bytes.now c.args.code.now.base size a) (cpu_views a cpus c.args.c)) state (c.requires.sound.sane c.args.c c.requires.exists) in
     let below : (i : ℕ) → i < length (cpu_at cpus c.args.c).buffer.order → get_or (cpu_at cpus c.args.c).buffer.order i 0 < a.fixed.line_count = lines_below (a.fixed.room Write) size a.fixed.line_count (kept_at a cpus c.args.c) (c.requires.sound.held c.args.c c.requires.exists) sane.4 c.requires.lines in
-    let order : (cpu_at (set cpus c.args.c x) c.args.c).buffer.order ≡ (cpu_at cpus c.args.c).buffer.order = ap (λ (z : Cpu). z.buffer.order) (cpu_same cpus c.args.c x c.requires.exists) ∙ c.in-None.ensures.order refl ∙ ap (λ (z : Cpu). z.buffer.order) here in
+    let order : (cpu_at (set cpus c.args.c x) c.args.c).buffer.order ≡ (cpu_at cpus c.args.c).buffer.order = ap (λ (z : Cpu). z.buffer.order) (cpu_same cpus c.args.c x c.requires.exists) ∙ c.in-Commits.ensures.order refl ∙ ap (λ (z : Cpu). z.buffer.order) here in
     subst (λ (o : List ℕ). (i : ℕ) → i < length o → get_or o i 0 < (g.S.Sets.content c.step_inside.new.sets).fixed.line_count) (sym order)
     (subst (λ (f : Rattle.tm_sets.specs.Content.Fixed). (i : ℕ) → i < length (cpu_at cpus c.args.c).buffer.order → get_or (cpu_at cpus c.args.c).buffer.order i 0 < f.line_count) (sym c.step_inside.ensures.elsewhere.fixed) below)
 
@@ -41,40 +42,40 @@ returns-then-busy-clause-held g c j h =
     let x : Cpu = c.step_outside-outcome.new.cpu in
     let here : get_or cpus c.args.c c.index-cpus-c-in-Running.result ≡ cpu_at cpus c.args.c = get_or_default cpus c.args.c c.index-cpus-c-in-Running.result no_cpu c.requires.exists in
     let own : IsHeld (a.fixed.room Write) (kept_of a c.args.c x) = held_as (a.fixed.room Write) (kept_at a cpus c.args.c) (kept_of a c.args.c x) (ap (λ b. b.room) c.step_outside-outcome.ensures.buffer ∙ ap (λ (z : Cpu). z.buffer.room) here) (ap (λ b. b.order) c.step_outside-outcome.ensures.buffer ∙ ap (λ (z : Cpu). z.buffer.order) here) refl (c.requires.sound.held c.args.c c.requires.exists) in
-    struck_held_by (a.fixed.room Write) (eqb j c.args.c) _ (kept_at a (set cpus c.args.c x) j) _ (c.strike_access.ensures.kept j (subst (λ n. j < n) (sym (length-set cpus c.args.c x)) h))
+    hit_held_by (a.fixed.room Write) (eqb j c.args.c) _ (kept_at a (set cpus c.args.c x) j) _ (c.hit_access.ensures.kept j (subst (λ n. j < n) (sym (length-set cpus c.args.c x)) h))
     (held_after (a.fixed.room Write) a a cpus c.args.c x c.requires.exists (nothing_else a c.args.c) c.requires.sound.held own j h)
 
-pub returns-in-None-clause-step : goal.returns-in-None-clause-step
-returns-in-None-clause-step g c =
+pub returns-in-Commits-clause-step : goal.returns-in-Commits-clause-step
+returns-in-Commits-clause-step g c =
     let a : Content = g.S.Sets.content c.args.sets.now in
-    let k : Setting = setting_of c.args.code.now.bytes.now c.args.code.now.base (length c.args.memory.now) a in
+    let k : Setting = parts_setting c.args.code.now.bytes.now c.args.code.now.base (length c.args.memory.now) a in
     let cpus : List Cpu = c.args.cpus.now in
-    let cpus3 : List Cpu = c.strike_all.new.cpus in
+    let cpus3 : List Cpu = c.hit_written.new.cpus in
     let m : List ℕ = c.args.memory.now in
     let b : Content = g.S.Sets.content c.step_inside.new.sets in
     let x : Cpu = c.step_inside.new.cpu in
     let here : get_or cpus c.args.c c.index-cpus-c-in-Open.result ≡ cpu_at cpus c.args.c = get_or_default cpus c.args.c c.index-cpus-c-in-Open.result no_cpu c.requires.exists in
-    let cores : length cpus3 ≡ length cpus = c.strike_all.auto.cpus ∙ length-set cpus c.args.c x in
-    let here3 : get_or cpus3 c.args.c c.index-cpus-c-in-None.result ≡ cpu_at cpus3 c.args.c = get_or_default cpus3 c.args.c c.index-cpus-c-in-None.result no_cpu (subst (λ n. c.args.c < n) (sym cores) c.requires.exists) in
+    let cores : length cpus3 ≡ length cpus = c.hit_written.auto.cpus ∙ length-set cpus c.args.c x in
+    let here3 : get_or cpus3 c.args.c c.index-cpus-c-in-Commits.result ≡ cpu_at cpus3 c.args.c = get_or_default cpus3 c.args.c c.index-cpus-c-in-Commits.result no_cpu (subst (λ n. c.args.c < n) (sym cores) c.requires.exists) in
     let state : (cpu_at cpus c.args.c).state ≡ Open c.in-Open.depth = ap (λ (z : Cpu). z.state) (sym (get_or_default cpus c.args.c _ no_cpu c.requires.exists)) ∙ c.in-Open.is in
-    let is : stepped k m (views_of a cpus c.args.c) (Open c.in-Open.depth) ≡ finished m (view_of b c.args.c x) = ap (λ (z : Cpu). stepped k m (view_of a c.args.c z) (Open c.in-Open.depth)) (sym here) ∙ c.in-None.ensures.step in
-    commit_step k m a b (g.S.Sets.content c.strike_all.new.sets) (g.S.Sets.content c.settle.new.sets) cpus cpus3 c.args.c x c.settle.new.cpu (a.fixed.room Write) c.in-Open.depth
-    c.requires.exists cores c.step_inside.ensures.elsewhere c.settle.ensures.elsewhere c.step_inside.ensures.held
-    (λ j h. c.strike_all.ensures.kept j (subst (λ n. j < n) (sym (length-set cpus c.args.c x)) h)) c.settle.new.memory state is
-    (c.settle.ensures.memory ∙ ap (λ (z : Cpu). drained z.buffer.bytes m) here3) (c.settle.ensures.view ∙ ap (λ (z : Cpu). plain_view Running z.regs) here3)
+    let is : stepped k m (cpu_views a cpus c.args.c) (Open c.in-Open.depth) ≡ finished m (cpu_view b c.args.c x) = ap (λ (z : Cpu). stepped k m (cpu_view a c.args.c z) (Open c.in-Open.depth)) (sym here) ∙ c.in-Commits.ensures.step in
+    commit_step k m a b (g.S.Sets.content c.hit_written.new.sets) (g.S.Sets.content c.commit.new.sets) cpus cpus3 c.args.c x c.commit.new.cpu (a.fixed.room Write) c.in-Open.depth
+    c.requires.exists cores c.step_inside.ensures.elsewhere c.commit.ensures.elsewhere c.step_inside.ensures.held
+    (λ j h. c.hit_written.ensures.kept j (subst (λ n. j < n) (sym (length-set cpus c.args.c x)) h)) c.commit.new.memory state is
+    (c.commit.ensures.memory ∙ ap (λ (z : Cpu). drained z.buffer.bytes m) here3) (c.commit.ensures.view ∙ ap (λ (z : Cpu). view_outside Running z.regs) here3)
 
-pub returns-in-None-clause-held : goal.returns-in-None-clause-held
-returns-in-None-clause-held g c j h =
+pub returns-in-Commits-clause-held : goal.returns-in-Commits-clause-held
+returns-in-Commits-clause-held g c j h =
     let a : Content = g.S.Sets.content c.args.sets.now in
     let room : ℕ = a.fixed.room Write in
     let cpus : List Cpu = c.args.cpus.now in
-    let cpus3 : List Cpu = c.strike_all.new.cpus in
+    let cpus3 : List Cpu = c.hit_written.new.cpus in
     let b : Content = g.S.Sets.content c.step_inside.new.sets in
-    let b2 : Content = g.S.Sets.content c.strike_all.new.sets in
+    let b2 : Content = g.S.Sets.content c.hit_written.new.sets in
     let x : Cpu = c.step_inside.new.cpu in
-    let cores : length cpus3 ≡ length cpus = c.strike_all.auto.cpus ∙ length-set cpus c.args.c x in
+    let cores : length cpus3 ≡ length cpus = c.hit_written.auto.cpus ∙ length-set cpus c.args.c x in
     let here3 : c.args.c < length cpus3 = subst (λ n. c.args.c < n) (sym cores) c.requires.exists in
     let before : (i : ℕ) → i < length cpus → IsHeld room (kept_at b (set cpus c.args.c x) i) = held_after room a b cpus c.args.c x c.requires.exists c.step_inside.ensures.elsewhere c.requires.sound.held c.step_inside.ensures.held in
-    let then : (i : ℕ) → i < length cpus3 → IsHeld room (kept_at b2 cpus3 i) = λ i e. struck_held_by room (eqb i c.args.c) _ (kept_at b (set cpus c.args.c x) i) (kept_at b2 cpus3 i) (c.strike_all.ensures.kept i (subst (λ n. i < n) c.strike_all.auto.cpus e)) (before i (subst (λ n. i < n) cores e)) in
-    held_after room b2 (g.S.Sets.content c.settle.new.sets) cpus3 c.args.c c.settle.new.cpu here3 c.settle.ensures.elsewhere then
-    (held_plain room _ (c.settle.ensures.room ∙ ap (λ (z : Cpu). z.buffer.room) (get_or_default cpus3 c.args.c c.index-cpus-c-in-None.result no_cpu here3) ∙ (then c.args.c here3).same_room) c.settle.ensures.order (ap (λ (w : View). w.writes) c.settle.ensures.view)) j (subst (λ n. j < n) (sym cores) h)
+    let then : (i : ℕ) → i < length cpus3 → IsHeld room (kept_at b2 cpus3 i) = λ i e. hit_held_by room (eqb i c.args.c) _ (kept_at b (set cpus c.args.c x) i) (kept_at b2 cpus3 i) (c.hit_written.ensures.kept i (subst (λ n. i < n) c.hit_written.auto.cpus e)) (before i (subst (λ n. i < n) cores e)) in
+    held_after room b2 (g.S.Sets.content c.commit.new.sets) cpus3 c.args.c c.commit.new.cpu here3 c.commit.ensures.elsewhere then
+    (held_plain room _ (c.commit.ensures.room ∙ ap (λ (z : Cpu). z.buffer.room) (get_or_default cpus3 c.args.c c.index-cpus-c-in-Commits.result no_cpu here3) ∙ (then c.args.c here3).same_room) c.commit.ensures.order (ap (λ (w : View). w.writes) c.commit.ensures.view)) j (subst (λ n. j < n) (sym cores) h)

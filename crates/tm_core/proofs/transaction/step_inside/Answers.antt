@@ -4,15 +4,15 @@ use Rattle.std.specs.Prelude.{IfSome}
 use Rattle.ia_word.specs.Width.{bytes_of}
 use Rattle.tm_rule.proofs.Facts.{LoadIn, StoreIn, load_within, store_within_inside}
 use Rattle.tm_sets.specs.Content.{Content}
+use Rattle.tm_model.specs.Access.{loaded_addresses, stores_of}
+use Rattle.tm_model.specs.Owed.{status_at}
+use Rattle.tm_model.specs.Shown.{View}
+use Rattle.tm_core.specs.Representation.{cpu_view}
+use Rattle.tm_core.specs.StepRefinement.{finished, grows, stayed}
 use Rattle.tm_core.specs.Types.{Capacity, Write}
-use Rattle.tm_core.specs.Access.{loaded_places, stores_of}
-use Rattle.tm_core.specs.Owed.{status}
-use Rattle.tm_core.specs.Shown.{View}
-use Rattle.tm_core.specs.ViewSteps.{grows, stayed, finished}
-use Rattle.tm_core.specs.Parts.{view_of}
-use Rattle.tm_core.proofs.Table.{load_lines, store_lines, store_value}
 use Rattle.tm_core.proofs.Held.{held_plain}
-use Rattle.tm_core.proofs.Inside.{row, stays, leaves, overflows}
+use Rattle.tm_core.proofs.Inside.{leaves, overflows, row, stays}
+use Rattle.tm_core.proofs.Table.{load_lines, store_lines, store_value}
 use Rattle.tm_core.proofs.transaction.step_inside.Goals as goal
 
 pub load-loaded-requires-clause-within : goal.load-loaded-requires-clause-within
@@ -51,10 +51,10 @@ returns-then-grow-clause-step g c =
     let code : List ℕ = c.args.code.now.bytes.now in
     let base : ℕ = c.args.code.now.base in
     let m : List ℕ = c.args.memory.now in
-    let v : View = view_of a c.args.c c.args.cpu.now in
-    let new : View = grows v c.args.depth c.in-GoesOn.next (loaded_places c.load_at-access.result) (stores_of c.in-GoesOn.store) in
+    let v : View = cpu_view a c.args.c c.args.cpu.now in
+    let new : View = grows v c.args.depth c.in-GoesOn.next (loaded_addresses c.load_at-access.result) (stores_of c.in-GoesOn.store) in
     row code base c.args.size a m v c.args.depth c.load_at-access.result c.load-loaded.result _ (c.load_at-access.ensures code base c.fetch-fetched.ensures.value) c.load-loaded.ensures c.in-GoesOn.ensures
-    ∙ stays code base c.args.size a m v c.args.depth new (view_of (g.S.Sets.content c.grow.new.sets) c.args.c c.grow.new.cpu) (sym c.if-grow.true ∙ c.grow.ensures.told code base c.args.size) (c.grow.ensures.grown c.if-grow.true) _ _
+    ∙ stays code base c.args.size a m v c.args.depth new (cpu_view (g.S.Sets.content c.grow.new.sets) c.args.c c.grow.new.cpu) (sym c.if-grow.true ∙ c.grow.ensures.told code base c.args.size) (c.grow.ensures.grown c.if-grow.true) _ _
     (ap (λ (w : View). stayed m w) (sym (c.grow.ensures.grown c.if-grow.true)))
 
 pub returns-else-grow-clause-step : goal.returns-else-grow-clause-step
@@ -63,11 +63,11 @@ returns-else-grow-clause-step g c =
     let code : List ℕ = c.args.code.now.bytes.now in
     let base : ℕ = c.args.code.now.base in
     let m : List ℕ = c.args.memory.now in
-    let v : View = view_of a c.args.c c.args.cpu.now in
-    let new : View = grows v c.args.depth c.in-GoesOn.next (loaded_places c.load_at-access.result) (stores_of c.in-GoesOn.store) in
+    let v : View = cpu_view a c.args.c c.args.cpu.now in
+    let new : View = grows v c.args.depth c.in-GoesOn.next (loaded_addresses c.load_at-access.result) (stores_of c.in-GoesOn.store) in
     row code base c.args.size a m v c.args.depth c.load_at-access.result c.load-loaded.result _ (c.load_at-access.ensures code base c.fetch-fetched.ensures.value) c.load-loaded.ensures c.in-GoesOn.ensures
     ∙ overflows code base c.args.size a m v c.args.depth new (sym c.if-grow.false ∙ c.grow.ensures.told code base c.args.size) _ _
-    (leaves code base c.args.size a m v c.args.depth c.grow.new.cpu.base (status Capacity c.args.depth) c.abort-else-grow.result _ c.abort-else-grow.ensures.result c.abort-else-grow.ensures.view c.grow.ensures.base)
+    (leaves code base c.args.size a m v c.args.depth c.grow.new.cpu.base (status_at Capacity c.args.depth) c.abort-else-grow.result _ c.abort-else-grow.ensures.result c.abort-else-grow.ensures.view c.grow.ensures.base)
 
 pub returns-else-grow-clause-held : goal.returns-else-grow-clause-held
 returns-else-grow-clause-held g c =
@@ -79,10 +79,10 @@ returns-then-grow-2-clause-step g c =
     let code : List ℕ = c.args.code.now.bytes.now in
     let base : ℕ = c.args.code.now.base in
     let m : List ℕ = c.args.memory.now in
-    let v : View = view_of a c.args.c c.args.cpu.now in
-    let new : View = grows v (c.args.depth + 1) c.in-Nests.next (loaded_places c.load_at-access.result) [] in
+    let v : View = cpu_view a c.args.c c.args.cpu.now in
+    let new : View = grows v (c.args.depth + 1) c.in-Nests.next (loaded_addresses c.load_at-access.result) [] in
     row code base c.args.size a m v c.args.depth c.load_at-access.result c.load-loaded.result _ (c.load_at-access.ensures code base c.fetch-fetched.ensures.value) c.load-loaded.ensures c.in-Nests.ensures
-    ∙ stays code base c.args.size a m v c.args.depth new (view_of (g.S.Sets.content c.grow-in-Nests.new.sets) c.args.c c.grow-in-Nests.new.cpu) (sym c.if-grow-2.true ∙ c.grow-in-Nests.ensures.told code base c.args.size) (c.grow-in-Nests.ensures.grown c.if-grow-2.true) _ _
+    ∙ stays code base c.args.size a m v c.args.depth new (cpu_view (g.S.Sets.content c.grow-in-Nests.new.sets) c.args.c c.grow-in-Nests.new.cpu) (sym c.if-grow-2.true ∙ c.grow-in-Nests.ensures.told code base c.args.size) (c.grow-in-Nests.ensures.grown c.if-grow-2.true) _ _
     (ap (λ (w : View). stayed m w) (sym (c.grow-in-Nests.ensures.grown c.if-grow-2.true)))
 
 pub returns-else-grow-2-clause-step : goal.returns-else-grow-2-clause-step
@@ -91,11 +91,11 @@ returns-else-grow-2-clause-step g c =
     let code : List ℕ = c.args.code.now.bytes.now in
     let base : ℕ = c.args.code.now.base in
     let m : List ℕ = c.args.memory.now in
-    let v : View = view_of a c.args.c c.args.cpu.now in
-    let new : View = grows v (c.args.depth + 1) c.in-Nests.next (loaded_places c.load_at-access.result) [] in
+    let v : View = cpu_view a c.args.c c.args.cpu.now in
+    let new : View = grows v (c.args.depth + 1) c.in-Nests.next (loaded_addresses c.load_at-access.result) [] in
     row code base c.args.size a m v c.args.depth c.load_at-access.result c.load-loaded.result _ (c.load_at-access.ensures code base c.fetch-fetched.ensures.value) c.load-loaded.ensures c.in-Nests.ensures
     ∙ overflows code base c.args.size a m v c.args.depth new (sym c.if-grow-2.false ∙ c.grow-in-Nests.ensures.told code base c.args.size) _ _
-    (leaves code base c.args.size a m v c.args.depth c.grow-in-Nests.new.cpu.base (status Capacity c.args.depth) c.abort-else-grow-2.result _ c.abort-else-grow-2.ensures.result c.abort-else-grow-2.ensures.view c.grow-in-Nests.ensures.base)
+    (leaves code base c.args.size a m v c.args.depth c.grow-in-Nests.new.cpu.base (status_at Capacity c.args.depth) c.abort-else-grow-2.result _ c.abort-else-grow-2.ensures.result c.abort-else-grow-2.ensures.view c.grow-in-Nests.ensures.base)
 
 pub returns-else-grow-2-clause-held : goal.returns-else-grow-2-clause-held
 returns-else-grow-2-clause-held g c =
@@ -107,11 +107,11 @@ returns-then-not-grow-clause-step g c =
     let code : List ℕ = c.args.code.now.bytes.now in
     let base : ℕ = c.args.code.now.base in
     let m : List ℕ = c.args.memory.now in
-    let v : View = view_of a c.args.c c.args.cpu.now in
-    let new : View = grows v (c.args.depth - 1) c.in-Ends.next (loaded_places c.load_at-access.result) [] in
+    let v : View = cpu_view a c.args.c c.args.cpu.now in
+    let new : View = grows v (c.args.depth - 1) c.in-Ends.next (loaded_addresses c.load_at-access.result) [] in
     row code base c.args.size a m v c.args.depth c.load_at-access.result c.load-loaded.result _ (c.load_at-access.ensures code base c.fetch-fetched.ensures.value) c.load-loaded.ensures c.in-Ends.ensures
     ∙ overflows code base c.args.size a m v c.args.depth new (sym c.if-not-grow.true ∙ c.grow-in-Ends.ensures.told code base c.args.size) _ _
-    (leaves code base c.args.size a m v c.args.depth c.grow-in-Ends.new.cpu.base (status Capacity c.args.depth) c.abort-then-not-grow.result _ c.abort-then-not-grow.ensures.result c.abort-then-not-grow.ensures.view c.grow-in-Ends.ensures.base)
+    (leaves code base c.args.size a m v c.args.depth c.grow-in-Ends.new.cpu.base (status_at Capacity c.args.depth) c.abort-then-not-grow.result _ c.abort-then-not-grow.ensures.result c.abort-then-not-grow.ensures.view c.grow-in-Ends.ensures.base)
 
 pub returns-then-not-grow-clause-held : goal.returns-then-not-grow-clause-held
 returns-then-not-grow-clause-held g c =
@@ -127,10 +127,10 @@ returns-then-depth-eq1-clause-step g c =
     let code : List ℕ = c.args.code.now.bytes.now in
     let base : ℕ = c.args.code.now.base in
     let m : List ℕ = c.args.memory.now in
-    let v : View = view_of a c.args.c c.args.cpu.now in
-    let new : View = grows v (c.args.depth - 1) c.in-Ends.next (loaded_places c.load_at-access.result) [] in
+    let v : View = cpu_view a c.args.c c.args.cpu.now in
+    let new : View = grows v (c.args.depth - 1) c.in-Ends.next (loaded_addresses c.load_at-access.result) [] in
     row code base c.args.size a m v c.args.depth c.load_at-access.result c.load-loaded.result _ (c.load_at-access.ensures code base c.fetch-fetched.ensures.value) c.load-loaded.ensures c.in-Ends.ensures
-    ∙ stays code base c.args.size a m v c.args.depth new (view_of (g.S.Sets.content c.grow-in-Ends.new.sets) c.args.c c.grow-in-Ends.new.cpu) (sym c.if-not-grow.false ∙ c.grow-in-Ends.ensures.told code base c.args.size) (c.grow-in-Ends.ensures.grown c.if-not-grow.false) _ _
+    ∙ stays code base c.args.size a m v c.args.depth new (cpu_view (g.S.Sets.content c.grow-in-Ends.new.sets) c.args.c c.grow-in-Ends.new.cpu) (sym c.if-not-grow.false ∙ c.grow-in-Ends.ensures.told code base c.args.size) (c.grow-in-Ends.ensures.grown c.if-not-grow.false) _ _
     (ap (λ t. cond t (finished m new) (stayed m new)) (eq-eqb c.args.depth 1 c.if-depth-eq1.true) ∙ ap (λ (w : View). finished m w) (sym (c.grow-in-Ends.ensures.grown c.if-not-grow.false)))
 
 pub returns-else-depth-eq1-clause-step : goal.returns-else-depth-eq1-clause-step
@@ -139,8 +139,8 @@ returns-else-depth-eq1-clause-step g c =
     let code : List ℕ = c.args.code.now.bytes.now in
     let base : ℕ = c.args.code.now.base in
     let m : List ℕ = c.args.memory.now in
-    let v : View = view_of a c.args.c c.args.cpu.now in
-    let new : View = grows v (c.args.depth - 1) c.in-Ends.next (loaded_places c.load_at-access.result) [] in
+    let v : View = cpu_view a c.args.c c.args.cpu.now in
+    let new : View = grows v (c.args.depth - 1) c.in-Ends.next (loaded_addresses c.load_at-access.result) [] in
     row code base c.args.size a m v c.args.depth c.load_at-access.result c.load-loaded.result _ (c.load_at-access.ensures code base c.fetch-fetched.ensures.value) c.load-loaded.ensures c.in-Ends.ensures
-    ∙ stays code base c.args.size a m v c.args.depth new (view_of (g.S.Sets.content c.grow-in-Ends.new.sets) c.args.c c.grow-in-Ends.new.cpu) (sym c.if-not-grow.false ∙ c.grow-in-Ends.ensures.told code base c.args.size) (c.grow-in-Ends.ensures.grown c.if-not-grow.false) _ _
+    ∙ stays code base c.args.size a m v c.args.depth new (cpu_view (g.S.Sets.content c.grow-in-Ends.new.sets) c.args.c c.grow-in-Ends.new.cpu) (sym c.if-not-grow.false ∙ c.grow-in-Ends.ensures.told code base c.args.size) (c.grow-in-Ends.ensures.grown c.if-not-grow.false) _ _
     (ap (λ t. cond t (finished m new) (stayed m new)) (ne_eqb c.args.depth 1 c.if-depth-eq1.false) ∙ ap (λ (w : View). stayed m w) (sym (c.grow-in-Ends.ensures.grown c.if-not-grow.false)))

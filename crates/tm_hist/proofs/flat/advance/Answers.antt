@@ -1,8 +1,8 @@
 use Rattle.std.proofs.Common.{sym, ◌∙◌, length, arith}
-use Rattle.tm_core.specs.Access.{bytes, loaded_places, loaded_value}
+use Rattle.tm_model.specs.Access.{bytes_at, loaded_addresses, loaded_value}
+use Rattle.tm_hist.proofs.Bodies.{store_fits, store_within}
 use Rattle.tm_rule.specs.Rule.{load_at}
 use Rattle.tm_rule.proofs.Facts.{store_within_inside, nests_below}
-use Rattle.tm_hist.proofs.Bodies.{store_within, store_fits}
 use Rattle.tm_hist.proofs.flat.advance.Goals as goal
 
 pub write-requires-clause-within : goal.write-requires-clause-within
@@ -10,7 +10,7 @@ write-requires-clause-within c =
     let code = c.args.code.now.bytes.now in
     let base = c.args.code.now.base in
     let load = load_at code base c.args.size c.args.body.now.regs in
-    let v = loaded_value load (bytes c.args.memory.now (loaded_places load)) in
+    let v = loaded_value load (bytes_at c.args.memory.now (loaded_addresses load)) in
     store_within c.args.size (length c.args.memory.now) c.in-GoesOn.store c.requires.size
     (store_within_inside code base c.args.size c.args.body.now.regs c.args.body.now.depth v c.in-GoesOn.regs c.in-GoesOn.store (sym c.inside_on.ensures ∙ c.in-GoesOn.is))
 
@@ -19,7 +19,7 @@ write-requires-clause-fits c =
     let code = c.args.code.now.bytes.now in
     let base = c.args.code.now.base in
     let load = load_at code base c.args.size c.args.body.now.regs in
-    let v = loaded_value load (bytes c.args.memory.now (loaded_places load)) in
+    let v = loaded_value load (bytes_at c.args.memory.now (loaded_addresses load)) in
     store_fits c.args.size c.in-GoesOn.store
     (store_within_inside code base c.args.size c.args.body.now.regs c.args.body.now.depth v c.in-GoesOn.regs c.in-GoesOn.store (sym c.inside_on.ensures ∙ c.in-GoesOn.is))
 
@@ -28,6 +28,6 @@ returns-in-Nests-clause-depth c =
     let code = c.args.code.now.bytes.now in
     let base = c.args.code.now.base in
     let load = load_at code base c.args.size c.args.body.now.regs in
-    let v = loaded_value load (bytes c.args.memory.now (loaded_places load)) in
+    let v = loaded_value load (bytes_at c.args.memory.now (loaded_addresses load)) in
     let h = nests_below code base c.args.size c.args.body.now.regs c.args.body.now.depth v c.in-Nests.regs (sym c.inside_on.ensures ∙ c.in-Nests.is) in
     omega arith

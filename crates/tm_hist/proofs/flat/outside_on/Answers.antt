@@ -4,8 +4,8 @@ use Rattle.tm_rule.specs.Rule.{load_at}
 use Rattle.tm_rule.proofs.Facts.{load_within, LoadIn}
 use Rattle.tm_hist.proofs.flat.outside_on.Goals as goal
 
-pub loaded-requires : goal.loaded-requires
-loaded-requires c =
+pub load-requires : goal.load-requires
+load-requires c =
     let code = c.args.code.now.bytes.now in
     let base = c.args.code.now.base in
     let whole = c.requires in

@@ -1,6 +1,6 @@
 use Rattle.std.proofs.Common.{rules, arith, length}
 use Rattle.tm_hist.specs.Lines.{core_text}
-use Rattle.tm_hist.proofs.Rows.{wrote_row, writes_stopped_row}
+use Rattle.tm_hist.proofs.Rows.{writes_stopped_row, wrote_row}
 use Rattle.tm_hist.proofs.lines.write_state.Goals as goal
 
 pub returns-in_err-write_core : goal.returns-in_err-write_core

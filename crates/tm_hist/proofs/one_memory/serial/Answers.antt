@@ -1,9 +1,10 @@
 use Rattle.std.proofs.Common.{◌≡◌, ℕ, List, ◌++◌, length, map, take, drop, sym, ◌∙◌, ap, subst, inr}
-use Rattle.tm_core.specs.State.{opening}
-use Rattle.tm_hist.specs.declared.shape.Shape.{Shape}
+use Rattle.tm_model.specs.Setting.{program_setting}
+use Rattle.tm_model.specs.State.{opening_state}
 use Rattle.tm_hist.specs.History.{pairs_of}
-use Rattle.tm_hist.specs.Serial.{EndsWith, core_of, rules_of}
+use Rattle.tm_hist.specs.Serial.{EndsWith, core_of}
 use Rattle.tm_hist.proofs.Runs.{first_closed, opening_size, refused, replayed, written_back}
+use Rattle.tm_hist.specs.declared.serial_core.SerialCore.{SerialCore}
 use Rattle.tm_hist.proofs.one_memory.serial.Goals as goal
 
 pub run_history-requires-clause-size : goal.run_history-requires-clause-size
@@ -25,8 +26,8 @@ returns-in-Ok-clause-ok c =
     (c.run_history.auto.memory ∙ ap length c.deref_mut.ensures.value) (sym c.deref_mut.ensures.len ∙ ap length c.deref_mut.ensures.value) in
     let back_c : take c.in_ok-cores.cores.len (cores2 ++ drop (length cores2) cores) ≡ cores2 = written_back cores cores2 c.in_ok-cores.cores.len
     (c.run_history.auto.cores ∙ ap length c.deref_mut-2.ensures.value) (sym c.deref_mut-2.ensures.len ∙ ap length c.deref_mut-2.ensures.value) in
-    let P : List ℕ → Type 0 = λ x. EndsWith (rules_of p) (opening p) h x (map core_of (take c.in_ok-cores.cores.len (cores2 ++ drop (length cores2) cores))) in
-    let Q : List Shape → Type 0 = λ x. EndsWith (rules_of p) (opening p) h m2 (map core_of x) in
+    let P : List ℕ → Type 0 = λ x. EndsWith (program_setting p 0 0) (opening_state p) h x (map core_of (take c.in_ok-cores.cores.len (cores2 ++ drop (length cores2) cores))) in
+    let Q : List SerialCore → Type 0 = λ x. EndsWith (program_setting p 0 0) (opening_state p) h m2 (map core_of x) in
     subst P (sym back_m) (subst Q (sym back_c)
     (replayed p h c.code.result.now c.base.result c.mem_size.result c.deref_mut.result.now m2 c.deref_mut-2.result.now (map core_of cores2)
     c.code.ensures.code c.base.ensures.base c.mem_size.ensures.size (c.deref_mut.ensures.value ∙ c.in_ok-memory.ensures.ok) (c.deref_mut-2.ensures.value ∙ c.in_ok-cores.ensures.ok)

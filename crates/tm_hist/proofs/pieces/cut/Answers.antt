@@ -1,6 +1,6 @@
 use Rattle.std.proofs.Common.{length, ap, arith}
 use Rattle.std.specs.Bool.{◌==◌}
-use Rattle.tm_hist.proofs.Cuts.{cut_at, cut_within, cut_nowhere, shorter, rest_at}
+use Rattle.tm_hist.proofs.Cuts.{cut_at, cut_nowhere, cut_within, rest_at, shorter}
 use Rattle.tm_hist.proofs.pieces.cut.Goals as goal
 
 pub returns-in-Some : goal.returns-in-Some

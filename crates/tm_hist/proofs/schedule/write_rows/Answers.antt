@@ -1,6 +1,6 @@
 use Rattle.std.proofs.Common.{rules, arith, length, ◌+◌, ◌/◌}
 use Rattle.tm_hist.specs.Schedule.{schedule_row}
-use Rattle.tm_hist.proofs.Rows.{wrote_row, writes_stopped_row}
+use Rattle.tm_hist.proofs.Rows.{writes_stopped_row, wrote_row}
 use Rattle.tm_hist.proofs.schedule.write_rows.Goals as goal
 
 pub returns-in_err-write_row : goal.returns-in_err-write_row

@@ -1,7 +1,7 @@
 use Rattle.std.proofs.Common.{rules, arith}
 use Rattle.ia_text.proofs.Writing.{writes_then, writes_stopped}
-use Rattle.tm_hist.proofs.Back.{schedule_back}
 use Rattle.tm_hist.specs.Schedule.{schedule_rows}
+use Rattle.tm_hist.proofs.Back.{schedule_back}
 use Rattle.tm_hist.proofs.schedule.write_schedule.Goals as goal
 
 pub returns-in_err-put-clause-written : goal.returns-in_err-put-clause-written

@@ -1,6 +1,6 @@
 use Rattle.std.proofs.Common.{◌≡◌, ◌+◌, ◌<◌, length, sym, ◌∙◌, subst, arith, rules}
 use Rattle.std.specs.Prelude.{vec_len}
-use Rattle.tm_hist.specs.Board.{Shown}
+use Rattle.tm_hist.specs.Board.{ShownBoard}
 use Rattle.tm_work.specs.Workers.{IsReport, IsRefused, AreLeft}
 use Rattle.tm_work.proofs.Counts.{report_of, refused_of, none_of, some_of}
 use Rattle.tm_work.proofs.workers.run_at.Goals as goal
@@ -17,7 +17,7 @@ returns-in-None-clause-report g c =
     let count = s.count in
     let done_len : vec_len done ≡ length done.items = search rules in
     let steps_len : vec_len steps ≡ length steps.items = search rules in
-    subst (λ (y : Shown). IsReport y budgets c.close-board.result steps.items) (sym c.requires.given)
+    subst (λ (y : ShownBoard). IsReport y budgets c.close-board.result steps.items) (sym c.requires.given)
     (report_of g.J.DeskIdentity.given c.close-board.result budgets done.items steps.items b.goes_on b.run b.seats v.done (sym done_len ∙ all) (sym steps_len ∙ count ∙ done_len) s.each)
 
 pub returns-in-Some-clause-fault : goal.returns-in-Some-clause-fault
@@ -30,5 +30,5 @@ returns-in-Some-clause-fault g c =
     let rest = some_of c.serve-done.result.1 (λ l. (vec_len done < length budgets) × AreLeft l.items (vec_len done + 1) (length budgets)) left c.in-Some.is v.left in
     let done_len : vec_len done ≡ length done.items = search rules in
     let less = rest.0 in
-    subst (λ (y : Shown). IsRefused y budgets c.len-core.result c.close_both.result) (sym c.requires.given)
+    subst (λ (y : ShownBoard). IsRefused y budgets c.len-core.result c.close_both.result) (sym c.requires.given)
     (refused_of g.J.DeskIdentity.given c.close_both.result budgets done.items left.items c.len-core.result (c.len-core.ensures ∙ done_len) b.goes_on b.run b.seats b.others v.done (omega (arith, less, done_len)) (subst (λ k. AreLeft left.items (k + 1) (length budgets)) done_len rest.1))

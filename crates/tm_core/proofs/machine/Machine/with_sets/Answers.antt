@@ -1,10 +1,10 @@
 use Rattle.std.proofs.Common.{◌≡◌, ◌<◌, ◌≤◌, ◌*◌, ◌^◌, ℕ, length, sym, ◌∙◌, subst, arith}
-use Rattle.ia_image.specs.Program.{Shown as Program}
+use Rattle.ia_image.specs.Program.{ProgramValue as Program}
 use Rattle.tm_sets.specs.Content.{Content}
-use Rattle.tm_core.specs.Types.{Write}
-use Rattle.tm_core.specs.Parts.{cpu_at}
 use Rattle.tm_core.specs.Machine.{IsStart}
-use Rattle.tm_core.proofs.Top.{opening_stands, opening_machine, length-views_list}
+use Rattle.tm_core.specs.Representation.{cpu_at}
+use Rattle.tm_core.specs.Types.{Write}
+use Rattle.tm_core.proofs.MachineLemmas.{length-views_list, opening_machine, opening_stands}
 use Rattle.tm_core.proofs.machine.Machine.with_sets.Goals as goal
 
 pub invariant_of-result : goal.invariant_of-result

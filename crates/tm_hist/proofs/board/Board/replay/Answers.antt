@@ -1,7 +1,7 @@
 use Rattle.std.proofs.Common.{◌≡◌, ◌⊎◌, ap, subst}
 use Rattle.std.proofs.lemmas.Result.{IfErr-weaker, IfOk-weaker}
 use Rattle.tm_hist.specs.declared.replay.SerialFault.TheVariants.{NoMemory}
-use Rattle.tm_hist.specs.Board.{IsHistory, Shown}
+use Rattle.tm_hist.specs.Board.{IsHistory, ShownBoard}
 use Rattle.tm_hist.specs.History.{pairs_of}
 use Rattle.tm_hist.specs.Replay.{IsRefused, IsReplay, Replays}
 use Rattle.tm_hist.proofs.Boards.{is_history, never_refused_at, replays_at}
@@ -9,14 +9,14 @@ use Rattle.tm_hist.proofs.board.Board.replay.Goals as goal
 
 pub returns-clause-ok : goal.returns-clause-ok
 returns-clause-ok c =
-    let law = subst (λ (b : Shown). IsHistory b) c.self.view_is (is_history _ _ c.self.invariant) in
-    let same = ap (λ (b : Shown). b.program) c.self.view_is in
+    let law = subst (λ (b : ShownBoard). IsHistory b) c.self.view_is (is_history _ _ c.self.invariant) in
+    let same = ap (λ (b : ShownBoard). b.program) c.self.view_is in
     IfOk-weaker c.serial.result (λ s. IsReplay c.self.inside.program (pairs_of c.history.result) s) (λ s. Replays c.args.self.now s)
     (λ s r. replays_at c.args.self.now c.self.inside.program (pairs_of c.history.result) s law same c.history.ensures r) c.serial.ensures.ok
 
 pub returns-clause-err : goal.returns-clause-err
 returns-clause-err c =
-    let law = subst (λ (b : Shown). IsHistory b) c.self.view_is (is_history _ _ c.self.invariant) in
-    let same = ap (λ (b : Shown). b.program) c.self.view_is in
+    let law = subst (λ (b : ShownBoard). IsHistory b) c.self.view_is (is_history _ _ c.self.invariant) in
+    let same = ap (λ (b : ShownBoard). b.program) c.self.view_is in
     IfErr-weaker c.serial.result (λ fault. (fault ≡ NoMemory) ⊎ IsRefused c.self.inside.program (pairs_of c.history.result) fault) (λ fault. fault ≡ NoMemory)
     (λ fault r. never_refused_at c.args.self.now c.self.inside.program (pairs_of c.history.result) fault law same c.history.ensures r) c.serial.ensures.err

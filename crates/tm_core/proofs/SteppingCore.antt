@@ -1,0 +1,235 @@
+use Rattle.ia_word.specs.Line.{line}
+use Rattle.std.proofs.Common.{◌≡◌, ℕ, zero, suc, ◌+◌, ◌-◌, true, false, cond, eqb, ◌||◌, List, [], ◌++◌, map, length, Option, Some, None, refl, sym, ap, ◌∙◌, subst, arith}
+use Rattle.std.proofs.lemmas.Bool.{eqb-true, eqb-false, eq-eqb, ne_eqb}
+use Rattle.std.specs.Prelude.{option_and_then, option_map}
+use Rattle.std.proofs.lemmas.Option.{option_and_then_some, same_Some}
+use Rattle.std.proofs.lemmas.List.{map-append}
+use Rattle.std.specs.FinSet as finset
+use Rattle.tm_model.specs.Access.{Stores, bytes_at, lines_of, memory_after, stored_addresses, stores_of}
+use Rattle.tm_model.specs.Conflicts.{addresses_stored_by, addresses_stored_inside, addresses_stored_outside}
+use Rattle.tm_model.specs.Conflicts.{doom_after_own}
+use Rattle.tm_model.specs.Isolated.{Body, first_body, instruction_after, isolated_body, longer_body, next_body}
+use Rattle.tm_model.specs.Isolated.{read_set, write_set}
+use Rattle.tm_model.specs.Owed.{have_room, owed_after, owed_inside, owed_outcome, owed_outside, status_at}
+use Rattle.tm_model.specs.Setting.{Setting, outside_at}
+use Rattle.tm_model.specs.Shown.{View, view_inside, view_of, view_of_body, view_outside}
+use Rattle.tm_model.specs.State.{Closed, Core, Halted, Opened}
+use Rattle.tm_model.specs.Steps.{after_begin, after_commit, after_plain, after_step_of, after_stop, registers_after_abort}
+use Rattle.tm_model.specs.Steps.{stop_number}
+use Rattle.tm_core.specs.StepRefinement.{StepResult, addresses_hit, ended, finished, grows, if_room, lines_hit, quit}
+use Rattle.tm_core.specs.StepRefinement.{ran, ran_inside, stayed, stepped}
+use Rattle.tm_core.specs.Types.{Aborted, AtStop, Begins, Capacity, Committed, Condemned, Conflict, Ends, Fails, Goes}
+use Rattle.tm_core.specs.Types.{GoesOn, Inside, InsideResult, Nests, Open, Outcome, OutsideResult, Regs, Running}
+use Rattle.tm_core.specs.Types.{Stop, Stops}
+use Rattle.tm_core.proofs.BufferLemmas.{InRange-append, add_all-lines, any_items, drained-memory_after, map_seen}
+use Rattle.tm_core.proofs.BufferLemmas.{with_bytes-buffer_of}
+use Rattle.tm_core.proofs.Frame.{longer_body-next_body}
+use Rattle.tm_core.proofs.OtherCores.{view_inside_at, view_inside_is}
+use Rattle.tm_core.proofs.Sound.{InRange, Sound}
+
+-- what a right step of core x does: the owed outcome, a step that the rules allow, and the core's own view after it
+pub record Own (k : Setting) (m : List ℕ) (x : Core) (dx : Option ℕ) (r : StepResult) : Type 0 where
+  pub owes : r.outcome ≡ owed_outcome k m x dx
+  pub next : Core
+  pub stores : Stores
+  pub moves : after_step_of k m x r.outcome ≡ Some (memory_after m stores, next)
+  pub memory : r.memory ≡ memory_after m stores
+  pub shows : view_of k (memory_after m stores) next (doom_after_own r.outcome dx) ≡ Some r.view
+  pub wrote : stored_addresses stores ≡ addresses_stored_by k m x r.outcome
+  pub touch : (v : View) → lines_hit v.reads v.writes r.lines ≡ addresses_hit v.reads v.writes (stored_addresses stores)
+
+same_number : (x : Stop) → eqb (stop_number x) (stop_number x) ≡ true
+same_number x = eq-eqb (stop_number x) (stop_number x) refl
+
+-- ---- bodies
+
+pub isolated_body-suc : (k : Setting) (s : Regs) (m : List ℕ) (n : ℕ) (b : Body) → isolated_body k s m n ≡ Some b → isolated_body k s m (suc n) ≡ longer_body k m b
+isolated_body-suc k s m zero b e = cc
+isolated_body-suc k s m (suc n) b e = ap (option_and_then (longer_body k m)) e
+
+pub deep : (k : Setting) (m : List ℕ) (b : Body) → eqb b.depth 0 ≡ false → longer_body k m b ≡ next_body b (k.load_of b.regs) (instruction_after k m b)
+deep k m b e = ap (λ t. cond t None (next_body b (k.load_of b.regs) (instruction_after k m b))) e
+
+first_body-range : (k : Setting) (ps : List ℕ) (o : OutsideResult) (b : Body) → first_body ps o ≡ Some b → InRange k.size b.stores
+first_body-range k ps (Goes s w) b e = cc
+first_body-range k ps (Begins s) b e = let e2 : ◌≡◌ {A = Body} (record { regs = s; depth = 1; stores = []; loads = ps }) b = cc in subst (λ (x : Body). InRange k.size x.stores) e2 tt
+first_body-range k ps (Stops x) b e = cc
+
+next_body-range : (k : Setting) → Sound k → (x : Body) (bs ps : List ℕ) (o : InsideResult) (b : Body) → k.inside x.regs x.depth bs ≡ o → InRange k.size x.stores → next_body x ps o ≡ Some b → InRange k.size b.stores
+next_body-range k sound x bs ps (GoesOn s w) b is h e = let e2 : ◌≡◌ {A = Body} (record { regs = s; depth = x.depth; stores = stores_of w ++ x.stores; loads = ps ++ x.loads }) b = cc in subst (λ (x : Body). InRange k.size x.stores) e2 (InRange-append k.size (stores_of w) x.stores (sound.goes_on x.regs x.depth bs s w is) h)
+next_body-range k sound x bs ps (Nests s) b is h e = let e2 : ◌≡◌ {A = Body} (record { regs = s; depth = x.depth + 1; stores = x.stores; loads = ps ++ x.loads }) b = cc in subst (λ (x : Body). InRange k.size x.stores) e2 h
+next_body-range k sound x bs ps (Ends s) b is h e = let e2 : ◌≡◌ {A = Body} (record { regs = s; depth = x.depth - 1; stores = x.stores; loads = ps ++ x.loads }) b = cc in subst (λ (x : Body). InRange k.size x.stores) e2 h
+next_body-range k sound x bs ps (Fails cause) b is h e = cc
+
+-- a body stores below the memory's size
+pub isolated_body-range : (k : Setting) → Sound k → (s : Regs) (m : List ℕ) (n : ℕ) (b : Body) → isolated_body k s m n ≡ Some b → InRange k.size b.stores
+isolated_body-range k sound s m zero b e = cc
+isolated_body-range k sound s m (suc zero) b e = first_body-range k (k.load_of s) (outside_at k s m) b e
+isolated_body-range k sound s m (suc (suc n)) b e =
+    option_and_then_some (longer_body k m) (isolated_body k s m (suc n)) b e (λ x e1 e2.
+    next_body-range k sound x (bytes_at (memory_after m x.stores) (k.load_of x.regs)) (k.load_of x.regs) (instruction_after k m x) b refl (isolated_body-range k sound s m (suc n) x e1) (longer_body-next_body k m x b e2))
+
+-- ---- outside
+
+module _ (k : Setting) (sound : Sound k) (m : List ℕ) (s : Regs) where
+  own_closed : (o : OutsideResult) → outside_at k s m ≡ o → Own k m (Closed s) None (ran k m s o)
+  own_closed (Goes t w) e = record {
+    owes = sym (ap owed_outside e);
+    next = Closed t;
+    stores = stores_of w;
+    moves = ap (after_plain m) e;
+    memory = refl;
+    shows = refl;
+    wrote = sym (ap addresses_stored_outside e);
+    touch = λ v. refl;
+  }
+  own_closed (Begins t) e = record {
+    owes = sym (ap owed_outside e);
+    next = Opened s 1;
+    stores = [];
+    moves = ap (after_begin m s) e;
+    memory = refl;
+    shows = ap (λ o. option_and_then (view_inside s) (first_body (k.load_of s) o)) e
+        ∙ ap (λ ps. Some (view_of_body s (record { regs = t; depth = 1; stores = []; loads = ps }))) (sound.begins s (bytes_at m (k.load_of s)) t e);
+    wrote = refl;
+    touch = λ v. refl;
+  }
+  own_closed (Stops x) e = record {
+    owes = sym (ap owed_outside e);
+    next = Halted s x;
+    stores = [];
+    moves = ap (after_stop m s x) e ∙ ap (λ t. cond t (Some (m, Halted s x)) None) (same_number x);
+    memory = refl;
+    shows = refl;
+    wrote = refl;
+    touch = λ v. refl;
+  }
+
+-- ---- inside
+
+grown_view : (s : Regs) (b : Body) (depth : ℕ) (t : Regs) (ps : List ℕ) (ws : Stores) → grows (view_of_body s b) depth t ps ws ≡ view_of_body s (record { regs = t; depth = depth; stores = ws ++ b.stores; loads = ps ++ b.loads })
+grown_view s b depth t ps ws = λ i. record {
+  mode = Open depth;
+  base = s;
+  regs = t;
+  buffer = with_bytes-buffer_of b.stores ws i;
+  reads = add_all-lines b.loads ps i;
+  writes = (add_all-lines (stored_addresses b.stores) (stored_addresses ws) ∙ ap lines_of (sym (map-append (λ (w : ℕ × ℕ). w.0) ws b.stores))) i;
+}
+
+module _ (k : Setting) (sound : Sound k) (m : List ℕ) (size : length m ≡ k.size) (s : Regs) (n : ℕ) (b : Body) (is : isolated_body k s m n ≡ Some b) (deep0 : eqb b.depth 0 ≡ false) where
+  abbrev owing : Outcome
+  owing = owed_outcome k m (Opened s n) None
+
+  abbrev loads : List ℕ
+  loads = k.load_of b.regs
+
+  is_next_body : (b2 : Body) → next_body b loads (instruction_after k m b) ≡ Some b2 → isolated_body k s m (suc n) ≡ Some b2
+  is_next_body b2 e = isolated_body-suc k s m n b is ∙ deep k m b deep0 ∙ e
+
+  ranged : (b2 : Body) → next_body b loads (instruction_after k m b) ≡ Some b2 → InRange (length m) b2.stores
+  ranged b2 e = subst (λ z. InRange z b2.stores) (sym size) (isolated_body-range k sound s m (suc n) b2 (is_next_body b2 e))
+
+  stay : (b2 : Body) → next_body b loads (instruction_after k m b) ≡ Some b2 → eqb b2.depth 0 ≡ false → (new : View) → new ≡ view_of_body s b2 → owing ≡ Inside → Own k m (Opened s n) None (stayed m new)
+  stay b2 e deep2 new shape owes = record {
+    owes = sym owes;
+    next = Opened s (suc n);
+    stores = [];
+    moves = refl;
+    memory = refl;
+    shows = ap (option_and_then (view_inside s)) (is_next_body b2 e) ∙ view_inside_at s b2 deep2 ∙ ap Some (sym shape);
+    wrote = refl;
+    touch = λ v. refl;
+  }
+
+  commit : (b2 : Body) → next_body b loads (instruction_after k m b) ≡ Some b2 → eqb b2.depth 0 ≡ true → (new : View) → new ≡ view_of_body s b2 → owing ≡ Committed → Own k m (Opened s n) None (finished m new)
+  commit b2 e over new shape owes = subst (λ v. Own k m (Opened s n) None (finished m v)) (sym shape) (record {
+    owes = sym owes;
+    next = Closed b2.regs;
+    stores = b2.stores;
+    moves = ap (option_and_then (after_commit m)) (is_next_body b2 e) ∙ ap (λ t. cond t (Some (memory_after m b2.stores, Closed b2.regs)) None) over;
+    memory = drained-memory_after m b2.stores (ranged b2 e);
+    shows = refl;
+    wrote = sym (ap addresses_stored_inside (is_next_body b2 e));
+    touch = λ v. any_items (λ l. finset.contains v.reads l || finset.contains v.writes l) (write_set b2) (map line (stored_addresses b2.stores)) refl;
+  })
+
+  leave : (code : ℕ) → owing ≡ Aborted code → Own k m (Opened s n) None (quit k m (view_of_body s b) code)
+  leave code owes = record {
+    owes = sym owes;
+    next = Closed (registers_after_abort k s code);
+    stores = [];
+    moves = refl;
+    memory = refl;
+    shows = refl;
+    wrote = refl;
+    touch = λ v. refl;
+  }
+
+  split : (b2 : Body) (new : View) → new ≡ view_of_body s b2 → (o : Outcome) → owing ≡ cond (have_room k (read_set b2) (write_set b2)) o (Aborted (status_at Capacity b.depth)) → (r : StepResult) → (owing ≡ o → Own k m (Opened s n) None r) → Own k m (Opened s n) None (if_room k m (view_of_body s b) b.depth new r)
+  split b2 new shape o owes r right =
+      subst (λ (v : View). Own k m (Opened s n) None (cond (have_room k v.reads v.writes) r (quit k m (view_of_body s b) (status_at Capacity b.depth)))) (sym shape)
+      ((elim (have_room k (read_set b2) (write_set b2)) as (λ t. owing ≡ cond t o (Aborted (status_at Capacity b.depth)) → Own k m (Opened s n) None (cond t r (quit k m (view_of_body s b) (status_at Capacity b.depth)))) [
+        | true ↦ λ e. right e
+        | false ↦ λ e. leave (status_at Capacity b.depth) e
+      ]) owes)
+
+  owing_is : (o : InsideResult) → instruction_after k m b ≡ o → owing ≡ owed_inside k b o
+  owing_is o e = ap (owed_after k m) is ∙ ap (owed_inside k b) e
+
+  pub own_open : (o : InsideResult) → instruction_after k m b ≡ o → Own k m (Opened s n) None (ran_inside k m (view_of_body s b) b.depth loads o)
+  own_open (GoesOn t w) e =
+      let b2 : Body = record { regs = t; depth = b.depth; stores = stores_of w ++ b.stores; loads = loads ++ b.loads } in
+      let new : View = grows (view_of_body s b) b.depth t loads (stores_of w) in
+      let shape : new ≡ view_of_body s b2 = grown_view s b b.depth t loads (stores_of w) in
+      split b2 new shape Inside (owing_is (GoesOn t w) e) (stayed m new) (λ owes. stay b2 (ap (next_body b loads) e) deep0 new shape owes)
+  own_open (Nests t) e =
+      let b2 : Body = record { regs = t; depth = b.depth + 1; stores = b.stores; loads = loads ++ b.loads } in
+      let new : View = grows (view_of_body s b) (b.depth + 1) t loads [] in
+      let shape : new ≡ view_of_body s b2 = grown_view s b (b.depth + 1) t loads [] in
+      split b2 new shape Inside (owing_is (Nests t) e) (stayed m new) (λ owes. stay b2 (ap (next_body b loads) e) (ne_eqb (b.depth + 1) 0 (λ h. omega arith)) new shape owes)
+  own_open (Ends t) e =
+      let b2 : Body = record { regs = t; depth = b.depth - 1; stores = b.stores; loads = loads ++ b.loads } in
+      let new : View = grows (view_of_body s b) (b.depth - 1) t loads [] in
+      let shape : new ≡ view_of_body s b2 = grown_view s b (b.depth - 1) t loads [] in
+      let not_zero : b.depth ≡ 0 → ⊥ = eqb-false b.depth 0 deep0 in
+      split b2 new shape (cond (eqb b.depth 1) Committed Inside) (owing_is (Ends t) e) (ended m new b.depth)
+      ((elim (eqb b.depth 1) as (λ u. eqb b.depth 1 ≡ u → owing ≡ cond u Committed Inside → Own k m (Opened s n) None (cond u (finished m new) (stayed m new))) [
+        | true ↦ λ one owes. let one2 : b.depth ≡ 1 = eqb-true b.depth 1 one in commit b2 (ap (next_body b loads) e) (eq-eqb (b.depth - 1) 0 (omega arith)) new shape owes
+        | false ↦ λ more owes. let more2 : b.depth ≡ 1 → ⊥ = eqb-false b.depth 1 more in stay b2 (ap (next_body b loads) e) (ne_eqb (b.depth - 1) 0 (λ h. omega arith)) new shape owes
+      ]) refl)
+  own_open (Fails cause) e = leave (status_at cause b.depth) (owing_is (Fails cause) e)
+
+-- ---- any core
+
+pub own : (k : Setting) → Sound k → (m : List ℕ) → length m ≡ k.size → (x : Core) (dx : Option ℕ) (v : View) → view_of k m x dx ≡ Some v → Own k m x dx (stepped k m v v.mode)
+own k sound m size (Closed s) None v e = subst (λ (u : View). Own k m (Closed s) None (stepped k m u u.mode)) (same_Some (view_outside Running s) v e) (own_closed k sound m s (outside_at k s m) refl)
+own k sound m size (Closed s) (Some depth) v e = cc
+own k sound m size (Halted s x) None v e = subst (λ (u : View). Own k m (Halted s x) None (stepped k m u u.mode)) (same_Some (view_outside (AtStop x) s) v e) (record {
+  owes = refl;
+  next = Halted s x;
+  stores = [];
+  moves = refl;
+  memory = refl;
+  shows = refl;
+  wrote = refl;
+  touch = λ u. refl;
+})
+own k sound m size (Halted s x) (Some depth) v e = cc
+own k sound m size (Opened s n) (Some depth) v e = subst (λ (u : View). Own k m (Opened s n) (Some depth) (stepped k m u u.mode)) (same_Some (view_outside (Condemned depth) s) v e) (record {
+  owes = refl;
+  next = Closed (registers_after_abort k s (status_at Conflict depth));
+  stores = [];
+  moves = refl;
+  memory = refl;
+  shows = refl;
+  wrote = refl;
+  touch = λ u. refl;
+})
+own k sound m size (Opened s n) None v e =
+    option_and_then_some (view_inside s) (isolated_body k s m n) v e (λ b is e2.
+    let parts : (eqb b.depth 0 ≡ false) × (view_of_body s b ≡ v) = view_inside_is s b v e2 in
+    subst (λ (u : View). Own k m (Opened s n) None (stepped k m u u.mode)) parts.1
+    (subst (λ bs. Own k m (Opened s n) None (ran_inside k m (view_of_body s b) b.depth (k.load_of b.regs) (k.inside b.regs b.depth bs)))
+    (sym (map_seen m b.stores (k.load_of b.regs) (subst (λ z. InRange z b.stores) (sym size) (isolated_body-range k sound s m n b is))))
+    (own_open k sound m size s n b is parts.0 (instruction_after k m b) refl)))

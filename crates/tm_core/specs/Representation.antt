@@ -1,0 +1,159 @@
+-- How a machine's parts show its views, and what holds of them between steps.
+use Rattle.std.specs.Prelude.{◌≡◌, ℕ, ◌*◌, ◌<◌, ◌≤◌, Bool, true, false, List, [], Option, Some, if◌then◌else◌, length}
+use Rattle.std.specs.Prelude.{slice_index_or, nat_eq, map}
+use Rattle.std.specs.List.{list_any}
+use Rattle.std.specs.FinSet as set
+use Rattle.std.specs.FinMap as map_of
+use Rattle.ia_word.specs.Line.{line}
+use Rattle.tm_buffer.specs.Held.{Fits}
+use Rattle.tm_sets.specs.Content.{Content}
+use Rattle.tm_core.specs.declared.cpu.Cpu.{Cpu}
+use Rattle.tm_core.specs.declared.transaction.InsideStep.{InsideStep}
+use Rattle.tm_core.specs.declared.transaction.InsideStep.TheVariants.{Commits, Made}
+use Rattle.tm_core.specs.StepRefinement.{StepResult, condemn_view, finished, lines_hit, stepped, views_after}
+use Rattle.tm_core.specs.Theorem.{no_regs}
+use Rattle.tm_core.specs.Types.{Aborted, AtStop, Begun, Committed, Condemned, CoreState, Idle, Inside, Kind, Lines}
+use Rattle.tm_core.specs.Types.{Open}
+use Rattle.tm_core.specs.Types.{Outcome, Plain, Read, Regs, Running, Stopped, Store, Write}
+use Rattle.tm_model.specs.Access.{memory_after, stored_addresses, stores_of}
+use Rattle.tm_model.specs.Owed.{have_room}
+use Rattle.tm_model.specs.Setting.{Setting, setting_of}
+use Rattle.tm_model.specs.Shown.{View, view_outside}
+
+-- ---- views
+
+abbrev pub cpu_view : Content → ℕ → Cpu → View
+cpu_view content number cpu = record {
+  mode = cpu.state;
+  base = cpu.base;
+  regs = cpu.regs;
+  buffer = cpu.buffer.bytes;
+  reads = content.lines number Read;
+  writes = content.lines number Write;
+}
+
+abbrev pub no_cpu : Cpu
+no_cpu = record {
+  base = no_regs;
+  regs = no_regs;
+  state = Running;
+  buffer = record { bytes = map_of.empty; order = []; room = 0 };
+}
+
+abbrev pub cpu_at : List Cpu → ℕ → Cpu
+cpu_at cpus number = slice_index_or cpus number no_cpu
+
+abbrev pub cpu_views : Content → List Cpu → ℕ → View
+cpu_views content cpus number = cpu_view content number (cpu_at cpus number)
+
+-- a view, with the order and the number of the lines of the buffer
+pub record KeptCore : Type 0 where
+  pub view : View
+  pub order : List ℕ
+  pub room : ℕ
+
+abbrev pub kept_of : Content → ℕ → Cpu → KeptCore
+kept_of content number cpu =
+    record { view = cpu_view content number cpu; order = cpu.buffer.order; room = cpu.buffer.room }
+
+abbrev pub kept_at : Content → List Cpu → ℕ → KeptCore
+kept_at content cpus number = kept_of content number (cpu_at cpus number)
+
+-- ---- hits
+
+abbrev pub condemn_kept : CoreState → KeptCore → KeptCore
+condemn_kept (Open depth) core =
+    record { view = view_outside (Condemned depth) core.view.base; order = []; room = core.room }
+condemn_kept Running core = core
+condemn_kept (Condemned depth) core = core
+condemn_kept (AtStop stop) core = core
+
+abbrev pub kept_after_hit : List ℕ → KeptCore → KeptCore
+kept_after_hit lines core =
+    if lines_hit core.view.reads core.view.writes lines then condemn_kept core.view.mode core else core
+
+-- of all cores but the one of this number
+abbrev pub AreHit : List ℕ → ℕ → ℕ → (ℕ → KeptCore) → (ℕ → KeptCore) → Type 0
+AreHit lines number count before after =
+    (other : ℕ) → other < count →
+    after other ≡ (if nat_eq other number then before other else kept_after_hit lines (before other))
+
+-- ---- between steps
+
+-- the buffer has just the lines of the write set, and room for as many as that
+pub record IsHeld (room : ℕ) (core : KeptCore) : Type 0 where
+  pub same_room : core.room ≡ room
+  pub count : length core.order ≡ set.len core.view.writes
+  pub same : (q : ℕ) → list_any (nat_eq q) core.order ≡ set.contains core.view.writes q
+
+-- the sets of all cores but one are as they were
+pub record Elsewhere (before after : Content) (number : ℕ) : Type 0 where
+  pub lines : (other : ℕ) → (nat_eq other number ≡ true → ⊥) → (kind : Kind) →
+      after.lines other kind ≡ before.lines other kind
+  pub fixed : after.fixed ≡ before.fixed
+
+abbrev pub parts_setting : List ℕ → ℕ → ℕ → Content → Setting
+parts_setting code base size content =
+    setting_of code base size (content.fixed.room Read) (content.fixed.room Write)
+
+-- each line begins below the memory's end
+abbrev pub AreLines : Lines → ℕ → Type 0
+AreLines lines size = (q : ℕ) → set.contains lines q ≡ true → q * 64 < size
+
+-- what holds of each core
+abbrev pub Sane : Setting → View → CoreState → Type 0
+Sane setting view (Open depth) =
+    (0 < depth) × (depth ≤ 7) × (have_room setting view.reads view.writes ≡ true)
+    × Fits view.buffer setting.size × AreLines view.writes setting.size
+Sane setting view Running = view ≡ view_outside Running view.base
+Sane setting view (Condemned depth) = view ≡ view_outside (Condemned depth) view.base
+Sane setting view (AtStop stop) = view ≡ view_outside (AtStop stop) view.base
+
+pub record IsSound (setting : Setting) (content : Content) (cpus : List Cpu) : Type 0 where
+  pub sane : (number : ℕ) → number < length cpus →
+      Sane setting (cpu_views content cpus number) (cpu_at cpus number).state
+  pub held : (number : ℕ) → number < length cpus → IsHeld setting.write_lines (kept_at content cpus number)
+
+abbrev pub is_open : CoreState → Bool
+is_open (Open depth) = true
+is_open Running = false
+is_open (Condemned depth) = false
+is_open (AtStop stop) = false
+
+-- no core is open
+abbrev pub AreClosed : List Cpu → Type 0
+AreClosed cpus = (number : ℕ) → number < length cpus → is_open (cpu_at cpus number).state ≡ false
+
+-- a transaction begins
+abbrev pub has_begun : Outcome → Bool
+has_begun Begun = true
+has_begun Plain = false
+has_begun (Stopped stop) = false
+has_begun Idle = false
+has_begun Inside = false
+has_begun Committed = false
+has_begun (Aborted status) = false
+
+-- ---- a step, by its parts
+
+-- outside: the memory and the others are still to be written
+abbrev pub left_outside : List ℕ → Outcome → Option Store → View → StepResult
+left_outside memory outcome store view = record {
+  outcome = outcome;
+  memory = memory_after memory (stores_of store);
+  view = view;
+  lines = map line (stored_addresses (stores_of store));
+}
+
+-- inside: it is made, or is a commit that is still to be made
+abbrev pub left_inside : List ℕ → InsideStep → View → StepResult
+left_inside memory Commits view = finished memory view
+left_inside memory (Made outcome) view = record { outcome = outcome; memory = memory; view = view; lines = [] }
+
+-- a step of the core of this number gives this outcome, memory and views
+pub record IsStep (setting : Setting) (memory : List ℕ) (views : ℕ → View) (count number : ℕ) (outcome : Outcome)
+    (memory_now : List ℕ) (views_now : ℕ → View) : Type 0 where
+  pub outcome_is : outcome ≡ (stepped setting memory (views number) (views number).mode).outcome
+  pub new_memory : memory_now ≡ (stepped setting memory (views number) (views number).mode).memory
+  pub each : (other : ℕ) → other < count →
+      views_now other ≡ views_after views number (stepped setting memory (views number) (views number).mode) other

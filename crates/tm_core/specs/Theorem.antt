@@ -1,0 +1,108 @@
+-- What a machine promises. It stands for a state of one flat memory with its doomed cores, and so it does after each
+-- step: the step is one of that memory, on which each committed transaction ran alone at its XEND (SDM volume 1,
+-- 16.2.1), with the outcome that is owed. What each of these words means stands in tm_model.
+use Rattle.std.specs.Prelude.{◌≡◌, ℕ, ◌<◌, List, [], length, slice_index_or, Option, Some, None}
+use Rattle.ia_image.specs.Program.{ProgramValue as Program}
+use Rattle.tm_sets.specs.declared.interface.Kind.{Kind}
+use Rattle.tm_sets.specs.declared.interface.Kind.TheVariants.{Read, Write}
+use Rattle.tm_model.specs.Access.{Lines}
+use Rattle.tm_model.specs.Conflicts.{Doomed, doomed_after}
+use Rattle.tm_model.specs.Runs.{AreOwed, IsOwed, doomed_at_end}
+use Rattle.tm_model.specs.Setting.{Setting, setting_of}
+use Rattle.tm_model.specs.Shown.{View, ViewsStandFor, body_alone, view_outside, view_with_body}
+use Rattle.tm_model.specs.State.{State, opening_state}
+use Rattle.tm_model.specs.Steps.{run, step}
+use Rattle.tm_core.specs.Types.{AtStop, Condemned, CoreState, Open, Outcome, Regs, Running}
+use Rattle.tm_model.specs.Went.{StateWithBodies, opening_with_bodies, run_with_bodies}
+
+-- ---- what is shown
+
+-- what contracts see of a machine
+pub record ShownMachine : Type 0 where
+  pub code : List ℕ
+  pub base : ℕ  -- the address of the first byte of the code
+  pub read_lines : ℕ  -- the most lines of a read set
+  pub write_lines : ℕ  -- the most lines of a write set
+  pub memory : List ℕ
+  pub views : List View  -- of each core
+
+abbrev pub machine_setting : ShownMachine → Setting
+machine_setting machine =
+    setting_of machine.code machine.base (length machine.memory) machine.read_lines machine.write_lines
+
+-- where there is no such core
+abbrev pub no_regs : Regs
+no_regs = record { gpr = []; flags = record { 0 = 0 }; eip = 0 }
+
+abbrev pub view_at : ShownMachine → ℕ → View
+view_at machine number = slice_index_or machine.views number (view_outside Running no_regs)
+
+abbrev pub lines_shown : View → Kind → Lines
+lines_shown view Read = view.reads
+lines_shown view Write = view.writes
+
+-- ---- a step
+
+-- the machine stands for a state and its doomed cores
+abbrev pub StandsFor : ShownMachine → State → Doomed → Type 0
+StandsFor machine state doomed =
+    ViewsStandFor (machine_setting machine) (length machine.views) machine.memory (view_at machine) state doomed
+
+-- a step of the core of this number is owed and allowed, and the machine then stands for what follows
+pub record TakesStep (before after : ShownMachine) (state : State) (doomed : Doomed) (number : ℕ) (outcome : Outcome)
+    : Type 0 where
+  pub is_owed : IsOwed (machine_setting before) state doomed number outcome
+  pub next : State
+  pub is_step : step (machine_setting before) state number outcome ≡ Some next
+  pub stands : StandsFor after next (doomed_after (machine_setting before) state doomed number outcome)
+
+-- the same of a history: the steps, each a core and its outcome
+pub record TakesSteps (before after : ShownMachine) (state : State) (doomed : Doomed) (history : List (ℕ × Outcome))
+    : Type 0 where
+  pub are_owed : AreOwed (machine_setting before) state doomed history
+  pub last : State
+  pub is_run : run (machine_setting before) state history ≡ Some last
+  pub stands : StandsFor after last (doomed_at_end (machine_setting before) state doomed history)
+
+-- what no step changes
+pub record SameMachine (before after : ShownMachine) : Type 0 where
+  pub rules : machine_setting after ≡ machine_setting before
+  pub cores : length after.views ≡ length before.views
+
+-- a machine that began at start is now what this history made of it
+pub record IsRun (start now : ShownMachine) (state : State) (doomed : Doomed) (history : List (ℕ × Outcome))
+    : Type 0 where
+  pub same : SameMachine start now
+  pub takes : TakesSteps start now state doomed history
+
+-- ---- transactions as they went
+
+-- the depth of a condemned core: the machine's mark of one that is doomed
+abbrev pub condemned_depth : CoreState → Option ℕ
+condemned_depth Running = None
+condemned_depth (Open depth) = None
+condemned_depth (Condemned depth) = Some depth
+condemned_depth (AtStop stop) = None
+
+-- A machine's history from a program's start, with the bodies as they went at their own cores' steps: what it shows
+-- of each core is of this body, and where the core is not condemned, this is its body run by itself on memory as it
+-- is now.
+pub record WentWithBodies (start now : ShownMachine) (program : Program) (history : List (ℕ × Outcome)) : Type 0 where
+  pub end : StateWithBodies
+  pub goes : run_with_bodies (machine_setting start) (opening_with_bodies program) history ≡ Some end
+  pub memory : now.memory ≡ end.state.memory
+  pub count : length now.views ≡ end.state.count
+  pub shows : (number : ℕ) → number < length now.views →
+      view_with_body (end.state.cores number) (end.bodies number) (condemned_depth (view_at now number).mode)
+      ≡ Some (view_at now number)
+  pub by_itself : (number : ℕ) → number < length now.views → condemned_depth (view_at now number).mode ≡ None →
+      end.bodies number ≡ body_alone (machine_setting start) now.memory (end.state.cores number)
+  pub same_run : run (machine_setting start) (opening_state program) history ≡ Some end.state
+
+-- whatever the program and the history
+abbrev pub TransactionsAsTheyWent : Type 0
+TransactionsAsTheyWent =
+    (start now : ShownMachine) (program : Program) (history : List (ℕ × Outcome)) →
+    StandsFor start (opening_state program) (λ _. None) →
+    IsRun start now (opening_state program) (λ _. None) history →
+    WentWithBodies start now program history

@@ -1,0 +1,41 @@
+//! A core in a serial run.
+
+ghost use Rattle.std.specs.Prelude.{◌≡◌};
+ghost use Rattle.tm_hist.specs.Serial.{base_of, core_of, stop_of};
+
+use ia_regs::Regs;
+use tm_rule::Stop;
+
+/// A core between two steps.
+#[derive(Clone, Copy, Debug)]
+pub enum SerialCore {
+    /// It is in no transaction.
+    Closed(Regs),
+    /// It has stopped.
+    Halted(Regs, Stop),
+    /// It is in a transaction: its registers before the XBEGIN, and how many steps it made since then, that one
+    /// included.
+    Opened(Regs, u64),
+}
+
+impl SerialCore {
+    /// The registers, those before the XBEGIN of an open transaction.
+    pub fn base(&self) -> Regs
+        ensures { result ≡ base_of (core_of self.now) }
+    {
+        match self {
+            SerialCore::Closed(regs) | SerialCore::Halted(regs, _) | SerialCore::Opened(regs, _) =>
+                *regs,
+        }
+    }
+
+    /// Why the core stopped.
+    pub fn stop(&self) -> Option<Stop>
+        ensures { result ≡ stop_of (core_of self.now) }
+    {
+        match self {
+            SerialCore::Halted(_, stop) => Some(*stop),
+            SerialCore::Closed(_) | SerialCore::Opened(_, _) => None,
+        }
+    }
+}

@@ -1,0 +1,11 @@
+pub mod Types
+pub mod Access
+pub mod Setting
+pub mod Isolated
+pub mod State
+pub mod Steps
+pub mod Conflicts
+pub mod Owed
+pub mod Runs
+pub mod Went
+pub mod Shown

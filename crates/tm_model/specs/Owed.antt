@@ -1,0 +1,63 @@
+-- The outcome that is owed by a core's next step: the first of these rules that applies. So no transaction aborts
+-- without its cause, and none that has a cause goes on (SDM volume 1, 16.3.5 and 16.3.8).
+use Rattle.std.specs.Prelude.{ℕ, Bool, ◌&&◌, not, if◌then◌else◌, List, [], ◌++◌, Option, Some, None, nat_eq, nat_lt}
+use Rattle.std.specs.FinSet as set
+use Rattle.tm_status.specs.Status.{status_of}
+use Rattle.tm_model.specs.Access.{Lines, Stores, lines_of, stored_addresses, stores_of}
+use Rattle.tm_model.specs.Isolated.{Body, instruction_after, isolated_body}
+use Rattle.tm_model.specs.Setting.{Setting, outside_at}
+use Rattle.tm_model.specs.State.{Closed, Core, Halted, Opened}
+use Rattle.tm_model.specs.Types.{Aborted, Begins, Begun, Capacity, Cause, Committed, Conflict, Ends, Fails, Goes}
+use Rattle.tm_model.specs.Types.{GoesOn, Idle, Inside, InsideResult, Nests, Outcome, OutsideResult, Plain, Stopped}
+use Rattle.tm_model.specs.Types.{Stops}
+
+-- the status of an abort at this depth, and its outcome
+abbrev pub status_at : Cause → ℕ → ℕ
+status_at cause depth = status_of cause (nat_lt 1 depth)
+
+abbrev pub abort_at : Cause → ℕ → Outcome
+abort_at cause depth = Aborted (status_at cause depth)
+
+-- ---- outside of transactions
+
+abbrev pub owed_outside : OutsideResult → Outcome
+owed_outside (Stops stop) = Stopped stop
+owed_outside (Begins regs) = Begun
+owed_outside (Goes regs store) = Plain
+
+-- ---- inside
+
+abbrev pub have_room : Setting → Lines → Lines → Bool
+have_room setting reads writes =
+    not (nat_lt setting.read_lines (set.len reads)) && not (nat_lt setting.write_lines (set.len writes))
+
+-- this outcome, where the body's lines with those of its next instruction have room
+abbrev pub owed_with_room : Setting → Body → Stores → Outcome → Outcome
+owed_with_room setting body stores outcome =
+    if have_room setting
+    (lines_of (setting.load_of body.regs ++ body.loads))
+    (lines_of (stored_addresses (stores ++ body.stores)))
+    then outcome
+    else abort_at Capacity body.depth
+
+abbrev pub owed_inside : Setting → Body → InsideResult → Outcome
+owed_inside setting body (Fails cause) = abort_at cause body.depth
+owed_inside setting body (GoesOn regs store) = owed_with_room setting body (stores_of store) Inside
+owed_inside setting body (Nests regs) = owed_with_room setting body [] Inside
+owed_inside setting body (Ends regs) =
+    owed_with_room setting body [] (if nat_eq body.depth 1 then Committed else Inside)
+
+-- an open core has a body in each state that a run reaches
+abbrev pub owed_after : Setting → List ℕ → Option Body → Outcome
+owed_after setting memory None = Idle
+owed_after setting memory (Some body) = owed_inside setting body (instruction_after setting memory body)
+
+-- ---- every step
+
+-- of a core, with its depth where it is doomed
+abbrev pub owed_outcome : Setting → List ℕ → Core → Option ℕ → Outcome
+owed_outcome setting memory (Halted regs stop) doom = Idle
+owed_outcome setting memory core (Some depth) = abort_at Conflict depth
+owed_outcome setting memory (Closed regs) None = owed_outside (outside_at setting regs memory)
+owed_outcome setting memory (Opened regs steps) None =
+    owed_after setting memory (isolated_body setting regs memory steps)
