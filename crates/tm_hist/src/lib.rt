@@ -29,3 +29,6 @@ pub use lines::{push_state, write_core, write_dump, write_outcome, write_state};
 pub use one_memory::serial;
 pub use replay::{Serial, SerialFault};
 pub use schedule::{ScheduleFault, read_schedule, read_steps, write_schedule};
+
+#[cfg(test)]
+mod tests;

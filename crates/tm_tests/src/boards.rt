@@ -1,11 +1,11 @@
 //! Steps on a board, written by hand. Code lies from 100h on, in a memory of 65,536 bytes.
 
-use tm_hist::{Board, BoardFault, History, MOST_STEPS, StepFault};
 use ia_image::{Program, load};
 use std::alloc::Global;
 use std::process::Abort;
 use tm_core::Outcome::{Aborted, Begun, Committed, Inside, Stopped};
 use tm_core::{Limits, Outcome, Stop};
+use tm_hist::{Board, BoardFault, History, MOST_STEPS, StepFault};
 
 const LIMITS: Limits = Limits {
     read_lines: 512,

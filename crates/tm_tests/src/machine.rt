@@ -4,10 +4,10 @@ mod refusals;
 mod rows;
 mod sets;
 
-use tm_core::{Limits, Machine, Outcome};
 use ia_image::{Program, load};
 use std::alloc::Global;
 use std::process::Abort;
+use tm_core::{Limits, Machine, Outcome};
 
 const LIMITS: Limits = Limits {
     read_lines: 512,

@@ -1,10 +1,10 @@
 //! One instruction at a time, by the manual's pages and the table of docs/MACHINE.md, "One step".
 
+use ia_regs::{Flags, Regs};
+use ia_word::Width;
 use tm_rule::{
     Access, Code, OutsideResult, Stop, Store, InsideResult, fallback, fetch, inside, load_at, outside,
 };
-use ia_regs::{Flags, Regs};
-use ia_word::Width;
 use tm_status::Cause;
 
 /// The code begins at 100h, memory has 65,536 bytes.

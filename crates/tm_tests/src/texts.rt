@@ -1,12 +1,12 @@
 //! Texts that were written by hand, each as it is to be printed or read.
 
+use ia_image::load;
+use ia_text::{ToVec, WriteFault};
+use tm_core::Outcome;
 use tm_hist::{
     History, ScheduleFault, SerialFault, read_schedule, read_steps, serial, write_dump,
     write_outcome, write_schedule,
 };
-use ia_image::load;
-use ia_text::{ToVec, WriteFault};
-use tm_core::Outcome;
 use tm_rule::Stop;
 
 #[test]

@@ -1,9 +1,9 @@
 //! Schedules of one and of two cores, with each outcome.
 
 use super::{ADDS, BEGIN, LIMITS, beside, eax_eip, joined, one, program, steps};
+use bitflags::Flags as _;
 use tm_core::Outcome::{Aborted, Begun, Committed, Idle, Inside, Plain, Stopped};
 use tm_core::{CoreState, Machine, Stop};
-use bitflags::Flags as _;
 use tm_sets::Kind;
 
 #[test]

@@ -1,12 +1,12 @@
 //! The read set, the write set, and sets of the caller's own.
 
 use super::{ADDS, BEGIN, LIMITS, eax_eip, joined, one, program, steps};
-use tm_core::Outcome::{Aborted, Begun, Inside};
-use tm_core::{Machine, transactions_are_as_they_went};
 use bitflags::Flags as _;
 use ia_image::Program;
 use std::alloc::Global;
 use std::process::Abort;
+use tm_core::Outcome::{Aborted, Begun, Inside};
+use tm_core::{Machine, transactions_are_as_they_went};
 use tm_sets::{Kind, PlainSets};
 
 /// The lines that core 0 has read, and those that it has written.
