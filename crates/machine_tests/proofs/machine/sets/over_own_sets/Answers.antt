@@ -1,7 +1,7 @@
 use Rattle.std.proofs.Common.{ap}
 use Rattle.tm_sets.specs.Content.{Content}
 use Rattle.tm_sets.specs.declared.interface.Kind.TheVariants.{Read, Write}
-use Rattle.tm_tests.proofs.machine.sets.over_own_sets.Goals as goal
+use Rattle.machine_tests.proofs.machine.sets.over_own_sets.Goals as goal
 
 pub with_sets-requires-clause-empty : goal.with_sets-requires-clause-empty
 with_sets-requires-clause-empty g c core kind = ap (λ (x : Content). x.lines core kind) c.in-Ok.ensures.content
