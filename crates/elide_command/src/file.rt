@@ -3,7 +3,7 @@
 use crate::fault::{Fault, Refusal};
 use crate::paths::Paths;
 use clap::ArgMatches;
-use ia_asm::assemble;
+use ia_asm::assemble_image;
 use ia_image::read_image;
 use ia_item::Name;
 use indexmap::IndexMap;
@@ -42,12 +42,12 @@ impl<'a> ProgramFile<'a> {
                 symbols: None,
             });
         }
-        let unit = assemble(alloc, text).map_err(Fault::Assemble)?;
+        let program = assemble_image(alloc, text).map_err(Fault::Assemble)?;
         Ok(ProgramFile {
-            bytes: unit.image,
-            base: unit.base,
-            code_len: unit.code_len,
-            symbols: Some(unit.symbols),
+            bytes: program.image,
+            base: program.base,
+            code_len: program.code_len,
+            symbols: Some(program.symbols),
         })
     }
 
