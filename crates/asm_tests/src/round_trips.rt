@@ -68,7 +68,10 @@ fn a_locked_addition(rt: HostRuntime) {
         lock: true,
         op: Op::Alu(AluOp::Add, Width::B, place(disp), Operand::Imm(number)),
     };
-    assert_eq!(rt; read_back(rt.alloc(), &insn(0x20, 0xff), 0), Some(insn(0, 0)));
+    assert_eq!(rt;
+        read_back(rt.alloc(), &insn(0x20, 0xff), 0),
+        Some(insn(0, 0))
+    );
 }
 
 #[test]
@@ -77,7 +80,10 @@ fn a_short_jump(rt: HostRuntime) {
         lock: false,
         op: Op::JccShort(Condition::BelowOrEqual, distance),
     };
-    assert_eq!(rt; read_back(rt.alloc(), &insn(0xffff_ff80), 0x100), Some(insn(0)));
+    assert_eq!(rt;
+        read_back(rt.alloc(), &insn(0xffff_ff80), 0x100),
+        Some(insn(0))
+    );
 }
 
 #[test]

@@ -1,8 +1,8 @@
 //! Sources by example: what lines ask for, and what is wrong with them.
 
-use ia_source::{SourceFault, Why, entries};
 use ia_insn::{Count, Insn, Mem, Op, Operand};
 use ia_item::Item;
+use ia_source::{SourceFault, Why, entries};
 use ia_word::{AluOp, Condition, ShiftOp, UnaryOp, Width};
 use std::alloc::Global;
 use std::test::Fail;

@@ -2,7 +2,7 @@
 
 use elide_args::AsmOptions;
 use elide_program::{Paths, ProgramFault, ProgramRefusal, read_file};
-use ia_asm::assemble;
+use ia_asm::{assemble, assemble_image};
 use ia_image::write_image;
 use ia_text::{Failed, Out, WriteFault};
 use std::alloc::Global;
@@ -15,15 +15,34 @@ pub fn asm<P: Paths, O: Out>(
     out: &mut O,
 ) -> Result<(), ProgramRefusal> {
     let text = read_file(options.file, paths)?;
-    match assemble(alloc, text.as_slice()) {
-        Ok(unit) => {
-            let printed = if options.lists {
-                out.put(unit.listing.as_slice()).map_err(failed)
-            } else {
-                write_image(unit.image.as_slice(), unit.base, unit.code_len, out)
-            };
-            printed.map_err(refused)
-        }
+    if options.lists {
+        list(alloc, text.as_slice(), out)
+    } else {
+        write(alloc, text.as_slice(), out)
+    }
+}
+
+// Prints the listing of a source.
+fn list<O: Out>(alloc: Global, text: &[u8], out: &mut O) -> Result<(), ProgramRefusal> {
+    match assemble(alloc, text) {
+        Ok(unit) => out
+            .put(unit.listing.as_slice())
+            .map_err(failed)
+            .map_err(refused),
+        Err(fault) => Err(ProgramRefusal::Fault(ProgramFault::Assemble(fault))),
+    }
+}
+
+// Prints the image text of a source, for which no listing is made.
+fn write<O: Out>(alloc: Global, text: &[u8], out: &mut O) -> Result<(), ProgramRefusal> {
+    match assemble_image(alloc, text) {
+        Ok(program) => write_image(
+            program.image.as_slice(),
+            program.base,
+            program.code_len,
+            out,
+        )
+        .map_err(refused),
         Err(fault) => Err(ProgramRefusal::Fault(ProgramFault::Assemble(fault))),
     }
 }

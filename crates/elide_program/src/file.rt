@@ -4,7 +4,7 @@ use crate::entries::EntryList;
 use crate::fault::{ProgramFault, ProgramRefusal};
 use crate::paths::Paths;
 use crate::settings::Settings;
-use ia_asm::{Unit, assemble};
+use ia_asm::{ProgramImage, assemble_image};
 use ia_image::{ImageText, Program, load, read_image};
 use std::alloc::Global;
 
@@ -13,8 +13,8 @@ use std::alloc::Global;
 pub enum ProgramFile<'a> {
     /// As image text.
     Image(ImageText),
-    /// As a source, which is assembled.
-    Source(Unit<'a>),
+    /// As a source, which is assembled, without its listing.
+    Source(ProgramImage<'a>),
 }
 
 /// The content of a file.
@@ -34,8 +34,8 @@ impl<'a> ProgramFile<'a> {
                 Err(fault) => Err(ProgramRefusal::Fault(ProgramFault::Image(fault))),
             }
         } else {
-            match assemble(alloc, text) {
-                Ok(unit) => Ok(ProgramFile::Source(unit)),
+            match assemble_image(alloc, text) {
+                Ok(program) => Ok(ProgramFile::Source(program)),
                 Err(fault) => Err(ProgramRefusal::Fault(ProgramFault::Assemble(fault))),
             }
         }
@@ -45,7 +45,7 @@ impl<'a> ProgramFile<'a> {
     pub fn bytes(&self) -> &[u8] {
         match self {
             ProgramFile::Image(image) => image.bytes.as_slice(),
-            ProgramFile::Source(unit) => unit.image.as_slice(),
+            ProgramFile::Source(program) => program.image.as_slice(),
         }
     }
 
@@ -53,7 +53,7 @@ impl<'a> ProgramFile<'a> {
     pub fn base(&self) -> u32 {
         match self {
             ProgramFile::Image(image) => image.base,
-            ProgramFile::Source(unit) => unit.base,
+            ProgramFile::Source(program) => program.base,
         }
     }
 
@@ -61,7 +61,7 @@ impl<'a> ProgramFile<'a> {
     pub fn code_len(&self) -> u32 {
         match self {
             ProgramFile::Image(image) => image.code_len,
-            ProgramFile::Source(unit) => unit.code_len,
+            ProgramFile::Source(program) => program.code_len,
         }
     }
 
@@ -69,7 +69,7 @@ impl<'a> ProgramFile<'a> {
     pub fn symbol(&self, name: &str) -> Option<u32> {
         match self {
             ProgramFile::Image(_) => None,
-            ProgramFile::Source(unit) => unit.address(name.as_bytes()),
+            ProgramFile::Source(program) => program.address(name.as_bytes()),
         }
     }
 

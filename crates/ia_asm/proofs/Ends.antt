@@ -16,7 +16,7 @@ use Rattle.ia_resolve.specs.Items.{field_value, field_fault, template_fault}
 use Rattle.ia_item.specs.declared.item.Field.TheVariants as field
 use Rattle.ia_resolve.specs.PlaceFaults.{first_of}
 use Rattle.ia_layout.specs.Placement.{LayoutState, EntryPlace, nowhere, critical_value, gap, size_of, at_in, place_at, text_next, next, places, after, pad, bytes_at, item_bytes, part_of, section_bytes, in_section, end_fault, item_fault, place_fault, fault_on, by_first, first_fault, base_of, text_end, tail_base, start, all_places, values}
-use Rattle.ia_asm.specs.Assembled.{code_of, fault_of}
+use Rattle.ia_asm.specs.Assemblies.{code_of, fault_of}
 use Rattle.ia_resolve.proofs.Sizes.{code_length, long_length}
 use Rattle.ia_asm.proofs.FaultLemmas.{first_some}
 

@@ -9,14 +9,14 @@ use Rattle.ia_resolve.specs.declared.place_fault.PlaceFault.{PlaceFault}
 use Rattle.ia_resolve.specs.declared.place_fault.PlaceFault.TheVariants as fault
 use Rattle.ia_resolve.specs.Symbols.{known}
 use Rattle.ia_layout.specs.declared.layout.PlacedEntry.{PlacedEntry}
-use Rattle.ia_layout.specs.Placement.{start, after, base_of, text_end, tail_base, places, all_places, symbols, values, section_bytes, joined, gap, first_fault}
+use Rattle.ia_layout.specs.Placement.{start, after, base_of, text_end, tail_base, places, all_places, symbols, values, section_bytes, code_and_data, gap, first_fault}
 use Rattle.ia_layout.specs.Contents.{entry_place}
 use Rattle.ia_asm.specs.declared.assembly.ProgramLayout.{ProgramLayout}
 use Rattle.ia_asm.specs.declared.assembly.ProgramImage.{ProgramImage}
 use Rattle.ia_asm.specs.Faults.{at_line}
 use Rattle.ia_asm.specs.ListingText.{listing_text}
-use Rattle.ia_asm.specs.Assembled.{symbol_modulo, code_of, tail_of, fault_of, TellsFault, IsImage}
-use Rattle.ia_asm.specs.LaidOut.{layout_bytes, layout_symbols, IsLayout}
+use Rattle.ia_asm.specs.Assemblies.{symbol_modulo, code_of, tail_of, fault_of, TellsFault, IsImage}
+use Rattle.ia_asm.specs.ProgramLayouts.{layout_bytes, layout_symbols, IsLayout}
 use Rattle.ia_asm.proofs.Ends.{code_fits, code_near}
 
 -- what the places are, of which each step speaks
@@ -58,13 +58,13 @@ section_is part es l s = ap (section_bytes part (known l.table.values.entries)) 
 pub listing_is : (es : List Entry) (l : ProgramLayout) → IsLayout es l → listing_text (known l.table.values.entries) (map entry_place l.spots.items) ≡ listing_text (values (all_places es)) (all_places es)
 listing_is es l s = ap (listing_text (known l.table.values.entries)) s.all ∙ ap (λ x. listing_text (known x) (all_places es)) s.known_as
 
-pub image_is : (es : List Entry) (l : ProgramLayout) (p : ProgramImage) → IsLayout es l → p.base ≡ l.base → p.image.items ≡ joined (layout_bytes InText l) (gap 64 l.end) (layout_bytes InData l)
+pub image_is : (es : List Entry) (l : ProgramLayout) (p : ProgramImage) → IsLayout es l → p.base ≡ l.base → p.image.items ≡ code_and_data (layout_bytes InText l) (gap 64 l.end) (layout_bytes InData l)
     → l.base + p.code_len ≡ l.end → p.symbols.entries ≡ map symbol_modulo (layout_symbols l) → IsImage es p
 image_is es l p s base image code_len names = record {
   faultless = s.faultless;
   base = base ∙ s.begins;
-  image = image ∙ ap (λ x. joined x (gap 64 l.end) (layout_bytes InData l)) (section_is InText es l s) ∙ ap (joined (code_of es) (gap 64 l.end)) (section_is InData es l s)
-      ∙ ap (λ x. joined (code_of es) (gap 64 x) (tail_of es)) s.ends;
+  image = image ∙ ap (λ x. code_and_data x (gap 64 l.end) (layout_bytes InData l)) (section_is InText es l s) ∙ ap (code_and_data (code_of es) (gap 64 l.end)) (section_is InData es l s)
+      ∙ ap (λ x. code_and_data (code_of es) (gap 64 x) (tail_of es)) s.ends;
   code_len = omega (arith, code_len, code_fits es, s.begins, s.ends);
   end = code_fits es;
   symbols = names ∙ ap (λ x. map symbol_modulo (symbols x)) s.all;

@@ -10,7 +10,7 @@ use Rattle.ia_asm.specs.declared.fault.AsmFault.{AsmFault}
 use Rattle.ia_asm.specs.declared.fault.AsmFault.TheVariants as asm
 use Rattle.ia_asm.specs.declared.assembly.Unit.{Unit as Assembly}
 use Rattle.ia_asm.specs.declared.assembly.ProgramImage.{ProgramImage}
-use Rattle.ia_asm.specs.Assembled.{PlacesAll, PlacesImage, TellsFault}
+use Rattle.ia_asm.specs.Assemblies.{PlacesAll, PlacesImage, TellsFault}
 use Rattle.ia_asm.specs.Assembles.{asm_fault, AsksFor, RefusedAs, Assembles, AssemblesImage}
 
 pub reading_refused : (text : List ℕ) (f : SourceFault) → SourceTells (entries_of text) f → RefusedAs text (asm_fault f)

@@ -8,7 +8,7 @@ use Rattle.ia_item.specs.declared.name.Name.{Name}
 use Rattle.ia_item.specs.Names.{same_name}
 use Rattle.ia_layout.specs.declared.layout.PlacedEntry.{PlacedEntry}
 use Rattle.ia_layout.specs.Placement.{definition}
-use Rattle.ia_asm.specs.Assembled.{value_modulo, symbol_modulo}
+use Rattle.ia_asm.specs.Assemblies.{value_modulo, symbol_modulo}
 use Rattle.ia_layout.specs.Contents.{entry_place}
 use Rattle.ia_layout.proofs.Layouts.{each_step}
 

@@ -12,7 +12,7 @@ use Rattle.ia_asm.specs.declared.fault.AsmFault.TheVariants as asm
 use Rattle.ia_asm.specs.declared.assembly.Unit.{Unit as Assembly}
 use Rattle.ia_asm.specs.declared.assembly.ProgramImage.{ProgramImage}
 use Rattle.ia_asm.specs.Faults.{at_line}
-use Rattle.ia_asm.specs.Assembled.{Assembled, IsImage, fault_of}
+use Rattle.ia_asm.specs.Assemblies.{IsAssembly, IsImage, fault_of}
 
 abbrev pub line_fault : ℕ → Why → AsmFault
 line_fault line why.BadToken = asm.BadToken line
@@ -40,7 +40,7 @@ RefusedAs text f = Refused text f
 
 -- what the lines ask for is placed, or this is why not
 abbrev pub Assembles : List ℕ → Result Assembly AsmFault → Type 0
-Assembles text (Ok u) = (es : List Entry) × AsksFor text es × Assembled es u
+Assembles text (Ok u) = (es : List Entry) × AsksFor text es × IsAssembly es u
 Assembles text (Err f) = RefusedAs text f
 
 -- the same without a listing

@@ -1,6 +1,6 @@
 pub mod Faults
 pub mod ListingText
 pub mod Lister
-pub mod Assembled
-pub mod LaidOut
+pub mod Assemblies
+pub mod ProgramLayouts
 pub mod Assembles

@@ -46,7 +46,8 @@ abbrev pub lines_from : Env → Option ℕ → List EntryPlace → List ℕ
 lines_from env row [] = []
 lines_from env row (p ∷ ps) =
     if is_datum p.entry.item
-    then (if goes_on row p then [] else bytes_line p.at (item_bytes env p ++ rest_of_line env p.entry.line ps)) ++ lines_from env (Some p.entry.line) ps
+    then (if goes_on row p then [] else bytes_line p.at
+    (item_bytes env p ++ rest_of_line env p.entry.line ps)) ++ lines_from env (Some p.entry.line) ps
     else own_line env p p.entry.item ++ lines_from env None ps
 
 abbrev pub listing_text : Env → List EntryPlace → List ℕ

@@ -4,10 +4,10 @@ ghost use Rattle.std.specs.Prelude.{◌≡◌, ◌≤◌, ◌+◌, ◌-◌, ◌^
 ghost use Rattle.indexmap.specs.IndexMap.{insert_all};
 ghost use Rattle.ia_item.specs.Names.{same_name};
 ghost use Rattle.ia_item.specs.Fits.{AllFit};
-ghost use Rattle.ia_layout.specs.Placement.{definition, symbols, gap, joined};
+ghost use Rattle.ia_layout.specs.Placement.{definition, symbols, gap, code_and_data};
 ghost use Rattle.ia_layout.specs.Contents.{entry_place, IsBounded};
-ghost use Rattle.ia_asm.specs.Assembled.{value_modulo, symbol_modulo, known_as, PlacesAll, PlacesImage};
-ghost use Rattle.ia_asm.specs.LaidOut.{layout_bytes, layout_symbols, LaysOut};
+ghost use Rattle.ia_asm.specs.Assemblies.{value_modulo, symbol_modulo, known_as, PlacesAll, PlacesImage};
+ghost use Rattle.ia_asm.specs.ProgramLayouts.{layout_bytes, layout_symbols, LaysOut};
 
 use crate::fault::{AsmFault, at_line};
 use crate::faults::first_fault;
@@ -80,7 +80,8 @@ fn insert<'a>(
     value: i128,
 ) -> Result<(), AllocError>
     requires { negsuc (2 ^ 31 - 1) ≤ℤ value }
-    ensures { OnOk result (table.new.entries ≡ insert_all same_name table.old.entries (map symbol_modulo ((name.entry, value) ∷ []))) }
+    ensures { OnOk result (table.new.entries
+        ≡ insert_all same_name table.old.entries (map symbol_modulo ((name.entry, value) ∷ []))) }
 {
     match table.insert(name, value_modulo(value)) {
         Ok(_) => Ok(()),
@@ -89,10 +90,14 @@ fn insert<'a>(
 }
 
 /// Takes in a label or `equ`.
-#[tactic(auto, unfolding(ia_layout::specs::Placement::defined))]
-fn define<'a>(table: &mut IndexMap<Name<'a>, u32>, spot: &PlacedEntry<'a, '_>) -> Result<(), AllocError>
+#[tactic(auto, unfolding(ia_layout::specs::Placement::item_definition))]
+fn define<'a>(
+    table: &mut IndexMap<Name<'a>, u32>,
+    spot: &PlacedEntry<'a, '_>,
+) -> Result<(), AllocError>
     requires { IsBounded spot.now }
-    ensures { OnOk result (table.new.entries ≡ insert_all same_name table.old.entries (map symbol_modulo (definition (entry_place spot.now)))) }
+    ensures { OnOk result (table.new.entries
+        ≡ insert_all same_name table.old.entries (map symbol_modulo (definition (entry_place spot.now)))) }
 {
     match &spot.entry.item {
         Item::Label(name) => insert(table, *name, spot.at as i128),
@@ -188,7 +193,8 @@ fn image_of<'a>(
     requires short { layout.now.end ≤ layout.now.base + 2 ^ 26 }
     ensures base { IfOk result (λ p. p.base ≡ layout.now.base) }
     ensures image { IfOk result (λ p. p.image.items
-        ≡ joined (layout_bytes Section.Text layout.now) (gap 64 layout.now.end) (layout_bytes Section.Data layout.now)) }
+        ≡ code_and_data (layout_bytes Section.Text layout.now) (gap 64 layout.now.end)
+        (layout_bytes Section.Data layout.now)) }
     ensures code_len { IfOk result (λ p. layout.now.base + p.code_len ≡ layout.now.end) }
     ensures symbols { IfOk result (λ p. p.symbols.entries ≡ map symbol_modulo (layout_symbols layout.now)) }
 {

@@ -48,9 +48,15 @@ fn place_fault(symbols: &Table, base: u32, spot: &PlacedEntry) -> Option<PlaceFa
         Item::Label(_) => None,
         Item::Equ(_, _) => spot.fault,
         Item::Code(template) => first_of(resolve_template(symbols, spot.at, template).fault, end),
-        Item::Byte(expression) => first_of(resolve_field(symbols, spot.at, Field::Byte, expression).fault, end),
+        Item::Byte(expression) => first_of(
+            resolve_field(symbols, spot.at, Field::Byte, expression).fault,
+            end,
+        ),
         Item::Text(_) => end,
-        Item::Long(expression) => first_of(resolve_field(symbols, spot.at, Field::Long, expression).fault, end),
+        Item::Long(expression) => first_of(
+            resolve_field(symbols, spot.at, Field::Long, expression).fault,
+            end,
+        ),
         Item::Reserve(_) => first_of(spot.fault, end),
         Item::Align(_) => end,
         Item::Org(number) => org_fault(*number),

@@ -3,8 +3,8 @@
 ghost use Rattle.std.specs.Prelude.{◌≡◌};
 ghost use Rattle.ia_asm.specs.Assembles.{asm_fault, Assembles, AssemblesImage};
 
-use crate::fault::AsmFault;
 use crate::assembly::{ProgramImage, Unit, place_all, place_image};
+use crate::fault::AsmFault;
 use ia_source::{SourceFault, Why, entries};
 use std::alloc::Global;
 

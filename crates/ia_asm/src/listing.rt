@@ -78,7 +78,8 @@ fn goes_on(row: Option<ListingRow>, spot: &PlacedEntry) -> bool
 impl Lister {
     /// Writes the row before, if there is one.
     fn finish(&mut self) -> Result<(), AllocError>
-        ensures out { OnOk result (self.new.out.bytes.items ≡ self.old.out.bytes.items ++ row_text self.old.row self.old.bytes.items) }
+        ensures out { OnOk result (self.new.out.bytes.items
+            ≡ self.old.out.bytes.items ++ row_text self.old.row self.old.bytes.items) }
         ensures bytes { OnOk result (self.new.bytes.items ≡ []) }
         ensures row { OnOk result (self.new.row ≡ self.old.row) }
     {
@@ -94,7 +95,9 @@ impl Lister {
     fn write_own(&mut self, symbols: &Table, spot: &PlacedEntry) -> Result<(), AllocError>
         requires good { IsBounded spot.now }
         requires empty { self.old.bytes.items ≡ [] }
-        ensures line { OnOk result (self.new.out.bytes.items ≡ self.old.out.bytes.items ++ own_line (known symbols.now.values.entries) (entry_place spot.now) (entry_place spot.now).entry.item) }
+        ensures line { OnOk result (self.new.out.bytes.items
+            ≡ self.old.out.bytes.items ++ own_line (known symbols.now.values.entries) (entry_place spot.now)
+            (entry_place spot.now).entry.item) }
         ensures row { OnOk result (self.new.row ≡ self.old.row) }
     {
         match &spot.entry.item {
@@ -118,7 +121,9 @@ impl Lister {
     fn list_datum(&mut self, symbols: &Table, spot: &PlacedEntry) -> Result<(), AllocError>
         requires good { IsBounded spot.now }
         requires datum { IsTrue (is_datum spot.now.entry.now.item) }
-        ensures { OnOk result ((more : List EntryPlace) → listing_with (known symbols.now.values.entries) self.new more ≡ listing_with (known symbols.now.values.entries) self.old (entry_place spot.now ∷ more)) }
+        ensures { OnOk result ((more : List EntryPlace)
+            → listing_with (known symbols.now.values.entries) self.new more
+            ≡ listing_with (known symbols.now.values.entries) self.old (entry_place spot.now ∷ more)) }
     {
         if goes_on(self.row, spot) {
             push_item(&mut self.bytes, symbols, spot)
@@ -136,7 +141,9 @@ impl Lister {
     fn list_own(&mut self, symbols: &Table, spot: &PlacedEntry) -> Result<(), AllocError>
         requires good { IsBounded spot.now }
         requires own { is_datum spot.now.entry.now.item ≡ false }
-        ensures { OnOk result ((more : List EntryPlace) → listing_with (known symbols.now.values.entries) self.new more ≡ listing_with (known symbols.now.values.entries) self.old (entry_place spot.now ∷ more)) }
+        ensures { OnOk result ((more : List EntryPlace)
+            → listing_with (known symbols.now.values.entries) self.new more
+            ≡ listing_with (known symbols.now.values.entries) self.old (entry_place spot.now ∷ more)) }
     {
         self.finish()?;
         self.row = None;
@@ -148,7 +155,9 @@ impl Lister {
     /// Takes in the next item.
     fn list(&mut self, symbols: &Table, spot: &PlacedEntry) -> Result<(), AllocError>
         requires { IsBounded spot.now }
-        ensures { OnOk result ((more : List EntryPlace) → listing_with (known symbols.now.values.entries) self.new more ≡ listing_with (known symbols.now.values.entries) self.old (entry_place spot.now ∷ more)) }
+        ensures { OnOk result ((more : List EntryPlace)
+            → listing_with (known symbols.now.values.entries) self.new more
+            ≡ listing_with (known symbols.now.values.entries) self.old (entry_place spot.now ∷ more)) }
     {
         if is_datum(&spot.entry.item) {
             self.list_datum(symbols, spot)
@@ -161,7 +170,8 @@ impl Lister {
 /// The lines of all items.
 fn list_all(alloc: Global, symbols: &Table, spots: &[PlacedEntry]) -> Result<Lister, AllocError>
     requires { All IsBounded spots.now }
-    ensures { IfOk result (λ l. listing_with (known symbols.now.values.entries) l [] ≡ listing_text (known symbols.now.values.entries) (map entry_place spots.now)) }
+    ensures { IfOk result (λ l. listing_with (known symbols.now.values.entries) l []
+        ≡ listing_text (known symbols.now.values.entries) (map entry_place spots.now)) }
 {
     let mut lister = Lister {
         out: ToVec::new(Vec::new(alloc)),

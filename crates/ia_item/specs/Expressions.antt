@@ -14,12 +14,12 @@ abbrev pub is_symbol : ScopedAtom → Bool
 is_symbol (Number n) = false
 is_symbol (Symbol name) = true
 
--- a symbol stands among the parts
+-- a symbol stands among the terms
 abbrev pub any_symbol : List ScopedTerm → Bool
 any_symbol [] = false
 any_symbol (p ∷ ps) = is_symbol p.atom || any_symbol ps
 
--- the sum has a symbol, so that its field is wide
+-- the expression has a symbol, so that its field is wide
 abbrev pub is_wide : ScopedExpression → Bool
 is_wide s = any_symbol s.terms.items
 
@@ -27,7 +27,7 @@ abbrev pub is_unknown : Env → ScopedAtom → Bool
 is_unknown env (Number n) = false
 is_unknown env (Symbol name) = not (is_some (env name))
 
--- a symbol among the parts has no value
+-- a symbol among the terms has no value
 abbrev pub any_unknown : Env → List ScopedTerm → Bool
 any_unknown env [] = false
 any_unknown env (p ∷ ps) = is_unknown env p.atom || any_unknown env ps
@@ -36,7 +36,7 @@ abbrev pub is_huge : ScopedAtom → Bool
 is_huge (Number n) = not (is_some n)
 is_huge (Symbol name) = false
 
--- a number among the parts is above 2^64 - 1
+-- a number among the terms is above 2^64 - 1
 abbrev pub any_huge : List ScopedTerm → Bool
 any_huge [] = false
 any_huge (p ∷ ps) = is_huge p.atom || any_huge ps
@@ -51,7 +51,7 @@ value_in env (Number None) = pos 0
 value_in env (Number (Some n)) = pos n
 value_in env (Symbol name) = or_zero (env name)
 
--- what parts add up to, from a whole number on
+-- what terms add up to, from a whole number on
 abbrev pub sum_from : Env → ℤ → List ScopedTerm → ℤ
 sum_from env v [] = v
 sum_from env v (p ∷ ps) = sum_from env (if p.negative then v -ℤ value_in env p.atom else v +ℤ value_in env p.atom) ps

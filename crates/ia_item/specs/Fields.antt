@@ -125,7 +125,8 @@ stored_number field.Byte at v = modulo_byte v
 stored_number field.Half at v = modulo_long v
 stored_number field.Long at v = modulo_long v
 stored_number (field.Near long) at v = distance at long (modulo_long v)
-stored_number (field.Short long) at v = if fits_short (distance at long (modulo_long v)) then distance at long (modulo_long v) else 0
+stored_number (field.Short long) at v = if fits_short (distance at long (modulo_long v)) then distance at long
+    (modulo_long v) else 0
 
 -- what a field can hold
 abbrev pub Holds : Field → ℕ → Type 0

@@ -1,7 +1,7 @@
 //! Items.
 
-use crate::name::Name;
 use crate::expression::ScopedExpression;
+use crate::name::Name;
 use ia_insn::Insn;
 
 /// What the number of an instruction goes into.

@@ -6,14 +6,22 @@ use Rattle.ia_layout.specs.declared.layout.Layout.{Layout}
 use Rattle.ia_layout.specs.Placement.{EntryPlace, LayoutState}
 
 abbrev pub entry_place : PlacedEntry → EntryPlace
-entry_place s = record { entry = s.entry.now; at = s.at; size = s.size; critical_value = s.critical_value; fault = s.fault }
+entry_place s = record {
+  entry = s.entry.now;
+  at = s.at;
+  size = s.size;
+  critical_value = s.critical_value;
+  fault =
+      s.fault;
+}
 
 abbrev pub layout_state : Layout → LayoutState
 layout_state w = record { above = w.above.values.entries; text = w.text; tail = w.tail }
 
 -- it ends far below 2^127, its entry fits, and what it settles is from -2^31 to 2^32 - 1
 abbrev pub IsBounded : PlacedEntry → Type 0
-IsBounded s = (s.at + s.size ≤ 2 ^ 126) × FitsEntry s.entry.now × (negsuc (2 ^ 31 - 1) ≤ℤ s.critical_value) × (s.critical_value ≤ℤ pos (2 ^ 32 - 1))
+IsBounded s = (s.at + s.size ≤ 2 ^ 126) × FitsEntry s.entry.now × (negsuc (2 ^ 31 - 1) ≤ℤ s.critical_value)
+    × (s.critical_value ≤ℤ pos (2 ^ 32 - 1))
 
 -- a base, or another
 abbrev pub or_base : Option ℕ → ℕ → ℕ

@@ -147,13 +147,13 @@ all_places es = places (start (base_of es) (tail_base (text_end es))) es
 -- ---- symbols
 
 -- a label has its address, and `equ` its value
-unfoldable pub defined : ℕ → ℤ → Item → List (Name × ℤ)
-defined at v (item.Label n) = (n, pos at) ∷ []
-defined at v (item.Equ n s) = (n, v) ∷ []
-defined at v _ = []
+unfoldable pub item_definition : ℕ → ℤ → Item → List (Name × ℤ)
+item_definition at v (item.Label n) = (n, pos at) ∷ []
+item_definition at v (item.Equ n s) = (n, v) ∷ []
+item_definition at v _ = []
 
 abbrev pub definition : EntryPlace → List (Name × ℤ)
-definition p = defined p.at p.critical_value p.entry.item
+definition p = item_definition p.at p.critical_value p.entry.item
 
 -- each symbol with its value, in the order of the source
 abbrev pub symbols : List EntryPlace → List (Name × ℤ)
@@ -196,8 +196,8 @@ abbrev pub section_bytes : Section → Env → List EntryPlace → List ℕ
 section_bytes s env ps = flat_map (part_of s env) ps
 
 -- where there is no data, the code alone; else zeros up to the data
-abbrev pub joined : List ℕ → ℕ → List ℕ → List ℕ
-joined code n tail = if length tail == 0 then code else code ++ replicate n 0 ++ tail
+abbrev pub code_and_data : List ℕ → ℕ → List ℕ → List ℕ
+code_and_data code n tail = if length tail == 0 then code else code ++ replicate n 0 ++ tail
 
 -- ---- faults
 
@@ -226,7 +226,8 @@ place_fault env base p = item_fault env base p p.entry.item
 -- the first fault, in the order in which they are told, of what stands on a line
 abbrev pub fault_on : ℕ → Env → ℕ → List EntryPlace → Option PlaceFault
 fault_on line env base [] = None
-fault_on line env base (p ∷ ps) = first_of (if p.entry.line == line then place_fault env base p else None) (fault_on line env base ps)
+fault_on line env base (p ∷ ps) = first_of (if p.entry.line == line then place_fault env base p else None)
+    (fault_on line env base ps)
 
 -- what is told where the first entry has this fault, its line has that one behind, and what follows is told so
 abbrev pub by_first : Option PlaceFault → ℕ → Option PlaceFault → Option (PlaceFault × ℕ) → Option (PlaceFault × ℕ)
@@ -236,4 +237,5 @@ by_first (Some f) line more later = option_map (λ g. (g, line)) (first_of (Some
 -- the first line that has a fault, and its first fault
 abbrev pub first_fault : Env → ℕ → List EntryPlace → Option (PlaceFault × ℕ)
 first_fault env base [] = None
-first_fault env base (p ∷ ps) = by_first (place_fault env base p) p.entry.line (fault_on p.entry.line env base ps) (first_fault env base ps)
+first_fault env base (p ∷ ps) = by_first (place_fault env base p) p.entry.line (fault_on p.entry.line env base ps)
+    (first_fault env base ps)

@@ -5,16 +5,13 @@ ghost use Rattle.ia_word.specs.Bytes.{long_bytes};
 ghost use Rattle.ia_item.specs.Fits.{Fits, FitsEntry};
 ghost use Rattle.ia_resolve.specs.Symbols.{known};
 ghost use Rattle.ia_resolve.specs.Items.{code_bytes};
-ghost use Rattle.ia_layout.specs.Placement.{pad, bytes_at, item_bytes, in_section, part_of, section_bytes, joined};
+ghost use Rattle.ia_layout.specs.Placement.{pad, bytes_at, item_bytes, in_section, part_of, section_bytes, code_and_data};
 ghost use Rattle.ia_layout.specs.Contents.{entry_place, IsBounded};
 
-use ia_resolve::modulo_long;
-use ia_resolve::{resolve_field, resolve_template};
-use ia_resolve::wide;
-use ia_resolve::Table;
 use crate::layout::{PlacedEntry, gap};
 use ia_encode::encode_with;
 use ia_item::{Field, Item, Section, Template};
+use ia_resolve::{Table, modulo_long, resolve_field, resolve_template, wide};
 use std::alloc::{AllocError, Global};
 
 pub fn push_bytes(out: &mut Vec<u8>, bytes: &[u8]) -> Result<(), AllocError>
@@ -46,10 +43,15 @@ fn push_code(
 ) -> Result<(), AllocError>
     requires near { at ≤ 2 ^ 126 }
     requires fits { Fits template.now }
-    ensures { OnOk result (out.new.items ≡ out.old.items ++ code_bytes (known symbols.now.values.entries) at template.now) }
+    ensures { OnOk result (out.new.items ≡ out.old.items ++ code_bytes
+        (known symbols.now.values.entries) at template.now) }
 {
     let resolved = resolve_template(symbols, at, template);
-    let bytes = encode_with(&resolved.insn, wide(&template.number), wide(&template.displacement));
+    let bytes = encode_with(
+        &resolved.insn,
+        wide(&template.number),
+        wide(&template.displacement),
+    );
     push_bytes(out, bytes.as_slice())
 }
 
@@ -67,19 +69,20 @@ fn pad(section: Section) -> u8
 #[tactic(auto, using(crate::proofs::Powers::power_some), unfolding(crate::specs::Placement::bytes_at))]
 pub fn push_item(out: &mut Vec<u8>, symbols: &Table, spot: &PlacedEntry) -> Result<(), AllocError>
     requires { IsBounded spot.now }
-    ensures { OnOk result (out.new.items ≡ out.old.items ++ item_bytes (known symbols.now.values.entries) (entry_place spot.now)) }
+    ensures { OnOk result (out.new.items ≡ out.old.items ++ item_bytes (known symbols.now.values.entries)
+        (entry_place spot.now)) }
 {
     match &spot.entry.item {
         Item::Label(_) => Ok(()),
         Item::Equ(_, _) => Ok(()),
         Item::Code(template) => push_code(out, symbols, spot.at, template),
-        Item::Byte(sum) => {
-            let found = resolve_field(symbols, spot.at, Field::Byte, sum);
+        Item::Byte(expression) => {
+            let found = resolve_field(symbols, spot.at, Field::Byte, expression);
             push_bytes(out, &[found.number as u8])
         }
         Item::Text(bytes) => push_bytes(out, bytes),
-        Item::Long(sum) => {
-            let found = resolve_field(symbols, spot.at, Field::Long, sum);
+        Item::Long(expression) => {
+            let found = resolve_field(symbols, spot.at, Field::Long, expression);
             push_bytes(out, &found.number.to_le_bytes())
         }
         Item::Reserve(_) => push_copies(out, u64::from(modulo_long(spot.critical_value)), 0),
@@ -106,7 +109,8 @@ fn push_part(
     spot: &PlacedEntry,
 ) -> Result<(), AllocError>
     requires { IsBounded spot.now }
-    ensures { OnOk result (out.new.items ≡ out.old.items ++ part_of section (known symbols.now.values.entries) (entry_place spot.now)) }
+    ensures { OnOk result (out.new.items ≡ out.old.items ++ part_of section (known symbols.now.values.entries)
+        (entry_place spot.now)) }
 {
     if in_section(section, spot.entry.section) {
         push_item(out, symbols, spot)
@@ -123,7 +127,8 @@ pub fn section_bytes(
     spots: &[PlacedEntry],
 ) -> Result<Vec<u8>, AllocError>
     requires { All IsBounded spots.now }
-    ensures { IfOk result (λ v. v.items ≡ section_bytes section (known symbols.now.values.entries) (map entry_place spots.now)) }
+    ensures { IfOk result (λ v. v.items ≡ section_bytes section (known symbols.now.values.entries)
+        (map entry_place spots.now)) }
 {
     let mut out = Vec::new(alloc);
     for spot in spots {
@@ -134,7 +139,7 @@ pub fn section_bytes(
 
 /// The code, and zeros up to the data where there is any.
 pub fn join(code: Vec<u8>, count: u64, tail: &[u8]) -> Result<Vec<u8>, AllocError>
-    ensures { IfOk result (λ v. v.items ≡ joined code.items count tail.now) }
+    ensures { IfOk result (λ v. v.items ≡ code_and_data code.items count tail.now) }
 {
     let mut image = code;
     if tail.is_empty() {

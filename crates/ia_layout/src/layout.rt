@@ -6,13 +6,12 @@ ghost use Rattle.ia_resolve.specs.Items.{code_bytes};
 ghost use Rattle.ia_layout.specs.Placement.{nowhere, critical_value, critical_fault, gap, size_of, at_in, place_at, above_next, text_next, tail_next, next, start};
 ghost use Rattle.ia_layout.specs.Contents.{entry_place, layout_state, IsBounded};
 
-use ia_resolve::PlaceFault;
-use ia_resolve::modulo_long;
-use ia_resolve::resolve_template;
-use ia_resolve::{ExpressionValue, expression_value, wide};
-use ia_resolve::{NoSymbols, Table};
 use ia_encode::encode_with;
 use ia_item::{Entry, Item, Section, Template};
+use ia_resolve::{
+    ExpressionValue, NoSymbols, PlaceFault, Table, expression_value, modulo_long, resolve_template,
+    wide,
+};
 use indexmap::IndexMap;
 use std::alloc::{AllocError, Global};
 
@@ -52,8 +51,8 @@ fn critical_value(above: &Table, item: &Item) -> ExpressionValue
     ensures high { result.value ≤ℤ pos (2 ^ 32 - 1) }
 {
     match item {
-        Item::Equ(_, sum) => expression_value(above, -0x8000_0000, 0xffff_ffff, sum),
-        Item::Reserve(sum) => expression_value(above, 0, 0xffff_ffff, sum),
+        Item::Equ(_, expression) => expression_value(above, -0x8000_0000, 0xffff_ffff, expression),
+        Item::Reserve(expression) => expression_value(above, 0, 0xffff_ffff, expression),
         _ => ExpressionValue {
             value: 0,
             fault: None,
@@ -79,7 +78,11 @@ fn code_size(at: u128, template: &Template) -> u64
     ensures { result ≡ length (code_bytes nowhere at template.now) }
 {
     let resolved = resolve_template(&NoSymbols, at, template);
-    let bytes = encode_with(&resolved.insn, wide(&template.number), wide(&template.displacement));
+    let bytes = encode_with(
+        &resolved.insn,
+        wide(&template.number),
+        wide(&template.displacement),
+    );
     bytes.as_slice().len() as u64
 }
 

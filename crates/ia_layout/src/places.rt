@@ -4,12 +4,12 @@ ghost use Rattle.std.specs.Prelude.{◌≡◌, ℕ, ◌≤◌, ◌<◌, ◌+◌,
 ghost use Rattle.indexmap.specs.IndexMap.{insert_all};
 ghost use Rattle.ia_item.specs.Names.{same_name};
 ghost use Rattle.ia_item.specs.Fits.{AllFit};
-ghost use Rattle.ia_layout.specs.Placement.{org_value, base_or, base_of, start, after, places, text_end, tail_base, defined, definition, symbols};
+ghost use Rattle.ia_layout.specs.Placement.{org_value, base_or, base_of, start, after, places, text_end, tail_base, item_definition, definition, symbols};
 ghost use Rattle.ia_layout.specs.Contents.{entry_place, layout_state, IsBounded, or_base};
 
-use ia_resolve::Table;
-use crate::layout::{PlacedEntry, Layout, gap};
+use crate::layout::{Layout, PlacedEntry, gap};
 use ia_item::{Entry, Item};
+use ia_resolve::Table;
 use indexmap::IndexMap;
 use std::alloc::{AllocError, Global};
 use std::mem::{size_of, size_of_val};
@@ -110,10 +110,11 @@ pub fn placed_entries<'a, 'b>(
 }
 
 /// Takes in a label or `equ`.
-#[tactic(auto, unfolding(crate::specs::Placement::defined))]
+#[tactic(auto, unfolding(crate::specs::Placement::item_definition))]
 fn define<'a>(table: &mut Table<'a>, spot: &PlacedEntry<'a, '_>) -> Result<(), AllocError>
     requires { IsBounded spot.now }
-    ensures { OnOk result (table.new.values.entries ≡ insert_all same_name table.old.values.entries (definition (entry_place spot.now))) }
+    ensures { OnOk result (table.new.values.entries
+        ≡ insert_all same_name table.old.values.entries (definition (entry_place spot.now))) }
 {
     match &spot.entry.item {
         Item::Label(name) => match table.values.insert(*name, spot.at as i128) {

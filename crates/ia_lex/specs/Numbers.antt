@@ -15,8 +15,10 @@ small n = if nat_lt n (2 ^ 64) then Some n else None
 -- hex digits and h; binary digits and b
 unfoldable pub suffixed : List ℕ → Option (Option ℕ)
 suffixed w =
-    if (slice_index w (length w - 1) == 104) && all_digits 16 (take (length w - 1) w) then Some (small (digits_value 16 (take (length w - 1) w)))
-    else if (slice_index w (length w - 1) == 98) && all_digits 2 (take (length w - 1) w) then Some (small (digits_value 2 (take (length w - 1) w)))
+    if (slice_index w (length w - 1) == 104) && all_digits 16 (take (length w - 1) w) then Some (small
+    (digits_value 16 (take (length w - 1) w)))
+    else if (slice_index w (length w - 1) == 98) && all_digits 2 (take (length w - 1) w) then Some (small
+    (digits_value 2 (take (length w - 1) w)))
     else None
 
 -- 0x and hex digits

@@ -47,7 +47,7 @@ abbrev pub sign_of : Lexeme → Option Bool
 sign_of (Mark b) = if b == 43 then Some false else if b == 45 then Some true else None
 sign_of _ = None
 
--- a part before others
+-- a term before others
 abbrev pub before : TermContent → Option (List TermContent × List Lexeme) → Option (List TermContent × List Lexeme)
 before p None = None
 before p (Some (ps, rest)) = Some (p ∷ ps, rest)
@@ -56,11 +56,12 @@ abbrev pub by_sign : {X : Type 0} → Option Bool → X → (Bool → X) → X
 by_sign None plain signed = plain
 by_sign (Some neg) plain signed = signed neg
 
-abbrev pub by_atom : Option AtomContent → Bool → Option (List TermContent × List Lexeme) → Option (List TermContent × List Lexeme)
+abbrev pub by_atom : Option AtomContent → Bool → Option (List TermContent × List Lexeme)
+    → Option (List TermContent × List Lexeme)
 by_atom None neg more = None
 by_atom (Some v) neg more = before (record { negative = neg; atom = v }) more
 
--- Parts joined by + and -, at most so many, and the tokens behind them: behind a sign, or behind a part.
+-- Terms joined by + and -, at most so many, and the tokens behind them: behind a sign, or behind a term.
 abbrev pub terms_at : ℕ → Option Bool → List Lexeme → Option (List TermContent × List Lexeme)
 terms_at room None [] = Some ([], [])
 terms_at room None (t ∷ ts) = by_sign (sign_of t) (Some ([], t ∷ ts)) (λ neg. terms_at room (Some neg) ts)
@@ -73,7 +74,8 @@ abbrev pub expression_at : List Lexeme → Option (List TermContent × List Lexe
 expression_at [] = None
 expression_at (t ∷ ts) = by_sign (sign_of t) (terms_at 16 (Some false) (t ∷ ts)) (λ neg. terms_at 16 (Some neg) ts)
 
-abbrev pub with_terms : List TermContent → Option (List TermContent × List Lexeme) → Option (List TermContent × List Lexeme)
+abbrev pub with_terms : List TermContent → Option (List TermContent × List Lexeme)
+    → Option (List TermContent × List Lexeme)
 with_terms front None = None
 with_terms front (Some (ps, rest)) = Some (front ++ ps, rest)
 

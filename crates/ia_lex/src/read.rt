@@ -34,14 +34,16 @@ pub fn atom<'a>(token: &Token<'a>) -> Option<Atom<'a>>
     }
 }
 
-/// What stands behind a part: a sign and parts, or nothing of this expression.
+/// What stands behind a term: a sign and terms, or nothing of this expression.
 #[cycle(terms)]
 #[tactic(auto, using(crate::proofs::TermLists::terms_one, crate::proofs::TermLists::terms_bad, crate::proofs::TermLists::terms_full, crate::proofs::TermLists::terms_stop, crate::proofs::TermLists::terms_nil, crate::proofs::TermLists::terms_sign))]
 fn behind_term<'a, 'b>(
     out: Expression<'a>,
     tokens: &'b [Token<'a>],
 ) -> Option<(Expression<'a>, &'b [Token<'a>])>
-    ensures { option_map expression_and_rest result ≡ with_terms (map term_content out.entry.items) (terms_at (16 - length out.entry.items) None (map lexeme_of tokens.now)) }
+    ensures { option_map expression_and_rest result
+        ≡ with_terms (map term_content out.entry.items) (terms_at (16 - length out.entry.items) None
+        (map lexeme_of tokens.now)) }
 {
     match tokens.split_first() {
         None => Some((out, tokens)),
@@ -52,7 +54,7 @@ fn behind_term<'a, 'b>(
     }
 }
 
-/// What stands behind a sign: a part and what follows it.
+/// What stands behind a sign: a term and what follows it.
 #[cycle(terms)]
 #[tactic(auto, using(crate::proofs::TermLists::terms_one, crate::proofs::TermLists::terms_bad, crate::proofs::TermLists::terms_full, crate::proofs::TermLists::terms_stop, crate::proofs::TermLists::terms_nil, crate::proofs::TermLists::terms_sign))]
 fn behind_sign<'a, 'b>(
@@ -60,7 +62,9 @@ fn behind_sign<'a, 'b>(
     negative: bool,
     tokens: &'b [Token<'a>],
 ) -> Option<(Expression<'a>, &'b [Token<'a>])>
-    ensures { option_map expression_and_rest result ≡ with_terms (map term_content out.entry.items) (terms_at (16 - length out.entry.items) (Some negative) (map lexeme_of tokens.now)) }
+    ensures { option_map expression_and_rest result
+        ≡ with_terms (map term_content out.entry.items) (terms_at (16 - length out.entry.items) (Some negative)
+        (map lexeme_of tokens.now)) }
 {
     let mut out = out;
     match tokens.split_first() {

@@ -1,4 +1,4 @@
 pub mod FieldLemmas
 pub mod Sizes
 pub mod Integers
-pub mod Spelt
+pub mod Spelling

@@ -25,7 +25,8 @@ far_fault (field.Short long) at v = if fits_short (distance at long (modulo_long
 far_fault _ at v = None
 
 abbrev pub field_fault : Env → ℕ → Field → ScopedExpression → Option PlaceFault
-field_fault env at f s = first_of (sum_fault env (low_of f) (high_of f) s) (far_fault f at (value_or_zero env (low_of f) (high_of f) s))
+field_fault env at f s = first_of (sum_fault env (low_of f) (high_of f) s) (far_fault f at (value_or_zero env
+    (low_of f) (high_of f) s))
 
 -- ---- instructions
 
@@ -39,7 +40,11 @@ op_with_displacement env at (Some s) o = with_displacement o (field_value env at
 
 -- the instruction with the symbols replaced by their values
 unfoldable pub resolved_insn : Env → ℕ → Template → Insn
-resolved_insn env at t = record { lock = t.insn.lock; op = op_with_displacement env at t.displacement (op_with_number env at t.number t.insn.op) }
+resolved_insn env at t = record {
+  lock = t.insn.lock;
+  op = op_with_displacement env at t.displacement
+      (op_with_number env at t.number t.insn.op);
+}
 
 abbrev pub any_fault : Env → ℕ → Field → Option ScopedExpression → Option PlaceFault
 any_fault env at f None = None
@@ -47,7 +52,8 @@ any_fault env at f (Some s) = field_fault env at f s
 
 -- what is wrong with its expressions
 unfoldable pub template_fault : Env → ℕ → Template → Option PlaceFault
-template_fault env at t = first_of (any_fault env at (field_of t.insn.op) t.number) (any_fault env at field.Long t.displacement)
+template_fault env at t = first_of (any_fault env at (field_of t.insn.op) t.number)
+    (any_fault env at field.Long t.displacement)
 
 -- a field is wide where its expression has a symbol
 abbrev pub wide : Option ScopedExpression → Bool

@@ -75,7 +75,8 @@ impl Exact {
         requires low_low { negsuc (2 ^ 100) ≤ℤ self.low }
         requires low_high { self.low ≤ℤ pos (2 ^ 100) }
         requires more { IsNear (2 ^ 64) more }
-        ensures value { exact_value result ≡ (if negative then exact_value self -ℤ exact_value more else exact_value self +ℤ exact_value more) }
+        ensures value { exact_value result ≡ (if negative then exact_value self -ℤ exact_value more else exact_value
+            self +ℤ exact_value more) }
         ensures high_low { (self.high -ℤ pos (2 ^ 64)) ≤ℤ result.high }
         ensures high_high { result.high ≤ℤ (self.high +ℤ pos (2 ^ 64)) }
         ensures low_low { (self.low -ℤ pos (2 ^ 64)) ≤ℤ result.low }

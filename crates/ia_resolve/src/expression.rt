@@ -9,7 +9,7 @@ ghost use Rattle.ia_resolve.specs.Exactness.{exact_value, IsNear};
 use crate::exact::Exact;
 use crate::place_fault::PlaceFault;
 use crate::symbols::SymbolValues;
-use ia_item::{ScopedTerm, ScopedExpression, ScopedAtom};
+use ia_item::{ScopedAtom, ScopedExpression, ScopedTerm};
 
 /// A value: whether a symbol has none, whether a number is above u64::MAX, and the whole number, 0 for these.
 #[derive(Clone, Copy)]
@@ -90,7 +90,12 @@ pub struct ExpressionValue {
 
 /// The value of an expression that has to be from low to high; with a fault it counts as 0.
 #[tactic(auto, unfolding(crate::specs::Values::sum_fault, crate::specs::Values::value_or_zero))]
-pub fn expression_value<S: SymbolValues>(symbols: &S, low: i64, high: i64, sum: &ScopedExpression) -> ExpressionValue
+pub fn expression_value<S: SymbolValues>(
+    symbols: &S,
+    low: i64,
+    high: i64,
+    sum: &ScopedExpression,
+) -> ExpressionValue
     requires short { length sum.now.terms.items ≤ 16 }
     requires low { low ≤ℤ pos 0 }
     requires high { pos 0 ≤ℤ high }

@@ -7,9 +7,9 @@ ghost use Rattle.ia_item.specs.Fields.{field_of, number_in, displacement_in, wit
 ghost use Rattle.ia_item.specs.Fits.{Fits, FitsAnyExpression, FitsExpression};
 ghost use Rattle.ia_resolve.specs.Items.{field_value, field_fault, op_with_number, op_with_displacement, resolved_insn, any_fault, template_fault};
 
-use crate::place_fault::{PlaceFault, first_of};
-use crate::field::{far_fault, field_of, high_of, low_of, stored_number};
 use crate::expression::expression_value;
+use crate::field::{far_fault, field_of, high_of, low_of, stored_number};
+use crate::place_fault::{PlaceFault, first_of};
 use crate::symbols::SymbolValues;
 use ia_insn::{Count, Insn, Mem, Op, Operand};
 use ia_item::{Field, ScopedExpression, Template};
@@ -81,12 +81,20 @@ fn with_displacement(op: &Op, disp: u32) -> Op
             displacement_in(to, disp),
             displacement_in(from, disp),
         ),
-        Op::Mov(width, to, from) => Op::Mov(width, displacement_in(to, disp), displacement_in(from, disp)),
+        Op::Mov(width, to, from) => Op::Mov(
+            width,
+            displacement_in(to, disp),
+            displacement_in(from, disp),
+        ),
         Op::Lea(reg, memory) => Op::Lea(reg, with_disp(memory, disp)),
         Op::Xchg(width, to, reg) => Op::Xchg(width, displacement_in(to, disp), reg),
         Op::Inc(width, to) => Op::Inc(width, displacement_in(to, disp)),
         Op::Dec(width, to) => Op::Dec(width, displacement_in(to, disp)),
-        Op::Test(width, to, from) => Op::Test(width, displacement_in(to, disp), displacement_in(from, disp)),
+        Op::Test(width, to, from) => Op::Test(
+            width,
+            displacement_in(to, disp),
+            displacement_in(from, disp),
+        ),
         Op::Unary(kind, to) => Op::Unary(kind, displacement_in(to, disp)),
         Op::Imul(reg, from) => Op::Imul(reg, displacement_in(from, disp)),
         Op::ImulImm(reg, from, number) => Op::ImulImm(reg, displacement_in(from, disp), number),
@@ -115,14 +123,19 @@ pub struct FieldValue {
 }
 
 /// What an expression puts into a field at an address.
-pub fn resolve_field<S: SymbolValues>(symbols: &S, at: u128, field: Field, sum: &ScopedExpression) -> FieldValue
+pub fn resolve_field<S: SymbolValues>(
+    symbols: &S,
+    at: u128,
+    field: Field,
+    expression: &ScopedExpression,
+) -> FieldValue
     requires near { at ≤ 2 ^ 126 }
-    requires sum { FitsExpression sum.now }
-    ensures number { result.number ≡ field_value (S.env symbols.now) at field sum.now }
+    requires expression { FitsExpression expression.now }
+    ensures number { result.number ≡ field_value (S.env symbols.now) at field expression.now }
     ensures holds { Holds field result.number }
-    ensures fault { result.fault ≡ field_fault (S.env symbols.now) at field sum.now }
+    ensures fault { result.fault ≡ field_fault (S.env symbols.now) at field expression.now }
 {
-    let found = expression_value(symbols, low_of(field), high_of(field), sum);
+    let found = expression_value(symbols, low_of(field), high_of(field), expression);
     FieldValue {
         number: stored_number(field, at, found.value),
         fault: first_of(found.fault, far_fault(field, at, found.value)),
@@ -137,9 +150,14 @@ struct ResolvedOp {
 }
 
 #[tactic(auto, using(crate::proofs::FieldLemmas::number_encodable, crate::proofs::FieldLemmas::number_lockable))]
-fn op_with_number<S: SymbolValues>(symbols: &S, at: u128, number: &Option<ScopedExpression>, op: &Op) -> ResolvedOp
+fn op_with_number<S: SymbolValues>(
+    symbols: &S,
+    at: u128,
+    number: &Option<ScopedExpression>,
+    op: &Op,
+) -> ResolvedOp
     requires near { at ≤ 2 ^ 126 }
-    requires sum { FitsAnyExpression number.now }
+    requires expression { FitsAnyExpression number.now }
     ensures op { result.op ≡ op_with_number (S.env symbols.now) at number.now op.now }
     ensures fault { result.fault ≡ any_fault (S.env symbols.now) at (field_of op.now) number.now }
     ensures encodable { IsTrue (encodable op.now) → IsTrue (encodable result.op) }
@@ -150,8 +168,8 @@ fn op_with_number<S: SymbolValues>(symbols: &S, at: u128, number: &Option<Scoped
             op: *op,
             fault: None,
         },
-        Some(sum) => {
-            let found = resolve_field(symbols, at, field_of(op), sum);
+        Some(expression) => {
+            let found = resolve_field(symbols, at, field_of(op), expression);
             ResolvedOp {
                 op: with_number(op, found.number),
                 fault: found.fault,
@@ -161,9 +179,14 @@ fn op_with_number<S: SymbolValues>(symbols: &S, at: u128, number: &Option<Scoped
 }
 
 #[tactic(auto, using(crate::proofs::FieldLemmas::place_encodable, crate::proofs::FieldLemmas::place_lockable))]
-fn op_with_displacement<S: SymbolValues>(symbols: &S, at: u128, displacement: &Option<ScopedExpression>, op: &Op) -> ResolvedOp
+fn op_with_displacement<S: SymbolValues>(
+    symbols: &S,
+    at: u128,
+    displacement: &Option<ScopedExpression>,
+    op: &Op,
+) -> ResolvedOp
     requires near { at ≤ 2 ^ 126 }
-    requires sum { FitsAnyExpression displacement.now }
+    requires expression { FitsAnyExpression displacement.now }
     ensures op { result.op ≡ op_with_displacement (S.env symbols.now) at displacement.now op.now }
     ensures fault { result.fault ≡ any_fault (S.env symbols.now) at Field.Long displacement.now }
     ensures encodable { IsTrue (encodable op.now) → IsTrue (encodable result.op) }
@@ -174,8 +197,8 @@ fn op_with_displacement<S: SymbolValues>(symbols: &S, at: u128, displacement: &O
             op: *op,
             fault: None,
         },
-        Some(sum) => {
-            let found = resolve_field(symbols, at, Field::Long, sum);
+        Some(expression) => {
+            let found = resolve_field(symbols, at, Field::Long, expression);
             ResolvedOp {
                 op: with_displacement(op, found.number),
                 fault: found.fault,

@@ -23,10 +23,10 @@ use Rattle.ia_asm.specs.declared.assembly.Unit.{Unit as Assembly}
 use Rattle.ia_resolve.specs.PlaceFaults.{first_of}
 use Rattle.ia_asm.specs.Faults.{at_line}
 use Rattle.ia_resolve.specs.Items.{code_bytes, template_fault}
-use Rattle.ia_layout.specs.Placement.{LayoutState, EntryPlace, nowhere, place_at, next, places, base_of, base_or, start, text_end, tail_base, all_places, values, bytes_at, size_of, section_bytes, joined, gap, end_fault, org_fault, item_fault, place_fault, fault_on, by_first, first_fault}
-use Rattle.ia_asm.specs.Assembled.{Assembled, code_of, tail_of, fault_of}
+use Rattle.ia_layout.specs.Placement.{LayoutState, EntryPlace, nowhere, place_at, next, places, base_of, base_or, start, text_end, tail_base, all_places, values, bytes_at, size_of, section_bytes, code_and_data, gap, end_fault, org_fault, item_fault, place_fault, fault_on, by_first, first_fault}
+use Rattle.ia_asm.specs.Assemblies.{IsAssembly, code_of, tail_of, fault_of}
 use Rattle.ia_asm.specs.Assembles.{AsksFor, Refused}
-use Rattle.ia_round_trip.specs.Resolved.{resolved_insn as known_number}
+use Rattle.ia_round_trip.specs.Resolution.{resolved_insn as known_number}
 use Rattle.ia_round_trip.specs.Program.{source_at, entries_at}
 use Rattle.ia_round_trip.specs.Bytes.{IsAsked, LineAssemblesToItsBytes, Gives, SourceAssemblesToItsBytes}
 use Rattle.ia_round_trip.proofs.SameValues.{some_same, code_agrees}
@@ -218,10 +218,10 @@ source_placed i at e h es asks =
     let (l, m, t, terms, asked) = source_is es at r.0 r.1 r.2 (sym (read_same (entries_at at r.0 r.1 r.2) (map entry_content es) (sym r.3 ∙ asks))) in
     subst (λ es. Places es at i) (sym terms) (two_placed l m at t i e h (same_given at r.0 i r.1 r.2 t asked r.4))
 
-image_gives : (at : ℕ) (i : Insn) (es : List Entry) (u : Assembly) → Places es at i → Assembled es u → Gives at (insn_bytes i) (Ok u)
+image_gives : (at : ℕ) (i : Insn) (es : List Entry) (u : Assembly) → Places es at i → IsAssembly es u → Gives at (insn_bytes i) (Ok u)
 image_gives at i es u (base, code, tail, none) a = (
   a.base ∙ base,
-  a.image ∙ ap (joined (code_of es) (gap 64 (text_end es))) tail ∙ code,
+  a.image ∙ ap (code_and_data (code_of es) (gap 64 (text_end es))) tail ∙ code,
   a.code_len ∙ ap length code,
 )
 

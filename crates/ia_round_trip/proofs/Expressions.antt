@@ -6,7 +6,7 @@ use Rattle.ia_item.specs.declared.expression.ScopedAtom.{ScopedAtom}
 use Rattle.ia_item.specs.declared.expression.ScopedAtom.TheVariants as atom
 use Rattle.ia_item.specs.Expressions.{Env, any_symbol, any_unknown, any_huge, sum_from}
 use Rattle.ia_source.specs.Contents.{scoped_term_content}
-use Rattle.ia_round_trip.specs.Resolved.{sum_from as given_from}
+use Rattle.ia_round_trip.specs.Resolution.{sum_from as given_from}
 use Rattle.ia_round_trip.specs.Expressions.{ExpressionsAgree}
 
 abbrev Agrees : Env → ℤ → ℤ → List ScopedTerm → Type 0

@@ -12,7 +12,7 @@ use Rattle.ia_item.specs.Fields.{field_of, with_number, with_displacement, with_
 use Rattle.ia_lex.specs.Terms.{NumberAtom}
 use Rattle.ia_text.specs.Arguments.{target}
 use Rattle.ia_round_trip.specs.Operands.{part_of, displacement_terms}
-use Rattle.ia_round_trip.specs.Resolved.{known_number, by_value, takes, if_taken, field_number, op_with_number, op_with_displacement, by_op}
+use Rattle.ia_round_trip.specs.Resolution.{known_number, by_value, takes, if_taken, field_number, op_with_number, op_with_displacement, by_op}
 use Rattle.ia_round_trip.specs.Forms.{expression_of}
 use Rattle.ia_round_trip.proofs.MemoryOperands.{two}
 

@@ -22,7 +22,7 @@ use Rattle.ia_source.specs.Forms.{op_of, target}
 use Rattle.ia_source.specs.Operands.{Operands, empty_operands}
 use Rattle.ia_round_trip.specs.Operands.{FitsArg, operands_for, args_of}
 use Rattle.ia_round_trip.specs.Mnemonics.{unary_mnemonic, mnemonic_for}
-use Rattle.ia_round_trip.specs.Resolved.{op_with_number, op_with_displacement, by_op}
+use Rattle.ia_round_trip.specs.Resolution.{op_with_number, op_with_displacement, by_op}
 use Rattle.ia_round_trip.specs.Forms.{expression_of}
 use Rattle.ia_round_trip.proofs.MemoryOperands.{two}
 use Rattle.ia_round_trip.proofs.Fields.{byte_number, half_number, long_number, near_number, short_number, number_again, place_again, both_again}

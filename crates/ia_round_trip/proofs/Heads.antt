@@ -20,8 +20,8 @@ use Rattle.ia_source.specs.declared.mnemonic.Keyword.TheVariants.{Mnemonic as Na
 use Rattle.ia_source.specs.declared.mnemonic.Mnemonic.TheVariants as name
 use Rattle.ia_source.specs.declared.head.Statement.TheVariants.{Code}
 use Rattle.ia_source.specs.Keywords.{keyword_of, mnemonic_of, arithmetic_of, shift_or_jump_of, other_of, conditional, condition_of, order_of}
-use Rattle.ia_source.specs.Heads.{head_of, with_label, statement_at, behind_colon, by_keyword, locked}
-use Rattle.ia_round_trip.specs.Printed.{args_tokens}
+use Rattle.ia_source.specs.Heads.{head_of, with_label, statement_at, behind_colon, by_keyword, statement_behind_lock}
+use Rattle.ia_round_trip.specs.PrintedTokens.{args_tokens}
 use Rattle.ia_round_trip.specs.Mnemonics.{unary_mnemonic, mnemonic_for, HeadReadsBack}
 
 alu_known : (k : AluOp) → keyword_of (alu_name k ++ []) ≡ Some (Name (name.Alu k))
@@ -128,7 +128,7 @@ known (op.Setcc c m) = set_known c
 known (op.Cmovcc c r m) = move_known c
 known _ = refl
 
-lock_known : (w : List ℕ) (ts : List Lexeme) → head_of (Word (codes "lock") ∷ Word w ∷ ts) ≡ with_label None (locked (keyword_of w) ts)
+lock_known : (w : List ℕ) (ts : List Lexeme) → head_of (Word (codes "lock") ∷ Word w ∷ ts) ≡ with_label None (statement_behind_lock (keyword_of w) ts)
 unfolding keyword_of mnemonic_of arithmetic_of shift_or_jump_of other_of conditional condition_of order_of
 lock_known w ts = refl
 
@@ -140,7 +140,7 @@ by_lock false o at =
     let ts : List Lexeme = args_tokens o at in
     ap (λ k. cond (not (is_some k) && not (is_some (register_of w))) (with_label (Some w) (statement_at (behind_colon ts))) (with_label None (by_keyword k ts))) (known o)
 by_lock true o at =
-    lock_known (stem o ++ condition o) (args_tokens o at) ∙ ap (λ k. with_label None (locked k (args_tokens o at))) (known o)
+    lock_known (stem o ++ condition o) (args_tokens o at) ∙ ap (λ k. with_label None (statement_behind_lock k (args_tokens o at))) (known o)
 
 pub head_reads_back : HeadReadsBack
 head_reads_back i at = by_lock i.lock i.op at

@@ -16,7 +16,7 @@ use Rattle.ia_text.specs.Number.{number}
 use Rattle.ia_text.specs.Names.{register_name, size_name, stem, condition}
 use Rattle.ia_text.specs.Arguments.{first_arg, second_arg, third_arg}
 use Rattle.ia_text.specs.Text.{plus, base_text, scale_text, index_text, disp_text, mem_text, arg_text, behind, op_text, insn_text}
-use Rattle.ia_round_trip.specs.Printed.{args_tokens}
+use Rattle.ia_round_trip.specs.PrintedTokens.{args_tokens}
 use Rattle.ia_round_trip.specs.Lines.{TextIsOneLine}
 use Rattle.ia_round_trip.proofs.TokenLemmas.{all_by}
 use Rattle.ia_round_trip.proofs.Hex.{hex_names}

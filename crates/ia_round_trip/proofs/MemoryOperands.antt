@@ -12,8 +12,8 @@ use Rattle.ia_lex.specs.Tokens.{Lexeme, Word, Number, Mark}
 use Rattle.ia_lex.specs.Terms.{TermContent, symbol_of}
 use Rattle.ia_lex.specs.Words.{register_of}
 use Rattle.ia_text.specs.Names.{register_name}
-use Rattle.ia_source.specs.MemoryOperands.{MemoryOperand, nowhere, if_long, if_scale, plain_or, both, of_length, keep_terms, by_joined, by_piece, memory_from, memory_of}
-use Rattle.ia_round_trip.specs.Printed.{base_tokens, scale_value, index_tokens, disp_tokens}
+use Rattle.ia_source.specs.MemoryOperands.{MemoryOperand, nowhere, if_long, if_scale, plain_or, both, of_length, keep_terms, by_new_piece, by_piece, memory_from, memory_of}
+use Rattle.ia_round_trip.specs.PrintedTokens.{base_tokens, scale_value, index_tokens, disp_tokens}
 use Rattle.ia_round_trip.specs.Operands.{part_of, disp_terms, displacement_terms}
 
 pub register_known : (w : Width) (r : ℕ) → nat_lt r 8 ≡ true → register_of (register_name w r) ≡ Some (w, r)
@@ -66,7 +66,7 @@ index_step b w i s k ts e f g =
     let next : Mem → List TermContent → ℕ → Option MemoryOperand = λ m ps n. memory_from n m ps None (Mark 42 ∷ Number (Some k) ∷ ts) in
     ap (λ x. by_piece start [] false true (of_length 3 (both (if_long x) (if_scale (Some k)))) next) e
     ∙ ap (λ x. by_piece start [] false true (of_length 3 (both (Some i) x)) next) f
-    ∙ ap (λ x. by_joined (keep_terms [] (cond x None (Some (record { base = b; index = Some i; scale = s; disp = 0 })))) 3 next) g
+    ∙ ap (λ x. by_new_piece (keep_terms [] (cond x None (Some (record { base = b; index = Some i; scale = s; disp = 0 })))) 3 next) g
 
 -- ---- places
 

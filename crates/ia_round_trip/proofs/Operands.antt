@@ -18,7 +18,7 @@ use Rattle.ia_source.specs.declared.operand.OperandPrefix.TheVariants.{Register}
 use Rattle.ia_source.specs.Keywords.{or_else}
 use Rattle.ia_source.specs.Commas.{is_comma, onto_first, between_commas}
 use Rattle.ia_source.specs.Operands.{Operands, prefix_rows, by_prefix, operand_of, operands_of, operands_from, with_operand, by_operands, by_operand, empty_operands}
-use Rattle.ia_round_trip.specs.Printed.{plus_tokens, base_tokens, index_tokens, disp_tokens, mem_tokens, arg_tokens, behind_tokens}
+use Rattle.ia_round_trip.specs.PrintedTokens.{plus_tokens, base_tokens, index_tokens, disp_tokens, mem_tokens, arg_tokens, behind_tokens}
 use Rattle.ia_round_trip.specs.Operands.{operand_for, FitsArg, operands_for, OperandReadsBack, OperandsReadBack}
 use Rattle.ia_round_trip.proofs.MemoryOperands.{register_known, place_again}
 

@@ -7,7 +7,7 @@ use Rattle.ia_text.specs.declared.arg.Arg.TheVariants as arg
 use Rattle.ia_source.specs.declared.shape.OperandShape.{OperandShape}
 use Rattle.ia_source.specs.declared.shape.OperandShape.TheVariants as shape
 use Rattle.ia_source.specs.declared.shape.OperandShapes.{OperandShapes}
-use Rattle.ia_source.specs.Symbols.{in_scope, resolved, written}
+use Rattle.ia_source.specs.Symbols.{atom_in_scope, term_in_scope, terms_in_scope}
 use Rattle.ia_source.specs.Operands.{Operands, with_shape, with_terms, with_operand, by_operands}
 use Rattle.ia_round_trip.specs.Operands.{part_of, operand_for, operands_for}
 use Rattle.ia_round_trip.specs.Forms.{expression_of}
@@ -29,17 +29,17 @@ PlainIf (Some os) = Plain os
 
 -- ---- expressions without symbols are the same wherever they stand
 
-value_same : (scope : List ℕ) (v : AtomContent) → IsNumber v → in_scope scope v ≡ v
+value_same : (scope : List ℕ) (v : AtomContent) → IsNumber v → atom_in_scope scope v ≡ v
 value_same scope (NumberAtom n) h = refl
 value_same scope (SymbolAtom name) h = absurd h
 
-parts_same : (scope : List ℕ) (ps : List TermContent) → AreNumbers ps → map (resolved scope) ps ≡ ps
+parts_same : (scope : List ℕ) (ps : List TermContent) → AreNumbers ps → map (term_in_scope scope) ps ≡ ps
 parts_same scope [] h = refl
 parts_same scope (p ∷ ps) h =
-    ap (λ v. (record { negative = p.negative; atom = v }) ∷ map (resolved scope) ps) (value_same scope p.atom h.0)
+    ap (λ v. (record { negative = p.negative; atom = v }) ∷ map (term_in_scope scope) ps) (value_same scope p.atom h.0)
     ∙ ap (λ qs. p ∷ qs) (parts_same scope ps h.1)
 
-pub written_same : (scope : List ℕ) (ps : List TermContent) → AreNumbers ps → written scope ps ≡ expression_of ps
+pub written_same : (scope : List ℕ) (ps : List TermContent) → AreNumbers ps → terms_in_scope scope ps ≡ expression_of ps
 written_same scope [] h = refl
 written_same scope (p ∷ ps) h = ap Some (parts_same scope (p ∷ ps) h)
 

@@ -10,7 +10,7 @@ use Rattle.ia_item.specs.declared.item.Field.TheVariants as field
 use Rattle.ia_item.specs.Fields.{field_of, with_number, Holds}
 use Rattle.ia_text.specs.Text.{insn_text}
 use Rattle.ia_source.specs.Contents.{ItemContent, Code}
-use Rattle.ia_source.specs.Symbols.{written}
+use Rattle.ia_source.specs.Symbols.{terms_in_scope}
 use Rattle.ia_source.specs.Forms.{by_op, op_of}
 use Rattle.ia_source.specs.Operands.{Operands, empty_operands}
 use Rattle.ia_source.specs.Statements.{add_some, code_item, with_flags, in_next_line}
@@ -18,7 +18,7 @@ use Rattle.ia_source.specs.Source.{or_bad, head_onto, tokens_onto, line_onto}
 use Rattle.ia_resolve.proofs.FieldLemmas.{number_encodable, number_lockable, place_encodable, place_lockable, insn_encodable}
 use Rattle.ia_round_trip.specs.Operands.{operands_for, args_of}
 use Rattle.ia_round_trip.specs.Mnemonics.{mnemonic_for}
-use Rattle.ia_round_trip.specs.Resolved.{resolved_insn}
+use Rattle.ia_round_trip.specs.Resolution.{resolved_insn}
 use Rattle.ia_round_trip.specs.Forms.{expression_of, FormReadsBack}
 use Rattle.ia_round_trip.specs.RoundTrip.{IsReadAs, InstructionReadsBack}
 use Rattle.ia_round_trip.proofs.PrintedTokens.{text_has_its_tokens}
@@ -70,8 +70,8 @@ line_is_read i at e os t args form s =
     ap (tokens_onto s) (text_has_its_tokens i at)
     ∙ ap (head_onto s) (head_reads_back i at)
     ∙ ap (λ o. out (code_item s.at i.lock (mnemonic_for i.op) o)) (operands_read_back i.op at (args_fit i.op at (op_encodable i e)) ∙ args)
-    ∙ ap (λ o. out (option_map (λ j. Code j (written s.at.scope os.number) (written s.at.scope os.displacement)) o)) form
-    ∙ ap (λ n. out (Some (Code t n (written s.at.scope os.displacement)))) (written_same s.at.scope os.number plain.0)
+    ∙ ap (λ o. out (option_map (λ j. Code j (terms_in_scope s.at.scope os.number) (terms_in_scope s.at.scope os.displacement)) o)) form
+    ∙ ap (λ n. out (Some (Code t n (terms_in_scope s.at.scope os.displacement)))) (written_same s.at.scope os.number plain.0)
     ∙ ap (λ p. out (Some (Code t (expression_of os.number) p))) (written_same s.at.scope os.displacement plain.1)
 
 pub instruction_reads_back : InstructionReadsBack

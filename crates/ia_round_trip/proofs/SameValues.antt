@@ -15,7 +15,7 @@ use Rattle.ia_resolve.specs.declared.place_fault.PlaceFault.TheVariants.{Unknown
 use Rattle.ia_resolve.specs.PlaceFaults.{first_of}
 use Rattle.ia_resolve.specs.Values.{total, sum_fault, value_or_zero}
 use Rattle.ia_resolve.specs.Items.{field_value, far_fault, field_fault, any_fault, wide, op_with_number, op_with_displacement, resolved_insn, template_fault, code_bytes}
-use Rattle.ia_round_trip.specs.Resolved.{takes, if_taken, field_number, by_op, sum_from as given_from, op_with_number as given_number, op_with_displacement as given_place, resolved_insn as known_number}
+use Rattle.ia_round_trip.specs.Resolution.{takes, if_taken, field_number, by_op, sum_from as given_from, op_with_number as given_number, op_with_displacement as given_place, resolved_insn as known_number}
 use Rattle.ia_round_trip.proofs.Expressions.{expressions_agree}
 
 pub some_same : {A : Type 0} (x y : A) → Some x ≡ Some y → x ≡ y

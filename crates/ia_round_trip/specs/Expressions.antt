@@ -3,7 +3,7 @@ use Rattle.std.specs.Prelude.{◌≡◌, false, Some, List, map, ℤ}
 use Rattle.ia_item.specs.declared.expression.ScopedTerm.{ScopedTerm}
 use Rattle.ia_item.specs.Expressions.{Env, any_symbol, any_unknown, any_huge, sum_from}
 use Rattle.ia_source.specs.Contents.{scoped_term_content}
-use Rattle.ia_round_trip.specs.Resolved.{sum_from as given_from}
+use Rattle.ia_round_trip.specs.Resolution.{sum_from as given_from}
 
 -- whatever the symbols are; no field of such an expression is wide
 abbrev pub ExpressionsAgree : Type 0

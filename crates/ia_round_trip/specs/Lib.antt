@@ -1,8 +1,8 @@
-pub mod Printed
+pub mod PrintedTokens
 pub mod Lines
 pub mod Operands
 pub mod Mnemonics
-pub mod Resolved
+pub mod Resolution
 pub mod Forms
 pub mod RoundTrip
 pub mod Program

@@ -10,7 +10,7 @@ use Rattle.ia_source.specs.declared.mnemonic.Mnemonic.TheVariants as name
 use Rattle.ia_source.specs.declared.mnemonic.Bare.TheVariants as bare
 use Rattle.ia_source.specs.declared.head.Statement.TheVariants.{Code}
 use Rattle.ia_source.specs.Heads.{head_of}
-use Rattle.ia_round_trip.specs.Printed.{args_tokens, insn_tokens}
+use Rattle.ia_round_trip.specs.PrintedTokens.{args_tokens, insn_tokens}
 
 -- IMUL has one name for all of its forms
 abbrev pub unary_mnemonic : UnaryOp → Mnemonic
@@ -73,4 +73,5 @@ mnemonic_for op.Xtest = name.Bare bare.Xtest
 
 -- the tokens of an instruction begin with LOCK or none and its mnemonic, and go on with its operands
 abbrev pub HeadReadsBack : Type 0
-HeadReadsBack = (i : Insn) (at : ℕ) → head_of (insn_tokens i at) ≡ Some (record { label = None; statement = Code i.lock (mnemonic_for i.op); rest = args_tokens i.op at })
+HeadReadsBack = (i : Insn) (at : ℕ) → head_of (insn_tokens i at)
+    ≡ Some (record { label = None; statement = Code i.lock (mnemonic_for i.op); rest = args_tokens i.op at })

@@ -13,7 +13,7 @@ use Rattle.ia_text.specs.declared.arg.Arg.TheVariants as arg
 use Rattle.ia_text.specs.Arguments.{first_arg, second_arg, third_arg}
 use Rattle.ia_source.specs.declared.shape.OperandShape.TheVariants as shape
 use Rattle.ia_source.specs.Operands.{Operand, Operands, operand_of, operands_of, with_operand, by_operands, empty_operands}
-use Rattle.ia_round_trip.specs.Printed.{arg_tokens, args_tokens}
+use Rattle.ia_round_trip.specs.PrintedTokens.{arg_tokens, args_tokens}
 
 -- a number that is added
 abbrev pub part_of : ℕ → TermContent
@@ -56,4 +56,5 @@ OperandReadsBack = (a : Arg) → FitsArg a → operand_of (arg_tokens a) ≡ Som
 
 -- the tokens of the operands of an operation are read as them
 abbrev pub OperandsReadBack : Type 0
-OperandsReadBack = (o : Op) (at : ℕ) → AllByRecursion FitsArg (args_of o at) → operands_of (args_tokens o at) ≡ operands_for empty_operands (args_of o at)
+OperandsReadBack = (o : Op) (at : ℕ) → AllByRecursion FitsArg (args_of o at) → operands_of (args_tokens o at)
+    ≡ operands_for empty_operands (args_of o at)

@@ -1,6 +1,6 @@
 //! Laws of printed text. Each function does nothing: its contract is the law.
 
-ghost use Rattle.ia_round_trip.specs.Printed.{TextHasItsTokens};
+ghost use Rattle.ia_round_trip.specs.PrintedTokens.{TextHasItsTokens};
 ghost use Rattle.ia_round_trip.specs.Lines.{TextIsOneLine};
 ghost use Rattle.ia_round_trip.specs.Operands.{OperandReadsBack, OperandsReadBack};
 ghost use Rattle.ia_round_trip.specs.Mnemonics.{HeadReadsBack};

@@ -11,7 +11,7 @@ use Rattle.ia_source.specs.declared.shape.OperandShape.TheVariants as shape
 use Rattle.ia_source.specs.declared.shape.OperandShapes.{OperandShapes}
 use Rattle.ia_source.specs.declared.operand.OperandPrefix.{OperandPrefix}
 use Rattle.ia_source.specs.declared.operand.OperandPrefix.TheVariants as prefix
-use Rattle.ia_source.specs.MemoryOperands.{MemoryOperand, Piece, Register, Scaled, Valued, with_register, with_scaled, with_term, keep_terms, keep_mem, joined, by_joined, by_piece, ended, memory_from, memory_of, piece_at, nowhere}
+use Rattle.ia_source.specs.MemoryOperands.{MemoryOperand, Piece, Register, Scaled, Valued, with_register, with_scaled, with_term, keep_terms, keep_mem, with_piece, by_new_piece, by_piece, memory_end, memory_from, memory_of, piece_at, nowhere}
 use Rattle.ia_source.specs.Commas.{is_mark_of, between_commas}
 use Rattle.ia_source.specs.Operands.{Operand, Operands, whole, expression_of, expression_operand, memory_operand, sized_memory, register_operand, prefix_of, by_prefix, operand_of, with_shape, with_terms, with_operand, by_operands, by_operand, operands_from, operands_of, empty_operands}
 use Rattle.ia_source.specs.Fits.{FitsTerms}
@@ -129,7 +129,7 @@ unfolding behind_mem
 keep_mem_fits None m f x e = absurd (cc)
 keep_mem_fits (Some qs) m f x e = let k : length qs ≡ length x.1 = ap behind_mem e in let h : length qs ≤ 16 = f qs refl in omega (arith, k, h)
 
-joined_fits : (m : Mem) (ps : List TermContent) (neg register : Bool) (p : Piece) → length ps ≤ 16 → ReadsJoined (joined m ps neg register p)
+joined_fits : (m : Mem) (ps : List TermContent) (neg register : Bool) (p : Piece) → length ps ≤ 16 → ReadsJoined (with_piece m ps neg register p)
 joined_fits m ps neg true (Register r) h x e = keep_fits (with_register m r) ps h x e
 joined_fits m ps neg false (Register r) h x e = absurd (cc)
 joined_fits m ps neg true (Scaled r s) h x e = keep_fits (with_scaled m r s) ps h x e
@@ -143,7 +143,7 @@ in_memory : Option MemoryOperand → ℕ
 in_memory None = 0
 in_memory (Some p) = length p.terms
 
-ended_fits : (m : Mem) (ps : List TermContent) (ts : List Lexeme) → length ps ≤ 16 → ReadsMemory (ended m ps ts)
+ended_fits : (m : Mem) (ps : List TermContent) (ts : List Lexeme) → length ps ≤ 16 → ReadsMemory (memory_end m ps ts)
 unfolding in_memory
 ended_fits m ps [] h p e = let k : length ps ≡ length p.terms = ap in_memory e in omega (arith, k, h)
 ended_fits m ps (t ∷ ts) h p e = absurd (cc)
@@ -151,13 +151,13 @@ ended_fits m ps (t ∷ ts) h p e = absurd (cc)
 abbrev ReadsNext : (Mem → List TermContent → ℕ → Option MemoryOperand) → Type 0
 ReadsNext next = (m : Mem) (ps : List TermContent) (n : ℕ) → length ps ≤ 16 → ReadsMemory (next m ps n)
 
-by_joined_fits : (r : Option (Mem × List TermContent)) (n : ℕ) (next : Mem → List TermContent → ℕ → Option MemoryOperand) → ReadsJoined r → ReadsNext next → ReadsMemory (by_joined r n next)
+by_joined_fits : (r : Option (Mem × List TermContent)) (n : ℕ) (next : Mem → List TermContent → ℕ → Option MemoryOperand) → ReadsJoined r → ReadsNext next → ReadsMemory (by_new_piece r n next)
 by_joined_fits None n next f g p e = absurd (cc)
 by_joined_fits (Some x) n next f g p e = g x.0 x.1 (n - 1) (f x refl) p e
 
 by_piece_fits : (m : Mem) (ps : List TermContent) (neg register : Bool) (q : Option (Piece × ℕ)) (next : Mem → List TermContent → ℕ → Option MemoryOperand) → length ps ≤ 16 → ReadsNext next → ReadsMemory (by_piece m ps neg register q next)
 by_piece_fits m ps neg register None next h g p e = absurd (cc)
-by_piece_fits m ps neg register (Some q) next h g p e = by_joined_fits (joined m ps neg register q.0) q.1 next (joined_fits m ps neg register q.0 h) g p e
+by_piece_fits m ps neg register (Some q) next h g p e = by_joined_fits (with_piece m ps neg register q.0) q.1 next (joined_fits m ps neg register q.0 h) g p e
 
 by_bool : {X : Type 0} (P : X → Type 0) (b : Bool) (x y : X) → P x → P y → P (cond b x y)
 by_bool P true x y p q = p
@@ -169,7 +169,7 @@ none_read p e = absurd (cc)
 memory_from_fits : (k : ℕ) (m : Mem) (ps : List TermContent) (j : Option (Bool × Bool)) (ts : List Lexeme) → length ps ≤ 16 → ReadsMemory (memory_from k m ps j ts)
 memory_from_fits k m ps j [] h = none_read
 memory_from_fits (suc k) m ps j (t ∷ ts) h = memory_from_fits k m ps j ts h
-memory_from_fits zero m ps None (t ∷ ts) h = by_bool ReadsMemory (is_mark_of 93 t) (ended m ps ts) (by_sign (sign_of t) None (λ neg. memory_from 0 m ps (Some (neg, not neg)) ts))
+memory_from_fits zero m ps None (t ∷ ts) h = by_bool ReadsMemory (is_mark_of 93 t) (memory_end m ps ts) (by_sign (sign_of t) None (λ neg. memory_from 0 m ps (Some (neg, not neg)) ts))
     (ended_fits m ps ts h)
     (by_cases ReadsMemory (sign_of t) None (λ neg. memory_from 0 m ps (Some (neg, not neg)) ts) none_read (λ neg. memory_from_fits 0 m ps (Some (neg, not neg)) ts h))
 memory_from_fits zero m ps (Some j) (t ∷ ts) h = by_piece_fits m ps j.0 j.1 (piece_at (t ∷ ts)) (λ m ps n. memory_from n m ps None ts) h (λ m ps n h. memory_from_fits n m ps None ts h)

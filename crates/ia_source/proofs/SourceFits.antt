@@ -21,7 +21,7 @@ use Rattle.ia_source.specs.declared.head.Statement.TheVariants as statement
 use Rattle.ia_source.specs.declared.fault.Why.{Why}
 use Rattle.ia_source.specs.Contents.{ItemContent, EntryContent, Label, Equ, Code, Byte, Text, Long, Reserve, Align, Org, scoped_term_content, expression_content, item_content, entry_content}
 use Rattle.ia_source.specs.Fits.{FitsTerms, FitsAnyTerms, FitsContent}
-use Rattle.ia_source.specs.Symbols.{resolved, written, whole_of}
+use Rattle.ia_source.specs.Symbols.{term_in_scope, terms_in_scope, whole_of}
 use Rattle.ia_source.specs.Commas.{between_commas}
 use Rattle.ia_source.specs.Forms.{op_of, by_op, instruction_of}
 use Rattle.ia_source.specs.Operands.{Operands, operands_of, expression_of}
@@ -42,16 +42,16 @@ just_item : (j : ItemContent) → FitsContent j → ReadsItem (Some j)
 just_item j h i e = let k : j ≡ i = cc in subst FitsContent k h
 
 sum_in_fits : (at : StateContent) (ts : List Lexeme) → ReadsSum (expression_in at ts)
-sum_in_fits at ts = mapped_fits (resolved at.scope) (expression_of ts) (sum_fits ts)
+sum_in_fits at ts = mapped_fits (term_in_scope at.scope) (expression_of ts) (sum_fits ts)
 
 of_sum : (make : List TermContent → ItemContent) (r : Option (List TermContent)) → ((ps : List TermContent) → FitsTerms ps → FitsContent (make ps)) → ReadsSum r → ReadsItem (option_map make r)
 of_sum make None f g = no_item
 of_sum make (Some ps) f g = just_item (make ps) (f ps (g ps refl))
 
-written_fits : (scope : List ℕ) (ps : List TermContent) → length ps ≤ 16 → FitsAnyTerms (written scope ps)
+written_fits : (scope : List ℕ) (ps : List TermContent) → length ps ≤ 16 → FitsAnyTerms (terms_in_scope scope ps)
 written_fits scope [] h = tt
 written_fits scope (p ∷ ps) h =
-    let l : length (map (resolved scope) ps) ≡ length ps = length-map ps (resolved scope) in
+    let l : length (map (term_in_scope scope) ps) ≡ length ps = length-map ps (term_in_scope scope) in
     (omega arith, omega (arith, l, h))
 
 encoded : (i : Insn) (b : Bool) (j : Insn) → b ≡ is_encodable i → cond b (Some i) None ≡ Some j → IsTrue (is_encodable j)
@@ -66,9 +66,9 @@ instruction_fits lock None j e = absurd (cc)
 instruction_fits lock (Some o) j e = encoded (record { lock = lock; op = o }) (is_encodable (record { lock = lock; op = o })) j refl e
 
 with_insn : (at : StateContent) (os : Operands) (r : Option Insn) → FitOperands os → ((j : Insn) → r ≡ Some j → IsTrue (is_encodable j))
-    → ReadsItem (option_map (λ i. Code i (written at.scope os.number) (written at.scope os.displacement)) r)
+    → ReadsItem (option_map (λ i. Code i (terms_in_scope at.scope os.number) (terms_in_scope at.scope os.displacement)) r)
 with_insn at os None h f = no_item
-with_insn at os (Some j) h f = just_item (Code j (written at.scope os.number) (written at.scope os.displacement))
+with_insn at os (Some j) h f = just_item (Code j (terms_in_scope at.scope os.number) (terms_in_scope at.scope os.displacement))
     (f j refl, written_fits at.scope os.number h.number, written_fits at.scope os.displacement h.displacement)
 
 code_fits : (at : StateContent) (lock : Bool) (m : Mnemonic) (r : Option Operands) → ReadsOperands r → ReadsItem (code_item at lock m r)

@@ -37,4 +37,5 @@ AreFewer (Some rest) tokens = length rest.now < length tokens
 
 -- what stands between commas from a place on, which is behind the last one where nothing is left
 abbrev pub pieces_from : ℕ → List Token → List (List Lexeme)
-pieces_from place tokens = if nat_le place (length tokens) then between_commas (map lexeme_of (drop place tokens)) else []
+pieces_from place tokens = if nat_le place (length tokens) then between_commas (map lexeme_of
+    (drop place tokens)) else []

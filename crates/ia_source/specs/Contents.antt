@@ -12,7 +12,7 @@ use Rattle.ia_item.specs.declared.expression.ScopedExpression.{ScopedExpression}
 use Rattle.ia_item.specs.Names.{whole_name}
 use Rattle.ia_lex.specs.Terms.{AtomContent, NumberAtom, SymbolAtom, TermContent}
 
--- what a line, or a part of it, asks for: symbols by their whole names, expressions by their parts
+-- what a line, or a part of it, asks for: symbols by their whole names, expressions by their terms
 pub data ItemContent : Type 0 where
   Label : List ℕ → ItemContent
   Equ : List ℕ → List TermContent → ItemContent
@@ -43,7 +43,8 @@ expression_content s = map scoped_term_content s.terms.items
 abbrev pub item_content : Item → ItemContent
 item_content (item.Label name) = Label (whole_name name)
 item_content (item.Equ name s) = Equ (whole_name name) (expression_content s)
-item_content (item.Code t) = Code t.insn (option_map expression_content t.number) (option_map expression_content t.displacement)
+item_content (item.Code t) = Code t.insn (option_map expression_content t.number)
+    (option_map expression_content t.displacement)
 item_content (item.Byte s) = Byte (expression_content s)
 item_content (item.Text bytes) = Text bytes.now
 item_content (item.Long s) = Long (expression_content s)

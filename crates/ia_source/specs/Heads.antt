@@ -30,15 +30,15 @@ begins_with_colon (t ∷ ts) = is_mark_of 58 t
 abbrev pub behind_colon : List Lexeme → List Lexeme
 behind_colon ts = if begins_with_colon ts then drop 1 ts else ts
 
-abbrev pub locked : Option Keyword → List Lexeme → Option (Statement × List Lexeme)
-locked None ts = None
-locked (Some keyword.Lock) ts = None
-locked (Some (keyword.Mnemonic m)) ts = Some (Code true m, ts)
-locked (Some (keyword.Directive d)) ts = Some (Unfit, ts)
+abbrev pub statement_behind_lock : Option Keyword → List Lexeme → Option (Statement × List Lexeme)
+statement_behind_lock None ts = None
+statement_behind_lock (Some keyword.Lock) ts = None
+statement_behind_lock (Some (keyword.Mnemonic m)) ts = Some (Code true m, ts)
+statement_behind_lock (Some (keyword.Directive d)) ts = Some (Unfit, ts)
 
 abbrev pub behind_lock : List Lexeme → Option (Statement × List Lexeme)
 behind_lock [] = Some (Unfit, [])
-behind_lock (Word w ∷ ts) = locked (keyword_of w) ts
+behind_lock (Word w ∷ ts) = statement_behind_lock (keyword_of w) ts
 behind_lock (t ∷ ts) = None
 
 abbrev pub by_keyword : Option Keyword → List Lexeme → Option (Statement × List Lexeme)
@@ -60,7 +60,8 @@ with_label label (Some s) = Some (record { label = label; statement = s.0; rest 
 -- the head of a line, or none where its name is no instruction's and no directive's
 abbrev pub head_of : List Lexeme → Option Head
 head_of [] = with_label None (statement_at [])
-head_of (Word w ∷ ts) = if is_label w then with_label (Some w) (statement_at (behind_colon ts)) else with_label None (statement_at (Word w ∷ ts))
+head_of (Word w ∷ ts) = if is_label w then with_label (Some w) (statement_at (behind_colon ts)) else with_label None
+    (statement_at (Word w ∷ ts))
 head_of (t ∷ ts) = None
 
 -- ---- what the code's values stand for
@@ -69,4 +70,9 @@ abbrev pub statement_content : Statement × Bor (List Token) → Statement × Li
 statement_content s = (s.0, map lexeme_of s.1.now)
 
 abbrev pub head_content : CodeHead → Head
-head_content h = record { label = option_map (λ l. l.now) h.label; statement = h.statement; rest = map lexeme_of h.rest.now }
+head_content h = record {
+  label = option_map
+      (λ l. l.now) h.label;
+  statement = h.statement;
+  rest = map lexeme_of h.rest.now;
+}

@@ -17,14 +17,19 @@ use Rattle.ia_source.specs.declared.mnemonic.Keyword.TheVariants.{Mnemonic as Na
 
 abbrev pub arithmetic : List (List ℕ × Mnemonic)
 arithmetic =
-    (codes "mov", Mov) ∷ (codes "add", Alu alu.Add) ∷ (codes "sub", Alu alu.Sub) ∷ (codes "cmp", Alu alu.Cmp) ∷ (codes "inc", Inc)
-    ∷ (codes "dec", Dec) ∷ (codes "and", Alu alu.And) ∷ (codes "or", Alu alu.Or) ∷ (codes "xor", Alu alu.Xor) ∷ (codes "test", Test)
-    ∷ (codes "lea", Lea) ∷ (codes "xchg", Xchg) ∷ (codes "adc", Alu alu.Adc) ∷ (codes "sbb", Alu alu.Sbb) ∷ (codes "not", Unary unary.Not)
-    ∷ (codes "neg", Unary unary.Neg) ∷ (codes "mul", Unary unary.Mul) ∷ (codes "imul", Imul) ∷ (codes "div", Unary unary.Div) ∷ (codes "idiv", Unary unary.Idiv) ∷ []
+    (codes "mov", Mov) ∷ (codes "add", Alu alu.Add) ∷ (codes "sub", Alu alu.Sub) ∷ (codes "cmp", Alu alu.Cmp) ∷
+    (codes "inc", Inc)
+    ∷ (codes "dec", Dec) ∷ (codes "and", Alu alu.And) ∷ (codes "or", Alu alu.Or) ∷ (codes "xor", Alu alu.Xor) ∷
+    (codes "test", Test)
+    ∷ (codes "lea", Lea) ∷ (codes "xchg", Xchg) ∷ (codes "adc", Alu alu.Adc) ∷ (codes "sbb", Alu alu.Sbb) ∷
+    (codes "not", Unary unary.Not)
+    ∷ (codes "neg", Unary unary.Neg) ∷ (codes "mul", Unary unary.Mul) ∷ (codes "imul", Imul) ∷
+    (codes "div", Unary unary.Div) ∷ (codes "idiv", Unary unary.Idiv) ∷ []
 
 abbrev pub shifts_and_jumps : List (List ℕ × Mnemonic)
 shifts_and_jumps =
-    (codes "rol", Shift shift.Rol) ∷ (codes "ror", Shift shift.Ror) ∷ (codes "shl", Shift shift.Shl) ∷ (codes "sal", Shift shift.Shl)
+    (codes "rol", Shift shift.Rol) ∷ (codes "ror", Shift shift.Ror) ∷ (codes "shl", Shift shift.Shl) ∷
+    (codes "sal", Shift shift.Shl)
     ∷ (codes "shr", Shift shift.Shr) ∷ (codes "sar", Shift shift.Sar) ∷ (codes "push", Push) ∷ (codes "pop", Pop)
     ∷ (codes "call", Call) ∷ (codes "ret", Ret) ∷ (codes "jmp", Jmp) ∷ (codes "loop", Loop) ∷ (codes "jecxz", Jecxz)
     ∷ (codes "movzx", Movzx) ∷ (codes "movsx", Movsx) ∷ (codes "cmpxchg", Cmpxchg) ∷ (codes "xadd", Xadd)
@@ -43,16 +48,19 @@ others =
 -- the conditions, each by all of its names (SDM volume 2, Jcc)
 abbrev pub low_conditions : List (List ℕ × Condition)
 low_conditions =
-    (codes "o", is.Overflow) ∷ (codes "no", is.NotOverflow) ∷ (codes "b", is.Below) ∷ (codes "c", is.Below) ∷ (codes "nae", is.Below)
+    (codes "o", is.Overflow) ∷ (codes "no", is.NotOverflow) ∷ (codes "b", is.Below) ∷ (codes "c", is.Below) ∷
+    (codes "nae", is.Below)
     ∷ (codes "ae", is.AboveOrEqual) ∷ (codes "nb", is.AboveOrEqual) ∷ (codes "nc", is.AboveOrEqual)
     ∷ (codes "e", is.Equal) ∷ (codes "z", is.Equal) ∷ (codes "ne", is.NotEqual) ∷ (codes "nz", is.NotEqual)
-    ∷ (codes "be", is.BelowOrEqual) ∷ (codes "na", is.BelowOrEqual) ∷ (codes "a", is.Above) ∷ (codes "nbe", is.Above) ∷ []
+    ∷ (codes "be", is.BelowOrEqual) ∷ (codes "na", is.BelowOrEqual) ∷ (codes "a", is.Above) ∷
+    (codes "nbe", is.Above) ∷ []
 
 abbrev pub high_conditions : List (List ℕ × Condition)
 high_conditions =
     (codes "s", is.Sign) ∷ (codes "ns", is.NotSign) ∷ (codes "p", is.ParityEven) ∷ (codes "pe", is.ParityEven)
     ∷ (codes "np", is.ParityOdd) ∷ (codes "po", is.ParityOdd) ∷ (codes "l", is.Less) ∷ (codes "nge", is.Less)
-    ∷ (codes "ge", is.GreaterOrEqual) ∷ (codes "nl", is.GreaterOrEqual) ∷ (codes "le", is.LessOrEqual) ∷ (codes "ng", is.LessOrEqual)
+    ∷ (codes "ge", is.GreaterOrEqual) ∷ (codes "nl", is.GreaterOrEqual) ∷ (codes "le", is.LessOrEqual) ∷
+    (codes "ng", is.LessOrEqual)
     ∷ (codes "g", is.Greater) ∷ (codes "nle", is.Greater) ∷ []
 
 abbrev pub or_else : {A : Type 0} → Option A → Option A → Option A
@@ -71,7 +79,8 @@ condition_behind front w =
 -- j, set and cmov with a condition
 unfoldable pub conditional : List ℕ → Option Mnemonic
 conditional w = or_else (option_map Jcc (condition_behind (codes "j") w))
-    (or_else (option_map Setcc (condition_behind (codes "set") w)) (option_map Cmovcc (condition_behind (codes "cmov") w)))
+    (or_else (option_map Setcc (condition_behind (codes "set") w)) (option_map Cmovcc (condition_behind
+    (codes "cmov") w)))
 
 unfoldable pub arithmetic_of : List ℕ → Option Mnemonic
 arithmetic_of w = find_word arithmetic w
@@ -89,8 +98,10 @@ mnemonic_of w = or_else (arithmetic_of w) (or_else (shift_or_jump_of w) (or_else
 abbrev pub orders : List (List ℕ × Keyword)
 orders =
     (codes "lock", Lock) ∷ (codes "section", Directive directive.Section) ∷ (codes "org", Directive directive.Org)
-    ∷ (codes "bits", Directive directive.Bits) ∷ (codes "global", Directive directive.Global) ∷ (codes "db", Directive directive.Db)
-    ∷ (codes "dd", Directive directive.Dd) ∷ (codes "resb", Directive directive.Resb) ∷ (codes "align", Directive directive.Align)
+    ∷ (codes "bits", Directive directive.Bits) ∷ (codes "global", Directive directive.Global) ∷
+    (codes "db", Directive directive.Db)
+    ∷ (codes "dd", Directive directive.Dd) ∷ (codes "resb", Directive directive.Resb) ∷
+    (codes "align", Directive directive.Align)
     ∷ (codes "equ", Directive directive.Equ) ∷ []
 
 unfoldable pub order_of : List ℕ → Option Keyword

@@ -61,7 +61,7 @@ with_index base None r s = if r == 4 then None else Some (record { base = base; 
 abbrev pub with_scaled : Mem → ℕ → ℕ → Option Mem
 with_scaled m r s = with_index m.base m.index r s
 
--- one more part, of at most 16
+-- one more term, of at most 16
 abbrev pub with_term : List TermContent → Bool → AtomContent → Option (List TermContent)
 with_term ps neg v = if nat_lt (length ps) 16 then Some (ps ++ (record { negative = neg; atom = v }) ∷ []) else None
 
@@ -116,25 +116,27 @@ keep_mem m None = None
 keep_mem m (Some ps) = Some (m, ps)
 
 -- a place with one more piece; behind some signs no register may stand
-abbrev pub joined : Mem → List TermContent → Bool → Bool → Piece → Option (Mem × List TermContent)
-joined m ps neg register (Register r) = if register then keep_terms ps (with_register m r) else None
-joined m ps neg register (Scaled r s) = if register then keep_terms ps (with_scaled m r s) else None
-joined m ps neg register (Valued v) = keep_mem m (with_term ps neg v)
+abbrev pub with_piece : Mem → List TermContent → Bool → Bool → Piece → Option (Mem × List TermContent)
+with_piece m ps neg register (Register r) = if register then keep_terms ps (with_register m r) else None
+with_piece m ps neg register (Scaled r s) = if register then keep_terms ps (with_scaled m r s) else None
+with_piece m ps neg register (Valued v) = keep_mem m (with_term ps neg v)
 
 -- ---- places
 
-abbrev pub by_joined : Option (Mem × List TermContent) → ℕ → (Mem → List TermContent → ℕ → Option MemoryOperand) → Option MemoryOperand
-by_joined None n next = None
-by_joined (Some x) n next = next x.0 x.1 (n - 1)
+abbrev pub by_new_piece : Option (Mem × List TermContent) → ℕ → (Mem → List TermContent → ℕ → Option MemoryOperand)
+    → Option MemoryOperand
+by_new_piece None n next = None
+by_new_piece (Some x) n next = next x.0 x.1 (n - 1)
 
-abbrev pub by_piece : Mem → List TermContent → Bool → Bool → Option (Piece × ℕ) → (Mem → List TermContent → ℕ → Option MemoryOperand) → Option MemoryOperand
+abbrev pub by_piece : Mem → List TermContent → Bool → Bool → Option (Piece × ℕ) → (Mem → List TermContent → ℕ
+    → Option MemoryOperand) → Option MemoryOperand
 by_piece m ps neg register None next = None
-by_piece m ps neg register (Some p) next = by_joined (joined m ps neg register p.0) p.1 next
+by_piece m ps neg register (Some p) next = by_new_piece (with_piece m ps neg register p.0) p.1 next
 
 -- the last token of a place is its closing bracket
-abbrev pub ended : Mem → List TermContent → List Lexeme → Option MemoryOperand
-ended m ps [] = Some (record { mem = m; terms = ps })
-ended m ps (t ∷ ts) = None
+abbrev pub memory_end : Mem → List TermContent → List Lexeme → Option MemoryOperand
+memory_end m ps [] = Some (record { mem = m; terms = ps })
+memory_end m ps (t ∷ ts) = None
 
 -- A place, so far, and the tokens behind it. skip: so many of them belong to the piece before. Then: behind a sign, which
 -- may take away and may be one that no register stands behind; or behind a piece.
@@ -142,14 +144,16 @@ abbrev pub memory_from : ℕ → Mem → List TermContent → Option (Bool × Bo
 memory_from skip m ps j [] = None
 memory_from (suc skip) m ps j (t ∷ ts) = memory_from skip m ps j ts
 memory_from zero m ps None (t ∷ ts) =
-    if is_mark_of 93 t then ended m ps ts
+    if is_mark_of 93 t then memory_end m ps ts
     else by_sign (sign_of t) None (λ neg. memory_from 0 m ps (Some (neg, not neg)) ts)
-memory_from zero m ps (Some j) (t ∷ ts) = by_piece m ps j.0 j.1 (piece_at (t ∷ ts)) (λ m ps n. memory_from n m ps None ts)
+memory_from zero m ps (Some j) (t ∷ ts) = by_piece m ps j.0 j.1 (piece_at (t ∷ ts))
+    (λ m ps n. memory_from n m ps None ts)
 
 -- the place whose tokens stand behind an opening bracket; a sign in front belongs to a number or a symbol
 unfoldable pub memory_of : List Lexeme → Option MemoryOperand
 memory_of [] = None
-memory_of (t ∷ ts) = by_sign (sign_of t) (memory_from 0 nowhere [] (Some (false, true)) (t ∷ ts)) (λ neg. memory_from 0 nowhere [] (Some (neg, false)) ts)
+memory_of (t ∷ ts) = by_sign (sign_of t) (memory_from 0 nowhere [] (Some (false, true)) (t ∷ ts))
+    (λ neg. memory_from 0 nowhere [] (Some (neg, false)) ts)
 
 -- ---- what the code's values stand for
 
@@ -164,8 +168,8 @@ piece_content (piece.Valued a) = Valued (atom_content a)
 abbrev pub piece_and_length : CodePiece × ℕ → Piece × ℕ
 piece_and_length x = (piece_content x.0, x.1)
 
-abbrev pub joined_content : Mem × ArrayVec Term → Mem × List TermContent
-joined_content x = (x.0, terms_content x.1)
+abbrev pub with_piece_content : Mem × ArrayVec Term → Mem × List TermContent
+with_piece_content x = (x.0, terms_content x.1)
 
 abbrev pub memory_content : CodeMemoryOperand → MemoryOperand
 memory_content p = record { mem = p.mem; terms = terms_content p.terms }

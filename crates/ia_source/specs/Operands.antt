@@ -84,7 +84,12 @@ with_shape (Two a b) s = Some (Three a b s)
 with_shape (Three a b c) s = None
 
 abbrev pub with_terms : Operands → OperandShape → List TermContent → OperandShapes → Operands
-with_terms os (shape.Register w r) ps shapes = record { shapes = shapes; number = os.number; displacement = os.displacement }
+with_terms os (shape.Register w r) ps shapes = record {
+  shapes = shapes;
+  number = os.number;
+  displacement =
+      os.displacement;
+}
 with_terms os (shape.Memory size m) ps shapes = record { shapes = shapes; number = os.number; displacement = ps }
 with_terms os _ ps shapes = record { shapes = shapes; number = ps; displacement = os.displacement }
 
@@ -119,4 +124,9 @@ abbrev pub operand_content : CodeOperand → Operand
 operand_content o = record { shape = o.shape; terms = terms_content o.terms }
 
 abbrev pub operands_content : CodeOperands → Operands
-operands_content os = record { shapes = os.shapes; number = terms_content os.number; displacement = terms_content os.displacement }
+operands_content os = record {
+  shapes = os.shapes;
+  number = terms_content os.number;
+  displacement = terms_content
+      os.displacement;
+}

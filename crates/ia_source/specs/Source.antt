@@ -58,8 +58,10 @@ abbrev pub head_onto : SourceContent → Option Head → Result SourceContent (�
 head_onto s None = Err (s.at.line, NotInSubset)
 head_onto s (Some h) =
     if is_twice s.names s.at h.label then Err (s.at.line, SymbolTwice)
-    else or_bad s.at.line (behind (with_label s.at h.label h.statement) h.statement h.rest) (with_name s.names s.at h.label)
-    (statement_onto (label_onto s.entries s.at h.label h.statement) (with_label s.at h.label h.statement) h.label h.statement h.rest)
+    else or_bad s.at.line (behind (with_label s.at h.label h.statement) h.statement h.rest)
+    (with_name s.names s.at h.label)
+    (statement_onto (label_onto s.entries s.at h.label h.statement)
+    (with_label s.at h.label h.statement) h.label h.statement h.rest)
 
 abbrev pub tokens_onto : SourceContent → Option (List Lexeme) → Result SourceContent (ℕ × Why)
 tokens_onto s None = Err (s.at.line, BadToken)
@@ -70,7 +72,8 @@ tokens_onto s (Some ts) = head_onto s (head_of ts)
 unfoldable pub line_onto : SourceContent → List ℕ → Result SourceContent (ℕ × Why)
 line_onto s bytes = tokens_onto s (tokens_of bytes)
 
-abbrev pub by_line : Result SourceContent (ℕ × Why) → (SourceContent → Result (List EntryContent) (ℕ × Why)) → Result (List EntryContent) (ℕ × Why)
+abbrev pub by_line : Result SourceContent (ℕ × Why) → (SourceContent → Result (List EntryContent) (ℕ × Why))
+    → Result (List EntryContent) (ℕ × Why)
 by_line (Err e) next = Err e
 by_line (Ok s) next = next s
 
@@ -91,7 +94,12 @@ abbrev pub names_content : {S : Type 0} → IndexSet Name S → List (List ℕ)
 names_content names = map whole_name names.keys
 
 abbrev pub source_content : {S : Type 0} → SourceState → IndexSet Name S → List Entry → SourceContent
-source_content state names es = record { at = state_content state; names = names_content names; entries = map entry_content es }
+source_content state names es = record {
+  at = state_content state;
+  names = names_content names;
+  entries = map
+      entry_content es;
+}
 
 -- a call told what a reading says is wrong, or that no memory was left
 abbrev pub Tells : {X : Type 0} → Result X (ℕ × Why) → SourceFault → Type 0

@@ -17,7 +17,7 @@ use Rattle.ia_source.specs.declared.fault.Why.TheVariants.{BadOperand}
 use Rattle.ia_source.specs.declared.fault.SourceFault.{SourceFault}
 use Rattle.ia_source.specs.declared.fault.SourceFault.TheVariants as fault
 use Rattle.ia_source.specs.Contents.{ItemContent, EntryContent, Equ, Code, Byte, Text, Long, Reserve, Align, Org}
-use Rattle.ia_source.specs.Symbols.{is_local, whole_of, resolved, written}
+use Rattle.ia_source.specs.Symbols.{is_local, whole_of, term_in_scope, terms_in_scope}
 use Rattle.ia_source.specs.Commas.{between_commas}
 use Rattle.ia_source.specs.Forms.{instruction_of}
 use Rattle.ia_source.specs.Operands.{Operands, operands_of, expression_of}
@@ -44,12 +44,13 @@ add_some es at (Some i) = Some (add es at i)
 
 -- the terms of an expression with the whole names of their symbols
 abbrev pub expression_in : StateContent → List Lexeme → Option (List TermContent)
-expression_in at ts = option_map (map (resolved at.scope)) (expression_of ts)
+expression_in at ts = option_map (map (term_in_scope at.scope)) (expression_of ts)
 
 -- an instruction and its expressions
 abbrev pub code_item : StateContent → Bool → Mnemonic → Option Operands → Option ItemContent
 code_item at lock m None = None
-code_item at lock m (Some os) = option_map (λ i. Code i (written at.scope os.number) (written at.scope os.displacement)) (instruction_of lock m os.shapes)
+code_item at lock m (Some os) = option_map (λ i. Code i (terms_in_scope at.scope os.number)
+    (terms_in_scope at.scope os.displacement)) (instruction_of lock m os.shapes)
 
 -- ---- data
 
@@ -62,19 +63,22 @@ abbrev pub value_item : Bool → StateContent → List Lexeme → Option ItemCon
 value_item false at ts = byte_item at ts
 value_item true at ts = option_map Long (expression_in at ts)
 
-abbrev pub by_entries : Option (List EntryContent) → (List EntryContent → Option (List EntryContent)) → Option (List EntryContent)
+abbrev pub by_entries : Option (List EntryContent) → (List EntryContent → Option (List EntryContent))
+    → Option (List EntryContent)
 by_entries None next = None
 by_entries (Some es) next = next es
 
 abbrev pub values_onto : Bool → StateContent → List EntryContent → List (List Lexeme) → Option (List EntryContent)
 values_onto long at es [] = Some es
-values_onto long at es (p ∷ ps) = by_entries (add_some es at (value_item long at p)) (λ more. values_onto long at more ps)
+values_onto long at es (p ∷ ps) = by_entries (add_some es at (value_item long at p))
+    (λ more. values_onto long at more ps)
 
 -- ---- directives
 
 -- one word, in lower case
 abbrev pub named_section : List Lexeme → Option Section
-named_section (Word w ∷ []) = if bytes_eq w (codes ".text") then Some section.Text else if bytes_eq w (codes ".data") then Some section.Data else None
+named_section (Word w ∷ []) = if bytes_eq w (codes ".text") then Some section.Text else if bytes_eq w
+    (codes ".data") then Some section.Data else None
 named_section _ = None
 
 abbrev pub only_number : List Lexeme → Option (Option ℕ)
@@ -92,7 +96,8 @@ is_symbol _ = false
 
 -- a power of two up to 4096
 abbrev pub is_power : ℕ → Bool
-is_power n = (n == 1) || (n == 2) || (n == 4) || (n == 8) || (n == 16) || (n == 32) || (n == 64) || (n == 128) || (n == 256) || (n == 512)
+is_power n = (n == 1) || (n == 2) || (n == 4) || (n == 8) || (n == 16) || (n == 32) || (n == 64) || (n == 128) ||
+    (n == 256) || (n == 512)
     || (n == 1024) || (n == 2048) || (n == 4096)
 
 abbrev pub align_item : Option (Option ℕ) → Option ItemContent
@@ -110,7 +115,8 @@ equ_item at (Some own) ts = option_map (Equ (whole_of at.scope own)) (expression
 abbrev pub if_fits : Bool → List EntryContent → Option (List EntryContent)
 if_fits fits es = if fits then Some es else None
 
-unfoldable pub directive_onto : List EntryContent → StateContent → Option (List ℕ) → Directive → List Lexeme → Option (List EntryContent)
+unfoldable pub directive_onto : List EntryContent → StateContent → Option (List ℕ) → Directive → List Lexeme
+    → Option (List EntryContent)
 directive_onto es at label directive.Section ts = if_fits (is_some (named_section ts)) es
 directive_onto es at label directive.Org ts = add_some es at (org_item at ts)
 directive_onto es at label directive.Bits ts = if_fits (is_32 (only_number ts)) es
@@ -122,7 +128,8 @@ directive_onto es at label directive.Align ts = add_some es at (align_item (only
 directive_onto es at label directive.Equ ts = add_some es at (equ_item at label ts)
 
 -- what a line asks for, behind entries; none where its operands fit no form
-abbrev pub statement_onto : List EntryContent → StateContent → Option (List ℕ) → Statement → List Lexeme → Option (List EntryContent)
+abbrev pub statement_onto : List EntryContent → StateContent → Option (List ℕ) → Statement → List Lexeme
+    → Option (List EntryContent)
 statement_onto es at label statement.Nothing ts = Some es
 statement_onto es at label (statement.Code lock m) ts = add_some es at (code_item at lock m (operands_of ts))
 statement_onto es at label (statement.Directive d) ts = directive_onto es at label d ts
@@ -133,17 +140,36 @@ statement_onto es at label statement.Unfit ts = None
 -- the name of an equ is no label that local ones belong to
 abbrev pub with_scope : StateContent → Option (List ℕ) → StateContent
 with_scope at None = at
-with_scope at (Some own) = if is_local own then at else record { line = at.line; scope = own; section = at.section; based = at.based; placed = at.placed }
+with_scope at (Some own) = if is_local own then at else record {
+  line = at.line;
+  scope = own;
+  section = at.section;
+  based = at.based;
+  placed = at.placed;
+}
 
 abbrev pub with_label : StateContent → Option (List ℕ) → Statement → StateContent
 with_label at label (statement.Directive directive.Equ) = at
 with_label at label _ = with_scope at label
 
 abbrev pub in_section : StateContent → Option Section → StateContent
-in_section at s = record { line = at.line; scope = at.scope; section = unwrap_or s at.section; based = at.based; placed = at.placed }
+in_section at s = record {
+  line = at.line;
+  scope = at.scope;
+  section = unwrap_or s at.section;
+  based = at.based;
+  placed = at.placed;
+}
 
 abbrev pub with_flags : StateContent → Bool → Bool → StateContent
-with_flags at based placed = record { line = at.line; scope = at.scope; section = at.section; based = at.based || based; placed = at.placed || placed }
+with_flags at based placed = record {
+  line = at.line;
+  scope = at.scope;
+  section = at.section;
+  based = at.based ||
+      based;
+  placed = at.placed || placed;
+}
 
 abbrev pub behind_statement : StateContent → Statement → List Lexeme → StateContent
 behind_statement at (statement.Directive directive.Section) ts = in_section at (named_section ts)
@@ -159,7 +185,14 @@ abbrev pub next_line : ℕ → ℕ
 next_line n = if nat_lt n (2 ^ 32 - 1) then n + 1 else n
 
 abbrev pub in_next_line : StateContent → StateContent
-in_next_line at = record { line = next_line at.line; scope = at.scope; section = at.section; based = at.based; placed = at.placed }
+in_next_line at = record {
+  line = next_line at.line;
+  scope = at.scope;
+  section = at.section;
+  based = at.based;
+  placed
+      = at.placed;
+}
 
 abbrev pub behind : StateContent → Statement → List Lexeme → StateContent
 behind at w ts = in_next_line (behind_statement at w ts)

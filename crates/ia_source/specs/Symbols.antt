@@ -11,20 +11,20 @@ is_local (b ∷ bs) = b == 46
 abbrev pub whole_of : List ℕ → List ℕ → List ℕ
 whole_of scope own = if is_local own then scope ++ own else own
 
-abbrev pub in_scope : List ℕ → AtomContent → AtomContent
-in_scope scope (NumberAtom n) = NumberAtom n
-in_scope scope (SymbolAtom own) = SymbolAtom (whole_of scope own)
+abbrev pub atom_in_scope : List ℕ → AtomContent → AtomContent
+atom_in_scope scope (NumberAtom n) = NumberAtom n
+atom_in_scope scope (SymbolAtom own) = SymbolAtom (whole_of scope own)
 
--- a part of an expression, its symbol by the whole name
-abbrev pub resolved : List ℕ → TermContent → TermContent
-resolved scope p = record { negative = p.negative; atom = in_scope scope p.atom }
+-- a term of an expression, its symbol by the whole name
+abbrev pub term_in_scope : List ℕ → TermContent → TermContent
+term_in_scope scope p = record { negative = p.negative; atom = atom_in_scope scope p.atom }
 
 -- an expression, where there is one
-abbrev pub written : List ℕ → List TermContent → Option (List TermContent)
-written scope [] = None
-written scope (p ∷ ps) = Some (map (resolved scope) (p ∷ ps))
+abbrev pub terms_in_scope : List ℕ → List TermContent → Option (List TermContent)
+terms_in_scope scope [] = None
+terms_in_scope scope (p ∷ ps) = Some (map (term_in_scope scope) (p ∷ ps))
 
 -- ---- what the code's values stand for
 
-abbrev pub scoped : List ℕ → Term → TermContent
-scoped scope t = resolved scope (term_content t)
+abbrev pub scoped_term : List ℕ → Term → TermContent
+scoped_term scope t = term_in_scope scope (term_content t)

@@ -4,7 +4,7 @@ ghost use Rattle.std.specs.Prelude.{◌≡◌, map, option_map, IfOk};
 ghost use Rattle.ia_item.specs.Names.{whole_name};
 ghost use Rattle.ia_source.specs.Contents.{scoped_term_content, expression_content};
 ghost use Rattle.ia_source.specs.MemoryOperands.{terms_content};
-ghost use Rattle.ia_source.specs.Symbols.{is_local, whole_of, resolved, scoped, written};
+ghost use Rattle.ia_source.specs.Symbols.{is_local, whole_of, term_in_scope, scoped_term, terms_in_scope};
 
 use ia_item::{Name, ScopedAtom, ScopedExpression, ScopedTerm};
 use ia_lex::{Atom, Expression, Term};
@@ -32,7 +32,7 @@ pub fn name_in<'a>(scope: &'a [u8], own: &'a [u8]) -> Name<'a>
 }
 
 fn term_in<'a>(scope: &'a [u8], term: &Term<'a>) -> ScopedTerm<'a>
-    ensures { scoped_term_content result ≡ scoped scope.now term.now }
+    ensures { scoped_term_content result ≡ scoped_term scope.now term.now }
 {
     let Term { negative, atom } = *term;
     match atom {
@@ -49,12 +49,16 @@ fn term_in<'a>(scope: &'a [u8], term: &Term<'a>) -> ScopedTerm<'a>
 
 /// The expression that stands behind a label.
 #[tactic(auto, using(crate::proofs::ScopedTerms::step, crate::proofs::ScopedTerms::finish, crate::proofs::ScopedTerms::twice))]
-pub fn expression_in<'a>(alloc: Global, scope: &'a [u8], expression: &Expression<'a>) -> Result<ScopedExpression<'a>, AllocError>
-    ensures { IfOk result (λ s. expression_content s ≡ map (resolved scope.now) (terms_content expression.now)) }
+pub fn expression_in<'a>(
+    alloc: Global,
+    scope: &'a [u8],
+    expression: &Expression<'a>,
+) -> Result<ScopedExpression<'a>, AllocError>
+    ensures { IfOk result (λ s. expression_content s ≡ map (term_in_scope scope.now) (terms_content expression.now)) }
 {
-    let written = expression.as_slice();
-    let mut terms = Vec::with_capacity(alloc, written.len())?;
-    for term in written {
+    let source_terms = expression.as_slice();
+    let mut terms = Vec::with_capacity(alloc, source_terms.len())?;
+    for term in source_terms {
         terms.push(term_in(scope, term))?;
     }
     Ok(ScopedExpression { terms })
@@ -66,12 +70,13 @@ pub fn some_expression<'a>(
     scope: &'a [u8],
     expression: &Expression<'a>,
 ) -> Result<Option<ScopedExpression<'a>>, AllocError>
-    ensures { IfOk result (λ s. option_map expression_content s ≡ written scope.now (terms_content expression.now)) }
+    ensures { IfOk result (λ s. option_map expression_content s
+        ≡ terms_in_scope scope.now (terms_content expression.now)) }
 {
     if expression.is_empty() {
         Ok(None)
     } else {
-        let scoped = expression_in(alloc, scope, expression)?;
-        Ok(Some(scoped))
+        let scoped_term = expression_in(alloc, scope, expression)?;
+        Ok(Some(scoped_term))
     }
 }

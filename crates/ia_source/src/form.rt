@@ -53,8 +53,14 @@ fn sized_operand(shapes: OperandShapes) -> Option<(Width, Operand)>
     ensures { result ≡ sized_operand shapes }
 {
     match shapes {
-        OperandShapes::One(OperandShape::Register(width, register)) => Some((width, Operand::Reg(register))),
-        OperandShapes::One(OperandShape::Memory(Some(width), memory)) => Some((width, Operand::Mem(memory))),
+        OperandShapes::One(OperandShape::Register(width, register)) => Some((
+            width,
+            Operand::Reg(register),
+        )),
+        OperandShapes::One(OperandShape::Memory(Some(width), memory)) => Some((
+            width,
+            Operand::Mem(memory),
+        )),
         _ => None,
     }
 }
@@ -87,7 +93,10 @@ fn test_form(shapes: OperandShapes) -> Option<(Width, Operand, Operand)>
     ensures { result ≡ test_form shapes }
 {
     match shapes {
-        OperandShapes::Two(OperandShape::Register(width, register), OperandShape::Memory(size, memory)) => {
+        OperandShapes::Two(
+            OperandShape::Register(width, register),
+            OperandShape::Memory(size, memory),
+        ) => {
             let left = target(width, OperandShape::Memory(size, memory))?;
             Some((width, left, Operand::Reg(register)))
         }
@@ -100,7 +109,10 @@ fn xchg_form(shapes: OperandShapes) -> Option<(Width, Operand, u8)>
     ensures { result ≡ xchg_form shapes }
 {
     match shapes {
-        OperandShapes::Two(OperandShape::Register(width, register), OperandShape::Memory(size, memory)) => {
+        OperandShapes::Two(
+            OperandShape::Register(width, register),
+            OperandShape::Memory(size, memory),
+        ) => {
             let other = target(width, OperandShape::Memory(size, memory))?;
             Some((width, other, register))
         }
@@ -172,9 +184,10 @@ fn lea_form(shapes: OperandShapes) -> Option<Op>
     ensures { result ≡ lea_form shapes }
 {
     match shapes {
-        OperandShapes::Two(OperandShape::Register(Width::D, register), OperandShape::Memory(None, memory)) => {
-            Some(Op::Lea(register, memory))
-        }
+        OperandShapes::Two(
+            OperandShape::Register(Width::D, register),
+            OperandShape::Memory(None, memory),
+        ) => { Some(Op::Lea(register, memory)) }
         _ => None,
     }
 }
@@ -194,7 +207,11 @@ fn imul_form(shapes: OperandShapes) -> Option<Op>
             let factor = target(Width::D, shape)?;
             Some(Op::Imul(register, factor))
         }
-        OperandShapes::Three(OperandShape::Register(Width::D, register), shape, OperandShape::Number) => {
+        OperandShapes::Three(
+            OperandShape::Register(Width::D, register),
+            shape,
+            OperandShape::Number,
+        ) => {
             let factor = target(Width::D, shape)?;
             Some(Op::ImulImm(register, factor, 0))
         }

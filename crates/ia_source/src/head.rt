@@ -97,10 +97,15 @@ fn read_statement<'a, 'b>(tokens: &'b [Token<'a>]) -> Option<(Statement, &'b [To
 }
 
 fn with_label<'a, 'b>(label: Option<&'a [u8]>, tokens: &'b [Token<'a>]) -> Option<Head<'a, 'b>>
-    ensures { option_map head_content result ≡ with_label (option_map (λ l. l.now) label.entry) (statement_at (map lexeme_of tokens.now)) }
+    ensures { option_map head_content result
+        ≡ with_label (option_map (λ l. l.now) label.entry) (statement_at (map lexeme_of tokens.now)) }
 {
     match read_statement(tokens) {
-        Some((statement, rest)) => Some(Head { label, statement, rest }),
+        Some((statement, rest)) => Some(Head {
+            label,
+            statement,
+            rest,
+        }),
         None => None,
     }
 }

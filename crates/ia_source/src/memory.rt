@@ -1,16 +1,16 @@
-//! Places in memory.
+//! Operands in memory.
 
 ghost use Rattle.std.specs.Prelude.{◌≡◌, ◌≤◌, ◌<◌, length, map, option_map, IfSome, Some, None, false, not};
 ghost use Rattle.ia_lex.specs.Tokens.{lexeme_of};
 ghost use Rattle.ia_lex.specs.Terms.{term_content, atom_content};
-ghost use Rattle.ia_source.specs.MemoryOperands.{long_register, scale_of, both, with_register, with_scaled, with_term, plain, product, factor_of, piece_at, joined, memory_from, memory_of, terms_content, piece_content, piece_and_length, joined_content, memory_content};
+ghost use Rattle.ia_source.specs.MemoryOperands.{long_register, scale_of, both, with_register, with_scaled, with_term, plain, product, factor_of, piece_at, with_piece, memory_from, memory_of, terms_content, piece_content, piece_and_length, with_piece_content, memory_content};
 
 use crate::comma::is_mark;
 use ia_insn::Mem;
 use ia_lex::{Atom, Expression, Term, Token, atom, register_of, sign};
 use ia_word::Width;
 
-/// A place in memory.
+/// An operand in memory.
 #[derive(Drop)]
 pub struct MemoryOperand<'a> {
     /// Its base and its index, with a displacement of 0.
@@ -19,7 +19,7 @@ pub struct MemoryOperand<'a> {
     pub terms: Expression<'a>,
 }
 
-/// A part of a place.
+/// A piece of an operand in memory.
 #[derive(Clone, Copy)]
 pub enum Piece<'a> {
     /// A register.
@@ -117,10 +117,11 @@ fn with_scaled(mem: Mem, register: u8, scale: u8) -> Option<Mem>
     }
 }
 
-/// One more part, of at most 16.
+/// One more term, of at most 16.
 #[tactic(auto, using(crate::proofs::MemoryOperands::one_more, crate::proofs::MemoryOperands::has_room, crate::proofs::MemoryOperands::is_full))]
 fn with_term<'a>(terms: Expression<'a>, negative: bool, atom: Atom<'a>) -> Option<Expression<'a>>
-    ensures { option_map terms_content result ≡ with_term (terms_content terms.entry) negative (atom_content atom.entry) }
+    ensures { option_map terms_content result
+        ≡ with_term (terms_content terms.entry) negative (atom_content atom.entry) }
 {
     let mut terms = terms;
     if terms.is_full() {
@@ -143,7 +144,8 @@ fn plain<'a>(token: &Token<'a>) -> Option<Piece<'a>>
 }
 
 fn both<'a>(register: &Token<'a>, factor: &Token<'a>) -> Option<Piece<'a>>
-    ensures { option_map piece_content result ≡ both (long_register (lexeme_of register.now)) (scale_of (lexeme_of factor.now)) }
+    ensures { option_map piece_content result
+        ≡ both (long_register (lexeme_of register.now)) (scale_of (lexeme_of factor.now)) }
 {
     match (long_register(register), scale(factor)) {
         (Some(register), Some(scale)) => Some(Piece::Scaled(register, scale)),
@@ -200,14 +202,15 @@ fn front_piece<'a>(tokens: &[Token<'a>]) -> Option<(Piece<'a>, usize)>
 }
 
 /// A place with one more piece.
-fn joined<'a>(
+fn with_piece<'a>(
     mem: Mem,
     terms: Expression<'a>,
     negative: bool,
     register: bool,
     piece: Piece<'a>,
 ) -> Option<(Mem, Expression<'a>)>
-    ensures { option_map joined_content result ≡ joined mem (terms_content terms.entry) negative register (piece_content piece.entry) }
+    ensures { option_map with_piece_content result
+        ≡ with_piece mem (terms_content terms.entry) negative register (piece_content piece.entry) }
 {
     match piece {
         Piece::Register(number) => {
@@ -237,8 +240,13 @@ fn joined<'a>(
 
 /// What stands behind a piece: a sign and pieces, or the closing bracket.
 #[cycle(memory)]
-fn behind_piece<'a>(mem: Mem, terms: Expression<'a>, tokens: &[Token<'a>]) -> Option<MemoryOperand<'a>>
-    ensures { option_map memory_content result ≡ memory_from 0 mem (terms_content terms.entry) None (map lexeme_of tokens.now) }
+fn behind_piece<'a>(
+    mem: Mem,
+    terms: Expression<'a>,
+    tokens: &[Token<'a>],
+) -> Option<MemoryOperand<'a>>
+    ensures { option_map memory_content result
+        ≡ memory_from 0 mem (terms_content terms.entry) None (map lexeme_of tokens.now) }
 {
     match tokens.split_first() {
         None => None,
@@ -269,11 +277,12 @@ fn behind_sign<'a>(
     register: bool,
     tokens: &[Token<'a>],
 ) -> Option<MemoryOperand<'a>>
-    ensures { option_map memory_content result ≡ memory_from 0 mem (terms_content terms.entry) (Some (negative, register)) (map lexeme_of tokens.now) }
+    ensures { option_map memory_content result
+        ≡ memory_from 0 mem (terms_content terms.entry) (Some (negative, register)) (map lexeme_of tokens.now) }
 {
     match front_piece(tokens) {
         None => None,
-        Some((piece, taken)) => match joined(mem, terms, negative, register, piece) {
+        Some((piece, taken)) => match with_piece(mem, terms, negative, register, piece) {
             None => None,
             Some((mem, terms)) => behind_piece(mem, terms, &tokens[taken..]),
         },

@@ -41,7 +41,7 @@ pub struct Operands<'a> {
     pub shapes: OperandShapes,
     /// The terms of the operand that is an expression.
     pub number: Expression<'a>,
-    /// The terms of the displacement of the one that is a place.
+    /// The terms of the displacement of the one in memory.
     pub displacement: Expression<'a>,
 }
 
@@ -132,7 +132,9 @@ pub fn read_operand<'a>(tokens: &[Token<'a>]) -> Option<Operand<'a>>
         None => None,
         Some((Token::Word(word), rest)) => match find_prefix(word) {
             None => expression_operand(OperandShape::Number, tokens),
-            Some(OperandPrefix::Register(width, register)) => register_operand(width, register, rest),
+            Some(OperandPrefix::Register(width, register)) => register_operand(
+                width, register, rest,
+            ),
             Some(OperandPrefix::Size(width)) => sized_memory(width, rest),
             Some(OperandPrefix::Near) => expression_operand(OperandShape::Near, rest),
             Some(OperandPrefix::Short) => expression_operand(OperandShape::Short, rest),
@@ -155,7 +157,8 @@ fn with_shape(shapes: OperandShapes, shape: OperandShape) -> Option<OperandShape
 
 /// One more operand, of at most three.
 fn with_operand<'a>(operands: Operands<'a>, operand: Operand<'a>) -> Option<Operands<'a>>
-    ensures { option_map operands_content result ≡ with_operand (operands_content operands.entry) (operand_content operand.entry) }
+    ensures { option_map operands_content result
+        ≡ with_operand (operands_content operands.entry) (operand_content operand.entry) }
 {
     let Operands {
         shapes,
@@ -195,7 +198,8 @@ fn with_operand<'a>(operands: Operands<'a>, operand: Operand<'a>) -> Option<Oper
 
 /// Operands, and those that tokens are.
 fn more_operands<'a>(before: Operands<'a>, tokens: &[Token<'a>]) -> Option<Operands<'a>>
-    ensures { option_map operands_content result ≡ operands_from (operands_content before.entry) (between_commas (map lexeme_of tokens.now)) }
+    ensures { option_map operands_content result
+        ≡ operands_from (operands_content before.entry) (between_commas (map lexeme_of tokens.now)) }
 {
     let (piece, rest) = first_piece(tokens);
     match read_operand(piece) {

@@ -6,12 +6,12 @@ ghost use Rattle.ia_source.specs.Contents.{entry_content};
 ghost use Rattle.ia_source.specs.Statements.{state_content};
 ghost use Rattle.ia_source.specs.Source.{is_twice, with_name, add_label, label_onto, line_onto, entries_of, names_content, source_content, Tells, IsTwice};
 
+use crate::expression::name_in;
 use crate::fault::{SourceFault, Why};
 use crate::head::{Statement, read_head};
 use crate::mnemonic::Directive;
 use crate::state::{SourceState, behind, start, with_label};
 use crate::statement::push_statement;
-use crate::expression::name_in;
 use ia_item::{Entry, Item, Name};
 use ia_lex::{LexFault, first_line, tokens};
 use indexmap::IndexSet;
@@ -24,9 +24,12 @@ fn define<'a>(
     state: SourceState<'a>,
     label: Option<&'a [u8]>,
 ) -> Result<(), SourceFault>
-    ensures new { MatchResult result (λ _. is_twice (names_content names.old) (state_content state.entry) (option_map (λ l. l.now) label.entry) ≡ false)
-        (IsTwice (is_twice (names_content names.old) (state_content state.entry) (option_map (λ l. l.now) label.entry)) state.entry.line) }
-    ensures names { IfOk result (λ _. names_content names.new ≡ with_name (names_content names.old) (state_content state.entry) (option_map (λ l. l.now) label.entry)) }
+    ensures new { MatchResult result (λ _. is_twice (names_content names.old) (state_content state.entry)
+        (option_map (λ l. l.now) label.entry) ≡ false)
+        (IsTwice (is_twice (names_content names.old) (state_content state.entry) (option_map
+        (λ l. l.now) label.entry)) state.entry.line) }
+    ensures names { IfOk result (λ _. names_content names.new
+        ≡ with_name (names_content names.old) (state_content state.entry) (option_map (λ l. l.now) label.entry)) }
 {
     match label {
         None => Ok(()),
@@ -51,7 +54,9 @@ fn push_name<'a>(
     state: SourceState<'a>,
     label: Option<&'a [u8]>,
 ) -> Result<(), AllocError>
-    ensures { IfOk result (λ _. map entry_content entries.new.items ≡ add_label (map entry_content entries.old.items) (state_content state.entry) (option_map (λ l. l.now) label.entry)) }
+    ensures { IfOk result (λ _. map entry_content entries.new.items
+        ≡ add_label (map entry_content entries.old.items) (state_content state.entry) (option_map
+        (λ l. l.now) label.entry)) }
 {
     if let Some(own) = label {
         entries.push(Entry {
@@ -70,7 +75,9 @@ fn push_label<'a>(
     label: Option<&'a [u8]>,
     statement: Statement,
 ) -> Result<(), AllocError>
-    ensures { IfOk result (λ _. map entry_content entries.new.items ≡ label_onto (map entry_content entries.old.items) (state_content state.entry) (option_map (λ l. l.now) label.entry) statement) }
+    ensures { IfOk result (λ _. map entry_content entries.new.items
+        ≡ label_onto (map entry_content entries.old.items) (state_content state.entry) (option_map
+        (λ l. l.now) label.entry) statement) }
 {
     match statement {
         Statement::Directive(Directive::Equ) => Ok(()),
@@ -87,7 +94,8 @@ fn push_line<'a>(
     state: SourceState<'a>,
     line: &'a [u8],
 ) -> Result<SourceState<'a>, SourceFault>
-    ensures { MatchResult result (λ s. line_onto (source_content state.entry names.old entries.old.items) line.now ≡ Ok (source_content s names.new entries.new.items))
+    ensures { MatchResult result (λ s. line_onto (source_content state.entry names.old entries.old.items) line.now
+        ≡ Ok (source_content s names.new entries.new.items))
         (Tells (line_onto (source_content state.entry names.old entries.old.items) line.now)) }
 {
     let words = match tokens(alloc, line) {
@@ -118,7 +126,8 @@ fn push_line<'a>(
 /// Each entry can be placed: an instruction is encodable, an alignment is a power of two up to 4096, and an expression has 1 to
 /// 16 terms. `NoMemory` where no memory was left.
 pub fn entries<'a>(alloc: Global, source: &'a [u8]) -> Result<Vec<Entry<'a>>, SourceFault>
-    ensures exact { MatchResult result (λ es. entries_of source.now ≡ Ok (map entry_content es.items)) (Tells (entries_of source.now)) }
+    ensures exact { MatchResult result (λ es. entries_of source.now
+        ≡ Ok (map entry_content es.items)) (Tells (entries_of source.now)) }
     ensures fit { IfOk result (λ es. AllFit es.items) }
 {
     let mut names = IndexSet::new(alloc);

@@ -4,9 +4,9 @@ ghost use Rattle.std.specs.Prelude.{◌≡◌, option_map, map};
 ghost use Rattle.ia_lex.specs.Tokens.{lexeme_of};
 ghost use Rattle.ia_source.specs.Statements.{first_state, next_line, named_section, only_number, with_label, in_section, with_flags, behind_statement, behind, state_content};
 
+use crate::expression::is_local;
 use crate::head::Statement;
 use crate::mnemonic::Directive;
-use crate::expression::is_local;
 use ia_item::Section;
 use ia_lex::Token;
 
@@ -75,8 +75,13 @@ pub fn only_number(tokens: &[Token]) -> Option<Option<u64>>
 }
 
 /// The state behind a line's label. The name of an `equ` is no label that local ones belong to.
-pub fn with_label<'a>(state: SourceState<'a>, label: Option<&'a [u8]>, statement: Statement) -> SourceState<'a>
-    ensures { state_content result ≡ with_label (state_content state.entry) (option_map (λ l. l.now) label.entry) statement }
+pub fn with_label<'a>(
+    state: SourceState<'a>,
+    label: Option<&'a [u8]>,
+    statement: Statement,
+) -> SourceState<'a>
+    ensures { state_content result ≡ with_label (state_content state.entry) (option_map
+        (λ l. l.now) label.entry) statement }
 {
     match (statement, label) {
         (Statement::Directive(Directive::Equ), _) => state,
@@ -122,7 +127,11 @@ fn with_flags<'a>(state: SourceState<'a>, based: bool, placed: bool) -> SourceSt
 }
 
 /// The state behind what a line asks for.
-fn behind_statement<'a>(state: SourceState<'a>, statement: Statement, tokens: &[Token<'a>]) -> SourceState<'a>
+fn behind_statement<'a>(
+    state: SourceState<'a>,
+    statement: Statement,
+    tokens: &[Token<'a>],
+) -> SourceState<'a>
     ensures { state_content result ≡ behind_statement (state_content state.entry) statement (map lexeme_of tokens.now) }
 {
     match statement {
@@ -138,7 +147,11 @@ fn behind_statement<'a>(state: SourceState<'a>, statement: Statement, tokens: &[
 }
 
 /// The state at the next line.
-pub fn behind<'a>(state: SourceState<'a>, statement: Statement, tokens: &[Token<'a>]) -> SourceState<'a>
+pub fn behind<'a>(
+    state: SourceState<'a>,
+    statement: Statement,
+    tokens: &[Token<'a>],
+) -> SourceState<'a>
     ensures { state_content result ≡ behind (state_content state.entry) statement (map lexeme_of tokens.now) }
 {
     let state = behind_statement(state, statement, tokens);

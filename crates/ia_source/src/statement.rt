@@ -8,30 +8,31 @@ ghost use Rattle.ia_source.specs.Operands.{operands_of};
 ghost use Rattle.ia_source.specs.Statements.{add_some, if_fits, expression_in, code_item, byte_item, value_item, values_onto, only_number, is_32, is_symbol, is_power, align_item, org_item, equ_item, directive_onto, statement_onto, state_content, IsBad, IsUnfit};
 
 use crate::comma::comma_index;
+use crate::expression::{expression_in, name_in, some_expression};
 use crate::fault::{SourceFault, Why};
 use crate::form::instruction;
 use crate::head::Statement;
 use crate::mnemonic::{Directive, Mnemonic};
 use crate::operand::{read_operands, whole_expression};
 use crate::state::{SourceState, named_section, only_number};
-use crate::expression::{name_in, some_expression, expression_in};
 use ia_item::{Entry, Item, ScopedExpression, Template};
 use ia_lex::{Token, register_of};
 use std::alloc::{AllocError, Global};
 
-/// The sum that tokens are, if they are one.
+/// The expression that tokens are, if they are one.
 fn read_expression<'a>(
     alloc: Global,
     state: SourceState<'a>,
     tokens: &[Token<'a>],
 ) -> Result<Option<ScopedExpression<'a>>, AllocError>
-    ensures { IfOk result (λ s. option_map expression_content s ≡ expression_in (state_content state.entry) (map lexeme_of tokens.now)) }
+    ensures { IfOk result (λ s. option_map expression_content s
+        ≡ expression_in (state_content state.entry) (map lexeme_of tokens.now)) }
 {
     match whole_expression(tokens) {
         None => Ok(None),
         Some(expression) => {
-            let sum = expression_in(alloc, state.scope, &expression)?;
-            Ok(Some(sum))
+            let scoped = expression_in(alloc, state.scope, &expression)?;
+            Ok(Some(scoped))
         }
     }
 }
@@ -44,7 +45,8 @@ fn read_code<'a>(
     mnemonic: Mnemonic,
     tokens: &[Token<'a>],
 ) -> Result<Option<Item<'a>>, AllocError>
-    ensures { IfOk result (λ i. option_map item_content i ≡ code_item (state_content state.entry) lock mnemonic (operands_of (map lexeme_of tokens.now))) }
+    ensures { IfOk result (λ i. option_map item_content i
+        ≡ code_item (state_content state.entry) lock mnemonic (operands_of (map lexeme_of tokens.now))) }
 {
     match read_operands(tokens) {
         None => Ok(None),
@@ -69,13 +71,14 @@ fn read_byte<'a>(
     state: SourceState<'a>,
     tokens: &[Token<'a>],
 ) -> Result<Option<Item<'a>>, AllocError>
-    ensures { IfOk result (λ i. option_map item_content i ≡ byte_item (state_content state.entry) (map lexeme_of tokens.now)) }
+    ensures { IfOk result (λ i. option_map item_content i
+        ≡ byte_item (state_content state.entry) (map lexeme_of tokens.now)) }
 {
     if let [Token::Text(bytes)] = tokens {
         return Ok(Some(Item::Text(bytes)));
     }
     match read_expression(alloc, state, tokens)? {
-        Some(sum) => Ok(Some(Item::Byte(sum))),
+        Some(expression) => Ok(Some(Item::Byte(expression))),
         None => Ok(None),
     }
 }
@@ -87,13 +90,14 @@ fn read_value<'a>(
     long: bool,
     tokens: &[Token<'a>],
 ) -> Result<Option<Item<'a>>, AllocError>
-    ensures { IfOk result (λ i. option_map item_content i ≡ value_item long (state_content state.entry) (map lexeme_of tokens.now)) }
+    ensures { IfOk result (λ i. option_map item_content i
+        ≡ value_item long (state_content state.entry) (map lexeme_of tokens.now)) }
 {
     if !long {
         return read_byte(alloc, state, tokens);
     }
     match read_expression(alloc, state, tokens)? {
-        Some(sum) => Ok(Some(Item::Long(sum))),
+        Some(expression) => Ok(Some(Item::Long(expression))),
         None => Ok(None),
     }
 }
@@ -103,10 +107,11 @@ fn read_reserve<'a>(
     state: SourceState<'a>,
     tokens: &[Token<'a>],
 ) -> Result<Option<Item<'a>>, AllocError>
-    ensures { IfOk result (λ i. option_map item_content i ≡ option_map Reserve (expression_in (state_content state.entry) (map lexeme_of tokens.now))) }
+    ensures { IfOk result (λ i. option_map item_content i
+        ≡ option_map Reserve (expression_in (state_content state.entry) (map lexeme_of tokens.now))) }
 {
     match read_expression(alloc, state, tokens)? {
-        Some(sum) => Ok(Some(Item::Reserve(sum))),
+        Some(expression) => Ok(Some(Item::Reserve(expression))),
         None => Ok(None),
     }
 }
@@ -117,12 +122,13 @@ fn read_equ<'a>(
     label: Option<&'a [u8]>,
     tokens: &[Token<'a>],
 ) -> Result<Option<Item<'a>>, AllocError>
-    ensures { IfOk result (λ i. option_map item_content i ≡ equ_item (state_content state.entry) (option_map (λ l. l.now) label.entry) (map lexeme_of tokens.now)) }
+    ensures { IfOk result (λ i. option_map item_content i
+        ≡ equ_item (state_content state.entry) (option_map (λ l. l.now) label.entry) (map lexeme_of tokens.now)) }
 {
     match label {
         None => Ok(None),
         Some(own) => match read_expression(alloc, state, tokens)? {
-            Some(sum) => Ok(Some(Item::Equ(name_in(state.scope, own), sum))),
+            Some(expression) => Ok(Some(Item::Equ(name_in(state.scope, own), expression))),
             None => Ok(None),
         },
     }
@@ -202,8 +208,10 @@ pub fn push_some<'a>(
     state: SourceState<'a>,
     item: Option<Item<'a>>,
 ) -> Result<(), SourceFault>
-    ensures { MatchResult result (λ _. add_some (map entry_content entries.old.items) (state_content state.entry) (option_map item_content item.entry) ≡ Some (map entry_content entries.new.items))
-        (IsBad (add_some (map entry_content entries.old.items) (state_content state.entry) (option_map item_content item.entry)) state.entry.line) }
+    ensures { MatchResult result (λ _. add_some (map entry_content entries.old.items) (state_content state.entry)
+        (option_map item_content item.entry) ≡ Some (map entry_content entries.new.items))
+        (IsBad (add_some (map entry_content entries.old.items) (state_content state.entry)
+        (option_map item_content item.entry)) state.entry.line) }
 {
     match item {
         None => Err(SourceFault::Line {
@@ -228,8 +236,11 @@ fn push_value<'a>(
     long: bool,
     tokens: &[Token<'a>],
 ) -> Result<(), SourceFault>
-    ensures { MatchResult result (λ _. add_some (map entry_content entries.old.items) (state_content state.entry) (value_item long (state_content state.entry) (map lexeme_of tokens.now)) ≡ Some (map entry_content entries.new.items))
-        (IsBad (add_some (map entry_content entries.old.items) (state_content state.entry) (value_item long (state_content state.entry) (map lexeme_of tokens.now))) state.entry.line) }
+    ensures { MatchResult result (λ _. add_some (map entry_content entries.old.items) (state_content state.entry)
+        (value_item long (state_content state.entry) (map lexeme_of tokens.now))
+        ≡ Some (map entry_content entries.new.items))
+        (IsBad (add_some (map entry_content entries.old.items) (state_content state.entry) (value_item long
+        (state_content state.entry) (map lexeme_of tokens.now))) state.entry.line) }
 {
     let item = read_value(alloc, state, long, tokens)?;
     push_some(entries, state, item)
@@ -243,8 +254,11 @@ fn push_values<'a>(
     long: bool,
     tokens: &[Token<'a>],
 ) -> Result<(), SourceFault>
-    ensures { MatchResult result (λ _. values_onto long (state_content state.entry) (map entry_content entries.old.items) (between_commas (map lexeme_of tokens.now)) ≡ Some (map entry_content entries.new.items))
-        (IsBad (values_onto long (state_content state.entry) (map entry_content entries.old.items) (between_commas (map lexeme_of tokens.now))) state.entry.line) }
+    ensures { MatchResult result (λ _. values_onto long (state_content state.entry)
+        (map entry_content entries.old.items) (between_commas (map lexeme_of tokens.now))
+        ≡ Some (map entry_content entries.new.items))
+        (IsBad (values_onto long (state_content state.entry) (map entry_content entries.old.items) (between_commas
+        (map lexeme_of tokens.now))) state.entry.line) }
 {
     let mut place = 0;
     while place <= tokens.len() {
@@ -282,8 +296,11 @@ fn push_directive<'a>(
     directive: Directive,
     tokens: &[Token<'a>],
 ) -> Result<(), SourceFault>
-    ensures { MatchResult result (λ _. directive_onto (map entry_content entries.old.items) (state_content state.entry) (option_map (λ l. l.now) label.entry) directive (map lexeme_of tokens.now) ≡ Some (map entry_content entries.new.items))
-        (IsBad (directive_onto (map entry_content entries.old.items) (state_content state.entry) (option_map (λ l. l.now) label.entry) directive (map lexeme_of tokens.now)) state.entry.line) }
+    ensures { MatchResult result (λ _. directive_onto (map entry_content entries.old.items)
+        (state_content state.entry) (option_map (λ l. l.now) label.entry) directive (map lexeme_of tokens.now)
+        ≡ Some (map entry_content entries.new.items))
+        (IsBad (directive_onto (map entry_content entries.old.items) (state_content state.entry) (option_map
+        (λ l. l.now) label.entry) directive (map lexeme_of tokens.now)) state.entry.line) }
 {
     match directive {
         Directive::Section => if_fits(named_section(tokens).is_some(), state),
@@ -313,8 +330,11 @@ pub fn push_statement<'a>(
     statement: Statement,
     tokens: &[Token<'a>],
 ) -> Result<(), SourceFault>
-    ensures { MatchResult result (λ _. statement_onto (map entry_content entries.old.items) (state_content state.entry) (option_map (λ l. l.now) label.entry) statement (map lexeme_of tokens.now) ≡ Some (map entry_content entries.new.items))
-        (IsBad (statement_onto (map entry_content entries.old.items) (state_content state.entry) (option_map (λ l. l.now) label.entry) statement (map lexeme_of tokens.now)) state.entry.line) }
+    ensures { MatchResult result (λ _. statement_onto (map entry_content entries.old.items)
+        (state_content state.entry) (option_map (λ l. l.now) label.entry) statement (map lexeme_of tokens.now)
+        ≡ Some (map entry_content entries.new.items))
+        (IsBad (statement_onto (map entry_content entries.old.items) (state_content state.entry) (option_map
+        (λ l. l.now) label.entry) statement (map lexeme_of tokens.now)) state.entry.line) }
 {
     match statement {
         Statement::Nothing => Ok(()),

@@ -1,7 +1,7 @@
 use Rattle.std.proofs.Common.{◌≡◌, Some, None, Err, sym, subst, map}
 use Rattle.ia_layout.specs.Placement.{all_places}
 use Rattle.ia_layout.specs.Contents.{entry_place}
-use Rattle.ia_asm.specs.Assembled.{fault_of, TellsFault}
+use Rattle.ia_asm.specs.Assemblies.{fault_of, TellsFault}
 use Rattle.ia_asm.proofs.ProgramLayouts.{steps, fault_is, found}
 use Rattle.ia_asm.proofs.assembly.lay_out.Goals as goal
 

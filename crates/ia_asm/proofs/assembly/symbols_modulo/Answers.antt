@@ -4,7 +4,7 @@ use Rattle.indexmap.specs.IndexMap.{insert_all}
 use Rattle.ia_item.specs.Names.{same_name}
 use Rattle.ia_layout.specs.declared.layout.PlacedEntry.{PlacedEntry}
 use Rattle.ia_layout.specs.Placement.{definition}
-use Rattle.ia_asm.specs.Assembled.{symbol_modulo}
+use Rattle.ia_asm.specs.Assemblies.{symbol_modulo}
 use Rattle.ia_layout.specs.Contents.{entry_place, IsBounded}
 use Rattle.ia_layout.proofs.Layouts.{all_from}
 use Rattle.ia_asm.proofs.SymbolValues.{all_modulo, modulo_step}

@@ -3,7 +3,7 @@ use Rattle.std.specs.Prelude.{All, flat_map}
 use Rattle.indexmap.specs.IndexMap.{insert_all}
 use Rattle.ia_item.specs.Names.{same_name}
 use Rattle.ia_layout.specs.Placement.{symbols, definition}
-use Rattle.ia_asm.specs.Assembled.{symbol_modulo}
+use Rattle.ia_asm.specs.Assemblies.{symbol_modulo}
 use Rattle.ia_layout.specs.Contents.{entry_place, IsBounded}
 use Rattle.ia_asm.proofs.assembly.symbols_modulo.Given as goal
 

@@ -1,6 +1,6 @@
 use Rattle.std.proofs.Common.{Err, sym, subst}
 use Rattle.ia_asm.specs.declared.fault.AsmFault.{AsmFault}
-use Rattle.ia_asm.specs.Assembled.{PlacesAll}
+use Rattle.ia_asm.specs.Assemblies.{PlacesAll}
 use Rattle.ia_asm.specs.Assembles.{Assembles}
 use Rattle.ia_asm.proofs.Refusals.{reading_refused, placing_told}
 use Rattle.ia_asm.proofs.from_source.assemble.Goals as goal

@@ -1,6 +1,6 @@
 use Rattle.std.proofs.Common.{Err, sym, subst}
 use Rattle.ia_asm.specs.declared.fault.AsmFault.{AsmFault}
-use Rattle.ia_asm.specs.Assembled.{PlacesImage}
+use Rattle.ia_asm.specs.Assemblies.{PlacesImage}
 use Rattle.ia_asm.specs.Assembles.{AssemblesImage}
 use Rattle.ia_asm.proofs.Refusals.{reading_refused, image_placing_told}
 use Rattle.ia_asm.proofs.from_source.assemble_image.Goals as goal

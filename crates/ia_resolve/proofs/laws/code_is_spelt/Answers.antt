@@ -1,4 +1,4 @@
-use Rattle.ia_resolve.proofs.Spelt.{code_spelt}
+use Rattle.ia_resolve.proofs.Spelling.{code_spelt}
 use Rattle.ia_resolve.proofs.laws.code_is_spelt.Goals as goal
 
 pub returns : goal.returns

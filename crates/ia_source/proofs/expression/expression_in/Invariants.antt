@@ -1,7 +1,7 @@
 use Rattle.std.proofs.Common.{◌≡◌, ◌++◌, drop, map}
 use Rattle.ia_source.specs.Contents.{scoped_term_content}
-use Rattle.ia_source.specs.Symbols.{scoped}
+use Rattle.ia_source.specs.Symbols.{scoped_term}
 use Rattle.ia_source.proofs.expression.expression_in.Given as goal
 
 abbrev pub invariant-loop-term : goal.invariant-loop-term
-invariant-loop-term l = map scoped_term_content l.terms.items ++ map (scoped l.scope) (drop l.term-index l.written) ≡ map (scoped l.scope) l.written
+invariant-loop-term l = map scoped_term_content l.terms.items ++ map (scoped_term l.scope) (drop l.term-index l.source_terms) ≡ map (scoped_term l.scope) l.source_terms

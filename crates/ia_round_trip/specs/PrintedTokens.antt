@@ -24,7 +24,8 @@ scale_value s = if s == 1 then 1 else if s == 2 then 2 else if s == 4 then 4 els
 
 abbrev pub index_tokens : Bool → Option ℕ → ℕ → List Lexeme
 index_tokens before None scale = []
-index_tokens before (Some r) scale = plus_tokens before ++ (Word (register_name D r) ∷ []) ++ (Mark 42 ∷ []) ++ Number (Some (scale_value scale)) ∷ []
+index_tokens before (Some r) scale = plus_tokens before ++ (Word (register_name D r) ∷ []) ++
+    (Mark 42 ∷ []) ++ Number (Some (scale_value scale)) ∷ []
 
 abbrev pub disp_tokens : Bool → ℕ → List Lexeme
 disp_tokens before disp = if before && (disp == 0) then [] else (plus_tokens before ++ Number (small disp) ∷ [])
@@ -46,7 +47,8 @@ behind_tokens gap None = []
 behind_tokens gap (Some a) = gap ++ arg_tokens a
 
 abbrev pub args_tokens : Op → ℕ → List Lexeme
-args_tokens o at = behind_tokens [] (first_arg o at) ++ behind_tokens (Mark 44 ∷ []) (second_arg o) ++ behind_tokens (Mark 44 ∷ []) (third_arg o)
+args_tokens o at = behind_tokens [] (first_arg o at) ++ behind_tokens (Mark 44 ∷ []) (second_arg o) ++ behind_tokens
+    (Mark 44 ∷ []) (third_arg o)
 
 abbrev pub op_tokens : Op → ℕ → List Lexeme
 op_tokens o at = Word (stem o ++ condition o) ∷ args_tokens o at

@@ -20,7 +20,7 @@ abbrev pub by_value : Option ℤ → (ℤ → Option ℤ) → Option ℤ
 by_value None next = None
 by_value (Some v) next = next v
 
--- what parts add up to, from a whole number on; none where one of them is no such number
+-- what terms add up to, from a whole number on; none where one of them is no such number
 abbrev pub sum_from : ℤ → List TermContent → Option ℤ
 sum_from v [] = Some v
 sum_from v (p ∷ ps) = by_value (known_number p.atom) (λ w. sum_from (if p.negative then v -ℤ w else v +ℤ w) ps)
@@ -29,7 +29,8 @@ sum_from v (p ∷ ps) = by_value (known_number p.atom) (λ w. sum_from (if p.neg
 
 -- a value in the field's range, and at a short jump a distance from -128 to 127
 abbrev pub takes : Field → ℕ → ℤ → Bool
-takes (field.Short long) at v = within (low_of (field.Short long)) (high_of (field.Short long)) v && fits_short (distance at long (modulo_long v))
+takes (field.Short long) at v = within (low_of (field.Short long)) (high_of (field.Short long)) v && fits_short
+    (distance at long (modulo_long v))
 takes f at v = within (low_of f) (high_of f) v
 
 abbrev pub if_taken : Field → ℕ → Option ℤ → Option ℕ
@@ -56,4 +57,5 @@ by_op (Some o) next = next o
 
 -- the instruction at an address with the values of its number's sum and of its displacement's; none where one does not fit
 unfoldable pub resolved_insn : ℕ → Insn → Option (List TermContent) → Option (List TermContent) → Option Insn
-resolved_insn at i number place = option_map (λ o. record { lock = i.lock; op = o }) (by_op (op_with_number at number i.op) (op_with_displacement at place))
+resolved_insn at i number place = option_map (λ o. record { lock = i.lock; op = o }) (by_op
+    (op_with_number at number i.op) (op_with_displacement at place))

@@ -8,7 +8,7 @@ use Rattle.ia_layout.specs.Placement.{base_of, text_end, all_places, symbols, se
 use Rattle.ia_layout.specs.Contents.{entry_place, IsBounded}
 use Rattle.ia_asm.specs.declared.fault.AsmFault.{AsmFault}
 use Rattle.ia_asm.specs.declared.assembly.ProgramLayout.{ProgramLayout}
-use Rattle.ia_asm.specs.Assembled.{fault_of, TellsFault}
+use Rattle.ia_asm.specs.Assemblies.{fault_of, TellsFault}
 
 -- the bytes of a section, and the symbols with their values
 abbrev pub layout_bytes : Section → ProgramLayout → List ℕ

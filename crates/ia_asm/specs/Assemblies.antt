@@ -13,7 +13,7 @@ use Rattle.ia_asm.specs.declared.assembly.Unit.{Unit as Assembly}
 use Rattle.ia_asm.specs.declared.assembly.ProgramImage.{ProgramImage}
 use Rattle.ia_asm.specs.Faults.{at_line}
 use Rattle.ia_asm.specs.ListingText.{listing_text}
-use Rattle.ia_layout.specs.Placement.{base_of, text_end, all_places, symbols, values, section_bytes, gap, joined, first_fault}
+use Rattle.ia_layout.specs.Placement.{base_of, text_end, all_places, symbols, values, section_bytes, gap, code_and_data, first_fault}
 
 -- a symbol's value modulo 2^32; none is below -2^31
 abbrev pub value_modulo : ℤ → ℕ
@@ -37,10 +37,10 @@ abbrev pub fault_of : List Entry → Option (PlaceFault × ℕ)
 fault_of es = first_fault (values (all_places es)) (base_of es) (all_places es)
 
 -- the image, the symbols and the listing fit the entries, none of which has a fault
-pub record Assembled (es : List Entry) (u : Assembly) : Type 0 where
+pub record IsAssembly (es : List Entry) (u : Assembly) : Type 0 where
   pub faultless : fault_of es ≡ None
   pub base : u.base ≡ base_of es
-  pub image : u.image.items ≡ joined (code_of es) (gap 64 (text_end es)) (tail_of es)
+  pub image : u.image.items ≡ code_and_data (code_of es) (gap 64 (text_end es)) (tail_of es)
   pub code_len : u.code_len ≡ length (code_of es)
   -- the code ends where its items do, so that the data stands at its addresses
   pub end : base_of es + length (code_of es) ≡ text_end es
@@ -51,7 +51,7 @@ pub record Assembled (es : List Entry) (u : Assembly) : Type 0 where
 pub record IsImage (es : List Entry) (p : ProgramImage) : Type 0 where
   pub faultless : fault_of es ≡ None
   pub base : p.base ≡ base_of es
-  pub image : p.image.items ≡ joined (code_of es) (gap 64 (text_end es)) (tail_of es)
+  pub image : p.image.items ≡ code_and_data (code_of es) (gap 64 (text_end es)) (tail_of es)
   pub code_len : p.code_len ≡ length (code_of es)
   pub end : base_of es + length (code_of es) ≡ text_end es
   pub symbols : p.symbols.entries ≡ map symbol_modulo (symbols (all_places es))
@@ -63,7 +63,7 @@ TellsFault es f = option_map (λ t. at_line t.0 t.1) (fault_of es) ≡ Some f
 
 -- the entries are placed, or this is the first line that has a fault
 abbrev pub PlacesAll : List Entry → Result Assembly AsmFault → Type 0
-PlacesAll es (Ok u) = Assembled es u
+PlacesAll es (Ok u) = IsAssembly es u
 PlacesAll es (Err f) = TellsFault es f
 
 abbrev pub PlacesImage : List Entry → Result ProgramImage AsmFault → Type 0
