@@ -12,8 +12,9 @@ use Rattle.std.specs.FinSet as finset
 use Rattle.std.specs.FinMap as map_of
 use Rattle.tm_model.specs.Access.{Stores, have_line_of, lines_of, memory_after, stored_addresses}
 use Rattle.tm_model.specs.Shown.{Buffer, buffer_of}
-use Rattle.tm_core.specs.StepRefinement.{add_all, lines_hit, seen}
-use Rattle.tm_core.specs.Types.{Lines}
+use Rattle.tm_core.specs.StepRefinement.{Touched, add_all, addresses_touched, line_hits, lines_hit, lines_touched}
+use Rattle.tm_core.specs.StepRefinement.{seen}
+use Rattle.tm_core.specs.Types.{Kind, Lines, Read, Write}
 use Rattle.tm_core.proofs.Frame.{Same, length-memory_after}
 use Rattle.tm_core.proofs.Sound.{InRange}
 
@@ -95,8 +96,30 @@ pub not_hit : (m : List ℕ) (reads : Lines) (ps : List ℕ) (ws : Stores) → O
 not_hit m reads [] ws is h = tt
 not_hit m reads (p ∷ ps) ws is h = (sym (apart m reads p ws is.0 h), not_hit m reads ps ws is.1 h)
 
--- the test of one list against either set is that of each set
-pub either_set : (reads writes : Lines) (ls : List ℕ) → lines_hit reads writes ls ≡ (list_any (finset.contains reads) ls || list_any (finset.contains writes) ls)
+pub lines_hit-empty : (touched : Touched) → lines_hit finset.empty finset.empty touched ≡ false
+lines_hit-empty [] = refl
+lines_hit-empty ((kind, l) ∷ touched) = ap (λ t. t || lines_hit finset.empty finset.empty touched) (none kind) ∙ lines_hit-empty touched
+  where
+    none : (kind : Kind) → line_hits finset.empty finset.empty kind l ≡ false
+    none Read = finset.contains-empty nat_cmp l
+    none Write = ap (λ t. t || t) (finset.contains-empty nat_cmp l)
+
+pub lines_hit-append : (reads writes : Lines) (xs ys : Touched) → lines_hit reads writes (xs ++ ys) ≡ (lines_hit reads writes xs || lines_hit reads writes ys)
+lines_hit-append reads writes [] ys = refl
+lines_hit-append reads writes (x ∷ xs) ys =
+    ap (λ t. line_hits reads writes x.0 x.1 || t) (lines_hit-append reads writes xs ys)
+    ∙ or_assoc (line_hits reads writes x.0 x.1) (lines_hit reads writes xs) (lines_hit reads writes ys)
+  where
+    or_assoc : (a b c : Bool) → (a || (b || c)) ≡ ((a || b) || c)
+    or_assoc true b c = refl
+    or_assoc false b c = refl
+
+-- the test of lines of one kind
+pub lines_hit-kind : (reads writes : Lines) (kind : Kind) (ls : List ℕ) → lines_hit reads writes (lines_touched kind ls) ≡ list_any (line_hits reads writes kind) ls
+lines_hit-kind reads writes kind [] = refl
+lines_hit-kind reads writes kind (l ∷ ls) = ap (λ t. line_hits reads writes kind l || t) (lines_hit-kind reads writes kind ls)
+
+either_set : (reads writes : Lines) (ls : List ℕ) → list_any (line_hits reads writes Write) ls ≡ (list_any (finset.contains reads) ls || list_any (finset.contains writes) ls)
 either_set reads writes [] = refl
 either_set reads writes (l ∷ ls) =
     ap (λ t. (finset.contains reads l || finset.contains writes l) || t) (either_set reads writes ls)
@@ -109,9 +132,33 @@ either_set reads writes (l ∷ ls) =
     crossed false false true d = refl
     crossed false false false d = refl
 
-pub lines_hit-empty : (ls : List ℕ) → lines_hit finset.empty finset.empty ls ≡ false
-lines_hit-empty [] = refl
-lines_hit-empty (l ∷ ls) = ap (λ t. t || lines_hit finset.empty finset.empty ls) (ap (λ t. t || t) (finset.contains-empty nat_cmp l)) ∙ lines_hit-empty ls
+-- loads and stores hit as the model says
+abbrev pub hits : Lines → Lines → List ℕ → List ℕ → Bool
+hits reads writes loads stores = have_line_of reads stores || (have_line_of writes stores || have_line_of writes loads)
+
+loads_hit : (reads writes : Lines) (loads : List ℕ) → lines_hit reads writes (addresses_touched Read loads) ≡ have_line_of writes loads
+loads_hit reads writes loads = lines_hit-kind reads writes Read (map line loads)
+
+pub loads_alone_hit : (reads writes : Lines) (loads : List ℕ) → lines_hit reads writes (addresses_touched Read loads) ≡ hits reads writes loads []
+loads_alone_hit reads writes loads = loads_hit reads writes loads
+
+pub stores_hit : (reads writes : Lines) (ls : List ℕ) → lines_hit reads writes (lines_touched Write ls) ≡ (list_any (finset.contains reads) ls || list_any (finset.contains writes) ls)
+stores_hit reads writes ls = lines_hit-kind reads writes Write ls ∙ either_set reads writes ls
+
+pub both_hit : (reads writes : Lines) (loads stores : List ℕ) → lines_hit reads writes (addresses_touched Read loads ++ addresses_touched Write stores) ≡ hits reads writes loads stores
+both_hit reads writes loads stores =
+    lines_hit-append reads writes (addresses_touched Read loads) (addresses_touched Write stores)
+    ∙ ap (λ t. t || lines_hit reads writes (addresses_touched Write stores)) (loads_hit reads writes loads)
+    ∙ ap (λ t. have_line_of writes loads || t) (stores_hit reads writes (map line stores))
+    ∙ turned (have_line_of writes loads) (have_line_of reads stores) (have_line_of writes stores)
+  where
+    turned : (a b c : Bool) → (a || (b || c)) ≡ (b || (c || a))
+    turned true true c = refl
+    turned true false true = refl
+    turned true false false = refl
+    turned false true c = refl
+    turned false false true = refl
+    turned false false false = refl
 
 -- ---- a test over lists of the same members
 
@@ -152,3 +199,14 @@ list_any-from_list ls q = any_tied q ls ∙ sym (finset.contains-from_list nat_c
 -- the test over the items of a set is that over the list
 pub any_items : (p : ℕ → Bool) (s : Lines) (ls : List ℕ) → s ≡ line_set ls → list_any p (finset.items s) ≡ list_any p ls
 any_items p s ls e = any_same p (finset.items s) ls (λ q. items_any s q ∙ ap (λ t. finset.contains t q) e ∙ sym (list_any-from_list ls q))
+
+-- a commit hits by the lines of its write set as by the addresses that it stored to
+pub items_hit : (reads writes written : Lines) (stores : List ℕ) → written ≡ line_set (map line stores) → lines_hit reads writes (lines_touched Write (finset.items written)) ≡ hits reads writes [] stores
+items_hit reads writes written stores e =
+    stores_hit reads writes (finset.items written)
+    ∙ ap (λ t. t || list_any (finset.contains writes) (finset.items written)) (any_items (finset.contains reads) written (map line stores) e)
+    ∙ ap (λ t. have_line_of reads stores || t) (any_items (finset.contains writes) written (map line stores) e ∙ or_none (have_line_of writes stores))
+  where
+    or_none : (b : Bool) → b ≡ (b || false)
+    or_none true = refl
+    or_none false = refl

@@ -7,11 +7,12 @@ use Rattle.tm_buffer.specs.Held.{drained}
 use Rattle.tm_sets.specs.Content.{Content}
 use Rattle.tm_model.specs.Setting.{Setting}
 use Rattle.tm_model.specs.Shown.{View, view_outside}
-use Rattle.tm_core.specs.Representation.{AreLines, Elsewhere, IsHeld, IsStep, KeptCore, condemn_kept, cpu_at}
-use Rattle.tm_core.specs.Representation.{cpu_view, cpu_views, kept_after_hit, kept_at, kept_of, no_cpu}
-use Rattle.tm_core.specs.StepRefinement.{StepResult, condemn_view, finished, lines_hit, stepped, view_after_hit}
-use Rattle.tm_core.specs.StepRefinement.{views_after}
-use Rattle.tm_core.specs.Types.{AtStop, Committed, Condemned, CoreState, Open, Read, Running, Write}
+use Rattle.tm_core.specs.Representation.{AreClosed, AreLines, Elsewhere, IsHeld, IsStep, KeptCore, condemn_kept}
+use Rattle.tm_core.specs.Representation.{cpu_at, cpu_view, cpu_views, is_open, kept_after_hit, kept_at, kept_of}
+use Rattle.tm_core.specs.Representation.{no_cpu}
+use Rattle.tm_core.specs.StepRefinement.{StepResult, Touched, condemn_view, finished, lines_hit, lines_touched}
+use Rattle.tm_core.specs.StepRefinement.{stepped, view_after_hit, views_after}
+use Rattle.tm_core.specs.Types.{AtStop, Committed, Condemned, CoreState, Open, Outcome, Read, Running, Write}
 use Rattle.tm_core.proofs.BufferLemmas.{items_any}
 use Rattle.tm_core.proofs.Held.{held_of, held_plain, ordered_as, ordered_of}
 use Rattle.tm_core.proofs.Hits.{hit_kept_view, lines_hit_same}
@@ -26,10 +27,10 @@ condemn_held room x Running h = h
 condemn_held room x (Condemned depth) h = h
 condemn_held room x (AtStop reason) h = h
 
-pub hit_held : (room : ℕ) (ls : List ℕ) (x : KeptCore) → IsHeld room x → IsHeld room (kept_after_hit ls x)
+pub hit_held : (room : ℕ) (ls : Touched) (x : KeptCore) → IsHeld room x → IsHeld room (kept_after_hit ls x)
 hit_held room ls x h = (elim (lines_hit x.view.reads x.view.writes ls) as (λ t. IsHeld room (cond t (condemn_kept x.view.mode x) x)) [ true ↦ condemn_held room x x.view.mode h | false ↦ h ])
 
-pub hit_held_by : (room : ℕ) (t : Bool) (ls : List ℕ) (x y : KeptCore) → y ≡ cond t x (kept_after_hit ls x) → IsHeld room x → IsHeld room y
+pub hit_held_by : (room : ℕ) (t : Bool) (ls : Touched) (x y : KeptCore) → y ≡ cond t x (kept_after_hit ls x) → IsHeld room x → IsHeld room y
 hit_held_by room true ls x y e h = subst (IsHeld room) (sym e) h
 hit_held_by room false ls x y e h = subst (IsHeld room) (sym e) (hit_held room ls x h)
 
@@ -72,28 +73,28 @@ lines_below room size n x h are fit i below =
 
 -- ---- a commit
 
-pub hit_items : (room : ℕ) (x : KeptCore) (v : View) → IsHeld room x → view_after_hit x.order v ≡ view_after_hit (finset.items x.view.writes) v
-hit_items room x v h = ap (λ t. cond t (condemn_view v.mode v) v) (lines_hit_same v.reads v.writes x.order (finset.items x.view.writes) (λ q. h.same q ∙ sym (items_any x.view.writes q)))
+pub hit_items : (room : ℕ) (x : KeptCore) (v : View) → IsHeld room x → view_after_hit (lines_touched Write x.order) v ≡ view_after_hit (lines_touched Write (finset.items x.view.writes)) v
+hit_items room x v h = ap (λ t. cond t (condemn_view v.mode v) v) (lines_hit_same v.reads v.writes Write x.order (finset.items x.view.writes) (λ q. h.same q ∙ sym (items_any x.view.writes q)))
 
 module _ (k : Setting) (m : List ℕ) (a b b2 b3 : Content) (cpus cpus3 : List Cpu) (c : ℕ) (x y : Cpu) (room depth : ℕ)
     (below : c < length cpus) (cores : length cpus3 ≡ length cpus)
     (elsewhere : Elsewhere a b c) (elsewhere3 : Elsewhere b2 b3 c)
     (held : IsHeld room (kept_of b c x))
-    (hit_all : (j : ℕ) → j < length cpus → kept_at b2 cpus3 j ≡ cond (eqb j c) (kept_at b (set cpus c x) j) (kept_after_hit (cpu_at (set cpus c x) c).buffer.order (kept_at b (set cpus c x) j))) where
+    (hit_all : (j : ℕ) → j < length cpus → kept_at b2 cpus3 j ≡ cond (eqb j c) (kept_at b (set cpus c x) j) (kept_after_hit (lines_touched Write (cpu_at (set cpus c x) c).buffer.order) (kept_at b (set cpus c x) j))) where
   -- the core that commits is not hit
   pub own_kept : kept_at b2 cpus3 c ≡ kept_of b c x
   own_kept =
       hit_all c below
-      ∙ ap (λ t. cond t (kept_at b (set cpus c x) c) (kept_after_hit (cpu_at (set cpus c x) c).buffer.order (kept_at b (set cpus c x) c))) (eq-eqb c c refl)
+      ∙ ap (λ t. cond t (kept_at b (set cpus c x) c) (kept_after_hit (lines_touched Write (cpu_at (set cpus c x) c).buffer.order) (kept_at b (set cpus c x) c))) (eq-eqb c c refl)
       ∙ ap (kept_of b c) (cpu_same cpus c x below)
 
-  commit_other : (j : ℕ) → j < length cpus → eqb j c ≡ false → cpu_views b3 (set cpus3 c y) j ≡ view_after_hit (finset.items (b.lines c Write)) (cpu_views a cpus j)
+  commit_other : (j : ℕ) → j < length cpus → eqb j c ≡ false → cpu_views b3 (set cpus3 c y) j ≡ view_after_hit (lines_touched Write (finset.items (b.lines c Write))) (cpu_views a cpus j)
   commit_other j h e =
       view_other b2 b3 cpus3 c j y elsewhere3 e
-      ∙ ap (λ (z : KeptCore). z.view) (hit_all j h ∙ ap (λ t. cond t (kept_at b (set cpus c x) j) (kept_after_hit (cpu_at (set cpus c x) c).buffer.order (kept_at b (set cpus c x) j))) e)
-      ∙ ap (λ (z : Cpu). (kept_after_hit z.buffer.order (kept_at b (set cpus c x) j)).view) (cpu_same cpus c x below)
-      ∙ hit_kept_view x.buffer.order (kept_at b (set cpus c x) j)
-      ∙ ap (view_after_hit x.buffer.order) (view_other a b cpus c j x elsewhere e)
+      ∙ ap (λ (z : KeptCore). z.view) (hit_all j h ∙ ap (λ t. cond t (kept_at b (set cpus c x) j) (kept_after_hit (lines_touched Write (cpu_at (set cpus c x) c).buffer.order) (kept_at b (set cpus c x) j))) e)
+      ∙ ap (λ (z : Cpu). (kept_after_hit (lines_touched Write z.buffer.order) (kept_at b (set cpus c x) j)).view) (cpu_same cpus c x below)
+      ∙ hit_kept_view (lines_touched Write x.buffer.order) (kept_at b (set cpus c x) j)
+      ∙ ap (view_after_hit (lines_touched Write x.buffer.order)) (view_other a b cpus c j x elsewhere e)
       ∙ hit_items room (kept_of b c x) (cpu_views a cpus j) held
 
   pub commit_step : (m2 : List ℕ) → (cpu_at cpus c).state ≡ Open depth → stepped k m (cpu_views a cpus c) (Open depth) ≡ finished m (cpu_view b c x) →
@@ -106,7 +107,7 @@ module _ (k : Setting) (m : List ℕ) (a b b2 b3 : Content) (cpus cpus3 : List C
         new_memory = memory ∙ ap (λ (z : KeptCore). drained z.view.buffer m) own_kept ∙ ap (λ (r : StepResult). r.memory) (sym whole);
         each = λ j h.
             subst (λ (r : StepResult). cpu_views b3 (set cpus3 c y) j ≡ views_after (cpu_views a cpus) c r j) (sym whole)
-            ((elim (eqb j c) as (λ t. eqb j c ≡ t → cpu_views b3 (set cpus3 c y) j ≡ cond t (view_outside Running x.regs) (view_after_hit (finset.items (b.lines c Write)) (cpu_views a cpus j))) [
+            ((elim (eqb j c) as (λ t. eqb j c ≡ t → cpu_views b3 (set cpus3 c y) j ≡ cond t (view_outside Running x.regs) (view_after_hit (lines_touched Write (finset.items (b.lines c Write))) (cpu_views a cpus j))) [
               | true ↦ λ e.
                   ap (λ n. cpu_views b3 (set cpus3 c y) n) (eqb-true j c e)
                   ∙ ap (cpu_view b3 c) (cpu_same cpus3 c y (subst (λ n. c < n) (sym cores) below))
@@ -114,3 +115,53 @@ module _ (k : Setting) (m : List ℕ) (a b b2 b3 : Content) (cpus cpus3 : List C
               | false ↦ λ e. commit_other j h e
             ]) refl);
       }
+
+-- ---- a step that others see
+
+-- the views after a step of core c and what it hits
+hit_views : (a b b2 : Content) (cpus cpus3 : List Cpu) (c : ℕ) (x : Cpu) (r : StepResult) → c < length cpus → Elsewhere a b c →
+    ((j : ℕ) → j < length cpus → kept_at b2 cpus3 j ≡ cond (eqb j c) (kept_at b (set cpus c x) j) (kept_after_hit r.touched (kept_at b (set cpus c x) j))) →
+    r.view ≡ cpu_view b c x → (j : ℕ) → j < length cpus → cpu_views b2 cpus3 j ≡ views_after (cpu_views a cpus) c r j
+hit_views a b b2 cpus cpus3 c x r below elsewhere kept own j h =
+    ap (λ (z : KeptCore). z.view) (kept j h)
+    ∙ (elim (eqb j c) as (λ t. eqb j c ≡ t → (cond t (kept_at b (set cpus c x) j) (kept_after_hit r.touched (kept_at b (set cpus c x) j))).view ≡ cond t r.view (view_after_hit r.touched (cpu_views a cpus j))) [
+      | true ↦ λ e.
+          ap (λ n. cpu_views b (set cpus c x) n) (eqb-true j c e)
+          ∙ ap (cpu_view b c) (cpu_same cpus c x below)
+          ∙ sym own
+      | false ↦ λ e.
+          hit_kept_view r.touched (kept_at b (set cpus c x) j)
+          ∙ ap (view_after_hit r.touched) (view_other a b cpus c j x elsewhere e)
+    ]) refl
+
+pub hit_is_step : (k : Setting) (m m2 : List ℕ) (a b b2 : Content) (cpus cpus3 : List Cpu) (c : ℕ) (x : Cpu) (o : Outcome) (mode : CoreState) (r : StepResult) → c < length cpus → Elsewhere a b c →
+    (cpu_at cpus c).state ≡ mode → stepped k m (cpu_views a cpus c) mode ≡ r → o ≡ r.outcome → m2 ≡ r.memory → r.view ≡ cpu_view b c x →
+    ((j : ℕ) → j < length cpus → kept_at b2 cpus3 j ≡ cond (eqb j c) (kept_at b (set cpus c x) j) (kept_after_hit r.touched (kept_at b (set cpus c x) j))) →
+    IsStep k m (cpu_views a cpus) (length cpus) c o m2 (cpu_views b2 cpus3)
+hit_is_step k m m2 a b b2 cpus cpus3 c x o mode r below elsewhere state is out memory own kept =
+    let whole : stepped k m (cpu_views a cpus c) (cpu_views a cpus c).mode ≡ r = ap (stepped k m (cpu_views a cpus c)) state ∙ is in
+    record {
+      outcome_is = out ∙ ap (λ (q : StepResult). q.outcome) (sym whole);
+      new_memory = memory ∙ ap (λ (q : StepResult). q.memory) (sym whole);
+      each = λ j h. hit_views a b b2 cpus cpus3 c x r below elsewhere kept own j h ∙ ap (λ (q : StepResult). views_after (cpu_views a cpus) c q j) (sym whole);
+    }
+
+-- ---- where no core is open, nothing is hit
+
+closed_condemn : (x : KeptCore) (mode : CoreState) → is_open mode ≡ false → condemn_kept mode x ≡ x
+closed_condemn x (Open depth) h = absurd (true≢false h)
+closed_condemn x Running h = refl
+closed_condemn x (Condemned depth) h = refl
+closed_condemn x (AtStop stop) h = refl
+
+closed_kept : (touched : Touched) (x : KeptCore) → is_open x.view.mode ≡ false → kept_after_hit touched x ≡ x
+closed_kept touched x h = (elim (lines_hit x.view.reads x.view.writes touched) as (λ t. cond t (condemn_kept x.view.mode x) x ≡ x) [ true ↦ closed_condemn x x.view.mode h | false ↦ refl ])
+
+pub quiet_kept : (a : Content) (cpus : List Cpu) (c : ℕ) (x : Cpu) (touched : Touched) → AreClosed cpus → (j : ℕ) → j < length cpus →
+    kept_at a (set cpus c x) j ≡ cond (eqb j c) (kept_at a (set cpus c x) j) (kept_after_hit touched (kept_at a (set cpus c x) j))
+quiet_kept a cpus c x touched closed j h =
+    let y : KeptCore = kept_at a (set cpus c x) j in
+    (elim (eqb j c) as (λ t. eqb j c ≡ t → y ≡ cond t y (kept_after_hit touched y)) [
+      | true ↦ λ e. refl
+      | false ↦ λ e. sym (closed_kept touched y (ap (λ (z : Cpu). is_open z.state) (cpu_other cpus c j x (eqb-false j c e)) ∙ closed j h))
+    ]) refl

@@ -1,22 +1,22 @@
 use Rattle.std.proofs.Common.{◌≡◌, ℕ, ◌+◌, ◌<◌, Bool, true, false, cond, eqb, ◌||◌, List, [], ◌∷◌, ◌++◌, length, take, refl, sym, ap, ◌∙◌, get_or}
 use Rattle.std.proofs.lemmas.Bool.{eq-eqb}
 use Rattle.tm_sets.specs.Content.{Content}
-use Rattle.std.proofs.lemmas.List.{take_more}
+use Rattle.std.proofs.lemmas.List.{map-append, take_more}
 use Rattle.std.specs.List.{list_any}
 use Rattle.std.specs.FinSet as finset
 use Rattle.tm_model.specs.Shown.{view_outside}
 use Rattle.tm_core.specs.Representation.{KeptCore, condemn_kept, cpu_at, kept_after_hit, kept_at}
-use Rattle.tm_core.specs.StepRefinement.{condemn_view, lines_hit, view_after_hit}
-use Rattle.tm_core.specs.Types.{AtStop, Condemned, CoreState, Lines, Open, Running}
-use Rattle.tm_core.proofs.BufferLemmas.{any_same, lines_hit-empty}
+use Rattle.tm_core.specs.StepRefinement.{Touched, condemn_view, line_hits, lines_hit, lines_touched, view_after_hit}
+use Rattle.tm_core.specs.Types.{AtStop, Condemned, CoreState, Kind, Lines, Open, Running}
+use Rattle.tm_core.proofs.BufferLemmas.{any_same, lines_hit-append, lines_hit-empty, lines_hit-kind}
 use Rattle.tm_core.specs.declared.cpu.Cpu.{Cpu}
 
 -- the test over lists of the same members
-pub lines_hit_same : (reads writes : Lines) (xs ys : List ℕ) → ((q : ℕ) → list_any (eqb q) xs ≡ list_any (eqb q) ys) → lines_hit reads writes xs ≡ lines_hit reads writes ys
-lines_hit_same reads writes xs ys same = any_same (λ l. finset.contains reads l || finset.contains writes l) xs ys same
+pub lines_hit_same : (reads writes : Lines) (kind : Kind) (xs ys : List ℕ) → ((q : ℕ) → list_any (eqb q) xs ≡ list_any (eqb q) ys) → lines_hit reads writes (lines_touched kind xs) ≡ lines_hit reads writes (lines_touched kind ys)
+lines_hit_same reads writes kind xs ys same = lines_hit-kind reads writes kind xs ∙ any_same (line_hits reads writes kind) xs ys same ∙ sym (lines_hit-kind reads writes kind ys)
 
-pub hit_kept_same : (xs ys : List ℕ) (x : KeptCore) → ((q : ℕ) → list_any (eqb q) xs ≡ list_any (eqb q) ys) → kept_after_hit xs x ≡ kept_after_hit ys x
-hit_kept_same xs ys x same = ap (λ t. cond t (condemn_kept x.view.mode x) x) (lines_hit_same x.view.reads x.view.writes xs ys same)
+pub hit_kept_same : (kind : Kind) (xs ys : List ℕ) (x : KeptCore) → ((q : ℕ) → list_any (eqb q) xs ≡ list_any (eqb q) ys) → kept_after_hit (lines_touched kind xs) x ≡ kept_after_hit (lines_touched kind ys) x
+hit_kept_same kind xs ys x same = ap (λ t. cond t (condemn_kept x.view.mode x) x) (lines_hit_same x.view.reads x.view.writes kind xs ys same)
 
 pub condemn_kept_view : (x : KeptCore) (mode : CoreState) → (condemn_kept mode x).view ≡ condemn_view mode x.view
 condemn_kept_view x (Open depth) = refl
@@ -24,7 +24,7 @@ condemn_kept_view x Running = refl
 condemn_kept_view x (Condemned depth) = refl
 condemn_kept_view x (AtStop reason) = refl
 
-pub hit_kept_view : (ls : List ℕ) (x : KeptCore) → (kept_after_hit ls x).view ≡ view_after_hit ls x.view
+pub hit_kept_view : (ls : Touched) (x : KeptCore) → (kept_after_hit ls x).view ≡ view_after_hit ls x.view
 hit_kept_view ls x =
     (elim (lines_hit x.view.reads x.view.writes ls) as (λ t. (cond t (condemn_kept x.view.mode x) x).view ≡ cond t (condemn_view x.view.mode x.view) x.view) [
       | true ↦ condemn_kept_view x x.view.mode
@@ -33,27 +33,17 @@ hit_kept_view ls x =
 
 -- ---- one hit after another
 
-lines_hit-append : (reads writes : Lines) (xs ys : List ℕ) → lines_hit reads writes (xs ++ ys) ≡ (lines_hit reads writes xs || lines_hit reads writes ys)
-lines_hit-append reads writes [] ys = refl
-lines_hit-append reads writes (x ∷ xs) ys =
-    ap (λ t. (finset.contains reads x || finset.contains writes x) || t) (lines_hit-append reads writes xs ys)
-    ∙ or_assoc (finset.contains reads x || finset.contains writes x) (lines_hit reads writes xs) (lines_hit reads writes ys)
-  where
-    or_assoc : (a b c : Bool) → (a || (b || c)) ≡ ((a || b) || c)
-    or_assoc true b c = refl
-    or_assoc false b c = refl
-
-not_twice : (x : KeptCore) (ls : List ℕ) → condemn_kept x.view.mode x ≡ x → kept_after_hit ls x ≡ x
+not_twice : (x : KeptCore) (ls : Touched) → condemn_kept x.view.mode x ≡ x → kept_after_hit ls x ≡ x
 not_twice x ls e = (elim (lines_hit x.view.reads x.view.writes ls) as (λ t. cond t (condemn_kept x.view.mode x) x ≡ x) [ true ↦ e | false ↦ refl ])
 
-doomed_again : (x : KeptCore) (ls : List ℕ) (mode : CoreState) → x.view.mode ≡ mode → kept_after_hit ls (condemn_kept mode x) ≡ condemn_kept mode x
+doomed_again : (x : KeptCore) (ls : Touched) (mode : CoreState) → x.view.mode ≡ mode → kept_after_hit ls (condemn_kept mode x) ≡ condemn_kept mode x
 doomed_again x ls (Open depth) e = let y : KeptCore = record { view = view_outside (Condemned depth) x.view.base; order = []; room = x.room } in ap (λ t. cond t (condemn_kept (Condemned depth) y) y) (lines_hit-empty ls)
 doomed_again x ls Running e = not_twice x ls (ap (λ mode. condemn_kept mode x) e)
 doomed_again x ls (Condemned depth) e = not_twice x ls (ap (λ mode. condemn_kept mode x) e)
 doomed_again x ls (AtStop reason) e = not_twice x ls (ap (λ mode. condemn_kept mode x) e)
 
 -- a hit of more lines is one hit after another
-pub hit_append : (xs ys : List ℕ) (x : KeptCore) → kept_after_hit (xs ++ ys) x ≡ kept_after_hit ys (kept_after_hit xs x)
+pub hit_append : (xs ys : Touched) (x : KeptCore) → kept_after_hit (xs ++ ys) x ≡ kept_after_hit ys (kept_after_hit xs x)
 hit_append xs ys x =
     ap (λ t. cond t (condemn_kept x.view.mode x) x) (lines_hit-append x.view.reads x.view.writes xs ys)
     ∙ (elim (lines_hit x.view.reads x.view.writes xs) as (λ t. cond (t || lines_hit x.view.reads x.view.writes ys) (condemn_kept x.view.mode x) x ≡ kept_after_hit ys (cond t (condemn_kept x.view.mode x) x)) [
@@ -61,20 +51,27 @@ hit_append xs ys x =
       | false ↦ refl
     ])
 
-pub hit_more : (ls : List ℕ) (i : ℕ) (x y z : KeptCore) → i < length ls → y ≡ kept_after_hit (take i ls) x → z ≡ kept_after_hit (get_or ls i 0 ∷ []) y → z ≡ kept_after_hit (take (i + 1) ls) x
-hit_more ls i x y z below before e =
-    e ∙ ap (kept_after_hit (get_or ls i 0 ∷ [])) before ∙ sym (hit_append (take i ls) (get_or ls i 0 ∷ []) x) ∙ ap (λ xs. kept_after_hit xs x) (sym (take_more ls i 0 below))
+pub hit_more : (kind : Kind) (ls : List ℕ) (i : ℕ) (x y z : KeptCore) → i < length ls → y ≡ kept_after_hit (lines_touched kind (take i ls)) x → z ≡ kept_after_hit ((kind, get_or ls i 0) ∷ []) y → z ≡ kept_after_hit (lines_touched kind (take (i + 1) ls)) x
+hit_more kind ls i x y z below before e =
+    e ∙ ap (kept_after_hit ((kind, get_or ls i 0) ∷ [])) before ∙ sym (hit_append (lines_touched kind (take i ls)) ((kind, get_or ls i 0) ∷ []) x)
+    ∙ ap (λ xs. kept_after_hit xs x) (sym (map-append (λ (l : ℕ). (kind, l)) (take i ls) (get_or ls i 0 ∷ [])))
+    ∙ ap (λ xs. kept_after_hit (lines_touched kind xs) x) (sym (take_more ls i 0 below))
+
+-- one hit and another, of all cores but one
+pub hit_then : (t : Bool) (first last : Touched) (x y z : KeptCore) → y ≡ cond t x (kept_after_hit first x) → z ≡ cond t y (kept_after_hit last y) → z ≡ cond t x (kept_after_hit (first ++ last) x)
+hit_then true first last x y z e f = f ∙ e
+hit_then false first last x y z e f = f ∙ ap (kept_after_hit last) e ∙ sym (hit_append first last x)
 
 -- a hit of two lines, of all cores but one
-pub hit_twice : (t : Bool) (first last : ℕ) (ls : List ℕ) (x y z : KeptCore) → y ≡ cond t x (kept_after_hit (first ∷ []) x) → z ≡ cond t y (kept_after_hit (last ∷ []) y) →
-    ((q : ℕ) → list_any (eqb q) (first ∷ last ∷ []) ≡ list_any (eqb q) ls) → z ≡ cond t x (kept_after_hit ls x)
-hit_twice true first last ls x y z e f same = f ∙ e
-hit_twice false first last ls x y z e f same = f ∙ ap (kept_after_hit (last ∷ [])) e ∙ sym (hit_append (first ∷ []) (last ∷ []) x) ∙ hit_kept_same (first ∷ last ∷ []) ls x same
+pub hit_twice : (t : Bool) (kind : Kind) (first last : ℕ) (ls : List ℕ) (x y z : KeptCore) → y ≡ cond t x (kept_after_hit ((kind, first) ∷ []) x) → z ≡ cond t y (kept_after_hit ((kind, last) ∷ []) y) →
+    ((q : ℕ) → list_any (eqb q) (first ∷ last ∷ []) ≡ list_any (eqb q) ls) → z ≡ cond t x (kept_after_hit (lines_touched kind ls) x)
+hit_twice true kind first last ls x y z e f same = f ∙ e
+hit_twice false kind first last ls x y z e f same = hit_then false ((kind, first) ∷ []) ((kind, last) ∷ []) x y z e f ∙ hit_kept_same kind (first ∷ last ∷ []) ls x same
 
 -- one more hit, of all cores but one
-pub hit_step : (t : Bool) (ls : List ℕ) (i l : ℕ) (x y z : KeptCore) → i < length ls → l ≡ get_or ls i 0 → y ≡ cond t x (kept_after_hit (take i ls) x) → z ≡ cond t y (kept_after_hit (l ∷ []) y) → z ≡ cond t x (kept_after_hit (take (i + 1) ls) x)
-hit_step true ls i l x y z below at before e = e ∙ before
-hit_step false ls i l x y z below at before e = hit_more ls i x y z below before (e ∙ ap (λ n. kept_after_hit (n ∷ []) y) at)
+pub hit_step : (t : Bool) (kind : Kind) (ls : List ℕ) (i l : ℕ) (x y z : KeptCore) → i < length ls → l ≡ get_or ls i 0 → y ≡ cond t x (kept_after_hit (lines_touched kind (take i ls)) x) → z ≡ cond t y (kept_after_hit ((kind, l) ∷ []) y) → z ≡ cond t x (kept_after_hit (lines_touched kind (take (i + 1) ls)) x)
+hit_step true kind ls i l x y z below at before e = e ∙ before
+hit_step false kind ls i l x y z below at before e = hit_more kind ls i x y z below before (e ∙ ap (λ n. kept_after_hit ((kind, n) ∷ []) y) at)
 
 -- the core that hits keeps its buffer
 pub same_order : (a b : Content) (cpus cpus2 : List Cpu) (c : ℕ) (x : KeptCore) → kept_at b cpus2 c ≡ cond (eqb c c) (kept_at a cpus c) x → (cpu_at cpus2 c).buffer.order ≡ (cpu_at cpus c).buffer.order

@@ -1,27 +1,27 @@
 use Rattle.std.proofs.Common.{◌≡◌, ℕ, suc, ◌<◌, true, false, cond, eqb, nat_lt, List, [], ◌∷◌, length, Option, Some, None, refl, sym, ap, ◌∙◌, subst}
 use Rattle.std.specs.Prelude.{option_and_then, option_map, MatchOption}
 use Rattle.std.proofs.lemmas.Option.{option_and_then_some, same_Some}
-use Rattle.std.proofs.lemmas.Bool.{lt-ltb, ltb-true, or_parts}
-use Rattle.tm_model.specs.Access.{Stores, have_line_of, memory_after, stored_addresses, stores_of}
-use Rattle.tm_model.specs.Conflicts.{addresses_stored_by, depth_at_hit, doom_after_other, doom_after_own}
-use Rattle.tm_model.specs.Conflicts.{doomed_after, is_hit}
-use Rattle.tm_model.specs.Isolated.{Body, isolated_body, longer_body, read_set, write_set}
+use Rattle.std.proofs.lemmas.Bool.{lt-ltb, ltb-true}
+use Rattle.tm_model.specs.Access.{Stores, memory_after, stored_addresses, stores_of}
+use Rattle.tm_model.specs.Conflicts.{addresses_loaded_by, addresses_stored_by, depth_at_hit, doom_after_other}
+use Rattle.tm_model.specs.Conflicts.{doom_after_own, doomed_after, is_hit}
+use Rattle.tm_model.specs.Isolated.{Body, isolated_body, longer_body, read_set}
 use Rattle.tm_model.specs.Owed.{owed_outcome}
 use Rattle.tm_model.specs.Runs.{AreOwed, doomed_at_end}
 use Rattle.tm_model.specs.Setting.{Setting, outside_at}
 use Rattle.tm_model.specs.Shown.{View, ViewsStandFor, body_alone, view_inside, view_of, view_outside, view_with_body}
 use Rattle.tm_model.specs.State.{Closed, Core, Halted, Opened, State, opening_state}
-use Rattle.tm_model.specs.Steps.{after_begin, after_commit, after_plain, after_step_of, after_stop, registers_after_abort, run}
-use Rattle.tm_model.specs.Steps.{state_with, step, stop_number}
+use Rattle.tm_model.specs.Steps.{after_begin, after_commit, after_plain, after_step_of, after_stop}
+use Rattle.tm_model.specs.Steps.{registers_after_abort, run, state_with, step, stop_number}
 use Rattle.tm_model.specs.Went.{after_step_with_body, body_after, opening_with_bodies, run_with_bodies}
 use Rattle.tm_model.specs.Went.{state_with_body, step_with_body}
-use Rattle.tm_core.specs.StepRefinement.{StepResult, addresses_hit, stepped, views_after}
+use Rattle.tm_core.specs.StepRefinement.{StepResult, stepped, views_after}
 use Rattle.tm_core.specs.Theorem.{TransactionsAsTheyWent, condemned_depth, machine_setting, view_at}
 use Rattle.tm_core.specs.Types.{Aborted, AtStop, Begins, Begun, Committed, Condemned, Goes, Idle, Inside, Outcome}
 use Rattle.tm_core.specs.Types.{OutsideResult, Plain, Regs, Running, Stop, Stopped, Stops}
 use Rattle.tm_core.proofs.BufferLemmas.{lines_on, not_hit}
 use Rattle.tm_core.proofs.Frame.{frame, length-memory_after}
-use Rattle.tm_core.proofs.OtherCores.{view_inside_is}
+use Rattle.tm_core.proofs.OtherCores.{stores_missed, view_inside_is}
 use Rattle.tm_core.proofs.Sound.{Sound}
 use Rattle.tm_core.proofs.StepTheorem.{Right, right}
 use Rattle.tm_core.proofs.SteppingCore.{Own, isolated_body-suc, own}
@@ -105,23 +105,23 @@ went_own k m (Opened s n) w dx Begun q v e is same free = cc
 
 -- ---- the others
 
-missed : (stores : List ℕ) (b : Body) → depth_at_hit stores (Some b) ≡ None → is_hit stores b ≡ false
-missed stores b =
-    elim (is_hit stores b) as (λ t. cond t (Some b.depth) None ≡ None → t ≡ false) [
+missed : (loads stores : List ℕ) (b : Body) → depth_at_hit loads stores (Some b) ≡ None → is_hit loads stores b ≡ false
+missed loads stores b =
+    elim (is_hit loads stores b) as (λ t. cond t (Some b.depth) None ≡ None → t ≡ false) [
       | true ↦ λ e. cc
       | false ↦ λ e. refl
     ]
 
 -- the body of a core that no step hits stays as it is
-went_other : (k : Setting) (m : List ℕ) (ws : Stores) (y : Core) (w : Option Body) (dy : Option ℕ) (v : View) → view_of k m y dy ≡ Some v → (dy ≡ None → w ≡ body_alone k m y) → doom_after_other k m (stored_addresses ws) y dy ≡ None → w ≡ body_alone k (memory_after m ws) y
-went_other k m ws (Closed s) w dy v is same free = same free
-went_other k m ws (Halted s x) w dy v is same free = same free
-went_other k m ws (Opened s n) w (Some depth) v is same free = cc
-went_other k m ws (Opened s n) w None v is same free =
+went_other : (k : Setting) (m loads : List ℕ) (ws : Stores) (y : Core) (w : Option Body) (dy : Option ℕ) (v : View) → view_of k m y dy ≡ Some v → (dy ≡ None → w ≡ body_alone k m y) →
+    doom_after_other k m loads (stored_addresses ws) y dy ≡ None → w ≡ body_alone k (memory_after m ws) y
+went_other k m loads ws (Closed s) w dy v is same free = same free
+went_other k m loads ws (Halted s x) w dy v is same free = same free
+went_other k m loads ws (Opened s n) w (Some depth) v is same free = cc
+went_other k m loads ws (Opened s n) w None v is same free =
     option_and_then_some (view_inside s) (isolated_body k s m n) v is (λ b e1 e2.
-    let apart : is_hit (stored_addresses ws) b ≡ false = missed (stored_addresses ws) b (ap (depth_at_hit (stored_addresses ws)) (sym e1) ∙ free) in
-    let reads : have_line_of (read_set b) (stored_addresses ws) ≡ false = (or_parts (have_line_of (read_set b) (stored_addresses ws)) (have_line_of (write_set b) (stored_addresses ws)) apart).0 in
-    same refl ∙ e1 ∙ sym (frame k s m (memory_after m ws) n b (sym (length-memory_after m ws)) (not_hit m (read_set b) b.loads ws (lines_on b.loads) reads) e1))
+    let apart : is_hit loads (stored_addresses ws) b ≡ false = missed loads (stored_addresses ws) b (ap (depth_at_hit loads (stored_addresses ws)) (sym e1) ∙ free) in
+    same refl ∙ e1 ∙ sym (frame k s m (memory_after m ws) n b (sym (length-memory_after m ws)) (not_hit m (read_set b) b.loads ws (lines_on b.loads) (stores_missed loads (stored_addresses ws) b apart)) e1))
 
 -- ---- one step
 
@@ -170,10 +170,11 @@ module _ (k : Setting) (cores : ℕ) (a : State) (w : ℕ → Option Body) (d : 
       ap (λ t. cond t (option_map (state_with_body (record { state = a; bodies = w }) c own_body) (after_step_with_body k a.memory (a.cores c) (w c) r.outcome)) None) (lt-ltb c a.count (subst (λ n. c < n) counted below))
       ∙ ap (option_map (state_with_body (record { state = a; bodies = w }) c own_body)) (same_with_body k a.memory (a.cores c) (w c) (d c) r.outcome (views c) mine.owes (each c below) (same c below) ∙ mine.moves)
 
-  there : (j : ℕ) → j < cores → doom_after_other k a.memory (addresses_stored_by k a.memory (a.cores c) r.outcome) (a.cores j) (d j) ≡ None → w j ≡ body_alone k after (a.cores j)
+  there : (j : ℕ) → j < cores → doom_after_other k a.memory (addresses_loaded_by k a.memory (a.cores c) r.outcome) (addresses_stored_by k a.memory (a.cores c) r.outcome) (a.cores j) (d j) ≡ None → w j ≡ body_alone k after (a.cores j)
   there j within free =
-      went_other k a.memory mine.stores (a.cores j) (w j) (d j) (views j) (each j within) (same j within)
-      (ap (λ ps. doom_after_other k a.memory ps (a.cores j) (d j)) mine.wrote ∙ free)
+      went_other k a.memory mine.loads mine.stores (a.cores j) (w j) (d j) (views j) (each j within) (same j within)
+      (ap (λ ls. doom_after_other k a.memory ls (stored_addresses mine.stores) (a.cores j) (d j)) mine.loaded
+      ∙ ap (λ ps. doom_after_other k a.memory (addresses_loaded_by k a.memory (a.cores c) r.outcome) ps (a.cores j) (d j)) mine.wrote ∙ free)
 
   pub one_goes : OneGoes k cores a w d c r.outcome
   one_goes = record {
@@ -185,7 +186,7 @@ module _ (k : Setting) (cores : ℕ) (a : State) (w : ℕ → Option Body) (d : 
     size = length-memory_after a.memory mine.stores ∙ size;
     stands = stands_by;
     by_itself = λ j within.
-        elim (eqb j c) as (λ t. cond t (doom_after_own r.outcome (d c)) (doom_after_other k a.memory (addresses_stored_by k a.memory (a.cores c) r.outcome) (a.cores j) (d j)) ≡ None → cond t own_body (w j) ≡ body_alone k after (cond t mine.next (a.cores j))) [
+        elim (eqb j c) as (λ t. cond t (doom_after_own r.outcome (d c)) (doom_after_other k a.memory (addresses_loaded_by k a.memory (a.cores c) r.outcome) (addresses_stored_by k a.memory (a.cores c) r.outcome) (a.cores j) (d j)) ≡ None → cond t own_body (w j) ≡ body_alone k after (cond t mine.next (a.cores j))) [
           | true ↦ λ free. went_own k a.memory (a.cores c) (w c) (d c) r.outcome (after, mine.next) (views c) mine.moves (each c below) (same c below) free
           | false ↦ λ free. there j within free
         ];

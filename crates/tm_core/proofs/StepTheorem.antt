@@ -3,7 +3,8 @@ use Rattle.std.specs.Prelude.{option_and_then, option_map, MatchOption}
 use Rattle.std.proofs.lemmas.Option.{same_Some}
 use Rattle.std.proofs.lemmas.Bool.{lt-ltb}
 use Rattle.tm_model.specs.Access.{memory_after}
-use Rattle.tm_model.specs.Conflicts.{addresses_stored_by, doom_after_other, doom_after_own, doomed_after}
+use Rattle.tm_model.specs.Conflicts.{addresses_loaded_by, addresses_stored_by, doom_after_other, doom_after_own}
+use Rattle.tm_model.specs.Conflicts.{doomed_after}
 use Rattle.tm_model.specs.Owed.{owed_outcome}
 use Rattle.tm_model.specs.Runs.{AreOwed, doomed_at_end}
 use Rattle.tm_model.specs.Setting.{Setting}
@@ -32,10 +33,11 @@ module _ (k : Setting) (cores : ℕ) (a : State) (d : ℕ → Option ℕ) (c : �
   here : (j : ℕ) → j ≡ c → view_of k after mine.next (doom_after_own r.outcome (d c)) ≡ Some r.view
   here j e = mine.shows
 
-  there : (j : ℕ) → j < cores → view_of k after (a.cores j) (doom_after_other k a.memory (addresses_stored_by k a.memory (a.cores c) r.outcome) (a.cores j) (d j)) ≡ Some (view_after_hit r.lines (views j))
+  there : (j : ℕ) → j < cores → view_of k after (a.cores j) (doom_after_other k a.memory (addresses_loaded_by k a.memory (a.cores c) r.outcome) (addresses_stored_by k a.memory (a.cores c) r.outcome) (a.cores j) (d j)) ≡ Some (view_after_hit r.touched (views j))
   there j within =
-      ap (λ ps. view_of k after (a.cores j) (doom_after_other k a.memory ps (a.cores j) (d j))) (sym mine.wrote)
-      ∙ other k a.memory mine.stores r.lines mine.touch (a.cores j) (d j) (views j) (each j within)
+      ap (λ ls. view_of k after (a.cores j) (doom_after_other k a.memory ls (addresses_stored_by k a.memory (a.cores c) r.outcome) (a.cores j) (d j))) (sym mine.loaded)
+      ∙ ap (λ ps. view_of k after (a.cores j) (doom_after_other k a.memory mine.loads ps (a.cores j) (d j))) (sym mine.wrote)
+      ∙ other k a.memory mine.loads mine.stores r.touched mine.touch (a.cores j) (d j) (views j) (each j within)
 
   pub right : Right k cores a d c r.outcome r.memory (views_after views c r)
   right = record {
@@ -48,7 +50,7 @@ module _ (k : Setting) (cores : ℕ) (a : State) (d : ℕ → Option ℕ) (c : �
       same_memory = mine.memory;
       same_count = counted;
       each = λ j within.
-          elim (eqb j c) as (λ t. view_of k after (cond t mine.next (a.cores j)) (cond t (doom_after_own r.outcome (d c)) (doom_after_other k a.memory (addresses_stored_by k a.memory (a.cores c) r.outcome) (a.cores j) (d j))) ≡ Some (cond t r.view (view_after_hit r.lines (views j)))) [
+          elim (eqb j c) as (λ t. view_of k after (cond t mine.next (a.cores j)) (cond t (doom_after_own r.outcome (d c)) (doom_after_other k a.memory (addresses_loaded_by k a.memory (a.cores c) r.outcome) (addresses_stored_by k a.memory (a.cores c) r.outcome) (a.cores j) (d j))) ≡ Some (cond t r.view (view_after_hit r.touched (views j)))) [
             | true ↦ mine.shows
             | false ↦ there j within
           ];

@@ -6,23 +6,23 @@ use Rattle.std.proofs.lemmas.Option.{option_and_then_some, same_Some}
 use Rattle.std.proofs.lemmas.List.{map-append}
 use Rattle.std.specs.FinSet as finset
 use Rattle.tm_model.specs.Access.{Stores, bytes_at, lines_of, memory_after, stored_addresses, stores_of}
-use Rattle.tm_model.specs.Conflicts.{addresses_stored_by, addresses_stored_inside, addresses_stored_outside}
-use Rattle.tm_model.specs.Conflicts.{doom_after_own}
+use Rattle.tm_model.specs.Conflicts.{addresses_loaded_after, addresses_loaded_by, addresses_stored_by}
+use Rattle.tm_model.specs.Conflicts.{addresses_stored_inside, addresses_stored_outside, doom_after_own}
 use Rattle.tm_model.specs.Isolated.{Body, first_body, instruction_after, isolated_body, longer_body, next_body}
 use Rattle.tm_model.specs.Isolated.{read_set, write_set}
 use Rattle.tm_model.specs.Owed.{have_room, owed_after, owed_inside, owed_outcome, owed_outside, status_at}
 use Rattle.tm_model.specs.Setting.{Setting, outside_at}
 use Rattle.tm_model.specs.Shown.{View, view_inside, view_of, view_of_body, view_outside}
 use Rattle.tm_model.specs.State.{Closed, Core, Halted, Opened}
-use Rattle.tm_model.specs.Steps.{after_begin, after_commit, after_plain, after_step_of, after_stop, registers_after_abort}
-use Rattle.tm_model.specs.Steps.{stop_number}
-use Rattle.tm_core.specs.StepRefinement.{StepResult, addresses_hit, ended, finished, grows, if_room, lines_hit, quit}
-use Rattle.tm_core.specs.StepRefinement.{ran, ran_inside, stayed, stepped}
+use Rattle.tm_model.specs.Steps.{after_begin, after_commit, after_plain, after_step_of, after_stop}
+use Rattle.tm_model.specs.Steps.{registers_after_abort, stop_number}
+use Rattle.tm_core.specs.StepRefinement.{StepResult, ended, finished, grows, if_room, lines_hit, quit, ran}
+use Rattle.tm_core.specs.StepRefinement.{ran_inside, stayed, stepped}
 use Rattle.tm_core.specs.Types.{Aborted, AtStop, Begins, Capacity, Committed, Condemned, Conflict, Ends, Fails, Goes}
 use Rattle.tm_core.specs.Types.{GoesOn, Inside, InsideResult, Nests, Open, Outcome, OutsideResult, Regs, Running}
 use Rattle.tm_core.specs.Types.{Stop, Stops}
-use Rattle.tm_core.proofs.BufferLemmas.{InRange-append, add_all-lines, any_items, drained-memory_after, map_seen}
-use Rattle.tm_core.proofs.BufferLemmas.{with_bytes-buffer_of}
+use Rattle.tm_core.proofs.BufferLemmas.{InRange-append, add_all-lines, both_hit, drained-memory_after, hits}
+use Rattle.tm_core.proofs.BufferLemmas.{items_hit, loads_alone_hit, map_seen, with_bytes-buffer_of}
 use Rattle.tm_core.proofs.Frame.{longer_body-next_body}
 use Rattle.tm_core.proofs.OtherCores.{view_inside_at, view_inside_is}
 use Rattle.tm_core.proofs.Sound.{InRange, Sound}
@@ -36,7 +36,9 @@ pub record Own (k : Setting) (m : List ℕ) (x : Core) (dx : Option ℕ) (r : St
   pub memory : r.memory ≡ memory_after m stores
   pub shows : view_of k (memory_after m stores) next (doom_after_own r.outcome dx) ≡ Some r.view
   pub wrote : stored_addresses stores ≡ addresses_stored_by k m x r.outcome
-  pub touch : (v : View) → lines_hit v.reads v.writes r.lines ≡ addresses_hit v.reads v.writes (stored_addresses stores)
+  pub loads : List ℕ
+  pub loaded : loads ≡ addresses_loaded_by k m x r.outcome
+  pub touch : (v : View) → lines_hit v.reads v.writes r.touched ≡ hits v.reads v.writes loads (stored_addresses stores)
 
 same_number : (x : Stop) → eqb (stop_number x) (stop_number x) ≡ true
 same_number x = eq-eqb (stop_number x) (stop_number x) refl
@@ -81,7 +83,9 @@ module _ (k : Setting) (sound : Sound k) (m : List ℕ) (s : Regs) where
     memory = refl;
     shows = refl;
     wrote = sym (ap addresses_stored_outside e);
-    touch = λ v. refl;
+    loads = k.load_of s;
+    loaded = refl;
+    touch = λ v. both_hit v.reads v.writes (k.load_of s) (stored_addresses (stores_of w));
   }
   own_closed (Begins t) e = record {
     owes = sym (ap owed_outside e);
@@ -92,6 +96,8 @@ module _ (k : Setting) (sound : Sound k) (m : List ℕ) (s : Regs) where
     shows = ap (λ o. option_and_then (view_inside s) (first_body (k.load_of s) o)) e
         ∙ ap (λ ps. Some (view_of_body s (record { regs = t; depth = 1; stores = []; loads = ps }))) (sound.begins s (bytes_at m (k.load_of s)) t e);
     wrote = refl;
+    loads = [];
+    loaded = refl;
     touch = λ v. refl;
   }
   own_closed (Stops x) e = record {
@@ -102,6 +108,8 @@ module _ (k : Setting) (sound : Sound k) (m : List ℕ) (s : Regs) where
     memory = refl;
     shows = refl;
     wrote = refl;
+    loads = [];
+    loaded = refl;
     touch = λ v. refl;
   }
 
@@ -130,7 +138,7 @@ module _ (k : Setting) (sound : Sound k) (m : List ℕ) (size : length m ≡ k.s
   ranged : (b2 : Body) → next_body b loads (instruction_after k m b) ≡ Some b2 → InRange (length m) b2.stores
   ranged b2 e = subst (λ z. InRange z b2.stores) (sym size) (isolated_body-range k sound s m (suc n) b2 (is_next_body b2 e))
 
-  stay : (b2 : Body) → next_body b loads (instruction_after k m b) ≡ Some b2 → eqb b2.depth 0 ≡ false → (new : View) → new ≡ view_of_body s b2 → owing ≡ Inside → Own k m (Opened s n) None (stayed m new)
+  stay : (b2 : Body) → next_body b loads (instruction_after k m b) ≡ Some b2 → eqb b2.depth 0 ≡ false → (new : View) → new ≡ view_of_body s b2 → owing ≡ Inside → Own k m (Opened s n) None (stayed m loads new)
   stay b2 e deep2 new shape owes = record {
     owes = sym owes;
     next = Opened s (suc n);
@@ -139,7 +147,9 @@ module _ (k : Setting) (sound : Sound k) (m : List ℕ) (size : length m ≡ k.s
     memory = refl;
     shows = ap (option_and_then (view_inside s)) (is_next_body b2 e) ∙ view_inside_at s b2 deep2 ∙ ap Some (sym shape);
     wrote = refl;
-    touch = λ v. refl;
+    loads = loads;
+    loaded = sym (ap (addresses_loaded_after k) is);
+    touch = λ v. loads_alone_hit v.reads v.writes loads;
   }
 
   commit : (b2 : Body) → next_body b loads (instruction_after k m b) ≡ Some b2 → eqb b2.depth 0 ≡ true → (new : View) → new ≡ view_of_body s b2 → owing ≡ Committed → Own k m (Opened s n) None (finished m new)
@@ -151,7 +161,9 @@ module _ (k : Setting) (sound : Sound k) (m : List ℕ) (size : length m ≡ k.s
     memory = drained-memory_after m b2.stores (ranged b2 e);
     shows = refl;
     wrote = sym (ap addresses_stored_inside (is_next_body b2 e));
-    touch = λ v. any_items (λ l. finset.contains v.reads l || finset.contains v.writes l) (write_set b2) (map line (stored_addresses b2.stores)) refl;
+    loads = [];
+    loaded = refl;
+    touch = λ v. items_hit v.reads v.writes (write_set b2) (stored_addresses b2.stores) refl;
   })
 
   leave : (code : ℕ) → owing ≡ Aborted code → Own k m (Opened s n) None (quit k m (view_of_body s b) code)
@@ -163,6 +175,8 @@ module _ (k : Setting) (sound : Sound k) (m : List ℕ) (size : length m ≡ k.s
     memory = refl;
     shows = refl;
     wrote = refl;
+    loads = [];
+    loaded = refl;
     touch = λ v. refl;
   }
 
@@ -182,19 +196,19 @@ module _ (k : Setting) (sound : Sound k) (m : List ℕ) (size : length m ≡ k.s
       let b2 : Body = record { regs = t; depth = b.depth; stores = stores_of w ++ b.stores; loads = loads ++ b.loads } in
       let new : View = grows (view_of_body s b) b.depth t loads (stores_of w) in
       let shape : new ≡ view_of_body s b2 = grown_view s b b.depth t loads (stores_of w) in
-      split b2 new shape Inside (owing_is (GoesOn t w) e) (stayed m new) (λ owes. stay b2 (ap (next_body b loads) e) deep0 new shape owes)
+      split b2 new shape Inside (owing_is (GoesOn t w) e) (stayed m loads new) (λ owes. stay b2 (ap (next_body b loads) e) deep0 new shape owes)
   own_open (Nests t) e =
       let b2 : Body = record { regs = t; depth = b.depth + 1; stores = b.stores; loads = loads ++ b.loads } in
       let new : View = grows (view_of_body s b) (b.depth + 1) t loads [] in
       let shape : new ≡ view_of_body s b2 = grown_view s b (b.depth + 1) t loads [] in
-      split b2 new shape Inside (owing_is (Nests t) e) (stayed m new) (λ owes. stay b2 (ap (next_body b loads) e) (ne_eqb (b.depth + 1) 0 (λ h. omega arith)) new shape owes)
+      split b2 new shape Inside (owing_is (Nests t) e) (stayed m loads new) (λ owes. stay b2 (ap (next_body b loads) e) (ne_eqb (b.depth + 1) 0 (λ h. omega arith)) new shape owes)
   own_open (Ends t) e =
       let b2 : Body = record { regs = t; depth = b.depth - 1; stores = b.stores; loads = loads ++ b.loads } in
       let new : View = grows (view_of_body s b) (b.depth - 1) t loads [] in
       let shape : new ≡ view_of_body s b2 = grown_view s b (b.depth - 1) t loads [] in
       let not_zero : b.depth ≡ 0 → ⊥ = eqb-false b.depth 0 deep0 in
-      split b2 new shape (cond (eqb b.depth 1) Committed Inside) (owing_is (Ends t) e) (ended m new b.depth)
-      ((elim (eqb b.depth 1) as (λ u. eqb b.depth 1 ≡ u → owing ≡ cond u Committed Inside → Own k m (Opened s n) None (cond u (finished m new) (stayed m new))) [
+      split b2 new shape (cond (eqb b.depth 1) Committed Inside) (owing_is (Ends t) e) (ended m loads new b.depth)
+      ((elim (eqb b.depth 1) as (λ u. eqb b.depth 1 ≡ u → owing ≡ cond u Committed Inside → Own k m (Opened s n) None (cond u (finished m new) (stayed m loads new))) [
         | true ↦ λ one owes. let one2 : b.depth ≡ 1 = eqb-true b.depth 1 one in commit b2 (ap (next_body b loads) e) (eq-eqb (b.depth - 1) 0 (omega arith)) new shape owes
         | false ↦ λ more owes. let more2 : b.depth ≡ 1 → ⊥ = eqb-false b.depth 1 more in stay b2 (ap (next_body b loads) e) (ne_eqb (b.depth - 1) 0 (λ h. omega arith)) new shape owes
       ]) refl)
@@ -213,6 +227,8 @@ own k sound m size (Halted s x) None v e = subst (λ (u : View). Own k m (Halted
   memory = refl;
   shows = refl;
   wrote = refl;
+  loads = [];
+  loaded = refl;
   touch = λ u. refl;
 })
 own k sound m size (Halted s x) (Some depth) v e = cc
@@ -224,6 +240,8 @@ own k sound m size (Opened s n) (Some depth) v e = subst (λ (u : View). Own k m
   memory = refl;
   shows = refl;
   wrote = refl;
+  loads = [];
+  loaded = refl;
   touch = λ u. refl;
 })
 own k sound m size (Opened s n) None v e =

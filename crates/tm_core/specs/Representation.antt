@@ -1,21 +1,23 @@
 -- How a machine's parts show its views, and what holds of them between steps.
-use Rattle.std.specs.Prelude.{◌≡◌, ℕ, ◌*◌, ◌<◌, ◌≤◌, Bool, true, false, List, [], Option, Some, if◌then◌else◌, length}
-use Rattle.std.specs.Prelude.{slice_index_or, nat_eq, map}
+use Rattle.std.specs.Prelude.{◌≡◌, ℕ, ◌+◌, ◌*◌, ◌^◌, ◌<◌, ◌≤◌, Bool, true, false, List, [], Option, Some, if◌then◌else◌, length}
+use Rattle.std.specs.Prelude.{slice_index_or, nat_eq, IfSome}
 use Rattle.std.specs.List.{list_any}
 use Rattle.std.specs.FinSet as set
 use Rattle.std.specs.FinMap as map_of
-use Rattle.ia_word.specs.Line.{line}
+use Rattle.ia_word.specs.Width.{bytes_of}
 use Rattle.tm_buffer.specs.Held.{Fits}
 use Rattle.tm_sets.specs.Content.{Content}
 use Rattle.tm_core.specs.declared.cpu.Cpu.{Cpu}
 use Rattle.tm_core.specs.declared.transaction.InsideStep.{InsideStep}
-use Rattle.tm_core.specs.declared.transaction.InsideStep.TheVariants.{Commits, Made}
-use Rattle.tm_core.specs.StepRefinement.{StepResult, condemn_view, finished, lines_hit, stepped, views_after}
+use Rattle.tm_core.specs.declared.transaction.InsideStep.TheVariants.{Aborts, Commits, GoesInside}
+use Rattle.tm_core.specs.StepRefinement.{StepResult, Touched, finished, lines_hit, stayed, stepped, touched_by}
+use Rattle.tm_core.specs.StepRefinement.{views_after}
 use Rattle.tm_core.specs.Theorem.{no_regs}
-use Rattle.tm_core.specs.Types.{Aborted, AtStop, Begun, Committed, Condemned, CoreState, Idle, Inside, Kind, Lines}
+use Rattle.tm_core.specs.Types.{Aborted, Access, AtStop, Begun, Committed, Condemned, CoreState, Idle, Inside, Kind}
+use Rattle.tm_core.specs.Types.{Lines}
 use Rattle.tm_core.specs.Types.{Open}
-use Rattle.tm_core.specs.Types.{Outcome, Plain, Read, Regs, Running, Stopped, Store, Write}
-use Rattle.tm_model.specs.Access.{memory_after, stored_addresses, stores_of}
+use Rattle.tm_core.specs.Types.{Outcome, Plain, Read, Regs, Running, Stopped, Store, Width, Write}
+use Rattle.tm_model.specs.Access.{loaded_addresses, memory_after, stores_of}
 use Rattle.tm_model.specs.Owed.{have_room}
 use Rattle.tm_model.specs.Setting.{Setting, setting_of}
 use Rattle.tm_model.specs.Shown.{View, view_outside}
@@ -68,15 +70,25 @@ condemn_kept Running core = core
 condemn_kept (Condemned depth) core = core
 condemn_kept (AtStop stop) core = core
 
-abbrev pub kept_after_hit : List ℕ → KeptCore → KeptCore
-kept_after_hit lines core =
-    if lines_hit core.view.reads core.view.writes lines then condemn_kept core.view.mode core else core
+abbrev pub kept_after_hit : Touched → KeptCore → KeptCore
+kept_after_hit touched core =
+    if lines_hit core.view.reads core.view.writes touched then condemn_kept core.view.mode core else core
 
 -- of all cores but the one of this number
-abbrev pub AreHit : List ℕ → ℕ → ℕ → (ℕ → KeptCore) → (ℕ → KeptCore) → Type 0
-AreHit lines number count before after =
+abbrev pub AreHit : Touched → ℕ → ℕ → (ℕ → KeptCore) → (ℕ → KeptCore) → Type 0
+AreHit touched number count before after =
     (other : ℕ) → other < count →
-    after other ≡ (if nat_eq other number then before other else kept_after_hit lines (before other))
+    after other ≡ (if nat_eq other number then before other else kept_after_hit touched (before other))
+
+-- an access lies on lines that the sets know
+abbrev pub IsOnLines : Content → ℕ → Width → Type 0
+IsOnLines content address width =
+    (address + bytes_of width ≤ content.fixed.line_count * 64) × (address + bytes_of width ≤ 2 ^ 32)
+
+abbrev pub IsLoadOnLines : Content → InsideStep → Type 0
+IsLoadOnLines content (GoesInside access) = IfSome access (λ load. IsOnLines content load.addr load.width)
+IsLoadOnLines content (Aborts outcome) = Unit {0}
+IsLoadOnLines content Commits = Unit {0}
 
 -- ---- between steps
 
@@ -137,18 +149,19 @@ has_begun (Aborted status) = false
 -- ---- a step, by its parts
 
 -- outside: the memory and the others are still to be written
-abbrev pub left_outside : List ℕ → Outcome → Option Store → View → StepResult
-left_outside memory outcome store view = record {
+abbrev pub left_outside : List ℕ → Outcome → Option Access → Option Store → View → StepResult
+left_outside memory outcome access store view = record {
   outcome = outcome;
   memory = memory_after memory (stores_of store);
   view = view;
-  lines = map line (stored_addresses (stores_of store));
+  touched = touched_by (loaded_addresses access) store;
 }
 
--- inside: it is made, or is a commit that is still to be made
+-- inside: it is an abort, or an instruction whose load others are still to see, or a commit that is still to be made
 abbrev pub left_inside : List ℕ → InsideStep → View → StepResult
 left_inside memory Commits view = finished memory view
-left_inside memory (Made outcome) view = record { outcome = outcome; memory = memory; view = view; lines = [] }
+left_inside memory (GoesInside access) view = stayed memory (loaded_addresses access) view
+left_inside memory (Aborts outcome) view = record { outcome = outcome; memory = memory; view = view; touched = [] }
 
 -- a step of the core of this number gives this outcome, memory and views
 pub record IsStep (setting : Setting) (memory : List ℕ) (views : ℕ → View) (count number : ℕ) (outcome : Outcome)

@@ -1,6 +1,6 @@
 -- What a step does to what a machine shows: memory, and the views of the cores. It is no part of what is promised: the
 -- proofs show that it is the owed step.
-use Rattle.std.specs.Prelude.{Option, Some, None, ℕ, ◌+◌, ◌-◌, Bool, ◌||◌, List, [], ◌∷◌, if◌then◌else◌, map}
+use Rattle.std.specs.Prelude.{Option, Some, None, ℕ, ◌+◌, ◌-◌, Bool, ◌||◌, List, [], ◌∷◌, ◌++◌, if◌then◌else◌, map}
 use Rattle.std.specs.Prelude.{slice_index}
 use Rattle.std.specs.Prelude.{unwrap_or, nat_eq}
 use Rattle.std.specs.FinSet as set
@@ -14,8 +14,8 @@ use Rattle.tm_model.specs.Setting.{Setting, outside_at}
 use Rattle.tm_model.specs.Shown.{Buffer, View, view_outside}
 use Rattle.tm_model.specs.Steps.{registers_after_abort}
 use Rattle.tm_core.specs.Types.{Aborted, AtStop, Begins, Begun, Capacity, Committed, Condemned, Conflict, CoreState}
-use Rattle.tm_core.specs.Types.{Ends, Fails, Goes, GoesOn, Idle, Inside, InsideResult, Lines, Nests, Open, Outcome}
-use Rattle.tm_core.specs.Types.{OutsideResult, Plain, Regs, Running, Stopped, Stops, Store}
+use Rattle.tm_core.specs.Types.{Ends, Fails, Goes, GoesOn, Idle, Inside, InsideResult, Kind, Lines, Nests, Open}
+use Rattle.tm_core.specs.Types.{Outcome, OutsideResult, Plain, Read, Regs, Running, Stopped, Stops, Store, Write}
 
 -- ---- bytes and lines
 
@@ -34,12 +34,23 @@ store_addresses (Some store) = addresses_of store.addr store.width
 
 -- ---- hits
 
--- one of these lines is in either set
-abbrev pub lines_hit : Lines → Lines → List ℕ → Bool
-lines_hit reads writes lines = list_any (λ l. set.contains reads l || set.contains writes l) lines
+-- lines that a step loads from or stores to
+abbrev pub Touched : Type 0
+Touched = List (Kind × ℕ)
 
-abbrev pub addresses_hit : Lines → Lines → List ℕ → Bool
-addresses_hit reads writes addresses = lines_hit reads writes (map line addresses)
+abbrev pub lines_touched : Kind → List ℕ → Touched
+lines_touched kind lines = map (λ line. (kind, line)) lines
+
+abbrev pub addresses_touched : Kind → List ℕ → Touched
+addresses_touched kind addresses = lines_touched kind (map line addresses)
+
+-- the line is in either set where it is stored to, and in the write set where it is loaded from
+abbrev pub line_hits : Lines → Lines → Kind → ℕ → Bool
+line_hits reads writes Read line = set.contains writes line
+line_hits reads writes Write line = set.contains reads line || set.contains writes line
+
+abbrev pub lines_hit : Lines → Lines → Touched → Bool
+lines_hit reads writes touched = list_any (λ each. line_hits reads writes each.0 each.1) touched
 
 abbrev pub condemn_view : CoreState → View → View
 condemn_view (Open depth) view = view_outside (Condemned depth) view.base
@@ -47,8 +58,9 @@ condemn_view Running view = view
 condemn_view (Condemned depth) view = view
 condemn_view (AtStop stop) view = view
 
-abbrev pub view_after_hit : List ℕ → View → View
-view_after_hit lines view = if lines_hit view.reads view.writes lines then condemn_view view.mode view else view
+abbrev pub view_after_hit : Touched → View → View
+view_after_hit touched view =
+    if lines_hit view.reads view.writes touched then condemn_view view.mode view else view
 
 -- ---- a step of one core
 
@@ -56,14 +68,14 @@ pub record StepResult : Type 0 where
   pub outcome : Outcome
   pub memory : List ℕ
   pub view : View  -- of the core that stepped
-  pub lines : List ℕ  -- that others see written
+  pub touched : Touched  -- that others see
 
 abbrev pub quit : Setting → List ℕ → View → ℕ → StepResult
 quit setting memory view status = record {
   outcome = Aborted status;
   memory = memory;
   view = view_outside Running (registers_after_abort setting view.base status);
-  lines = [];
+  touched = [];
 }
 
 abbrev pub begun_view : Regs → Regs → View
@@ -76,28 +88,33 @@ begun_view base regs = record {
   writes = set.empty;
 }
 
+-- an instruction's load and store
+abbrev pub touched_by : List ℕ → Option Store → Touched
+touched_by loads store = addresses_touched Read loads ++ addresses_touched Write (stored_addresses (stores_of store))
+
 abbrev pub ran : Setting → List ℕ → Regs → OutsideResult → StepResult
 ran setting memory base (Goes regs store) = record {
   outcome = Plain;
   memory = memory_after memory (stores_of store);
   view = view_outside Running regs;
-  lines = map line (stored_addresses (stores_of store));
+  touched = touched_by (setting.load_of base) store;
 }
 ran setting memory base (Begins regs) =
-    record { outcome = Begun; memory = memory; view = begun_view base regs; lines = [] }
+    record { outcome = Begun; memory = memory; view = begun_view base regs; touched = [] }
 ran setting memory base (Stops stop) =
-    record { outcome = Stopped stop; memory = memory; view = view_outside (AtStop stop) base; lines = [] }
+    record { outcome = Stopped stop; memory = memory; view = view_outside (AtStop stop) base; touched = [] }
 
--- an instruction of a transaction whose sets and buffer are then those of the view
-abbrev pub stayed : List ℕ → View → StepResult
-stayed memory view = record { outcome = Inside; memory = memory; view = view; lines = [] }
+-- an instruction of a transaction with these loads, whose sets and buffer are then those of the view
+abbrev pub stayed : List ℕ → List ℕ → View → StepResult
+stayed memory loads view =
+    record { outcome = Inside; memory = memory; view = view; touched = addresses_touched Read loads }
 
 abbrev pub finished : List ℕ → View → StepResult
 finished memory view = record {
   outcome = Committed;
   memory = drained view.buffer memory;
   view = view_outside Running view.regs;
-  lines = set.items view.writes;
+  touched = lines_touched Write (set.items view.writes);
 }
 
 abbrev pub if_room : Setting → List ℕ → View → ℕ → View → StepResult → StepResult
@@ -114,19 +131,19 @@ grows view depth regs addresses stores = record {
   writes = add_all view.writes (stored_addresses stores);
 }
 
-abbrev pub ended : List ℕ → View → ℕ → StepResult
-ended memory view depth = if nat_eq depth 1 then finished memory view else stayed memory view
+abbrev pub ended : List ℕ → List ℕ → View → ℕ → StepResult
+ended memory loads view depth = if nat_eq depth 1 then finished memory view else stayed memory loads view
 
 abbrev pub ran_inside : Setting → List ℕ → View → ℕ → List ℕ → InsideResult → StepResult
 ran_inside setting memory view depth addresses (GoesOn regs store) =
     let next = grows view depth regs addresses (stores_of store) in
-    if_room setting memory view depth next (stayed memory next)
+    if_room setting memory view depth next (stayed memory addresses next)
 ran_inside setting memory view depth addresses (Nests regs) =
     let next = grows view (depth + 1) regs addresses [] in
-    if_room setting memory view depth next (stayed memory next)
+    if_room setting memory view depth next (stayed memory addresses next)
 ran_inside setting memory view depth addresses (Ends regs) =
     let next = grows view (depth - 1) regs addresses [] in
-    if_room setting memory view depth next (ended memory next depth)
+    if_room setting memory view depth next (ended memory addresses next depth)
 ran_inside setting memory view depth addresses (Fails cause) = quit setting memory view (status_at cause depth)
 
 abbrev pub stepped : Setting → List ℕ → View → CoreState → StepResult
@@ -135,9 +152,9 @@ stepped setting memory view (Open depth) =
     ran_inside setting memory view depth (setting.load_of view.regs)
     (setting.inside view.regs depth (map (seen view.buffer memory) (setting.load_of view.regs)))
 stepped setting memory view (Condemned depth) = quit setting memory view (status_at Conflict depth)
-stepped setting memory view (AtStop stop) = record { outcome = Idle; memory = memory; view = view; lines = [] }
+stepped setting memory view (AtStop stop) = record { outcome = Idle; memory = memory; view = view; touched = [] }
 
 -- the views of all cores after a step of the core of this number
 abbrev pub views_after : (ℕ → View) → ℕ → StepResult → ℕ → View
 views_after views number result other =
-    if nat_eq other number then result.view else view_after_hit result.lines (views other)
+    if nat_eq other number then result.view else view_after_hit result.touched (views other)

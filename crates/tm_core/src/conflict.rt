@@ -1,16 +1,22 @@
-//! Conflicts: a write to memory hits each other open core that has touched its line, and condemns it.
+//! Conflicts: a store to memory hits each other open core that has touched its line, and a load each that has stored to
+//! it. Whoever is hit is condemned.
 
-ghost use Rattle.std.specs.Prelude.{◌≡◌, ◌+◌, ◌-◌, ◌/◌, ◌*◌, ◌^◌, ◌<◌, ◌≤◌, ℕ, [], ◌∷◌, List, map, length, slice_index};
-ghost use Rattle.ia_word.specs.Width.{bytes_of};
+ghost use Rattle.std.specs.Prelude.{◌≡◌, ◌+◌, ◌-◌, ◌/◌, ◌*◌, ◌^◌, ◌<◌, ◌≤◌, ℕ, [], ◌∷◌, List, IfSome, length, map};
+ghost use Rattle.std.specs.Prelude.{slice_index, nat_eq, not, ◌&&◌};
 ghost use Rattle.ia_word.specs.Line.{line};
-ghost use Rattle.tm_sets.specs.Content.{bit};
-ghost use Rattle.tm_model.specs.Access.{addresses_of};
-ghost use Rattle.tm_core.specs.Representation.{AreHit, Elsewhere, condemn_kept, cpu_at, kept_at, kept_of};
+ghost use Rattle.ia_word.specs.Width.{bytes_of};
+ghost use Rattle.tm_sets.specs.Content.{IsMaskOf, bit};
+ghost use Rattle.tm_model.specs.Access.{addresses_of, loaded_addresses};
+ghost use Rattle.tm_core.specs.Representation.{AreHit, Elsewhere, IsOnLines, condemn_kept, cpu_at, kept_at, kept_of};
+ghost use Rattle.tm_core.specs.StepRefinement.{addresses_touched, line_hits, lines_touched, store_addresses};
+ghost use Rattle.tm_core.specs.StepRefinement.{touched_by};
 
 use crate::cpu::Cpu;
+use ia_addr::Access;
+use ia_exec::Store;
 use ia_word::{Width, line_of};
 use tm_model::CoreState;
-use tm_sets::Sets;
+use tm_sets::{Kind, Sets};
 
 // Bit k of a mask.
 fn has_bit(mask: u64, k: u8) -> bool
@@ -35,17 +41,32 @@ fn condemn<S: Sets>(cpu: &mut Cpu, sets: &mut S, core: u8)
     }
 }
 
-// Condemns each other open core that has the line.
-fn hit_line<S: Sets>(cpus: &mut [Cpu], sets: &mut S, c: u8, line: u32)
+// The other cores that a load or store of the line hits: bit k for core k.
+fn others_hit<S: Sets>(sets: &mut S, c: u8, line: u32, kind: Kind) -> u64
+    requires core { c < (S.content sets.old).fixed.cores }
+    requires line { line < (S.content sets.old).fixed.line_count }
+    ensures mask { IsMaskOf result (S.content sets.old).fixed.cores
+        (λ k. not (nat_eq k c) && line_hits ((S.content sets.old).lines k Kind.Read)
+        ((S.content sets.old).lines k Kind.Write) kind line) }
+    ensures same { S.content sets.new ≡ S.content sets.old }
+{
+    match kind {
+        Kind::Read => sets.writers_on(line, c),
+        Kind::Write => sets.others_on(line, c),
+    }
+}
+
+// Condemns each other open core that has the line: in its write set for a load, in either set for a store.
+fn hit_line<S: Sets>(cpus: &mut [Cpu], sets: &mut S, c: u8, line: u32, kind: Kind)
     requires cores { length cpus.old ≤ (S.content sets.old).fixed.cores }
     requires exists { c < length cpus.old }
     requires line { line < (S.content sets.old).fixed.line_count }
     requires few { length cpus.old ≤ 16 }
-    ensures kept { AreHit (line ∷ []) c (length cpus.old)
+    ensures kept { AreHit ((kind, line) ∷ []) c (length cpus.old)
         (kept_at (S.content sets.old) cpus.old) (kept_at (S.content sets.new) cpus.new) }
     ensures fixed { (S.content sets.new).fixed ≡ (S.content sets.old).fixed }
 {
-    let mask = sets.others_on(line, c);
+    let mask = others_hit(sets, c, line, kind);
     for j in 0..cpus.len() {
         if has_bit(mask, j as u8) {
             condemn(&mut cpus[j], sets, j as u8);
@@ -53,23 +74,73 @@ fn hit_line<S: Sets>(cpus: &mut [Cpu], sets: &mut S, c: u8, line: u32)
     }
 }
 
-/// Condemns each other open core that has a line of this access of core c.
-pub fn hit_access<S: Sets>(cpus: &mut [Cpu], sets: &mut S, c: u8, addr: u32, width: Width)
+// Condemns each other open core that an access of core c hits.
+fn hit_access<S: Sets>(cpus: &mut [Cpu], sets: &mut S, c: u8, addr: u32, width: Width, kind: Kind)
     requires cores { length cpus.old ≤ (S.content sets.old).fixed.cores }
     requires exists { c < length cpus.old }
-    requires within { addr + bytes_of width ≤ (S.content sets.old).fixed.line_count * 64 }
-    requires small { addr + bytes_of width ≤ 2 ^ 32 }
+    requires lines { IsOnLines (S.content sets.old) addr width }
     requires few { length cpus.old ≤ 16 }
-    ensures kept { AreHit (map line (addresses_of addr width)) c (length cpus.old)
+    ensures kept { AreHit (addresses_touched kind (addresses_of addr width)) c (length cpus.old)
         (kept_at (S.content sets.old) cpus.old) (kept_at (S.content sets.new) cpus.new) }
     ensures fixed { (S.content sets.new).fixed ≡ (S.content sets.old).fixed }
 {
     let first = line_of(addr);
     let last = line_of(addr + (width.bytes() - 1));
-    hit_line(cpus, sets, c, first);
+    hit_line(cpus, sets, c, first, kind);
     if last != first {
-        hit_line(cpus, sets, c, last);
+        hit_line(cpus, sets, c, last, kind);
     }
+}
+
+/// Condemns each other open core that a load of core c hits, where there is one.
+pub fn hit_load<S: Sets>(cpus: &mut [Cpu], sets: &mut S, c: u8, access: Option<Access>)
+    requires cores { length cpus.old ≤ (S.content sets.old).fixed.cores }
+    requires exists { c < length cpus.old }
+    requires access { IfSome access (λ a. IsOnLines (S.content sets.old) a.addr a.width) }
+    requires few { length cpus.old ≤ 16 }
+    ensures kept { AreHit (addresses_touched Kind.Read (loaded_addresses access)) c (length cpus.old)
+        (kept_at (S.content sets.old) cpus.old) (kept_at (S.content sets.new) cpus.new) }
+    ensures fixed { (S.content sets.new).fixed ≡ (S.content sets.old).fixed }
+{
+    if let Some(a) = access {
+        hit_access(cpus, sets, c, a.addr, a.width, Kind::Read);
+    }
+}
+
+// The same of a store.
+fn hit_store<S: Sets>(cpus: &mut [Cpu], sets: &mut S, c: u8, store: Option<Store>)
+    requires cores { length cpus.old ≤ (S.content sets.old).fixed.cores }
+    requires exists { c < length cpus.old }
+    requires store { IfSome store (λ w. IsOnLines (S.content sets.old) w.addr w.width) }
+    requires few { length cpus.old ≤ 16 }
+    ensures kept { AreHit (addresses_touched Kind.Write (store_addresses store)) c (length cpus.old)
+        (kept_at (S.content sets.old) cpus.old) (kept_at (S.content sets.new) cpus.new) }
+    ensures fixed { (S.content sets.new).fixed ≡ (S.content sets.old).fixed }
+{
+    if let Some(w) = store {
+        hit_access(cpus, sets, c, w.addr, w.width, Kind::Write);
+    }
+}
+
+/// Condemns each other open core that the load and the store of one instruction of core c hit.
+pub fn hit_touched<S: Sets>(
+    cpus: &mut [Cpu],
+    sets: &mut S,
+    c: u8,
+    access: Option<Access>,
+    store: Option<Store>,
+)
+    requires cores { length cpus.old ≤ (S.content sets.old).fixed.cores }
+    requires exists { c < length cpus.old }
+    requires access { IfSome access (λ a. IsOnLines (S.content sets.old) a.addr a.width) }
+    requires store { IfSome store (λ w. IsOnLines (S.content sets.old) w.addr w.width) }
+    requires few { length cpus.old ≤ 16 }
+    ensures kept { AreHit (touched_by (loaded_addresses access) store) c (length cpus.old)
+        (kept_at (S.content sets.old) cpus.old) (kept_at (S.content sets.new) cpus.new) }
+    ensures fixed { (S.content sets.new).fixed ≡ (S.content sets.old).fixed }
+{
+    hit_load(cpus, sets, c, access);
+    hit_store(cpus, sets, c, store);
 }
 
 /// Condemns each other open core that has a line to which core c has stored.
@@ -79,12 +150,12 @@ pub fn hit_written<S: Sets>(cpus: &mut [Cpu], sets: &mut S, c: u8)
     requires lines { (i : ℕ) → i < length (cpu_at cpus.old c).buffer.order →
         slice_index (cpu_at cpus.old c).buffer.order i < (S.content sets.old).fixed.line_count }
     requires few { length cpus.old ≤ 16 }
-    ensures kept { AreHit (cpu_at cpus.old c).buffer.order c (length cpus.old)
+    ensures kept { AreHit (lines_touched Kind.Write (cpu_at cpus.old c).buffer.order) c (length cpus.old)
         (kept_at (S.content sets.old) cpus.old) (kept_at (S.content sets.new) cpus.new) }
     ensures fixed { (S.content sets.new).fixed ≡ (S.content sets.old).fixed }
 {
     for i in 0..cpus[c as usize].buffer.lines() {
         let line = cpus[c as usize].buffer.line_at(i);
-        hit_line(cpus, sets, c, line);
+        hit_line(cpus, sets, c, line, Kind::Write);
     }
 }

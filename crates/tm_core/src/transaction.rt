@@ -11,7 +11,7 @@ ghost use Rattle.tm_sets.specs.declared.interface.Kind as AnyKind;
 ghost use Rattle.tm_model.specs.Access.{addresses_of, loaded_addresses, loaded_value, stores_of};
 ghost use Rattle.tm_model.specs.Owed.{have_room};
 ghost use Rattle.tm_model.specs.Shown.{view_outside};
-ghost use Rattle.tm_core.specs.Representation.{Elsewhere, IsHeld, cpu_view, kept_of, left_inside, parts_setting};
+ghost use Rattle.tm_core.specs.Representation.{IsLoadOnLines, Elsewhere, IsHeld, cpu_view, kept_of, left_inside, parts_setting};
 ghost use Rattle.tm_core.specs.StepRefinement.{add_all, grows, seen, stepped, store_addresses};
 
 use crate::cpu::Cpu;
@@ -198,13 +198,15 @@ fn grow<S: Sets>(
 /// What a step of an open core comes to.
 #[derive(Clone, Copy, Debug)]
 pub enum InsideStep {
-    /// The step is made, with this outcome.
-    Made(Outcome),
+    /// The instruction is made, with this load, which others are still to see.
+    GoesInside(Option<Access>),
+    /// The transaction is aborted, with this outcome.
+    Aborts(Outcome),
     /// It is the XEND that commits: memory and the other cores are still as they were.
     Commits,
 }
 
-/// A step of an open core, but for what a commit does to memory and to other cores.
+/// A step of an open core, but for what it does to other cores, and what a commit does to memory.
 pub fn step_inside<S: Sets>(
     code: &Code,
     memory: &[u8],
@@ -227,6 +229,7 @@ pub fn step_inside<S: Sets>(
         (cpu_view (S.content sets.old) c cpu.old) (CoreState.Open depth)
         ≡ left_inside memory.now result (cpu_view (S.content sets.new) c cpu.new) }
     ensures held { IsHeld ((S.content sets.old).fixed.room Kind.Write) (kept_of (S.content sets.new) c cpu.new) }
+    ensures lines { IsLoadOnLines (S.content sets.old) result }
     ensures elsewhere { Elsewhere (S.content sets.old) (S.content sets.new) c }
     ensures buffer { result ≡ InsideStep.Commits → cpu.new.buffer.bytes ≡ cpu.old.buffer.bytes }
     ensures order { result ≡ InsideStep.Commits → cpu.new.buffer.order ≡ cpu.old.buffer.order }
@@ -236,28 +239,28 @@ pub fn step_inside<S: Sets>(
     let access = load_at(&fetched, &regs, size);
     let loaded = load(memory, cpu, access);
     match inside(&fetched, code, size, &regs, loaded, depth) {
-        InsideResult::Fails(cause) => InsideStep::Made(abort(code, cpu, sets, c, cause, depth)),
+        InsideResult::Fails(cause) => InsideStep::Aborts(abort(code, cpu, sets, c, cause, depth)),
         InsideResult::GoesOn(next, store) => {
             if grow(cpu, sets, c, access, store, next, depth) {
-                InsideStep::Made(Outcome::Inside)
+                InsideStep::GoesInside(access)
             } else {
-                InsideStep::Made(abort(code, cpu, sets, c, Cause::Capacity, depth))
+                InsideStep::Aborts(abort(code, cpu, sets, c, Cause::Capacity, depth))
             }
         }
         InsideResult::Nests(next) => {
             if grow(cpu, sets, c, access, None, next, depth + 1) {
-                InsideStep::Made(Outcome::Inside)
+                InsideStep::GoesInside(access)
             } else {
-                InsideStep::Made(abort(code, cpu, sets, c, Cause::Capacity, depth))
+                InsideStep::Aborts(abort(code, cpu, sets, c, Cause::Capacity, depth))
             }
         }
         InsideResult::Ends(next) => {
             if !grow(cpu, sets, c, access, None, next, depth - 1) {
-                InsideStep::Made(abort(code, cpu, sets, c, Cause::Capacity, depth))
+                InsideStep::Aborts(abort(code, cpu, sets, c, Cause::Capacity, depth))
             } else if depth == 1 {
                 InsideStep::Commits
             } else {
-                InsideStep::Made(Outcome::Inside)
+                InsideStep::GoesInside(access)
             }
         }
     }

@@ -6,7 +6,7 @@ use Rattle.std.proofs.lemmas.List.{get_or_past}
 use Rattle.std.proofs.lemmas.Option.{option_and_then_some, same_Some}
 use Rattle.ia_regs.specs.declared.Regs.{Regs}
 use Rattle.tm_rule.specs.declared.kinds.Stop.{Stop}
-use Rattle.tm_model.specs.Conflicts.{addresses_stored_by, doom_after_other, doom_after_own, doomed_after}
+use Rattle.tm_model.specs.Conflicts.{addresses_loaded_by, addresses_stored_by, doom_after_other, doom_after_own, doomed_after}
 use Rattle.tm_model.specs.Isolated.{Body, isolated_body}
 use Rattle.tm_model.specs.Setting.{Setting}
 use Rattle.tm_model.specs.Shown.{View, view_inside, view_of, view_of_body, view_outside}
@@ -24,7 +24,7 @@ use Rattle.tm_model.specs.declared.outcome.CoreState.TheVariants.{Running, Open,
 record IsHalted (x : Core) (dx : Option ℕ) (why : Stop) : Type 0 where
   pub regs : Regs
   pub core : x ≡ Halted regs why
-  pub condemn_view : dx ≡ None
+  pub doom : dx ≡ None
 
 module _ (k : Setting) (m : List ℕ) (why : Stop) where
   no_stop : (mode : CoreState) (s : Regs) (v : View) → stop_shown mode ≡ None → view_outside mode s ≡ v → stop_shown v.mode ≡ Some why → ⊥
@@ -42,7 +42,7 @@ module _ (k : Setting) (m : List ℕ) (why : Stop) where
   is_halted (Closed s) (Some depth) v e stop = cc
   is_halted (Halted s y) None v e stop =
       let same : y ≡ why = same_Some y why (ap (λ (u : View). stop_shown u.mode) (same_Some (view_outside (AtStop y) s) v e) ∙ stop) in
-      record { regs = s; core = ap (Halted s) same; condemn_view = refl }
+      record { regs = s; core = ap (Halted s) same; doom = refl }
   is_halted (Halted s y) (Some depth) v e stop = cc
   is_halted (Opened s n) (Some depth) v e stop = absurd (no_stop (Condemned depth) s v refl (same_Some (view_outside (Condemned depth) s) v e) stop)
   is_halted (Opened s n) None v e stop = absurd (option_and_then_some (view_inside s) (isolated_body k s m n) v e (λ b is e2. no_open s b v e2 stop))
@@ -83,26 +83,26 @@ still_halted : (k : Setting) (a : State) (d : ℕ → Option ℕ) (c j : ℕ) (o
 still_halted k a d c j o why next e h =
     let move : Moved k a c o next = by_move k a c o next (ltb c a.count) (after_step_of k a.memory (a.cores c) o) refl e in
     subst (λ (x : State). IsHalted (x.cores j) (doomed_after k a d c o j) why) move.is
-    (elim (eqb j c) as (λ t. eqb j c ≡ t → IsHalted (cond t move.to.1 (a.cores j)) (cond t (doom_after_own o (d c)) (doom_after_other k a.memory (addresses_stored_by k a.memory (a.cores c) o) (a.cores j) (d j))) why) [
+    (elim (eqb j c) as (λ t. eqb j c ≡ t → IsHalted (cond t move.to.1 (a.cores j)) (cond t (doom_after_own o (d c)) (doom_after_other k a.memory (addresses_loaded_by k a.memory (a.cores c) o) (addresses_stored_by k a.memory (a.cores c) o) (a.cores j) (d j))) why) [
       | true ↦ λ same.
           let at : j ≡ c = eqb-true j c same in
           let core : a.cores c ≡ Halted h.regs why = ap a.cores (sym at) ∙ h.core in
-          let condemn_view : d c ≡ None = ap d (sym at) ∙ h.condemn_view in
+          let doom : d c ≡ None = ap d (sym at) ∙ h.doom in
           record {
             regs = h.regs;
             core = halted_moved k a.memory h.regs why o move.to (ap (λ x. after_step_of k a.memory x o) (sym core) ∙ move.moves);
-            condemn_view = ap (doom_after_own o) condemn_view ∙ not_doomed o;
+            doom = ap (doom_after_own o) doom ∙ not_doomed o;
           }
       | false ↦ λ other. record {
         regs = h.regs;
         core = h.core;
-        condemn_view = ap (λ x. doom_after_other k a.memory (addresses_stored_by k a.memory (a.cores c) o) x (d j)) h.core ∙ h.condemn_view;
+        doom = ap (λ x. doom_after_other k a.memory (addresses_loaded_by k a.memory (a.cores c) o) (addresses_stored_by k a.memory (a.cores c) o) x (d j)) h.core ∙ h.doom;
       }
     ] refl)
 
 shows_stop : (k : Setting) (m : List ℕ) (x : Core) (dx : Option ℕ) (v : View) (why : Stop) → IsHalted x dx why → view_of k m x dx ≡ Some v → stop_shown v.mode ≡ Some why
 shows_stop k m x dx v why h e =
-    let e2 : view_of k m (Halted h.regs why) None ≡ Some v = ap (λ y. view_of k m y None) (sym h.core) ∙ ap (view_of k m x) (sym h.condemn_view) ∙ e in
+    let e2 : view_of k m (Halted h.regs why) None ≡ Some v = ap (λ y. view_of k m y None) (sym h.core) ∙ ap (view_of k m x) (sym h.doom) ∙ e in
     ap (λ (u : View). stop_shown u.mode) (sym (same_Some (view_outside (AtStop why) h.regs) v e2))
 
 -- a core that shows a stop is there

@@ -9,10 +9,11 @@ ghost use Rattle.tm_model.specs.Steps.{after_begin, after_plain, after_step_of, 
 ghost use Rattle.tm_model.specs.Steps.{stop_number};
 ghost use Rattle.tm_hist.specs.Serial.{core_of, list_step, steps_of};
 
-use crate::flat::{outside_on, run_body, write};
+use crate::flat::{outside_on, run_body};
 use crate::serial_core::SerialCore;
 use ia_regs::Regs;
 use tm_core::Outcome;
+use tm_core::memory::write;
 use tm_rule::{Code, OutsideResult, Stop, fallback, fetch};
 
 // One instruction outside of transactions that goes on.

@@ -1,15 +1,28 @@
 -- Conflicts by line: what a step stores in memory hits the open transactions of other cores that have the line in
--- their read set or write set (SDM volume 1, 16.2.4.2). The core that steps goes on, and a transaction that it hits is
--- doomed (forward validation: Härder, "Observations on Optimistic Concurrency Control Schemes", Information Systems 9,
--- 1984).
+-- their read set or write set, and what it loads hits those that have it in their write set (SDM volume 1, 16.2.4.2).
+-- The core that steps goes on, and a transaction that it hits is doomed (forward validation: Härder, "Observations on
+-- Optimistic Concurrency Control Schemes", Information Systems 9, 1984).
 use Rattle.std.specs.Prelude.{ℕ, suc, Bool, ◌||◌, if◌then◌else◌, List, [], Option, Some, None, nat_eq}
 use Rattle.tm_model.specs.Access.{have_line_of, stored_addresses, stores_of}
 use Rattle.tm_model.specs.Isolated.{Body, isolated_body, read_set, write_set}
 use Rattle.tm_model.specs.Setting.{Setting, outside_at}
 use Rattle.tm_model.specs.State.{Closed, Core, Opened, State}
-use Rattle.tm_model.specs.Types.{Aborted, Begins, Committed, Goes, Outcome, OutsideResult, Plain, Stops}
+use Rattle.tm_model.specs.Types.{Aborted, Begins, Committed, Goes, Inside, Outcome, OutsideResult, Plain, Stops}
 
--- ---- what a step stores
+-- ---- what a step loads and stores
+
+abbrev pub addresses_loaded_after : Setting → Option Body → List ℕ
+addresses_loaded_after setting None = []
+addresses_loaded_after setting (Some body) = setting.load_of body.regs
+
+-- The addresses that a step loads: outside, those of an instruction that goes on, which it takes from memory; inside,
+-- those of the one instruction, also where the transaction's own bytes answer. A commit runs no instruction anew, and
+-- a step that stops or aborts loads nothing.
+abbrev pub addresses_loaded_by : Setting → List ℕ → Core → Outcome → List ℕ
+addresses_loaded_by setting memory (Closed regs) Plain = setting.load_of regs
+addresses_loaded_by setting memory (Opened regs steps) Inside =
+    addresses_loaded_after setting (isolated_body setting regs memory steps)
+addresses_loaded_by setting memory core outcome = []
 
 abbrev pub addresses_stored_outside : OutsideResult → List ℕ
 addresses_stored_outside (Goes regs store) = stored_addresses (stores_of store)
@@ -29,23 +42,24 @@ addresses_stored_by setting memory core outcome = []
 
 -- ---- what it hits
 
--- by these addresses stored; a store of an unchanged value counts
-abbrev pub is_hit : List ℕ → Body → Bool
-is_hit stores body = have_line_of (read_set body) stores || have_line_of (write_set body) stores
+-- by these addresses loaded and these stored; a store of an unchanged value counts
+abbrev pub is_hit : List ℕ → List ℕ → Body → Bool
+is_hit loads stores body =
+    have_line_of (read_set body) stores || (have_line_of (write_set body) stores || have_line_of (write_set body) loads)
 
 -- of each doomed core, the depth that its transaction had when it was hit
 abbrev pub Doomed : Type 0
 Doomed = ℕ → Option ℕ
 
-abbrev pub depth_at_hit : List ℕ → Option Body → Option ℕ
-depth_at_hit stores None = None
-depth_at_hit stores (Some body) = if is_hit stores body then Some body.depth else None
+abbrev pub depth_at_hit : List ℕ → List ℕ → Option Body → Option ℕ
+depth_at_hit loads stores None = None
+depth_at_hit loads stores (Some body) = if is_hit loads stores body then Some body.depth else None
 
--- what another core's stores, on this memory before its step, make of a core
-abbrev pub doom_after_other : Setting → List ℕ → List ℕ → Core → Option ℕ → Option ℕ
-doom_after_other setting memory stores (Opened regs steps) None =
-    depth_at_hit stores (isolated_body setting regs memory steps)
-doom_after_other setting memory stores core doom = doom
+-- what another core's loads and stores, on this memory before its step, make of a core
+abbrev pub doom_after_other : Setting → List ℕ → List ℕ → List ℕ → Core → Option ℕ → Option ℕ
+doom_after_other setting memory loads stores (Opened regs steps) None =
+    depth_at_hit loads stores (isolated_body setting regs memory steps)
+doom_after_other setting memory loads stores core doom = doom
 
 -- a doomed core is so until its own abort
 abbrev pub doom_after_own : Outcome → Option ℕ → Option ℕ
@@ -59,5 +73,6 @@ doomed_after setting state doomed number outcome other =
     then doom_after_own outcome (doomed number)
     else
     doom_after_other setting state.memory
+    (addresses_loaded_by setting state.memory (state.cores number) outcome)
     (addresses_stored_by setting state.memory (state.cores number) outcome)
     (state.cores other) (doomed other)

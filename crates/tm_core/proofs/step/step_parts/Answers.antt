@@ -5,11 +5,12 @@ use Rattle.tm_core.specs.declared.cpu.Cpu.{Cpu}
 use Rattle.tm_buffer.specs.Held.{drained}
 use Rattle.tm_model.specs.Setting.{Setting}
 use Rattle.tm_model.specs.Shown.{View, view_outside}
-use Rattle.tm_core.specs.Representation.{IsHeld, Sane, cpu_at, cpu_view, cpu_views, kept_at, kept_of, no_cpu}
-use Rattle.tm_core.specs.Representation.{parts_setting}
-use Rattle.tm_core.specs.StepRefinement.{finished, stepped}
+use Rattle.tm_core.specs.Representation.{IsHeld, Sane, cpu_at, cpu_view, cpu_views, kept_at, kept_of, left_outside}
+use Rattle.tm_core.specs.Representation.{no_cpu, parts_setting}
+use Rattle.tm_core.specs.StepRefinement.{StepResult, finished, stepped}
 use Rattle.tm_core.specs.Types.{Open, Running, Write}
-use Rattle.tm_core.proofs.Cores.{commit_step, cpu_same, held_after, held_as, hit_held_by, lines_below, nothing_else}
+use Rattle.tm_core.proofs.Cores.{commit_step, cpu_same, held_after, held_as, hit_held_by, hit_is_step, lines_below}
+use Rattle.tm_core.proofs.Cores.{nothing_else, quiet_kept}
 use Rattle.tm_core.proofs.Held.{held_plain}
 use Rattle.tm_core.proofs.step.step_parts.Goals as goal
 
@@ -35,15 +36,56 @@ returns-in-Condemned-clause-held g c =
     held_after (a.fixed.room Write) a (g.S.Sets.content c.abort.new.sets) cpus c.args.c c.abort.new.cpu c.requires.exists c.abort.ensures.elsewhere c.requires.sound.held
     (held_plain (a.fixed.room Write) _ (c.abort.ensures.room ∙ ap (λ (z : Cpu). z.buffer.room) here ∙ (c.requires.sound.held c.args.c c.requires.exists).same_room) c.abort.ensures.order (ap (λ (w : View). w.writes) c.abort.ensures.view))
 
+pub returns-then-busy-clause-step : goal.returns-then-busy-clause-step
+returns-then-busy-clause-step g c =
+    let a : Content = g.S.Sets.content c.args.sets.now in
+    let m : List ℕ = c.args.memory.now in
+    let k : Setting = parts_setting c.args.code.now.bytes.now c.args.code.now.base (length m) a in
+    let cpus : List Cpu = c.args.cpus.now in
+    let x : Cpu = c.step_outside-step.new.cpu in
+    let here : get_or cpus c.args.c c.index-cpus-c-in-Running.result ≡ cpu_at cpus c.args.c = get_or_default cpus c.args.c c.index-cpus-c-in-Running.result no_cpu c.requires.exists in
+    let state : (cpu_at cpus c.args.c).state ≡ Running = ap (λ (z : Cpu). z.state) (sym (get_or_default cpus c.args.c _ no_cpu c.requires.exists)) ∙ c.in-Running.is in
+    let sane : Sane k (cpu_views a cpus c.args.c) Running = subst (Sane k (cpu_views a cpus c.args.c)) state (c.requires.sound.sane c.args.c c.requires.exists) in
+    let plain : cpu_view a c.args.c (get_or cpus c.args.c c.index-cpus-c-in-Running.result) ≡ view_outside Running (get_or cpus c.args.c c.index-cpus-c-in-Running.result).base = subst (λ (z : Cpu). cpu_view a c.args.c z ≡ view_outside Running z.base) (sym here) sane in
+    let r : StepResult = left_outside m c.step_outside-step.result.outcome c.step_outside-step.result.access c.step_outside-step.result.store (cpu_view a c.args.c x) in
+    let is : stepped k m (cpu_views a cpus c.args.c) Running ≡ r = ap (λ (z : Cpu). stepped k m (cpu_view a c.args.c z) Running) (sym here) ∙ c.step_outside-step.ensures.step a c.args.c plain in
+    hit_is_step k m c.write.new.memory a a (g.S.Sets.content c.hit_touched.new.sets) cpus c.hit_touched.new.cpus c.args.c x c.step_outside-step.result.outcome Running r
+    c.requires.exists (nothing_else a c.args.c) state is refl c.write.ensures refl (λ j h. c.hit_touched.ensures.kept j (subst (λ n. j < n) (sym (length-set cpus c.args.c x)) h))
+
+pub returns-else-busy-clause-step : goal.returns-else-busy-clause-step
+returns-else-busy-clause-step g c =
+    let a : Content = g.S.Sets.content c.args.sets.now in
+    let m : List ℕ = c.args.memory.now in
+    let k : Setting = parts_setting c.args.code.now.bytes.now c.args.code.now.base (length m) a in
+    let cpus : List Cpu = c.args.cpus.now in
+    let x : Cpu = c.step_outside-step.new.cpu in
+    let here : get_or cpus c.args.c c.index-cpus-c-in-Running.result ≡ cpu_at cpus c.args.c = get_or_default cpus c.args.c c.index-cpus-c-in-Running.result no_cpu c.requires.exists in
+    let state : (cpu_at cpus c.args.c).state ≡ Running = ap (λ (z : Cpu). z.state) (sym (get_or_default cpus c.args.c _ no_cpu c.requires.exists)) ∙ c.in-Running.is in
+    let sane : Sane k (cpu_views a cpus c.args.c) Running = subst (Sane k (cpu_views a cpus c.args.c)) state (c.requires.sound.sane c.args.c c.requires.exists) in
+    let plain : cpu_view a c.args.c (get_or cpus c.args.c c.index-cpus-c-in-Running.result) ≡ view_outside Running (get_or cpus c.args.c c.index-cpus-c-in-Running.result).base = subst (λ (z : Cpu). cpu_view a c.args.c z ≡ view_outside Running z.base) (sym here) sane in
+    let r : StepResult = left_outside m c.step_outside-step.result.outcome c.step_outside-step.result.access c.step_outside-step.result.store (cpu_view a c.args.c x) in
+    let is : stepped k m (cpu_views a cpus c.args.c) Running ≡ r = ap (λ (z : Cpu). stepped k m (cpu_view a c.args.c z) Running) (sym here) ∙ c.step_outside-step.ensures.step a c.args.c plain in
+    hit_is_step k m c.write.new.memory a a a cpus (set cpus c.args.c x) c.args.c x c.step_outside-step.result.outcome Running r
+    c.requires.exists (nothing_else a c.args.c) state is refl c.write.ensures refl (quiet_kept a cpus c.args.c x r.touched (c.requires.quiet c.if-busy.false))
+
 pub returns-then-busy-clause-held : goal.returns-then-busy-clause-held
 returns-then-busy-clause-held g c j h =
     let a : Content = g.S.Sets.content c.args.sets.now in
     let cpus : List Cpu = c.args.cpus.now in
-    let x : Cpu = c.step_outside-outcome.new.cpu in
+    let x : Cpu = c.step_outside-step.new.cpu in
     let here : get_or cpus c.args.c c.index-cpus-c-in-Running.result ≡ cpu_at cpus c.args.c = get_or_default cpus c.args.c c.index-cpus-c-in-Running.result no_cpu c.requires.exists in
-    let own : IsHeld (a.fixed.room Write) (kept_of a c.args.c x) = held_as (a.fixed.room Write) (kept_at a cpus c.args.c) (kept_of a c.args.c x) (ap (λ b. b.room) c.step_outside-outcome.ensures.buffer ∙ ap (λ (z : Cpu). z.buffer.room) here) (ap (λ b. b.order) c.step_outside-outcome.ensures.buffer ∙ ap (λ (z : Cpu). z.buffer.order) here) refl (c.requires.sound.held c.args.c c.requires.exists) in
-    hit_held_by (a.fixed.room Write) (eqb j c.args.c) _ (kept_at a (set cpus c.args.c x) j) _ (c.hit_access.ensures.kept j (subst (λ n. j < n) (sym (length-set cpus c.args.c x)) h))
+    let own : IsHeld (a.fixed.room Write) (kept_of a c.args.c x) = held_as (a.fixed.room Write) (kept_at a cpus c.args.c) (kept_of a c.args.c x) (ap (λ b. b.room) c.step_outside-step.ensures.buffer ∙ ap (λ (z : Cpu). z.buffer.room) here) (ap (λ b. b.order) c.step_outside-step.ensures.buffer ∙ ap (λ (z : Cpu). z.buffer.order) here) refl (c.requires.sound.held c.args.c c.requires.exists) in
+    hit_held_by (a.fixed.room Write) (eqb j c.args.c) _ (kept_at a (set cpus c.args.c x) j) _ (c.hit_touched.ensures.kept j (subst (λ n. j < n) (sym (length-set cpus c.args.c x)) h))
     (held_after (a.fixed.room Write) a a cpus c.args.c x c.requires.exists (nothing_else a c.args.c) c.requires.sound.held own j h)
+
+pub returns-in-GoesInside-clause-held : goal.returns-in-GoesInside-clause-held
+returns-in-GoesInside-clause-held g c j h =
+    let a : Content = g.S.Sets.content c.args.sets.now in
+    let b : Content = g.S.Sets.content c.step_inside.new.sets in
+    let cpus : List Cpu = c.args.cpus.now in
+    let x : Cpu = c.step_inside.new.cpu in
+    hit_held_by (a.fixed.room Write) (eqb j c.args.c) _ (kept_at b (set cpus c.args.c x) j) _ (c.hit_load.ensures.kept j (subst (λ n. j < n) (sym (length-set cpus c.args.c x)) h))
+    (held_after (a.fixed.room Write) a b cpus c.args.c x c.requires.exists c.step_inside.ensures.elsewhere c.requires.sound.held c.step_inside.ensures.held j h)
 
 pub returns-in-Commits-clause-step : goal.returns-in-Commits-clause-step
 returns-in-Commits-clause-step g c =

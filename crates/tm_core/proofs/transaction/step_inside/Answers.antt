@@ -55,7 +55,7 @@ returns-then-grow-clause-step g c =
     let new : View = grows v c.args.depth c.in-GoesOn.next (loaded_addresses c.load_at-access.result) (stores_of c.in-GoesOn.store) in
     row code base c.args.size a m v c.args.depth c.load_at-access.result c.load-loaded.result _ (c.load_at-access.ensures code base c.fetch-fetched.ensures.value) c.load-loaded.ensures c.in-GoesOn.ensures
     ∙ stays code base c.args.size a m v c.args.depth new (cpu_view (g.S.Sets.content c.grow.new.sets) c.args.c c.grow.new.cpu) (sym c.if-grow.true ∙ c.grow.ensures.told code base c.args.size) (c.grow.ensures.grown c.if-grow.true) _ _
-    (ap (λ (w : View). stayed m w) (sym (c.grow.ensures.grown c.if-grow.true)))
+    (ap (λ (w : View). stayed m (loaded_addresses c.load_at-access.result) w) (sym (c.grow.ensures.grown c.if-grow.true)))
 
 pub returns-else-grow-clause-step : goal.returns-else-grow-clause-step
 returns-else-grow-clause-step g c =
@@ -83,7 +83,7 @@ returns-then-grow-2-clause-step g c =
     let new : View = grows v (c.args.depth + 1) c.in-Nests.next (loaded_addresses c.load_at-access.result) [] in
     row code base c.args.size a m v c.args.depth c.load_at-access.result c.load-loaded.result _ (c.load_at-access.ensures code base c.fetch-fetched.ensures.value) c.load-loaded.ensures c.in-Nests.ensures
     ∙ stays code base c.args.size a m v c.args.depth new (cpu_view (g.S.Sets.content c.grow-in-Nests.new.sets) c.args.c c.grow-in-Nests.new.cpu) (sym c.if-grow-2.true ∙ c.grow-in-Nests.ensures.told code base c.args.size) (c.grow-in-Nests.ensures.grown c.if-grow-2.true) _ _
-    (ap (λ (w : View). stayed m w) (sym (c.grow-in-Nests.ensures.grown c.if-grow-2.true)))
+    (ap (λ (w : View). stayed m (loaded_addresses c.load_at-access.result) w) (sym (c.grow-in-Nests.ensures.grown c.if-grow-2.true)))
 
 pub returns-else-grow-2-clause-step : goal.returns-else-grow-2-clause-step
 returns-else-grow-2-clause-step g c =
@@ -131,7 +131,7 @@ returns-then-depth-eq1-clause-step g c =
     let new : View = grows v (c.args.depth - 1) c.in-Ends.next (loaded_addresses c.load_at-access.result) [] in
     row code base c.args.size a m v c.args.depth c.load_at-access.result c.load-loaded.result _ (c.load_at-access.ensures code base c.fetch-fetched.ensures.value) c.load-loaded.ensures c.in-Ends.ensures
     ∙ stays code base c.args.size a m v c.args.depth new (cpu_view (g.S.Sets.content c.grow-in-Ends.new.sets) c.args.c c.grow-in-Ends.new.cpu) (sym c.if-not-grow.false ∙ c.grow-in-Ends.ensures.told code base c.args.size) (c.grow-in-Ends.ensures.grown c.if-not-grow.false) _ _
-    (ap (λ t. cond t (finished m new) (stayed m new)) (eq-eqb c.args.depth 1 c.if-depth-eq1.true) ∙ ap (λ (w : View). finished m w) (sym (c.grow-in-Ends.ensures.grown c.if-not-grow.false)))
+    (ap (λ t. cond t (finished m new) (stayed m (loaded_addresses c.load_at-access.result) new)) (eq-eqb c.args.depth 1 c.if-depth-eq1.true) ∙ ap (λ (w : View). finished m w) (sym (c.grow-in-Ends.ensures.grown c.if-not-grow.false)))
 
 pub returns-else-depth-eq1-clause-step : goal.returns-else-depth-eq1-clause-step
 returns-else-depth-eq1-clause-step g c =
@@ -143,4 +143,19 @@ returns-else-depth-eq1-clause-step g c =
     let new : View = grows v (c.args.depth - 1) c.in-Ends.next (loaded_addresses c.load_at-access.result) [] in
     row code base c.args.size a m v c.args.depth c.load_at-access.result c.load-loaded.result _ (c.load_at-access.ensures code base c.fetch-fetched.ensures.value) c.load-loaded.ensures c.in-Ends.ensures
     ∙ stays code base c.args.size a m v c.args.depth new (cpu_view (g.S.Sets.content c.grow-in-Ends.new.sets) c.args.c c.grow-in-Ends.new.cpu) (sym c.if-not-grow.false ∙ c.grow-in-Ends.ensures.told code base c.args.size) (c.grow-in-Ends.ensures.grown c.if-not-grow.false) _ _
-    (ap (λ t. cond t (finished m new) (stayed m new)) (ne_eqb c.args.depth 1 c.if-depth-eq1.false) ∙ ap (λ (w : View). stayed m w) (sym (c.grow-in-Ends.ensures.grown c.if-not-grow.false)))
+    (ap (λ t. cond t (finished m new) (stayed m (loaded_addresses c.load_at-access.result) new)) (ne_eqb c.args.depth 1 c.if-depth-eq1.false) ∙ ap (λ (w : View). stayed m (loaded_addresses c.load_at-access.result) w) (sym (c.grow-in-Ends.ensures.grown c.if-not-grow.false)))
+
+pub returns-then-grow-clause-lines : goal.returns-then-grow-clause-lines
+returns-then-grow-clause-lines g c =
+    let loads : LoadIn c.args.size c.load_at-access.result = subst (LoadIn c.args.size) (sym (c.load_at-access.ensures c.args.code.now.bytes.now c.args.code.now.base c.fetch-fetched.ensures.value)) (load_within c.args.code.now.bytes.now c.args.code.now.base c.args.size c.args.cpu.now.regs) in
+    load_lines c.args.size (g.S.Sets.content c.args.sets.now).fixed.line_count c.load_at-access.result loads c.requires.lines (omega arith)
+
+pub returns-then-grow-2-clause-lines : goal.returns-then-grow-2-clause-lines
+returns-then-grow-2-clause-lines g c =
+    let loads : LoadIn c.args.size c.load_at-access.result = subst (LoadIn c.args.size) (sym (c.load_at-access.ensures c.args.code.now.bytes.now c.args.code.now.base c.fetch-fetched.ensures.value)) (load_within c.args.code.now.bytes.now c.args.code.now.base c.args.size c.args.cpu.now.regs) in
+    load_lines c.args.size (g.S.Sets.content c.args.sets.now).fixed.line_count c.load_at-access.result loads c.requires.lines (omega arith)
+
+pub returns-else-depth-eq1-clause-lines : goal.returns-else-depth-eq1-clause-lines
+returns-else-depth-eq1-clause-lines g c =
+    let loads : LoadIn c.args.size c.load_at-access.result = subst (LoadIn c.args.size) (sym (c.load_at-access.ensures c.args.code.now.bytes.now c.args.code.now.base c.fetch-fetched.ensures.value)) (load_within c.args.code.now.bytes.now c.args.code.now.base c.args.size c.args.cpu.now.regs) in
+    load_lines c.args.size (g.S.Sets.content c.args.sets.now).fixed.line_count c.load_at-access.result loads c.requires.lines (omega arith)

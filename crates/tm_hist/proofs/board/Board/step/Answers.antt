@@ -11,10 +11,10 @@ use Rattle.tm_hist.proofs.board.Board.step.Goals as goal
 pub returns-in-Ok-clause-stops : goal.returns-in-Ok-clause-stops
 returns-in-Ok-clause-stops c k stopped =
     let h = c.self.invariant in
-    let condemn_view = doomed_at_end (machine_setting h.start) (opening_state c.self.inside.program) (λ _. None) (map pair_of c.self.inside.made.items) in
+    let doom = doomed_at_end (machine_setting h.start) (opening_state c.self.inside.program) (λ _. None) (map pair_of c.self.inside.made.items) in
     let stands = h.is_run.takes.stands in (
       stopped.0,
-      stays_stopped c.self.inside.machine c.step.new.self h.is_run.takes.last condemn_view c.args.core c.in-Ok.outcome stands c.in-Ok.ensures.same
-          (c.in-Ok.ensures.ok h.is_run.takes.last condemn_view stands) k stopped.0
+      stays_stopped c.self.inside.machine c.step.new.self h.is_run.takes.last doom c.args.core c.in-Ok.outcome stands c.in-Ok.ensures.same
+          (c.in-Ok.ensures.ok h.is_run.takes.last doom stands) k stopped.0
           (ap (λ (b : ShownBoard). stop_shown (shown_state b.machine k)) c.self.view_is ∙ stopped.1),
     )
