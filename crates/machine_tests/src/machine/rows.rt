@@ -130,14 +130,33 @@ fn a_condemned_core(rt: HostRuntime) {
 }
 
 #[test]
-fn a_load_sees_old_bytes_and_condemns_nobody(rt: HostRuntime) {
+fn a_load_sees_old_bytes_and_condemns_the_writer(rt: HostRuntime) {
     // mov eax, [1000h]
     let mut machine = beside(&rt, rt.alloc(), &[0xa1, 0, 0x10, 0, 0]);
     let want = [Begun, Inside, Inside, Inside, Plain];
     steps(&rt, rt.alloc(), &mut machine, &[0, 0, 0, 0, 1], &want);
     assert_eq!(rt; eax_eip(&rt, &machine, 1), (0, 0x11b));
-    assert_eq!(rt; machine.step(0), Ok(Committed));
+    assert_eq!(rt; machine.step(0), Ok(Aborted(6)));
+    assert_eq!(rt; machine.view().get(0x1000), Some(&0));
+}
+
+#[test]
+fn a_load_inside_condemns_the_writer(rt: HostRuntime) {
+    let program = program(&rt, rt.alloc(), &ADDS, &[0x100, 0x100]);
+    let mut machine: Machine = Machine::new(rt.alloc(), &program, LIMITS).expect(&rt, "makes");
+    let want = [
+        Begun, Inside, Inside, Inside, Begun, Inside, Aborted(6), Inside, Inside, Committed,
+    ];
+    steps(&rt, rt.alloc(), &mut machine, &[0, 0, 0, 0, 1, 1, 0, 1, 1, 1], &want);
     assert_eq!(rt; machine.view().get(0x1000), Some(&1));
+}
+
+#[test]
+fn a_load_condemns_no_reader(rt: HostRuntime) {
+    // mov eax, [103ch], on the line that is read
+    let mut machine = beside(&rt, rt.alloc(), &[0xa1, 0x3c, 0x10, 0, 0]);
+    let want = [Begun, Inside, Plain, Inside];
+    steps(&rt, rt.alloc(), &mut machine, &[0, 0, 1, 0], &want);
 }
 
 #[test]
