@@ -1,4 +1,4 @@
--- A schedule that is written reads as the list that it was written from.
+-- A list in the first form reads as that list.
 use Rattle.std.proofs.Common.{◌≡◌, ℕ, zero, suc, ◌+◌, ◌-◌, ◌*◌, ◌/◌, ◌%◌, ◌<◌, ◌≤◌, ◌==◌, Bool, true, false, if◌then◌else◌, nat_lt, List, [], ◌∷◌, ◌++◌, refl, ◌∙◌, ap, arith, length, take, drop, map, get_or, append_assoc, Option, Some, None, Ok}
 use Rattle.std.proofs.lemmas.Grind.{common_steps}
 use Rattle.std.proofs.lemmas.List.{take-append-drop}
@@ -8,53 +8,56 @@ use Rattle.std.specs.Char.{is_ascii_digit}
 use Rattle.std.specs.List.{AllByRecursion, slice_split, flat_map, range_with_len, join_with_byte}
 use Rattle.ia_lex.specs.Lines.{lines_of}
 use Rattle.tm_hist.specs.Lines.{number_text}
-use Rattle.tm_hist.specs.Schedule.{behind, core_number, in_front, joined, numbers_from, numbers_of, schedule_of}
-use Rattle.tm_hist.specs.Schedule.{schedule_row, schedule_text, small, three_digits, word_numbers}
+use Rattle.tm_hist.specs.ScheduleWords.{small, three_digits, core_number}
+use Rattle.tm_hist.specs.Schedule.{word_numbers, joined, numbers_of, in_front, behind, numbers_from, schedule_of, numbers_row, numbers_text}
 
-abbrev Above : ℕ → List ℕ → Type 0
+abbrev pub Above : ℕ → List ℕ → Type 0
 Above k xs = AllByRecursion (λ b. k < b) xs
 
-abbrev Bytes : List ℕ → Type 0
+abbrev pub Bytes : List ℕ → Type 0
 Bytes xs = AllByRecursion (λ b. b < 256) xs
 
-above_append : (k : ℕ) (xs ys : List ℕ) → Above k xs → Above k ys → Above k (xs ++ ys)
+pub above_append : (k : ℕ) (xs ys : List ℕ) → Above k xs → Above k ys → Above k (xs ++ ys)
 above_append k [] ys a b = b
 above_append k (x ∷ xs) ys a b = (a.0, above_append k xs ys a.1 b)
 
-above_less : (j k : ℕ) (xs : List ℕ) → j ≤ k → Above k xs → Above j xs
+pub above_less : (j k : ℕ) (xs : List ℕ) → j ≤ k → Above k xs → Above j xs
 above_less j k [] l a = tt
 above_less j k (x ∷ xs) l a = (let h = a.0 in omega arith, above_less j k xs l a.1)
 
-differs : (c k b : ℕ) → c ≤ k → k < b → (b == c) ≡ false
+pub differs : (c k b : ℕ) → c ≤ k → k < b → (b == c) ≡ false
 differs c k b l h = ne_eqb b c (λ e. omega arith)
 
 same : (c : ℕ) → (c == c) ≡ true
 same c = grind (arith, nat_tests)
 
-split_end : (c k : ℕ) (xs : List ℕ) → c ≤ k → Above k xs → slice_split (λ b. b == c) xs ≡ xs ∷ []
+pub split_end : (c k : ℕ) (xs : List ℕ) → c ≤ k → Above k xs → slice_split (λ b. b == c) xs ≡ xs ∷ []
 split_end c k [] l a = refl
 split_end c k (x ∷ xs) l a = rw (differs c k x l a.0, split_end c k xs l a.1)
 
-split_more : (c k : ℕ) (xs ys : List ℕ) → c ≤ k → Above k xs → slice_split (λ b. b == c) (xs ++ c ∷ ys) ≡ xs ∷ slice_split (λ b. b == c) ys
+pub split_more : (c k : ℕ) (xs ys : List ℕ) → c ≤ k → Above k xs → slice_split (λ b. b == c) (xs ++ c ∷ ys) ≡ xs ∷ slice_split (λ b. b == c) ys
 split_more c k [] ys l a = rw (same c)
 split_more c k (x ∷ xs) ys l a = rw (differs c k x l a.0, split_more c k xs ys l a.1)
 
-line_more : (xs ys : List ℕ) → Above 13 xs → lines_of (xs ++ 10 ∷ ys) ≡ xs ∷ lines_of ys
+pub line_more : (xs ys : List ℕ) → Above 13 xs → lines_of (xs ++ 10 ∷ ys) ≡ xs ∷ lines_of ys
 line_more [] ys a = refl
 line_more (x ∷ xs) ys a = rw (differs 10 13 x (omega arith) a.0, differs 13 13 x (omega arith) a.0, line_more xs ys a.1)
 
 -- ---- a number
 
-cases : (P : List ℕ → Type 0) (b c : Bool) (x y z : List ℕ) → (b ≡ true → P x) → (b ≡ false → c ≡ true → P y) → (b ≡ false → c ≡ false → P z) →
+pub cases : (P : List ℕ → Type 0) (b c : Bool) (x y z : List ℕ) → (b ≡ true → P x) → (b ≡ false → c ≡ true → P y) → (b ≡ false → c ≡ false → P z) →
     P (if b then x else if c then y else z)
 cases P true c x y z p q r = p refl
 cases P false true x y z p q r = q refl refl
 cases P false false x y z p q r = r refl refl
 
-number_above : (n : ℕ) → Above 32 (number_text n)
+pub number_digits : (n : ℕ) → Above 42 (number_text n)
 unfolding number_text
-number_above n = cases (Above 32) (nat_lt n 10) (nat_lt n 100) _ _ _
+number_digits n = cases (Above 42) (nat_lt n 10) (nat_lt n 100) _ _ _
     (λ _. (omega arith, tt)) (λ _ _. (omega arith, (omega arith, tt))) (λ _ _. (omega arith, (omega arith, (omega arith, tt))))
+
+number_above : (n : ℕ) → Above 32 (number_text n)
+number_above n = above_less 32 42 (number_text n) (omega arith) (number_digits n)
 
 digit_yes : (a : ℕ) → a < 10 → is_ascii_digit (48 + a) ≡ true
 digit_yes a h = grind (arith, nat_tests)
@@ -70,6 +73,13 @@ three a b c n ha hb hc e h =
 abbrev one : Option ℕ → Option (List ℕ)
 one None = None
 one (Some n) = Some (n ∷ [])
+
+pub core_back : (n : ℕ) → n < 256 → core_number (number_text n) ≡ Some n
+unfolding number_text core_number
+core_back n h = cases (λ t. core_number t ≡ Some n) (nat_lt n 10) (nat_lt n 100) _ _ _
+    (λ e. let l = ltb-true n 10 e in three 0 0 n n (omega arith) (omega arith) (omega arith) (omega arith) h)
+    (λ _ e. let l = ltb-true n 100 e in three 0 (n / 10) (n % 10) n (omega arith) (omega arith) (omega arith) (omega arith) h)
+    (λ _ _. three (n / 100) (n / 10 % 10) (n % 10) n (omega arith) (omega arith) (omega arith) (omega arith) h)
 
 number_back : (n : ℕ) → n < 256 → word_numbers (number_text n) ≡ Some (n ∷ [])
 unfolding number_text word_numbers core_number
@@ -108,7 +118,7 @@ bytes_drop zero xs h = h
 bytes_drop (suc k) [] h = tt
 bytes_drop (suc k) (x ∷ xs) h = bytes_drop k xs h.1
 
-bytes_are : (xs : List ℕ) → ((i : ℕ) → get_or xs i 0 < 256) → Bytes xs
+pub bytes_are : (xs : List ℕ) → ((i : ℕ) → get_or xs i 0 < 256) → Bytes xs
 bytes_are [] h = tt
 bytes_are (x ∷ xs) h = (h 0, bytes_are xs (λ i. h (suc i)))
 
@@ -125,11 +135,11 @@ gone : (xs : List ℕ) (n : ℕ) → length xs ≤ n → [] ≡ drop n xs
 gone xs n h = grind (arith, common_steps)
 
 rows_back : (cores : List ℕ) (m i k : ℕ) → Bytes cores → length cores ≤ 32 * (i + m) →
-    numbers_from k (lines_of (flat_map (schedule_row cores) (range_with_len i m))) ≡ Ok (drop (32 * i) cores)
+    numbers_from k (lines_of (flat_map (numbers_row cores) (range_with_len i m))) ≡ Ok (drop (32 * i) cores)
 rows_back cores zero i k h l = ap Ok (gone cores (32 * i) (omega arith))
 rows_back cores (suc m) i k h l =
     let row = take 32 (drop (32 * i) cores) in
-    let rest = flat_map (schedule_row cores) (range_with_len (i + 1) m) in
+    let rest = flat_map (numbers_row cores) (range_with_len (i + 1) m) in
     let bytes : Bytes row = bytes_take 32 (drop (32 * i) cores) (bytes_drop (32 * i) cores h) in
     ap (λ t. numbers_from k (lines_of t)) (append_assoc (join_with_byte 32 (map number_text row)) (10 ∷ []) rest)
     ∙ ap (numbers_from k) (line_more (join_with_byte 32 (map number_text row)) rest (row_above row))
@@ -137,5 +147,5 @@ rows_back cores (suc m) i k h l =
     ∙ ap (behind row) (rows_back cores m (i + 1) (k + 1) h (omega arith))
     ∙ ap Ok (next_row cores i)
 
-pub schedule_back : (cores : List ℕ) → ((i : ℕ) → get_or cores i 0 < 256) → schedule_of (schedule_text cores) ≡ Ok cores
-schedule_back cores h = rows_back cores ((length cores + 31) / 32) 0 2 (bytes_are cores h) (omega arith)
+pub numbers_back : (cores : List ℕ) → ((i : ℕ) → get_or cores i 0 < 256) → schedule_of (numbers_text cores) ≡ Ok cores
+numbers_back cores h = rows_back cores ((length cores + 31) / 32) 0 2 (bytes_are cores h) (omega arith)

@@ -1,6 +1,10 @@
 pub mod Rows
 pub mod Cuts
+pub mod Counts
 pub mod Back
+pub mod RunsOf
+pub mod RunsBack
+pub mod RunsWritten
 pub mod Bodies
 pub mod Runs
 pub mod Limits

@@ -1,40 +1,20 @@
 -- The text of a schedule (docs/FORMATS.md, "Schedules").
-use Rattle.std.specs.Prelude.{ℕ, ◌+◌, ◌-◌, ◌*◌, ◌/◌, ◌==◌, ◌&&◌, List, [], ◌∷◌, ◌++◌, codes, map, take, drop, length}
-use Rattle.std.specs.Prelude.{Option, Some, None, option_map, Result, Ok, Err, nat_lt, nat_eq, if◌then◌else◌}
-use Rattle.std.specs.Char.{is_ascii_digit}
-use Rattle.std.specs.List.{slice_split, flat_map, range_with_len, join_with_byte}
+use Rattle.std.specs.Prelude.{ℕ, ◌+◌, ◌*◌, ◌/◌, ◌==◌, List, [], ◌∷◌, ◌++◌, codes, map, take, drop, length, Option, Some, None, option_map, Result, Ok, Err, nat_eq, if◌then◌else◌}
+use Rattle.std.specs.List.{flat_map, range_with_len, join_with_byte}
 use Rattle.std.specs.Cmp.Lexicographic.{pointwise}
 use Rattle.ia_lex.specs.Lines.{lines_of}
 use Rattle.tm_hist.specs.declared.schedule.ScheduleFault.{ScheduleFault}
-use Rattle.tm_hist.specs.declared.schedule.ScheduleFault.TheVariants.{BadSchedule, NoMemory}
-use Rattle.tm_hist.specs.Lines.{line_end, number_text}
+use Rattle.tm_hist.specs.declared.schedule.ScheduleFault.TheVariants.{BadSchedule, NoMemory, TooManySteps}
+use Rattle.tm_hist.specs.Lines.{number_text, line_end}
+use Rattle.tm_hist.specs.ScheduleWords.{words_of, core_number}
+use Rattle.tm_hist.specs.ScheduleRuns.{words_from, runs_read, runs_of, runs_text}
 
 abbrev pub fault_code : ScheduleFault → ℕ
 fault_code (BadSchedule line) = 52
 fault_code NoMemory = 54
+fault_code (TooManySteps line) = 56
 
--- ---- reading
-
--- what stands between the spaces of a line
-abbrev pub words_of : List ℕ → List (List ℕ)
-words_of line = slice_split (λ b. b == 32) line
-
-abbrev pub small : ℕ → Option ℕ
-small n = if nat_lt n 256 then Some n else None
-
--- the number of three decimal digits, at most 255
-abbrev pub three_digits : ℕ → ℕ → ℕ → Option ℕ
-three_digits a b c =
-    if is_ascii_digit a && is_ascii_digit b && is_ascii_digit c
-    then small ((a - 48) * 100 + (b - 48) * 10 + (c - 48))
-    else None
-
--- a core's number: one to three decimal digits
-unfoldable pub core_number : List ℕ → Option ℕ
-core_number (c ∷ []) = three_digits 48 48 c
-core_number (b ∷ c ∷ []) = three_digits 48 b c
-core_number (a ∷ b ∷ c ∷ []) = three_digits a b c
-core_number _ = None
+-- ---- the first form: core numbers
 
 -- the number that a word says, or nothing where it says none; between two spaces side by side there is no word
 unfoldable pub word_numbers : List ℕ → Option (List ℕ)
@@ -72,26 +52,40 @@ numbers_from n (line ∷ below) = in_front (line_numbers line) n (numbers_from (
 abbrev pub steps_of : List ℕ → Result (List ℕ) ScheduleFault
 steps_of text = numbers_from 1 (lines_of text)
 
--- the first line of a schedule
-abbrev pub title : List ℕ
-title = codes "schedule 1"
+-- ---- both forms
 
-abbrev pub below_title : List (List ℕ) → Result (List ℕ) ScheduleFault
-below_title [] = Err (BadSchedule 1)
-below_title (first ∷ below) = if pointwise nat_eq first title then numbers_from 2 below else Err (BadSchedule 1)
+-- the first line of a schedule of each form
+abbrev pub first_title : List ℕ
+first_title = codes "schedule 1"
+
+abbrev pub second_title : List ℕ
+second_title = codes "schedule 2"
+
+-- a schedule of this first line
+abbrev pub below_title : List ℕ → List (List ℕ) → Result (List ℕ) ScheduleFault
+below_title title below =
+    if pointwise nat_eq title first_title then numbers_from 2 below
+    else if pointwise nat_eq title second_title then runs_read (words_from 2 below)
+    else Err (BadSchedule 1)
+
+abbrev pub schedule_in : List (List ℕ) → Result (List ℕ) ScheduleFault
+schedule_in [] = Err (BadSchedule 1)
+schedule_in (title ∷ below) = below_title title below
 
 -- a schedule
 abbrev pub schedule_of : List ℕ → Result (List ℕ) ScheduleFault
-schedule_of text = below_title (lines_of text)
+schedule_of text = schedule_in (lines_of text)
 
 -- ---- writing
 
--- the line with this index: 32 numbers, or the last ones
-abbrev pub schedule_row : List ℕ → ℕ → List ℕ
-schedule_row cores i = join_with_byte 32 (map number_text (take 32 (drop (32 * i) cores))) ++ line_end
+-- the line of numbers with this index: 32 of them, or the last ones
+abbrev pub numbers_row : List ℕ → ℕ → List ℕ
+numbers_row cores i = join_with_byte 32 (map number_text (take 32 (drop (32 * i) cores))) ++ line_end
 
-abbrev pub schedule_rows : List ℕ → List ℕ
-schedule_rows cores = flat_map (schedule_row cores) (range_with_len 0 ((length cores + 31) / 32))
+-- a list in the first form
+abbrev pub numbers_text : List ℕ → List ℕ
+numbers_text cores = first_title ++ line_end ++ flat_map (numbers_row cores) (range_with_len 0 ((length cores + 31) / 32))
 
+-- a list in the second form, in which schedules are written
 abbrev pub schedule_text : List ℕ → List ℕ
-schedule_text cores = title ++ line_end ++ schedule_rows cores
+schedule_text cores = second_title ++ line_end ++ runs_text 0 (runs_of cores)

@@ -4,8 +4,8 @@ ghost use Rattle.std.specs.Prelude.{◌≡◌, ◌==◌};
 ghost use Rattle.std.specs.List.{position};
 ghost use Rattle.tm_hist.specs.Pieces.{IsCut};
 
-// Where the first such byte stands.
-fn find(text: &[u8], byte: u8) -> Option<usize>
+/// Where the first such byte stands.
+pub fn find(text: &[u8], byte: u8) -> Option<usize>
     ensures { result ≡ position (λ b. b == byte) text.now }
 {
     text.iter().position(|b| *b == byte)

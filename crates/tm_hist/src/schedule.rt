@@ -1,21 +1,22 @@
 //! Schedules: lists of core numbers as text.
 
-ghost use Rattle.std.specs.Prelude.{◌≡◌, ◌+◌, ◌-◌, ◌*◌, ◌≤◌, ◌<◌, ◌^◌, ◌⊎◌, ◌++◌, Ok, Err, Some, None, IfOk, IfErr};
-ghost use Rattle.std.specs.Prelude.{OnOk, length, map, take, drop};
-ghost use Rattle.std.specs.List.{join_with_byte};
-ghost use Rattle.arrayvec.specs.ArrayVec.{array_vec_len};
-ghost use Rattle.ia_text.specs.Writing.{Writes};
-ghost use Rattle.tm_hist.specs.Lines.{number_text};
-ghost use Rattle.tm_hist.specs.Schedule.{core_number, joined, line_numbers, numbers_from, schedule_of, schedule_row};
-ghost use Rattle.tm_hist.specs.Schedule.{schedule_rows, schedule_text, steps_of, three_digits, word_numbers};
+ghost use Rattle.std.specs.Prelude.{◌≡◌, ◌+◌, ◌<◌, ◌^◌, ◌⊎◌, Ok, Err, IfOk, IfErr, length};
 ghost use Rattle.ia_lex.specs.Lines.{lines_of};
+ghost use Rattle.tm_hist.specs.Schedule.{steps_of, schedule_of, below_title};
 
-use crate::pieces::cut;
-use crate::text_line::{TextLine, push, push_number};
+mod numbers;
+mod reading;
+mod runs;
+mod words;
+mod writing;
+
 use ia_lex::first_line;
-use ia_text::{Out, WriteFault};
+use numbers::read_lines;
+use reading::read_runs;
 use std::alloc::Global;
 use thiserror::Error;
+use words::Unread;
+pub use writing::write_schedule;
 
 /// Why a schedule was not read.
 #[derive(Clone, Copy, PartialEq, Eq, Debug, Error)]
@@ -26,6 +27,9 @@ pub enum ScheduleFault {
     /// The list of cores found no memory.
     #[error("NoMemory")]
     NoMemory,
+    /// With a word of this line, counted from 1, the steps are more than 16,777,216.
+    #[error("TooManySteps")]
+    TooManySteps(usize),
 }
 
 impl ScheduleFault {
@@ -38,96 +42,22 @@ impl ScheduleFault {
         match self {
             ScheduleFault::BadSchedule(_line) => 52,
             ScheduleFault::NoMemory => 54,
+            ScheduleFault::TooManySteps(_line) => 56,
         }
     }
 }
 
-// The number of three decimal digits, at most 255.
-fn number_of(a: u8, b: u8, c: u8) -> Option<u8>
-    ensures { result ≡ three_digits a b c }
-{
-    if a.is_ascii_digit() && b.is_ascii_digit() && c.is_ascii_digit() {
-        let value = u16::from(a - b'0') * 100 + u16::from(b - b'0') * 10 + u16::from(c - b'0');
-        u8::try_from(value).ok()
-    } else {
-        None
-    }
-}
-
-// The number of a core: one to three decimal digits.
-#[tactic(auto, unfolding(crate::specs::Schedule::core_number))]
-fn core_of(word: &[u8]) -> Option<u8>
-    ensures { result ≡ core_number word.now }
-{
-    match word {
-        [c] => number_of(b'0', b'0', *c),
-        [b, c] => number_of(b'0', *b, *c),
-        [a, b, c] => number_of(*a, *b, *c),
-        _ => None,
-    }
-}
-
-// Adds the number of a word, and none for an empty word.
-#[tactic(auto, unfolding(crate::specs::Schedule::word_numbers))]
-fn read_word(word: &[u8], line: usize, cores: &mut Vec<u8>) -> Result<(), ScheduleFault>
-    ensures ok { OnOk result (joined (Some cores.old.items) (word_numbers word.now) ≡ Some cores.new.items) }
-    ensures err { IfErr result (λ fault. (fault ≡ ScheduleFault.NoMemory)
-        ⊎ ((fault ≡ ScheduleFault.BadSchedule line) × (word_numbers word.now ≡ None))) }
-{
-    if word.is_empty() {
-        return Ok(());
-    }
-    let Some(core) = core_of(word) else {
-        return Err(ScheduleFault::BadSchedule(line));
-    };
-    if cores.push(core).is_err() {
-        return Err(ScheduleFault::NoMemory);
-    }
-    Ok(())
-}
-
-// Adds the numbers of a line.
-fn read_line(text: &[u8], line: usize, cores: &mut Vec<u8>) -> Result<(), ScheduleFault>
-    ensures ok { OnOk result (joined (Some cores.old.items) (line_numbers text.now) ≡ Some cores.new.items) }
-    ensures err { IfErr result (λ fault. (fault ≡ ScheduleFault.NoMemory)
-        ⊎ ((fault ≡ ScheduleFault.BadSchedule line) × (line_numbers text.now ≡ None))) }
-{
-    let mut left = Some(text);
-    'words: while let Some(rest) = left {
-        let (word, behind) = cut(rest, b' ');
-        read_word(word, line, cores)?;
-        left = behind;
-    }
-    Ok(())
-}
-
-// The numbers of lines, the first of which has this number.
-fn read_lines(alloc: Global, text: &[u8], first: usize) -> Result<Vec<u8>, ScheduleFault>
-    requires { first + length text.now < 2 ^ 64 }
-    ensures ok { IfOk result (λ cores. numbers_from first (lines_of text.now) ≡ Ok cores.items) }
-    ensures err { IfErr result (λ fault. (fault ≡ ScheduleFault.NoMemory)
-        ⊎ (numbers_from first (lines_of text.now) ≡ Err fault)) }
-{
-    let mut cores = Vec::new(alloc);
-    let mut left = text;
-    let mut line = first;
-    'lines: while !left.is_empty() {
-        let (words, size) = first_line(left);
-        read_line(words, line, &mut cores)?;
-        left = &left[size..];
-        line += 1;
-    }
-    Ok(cores)
-}
-
-/// The core numbers of a schedule.
+/// The core numbers of a schedule, in one of two forms.
 ///
-/// A schedule is `schedule 1` alone on the first line, and below it core numbers in decimal digits, one to three and
-/// at most 255, between spaces and line ends. A line ends at a line feed, and a carriage return before it is no part
-/// of it.
+/// The first form is `schedule 1` alone on the first line, and below it core numbers in decimal digits, one to three and
+/// at most 255, between spaces and line ends. The second is `schedule 2` alone on the first line, and below it words `c`
+/// and `c*n`, the second of which stands for n times the core c: n has one to eight decimal digits, and is 1 to
+/// 16,777,216. A line ends at a line feed, and a carriage return before it is no part of it.
 ///
-/// [`ScheduleFault::BadSchedule`] names the first line that breaks the form; [`ScheduleFault::NoMemory`], where the
-/// list of cores found no memory.
+/// [`ScheduleFault::BadSchedule`] names the first line that breaks the form; [`ScheduleFault::TooManySteps`], the line of
+/// the word with which a schedule of the second form has more than 16,777,216 steps, before memory for them is taken. Of
+/// these two the one that stands first in the text is told. [`ScheduleFault::NoMemory`], where the list of cores found no
+/// memory.
 pub fn read_schedule(alloc: Global, text: &[u8]) -> Result<Vec<u8>, ScheduleFault>
     ensures ok { IfOk result (λ cores. schedule_of text.now ≡ Ok cores.items) }
     ensures err { IfErr result (λ fault. (fault ≡ ScheduleFault.NoMemory) ⊎ (schedule_of text.now ≡ Err fault)) }
@@ -136,13 +66,25 @@ pub fn read_schedule(alloc: Global, text: &[u8]) -> Result<Vec<u8>, ScheduleFaul
         return Err(ScheduleFault::BadSchedule(1));
     }
     let (title, size) = first_line(text);
-    if title != b"schedule 1".as_slice() {
-        return Err(ScheduleFault::BadSchedule(1));
-    }
-    read_lines(alloc, &text[size..], 2)
+    read_below(alloc, title, &text[size..])
 }
 
-/// The core numbers of a list of steps: those of a schedule, with no first line above them.
+// The core numbers below this first line.
+fn read_below(alloc: Global, title: &[u8], below: &[u8]) -> Result<Vec<u8>, ScheduleFault>
+    requires { 2 + length below.now < 2 ^ 64 }
+    ensures ok { IfOk result (λ cores. below_title title.now (lines_of below.now) ≡ Ok cores.items) }
+    ensures err { IfErr result (λ fault. (fault ≡ ScheduleFault.NoMemory) ⊎ (below_title title.now (lines_of below.now) ≡ Err fault)) }
+{
+    if title == b"schedule 1".as_slice() {
+        return read_lines(alloc, below, 2);
+    }
+    if title == b"schedule 2".as_slice() {
+        return read_runs(alloc, Unread::below(below));
+    }
+    Err(ScheduleFault::BadSchedule(1))
+}
+
+/// The core numbers of a list of steps: those of a schedule of the first form, with no first line above them.
 ///
 /// The faults are those of [`read_schedule`], the lines being counted from 1.
 pub fn read_steps(alloc: Global, text: &[u8]) -> Result<Vec<u8>, ScheduleFault>
@@ -150,68 +92,4 @@ pub fn read_steps(alloc: Global, text: &[u8]) -> Result<Vec<u8>, ScheduleFault>
     ensures err { IfErr result (λ fault. (fault ≡ ScheduleFault.NoMemory) ⊎ (steps_of text.now ≡ Err fault)) }
 {
     read_lines(alloc, text, 1)
-}
-
-// Adds numbers with a space between each two.
-fn push_cores(row: &mut TextLine, cores: &[u8])
-    requires { array_vec_len row.old + 4 * length cores.now ≤ 160 }
-    ensures text { row.new.items ≡ row.old.items ++ join_with_byte 32 (map number_text cores.now) }
-    ensures len { array_vec_len row.new ≤ array_vec_len row.old + 4 * length cores.now }
-{
-    if let Some((first, rest)) = cores.split_first() {
-        push_number(row, *first);
-        if !rest.is_empty() {
-            push(row, b" ");
-            push_cores(row, rest);
-        }
-    }
-}
-
-// The cores of the line with this index.
-fn row_of(cores: &[u8], index: usize) -> &[u8]
-    requires { 32 * index < length cores.now }
-    ensures row { result.now ≡ take 32 (drop (32 * index) cores.now) }
-    ensures few { length result.now ≤ 32 }
-{
-    let rest = &cores[32 * index..];
-    &rest[..rest.len().min(32)]
-}
-
-fn push_row(row: &mut TextLine, cores: &[u8], index: usize)
-    requires empty { array_vec_len row.old ≡ 0 }
-    requires within { 32 * index < length cores.now }
-    ensures { row.new.items ≡ row.old.items ++ schedule_row cores.now index }
-{
-    push_cores(row, row_of(cores, index));
-    push(row, b"\n");
-}
-
-fn write_row<O: Out>(cores: &[u8], index: usize, out: &mut O) -> Result<(), WriteFault>
-    requires { 32 * index < length cores.now }
-    ensures { Writes (O.device out.old) (O.device out.new) (schedule_row cores.now index) result }
-{
-    let mut row = TextLine::new();
-    push_row(&mut row, cores, index);
-    out.put(row.as_slice())?;
-    Ok(())
-}
-
-fn write_rows<O: Out>(cores: &[u8], out: &mut O) -> Result<(), WriteFault>
-    ensures { Writes (O.device out.old) (O.device out.new) (schedule_rows cores.now) result }
-{
-    for index in 0..cores.len().div_ceil(32) {
-        write_row(cores, index, out)?;
-    }
-    Ok(())
-}
-
-/// Writes the schedule of a list of cores, 32 a line, which is read back as that list.
-///
-/// [`WriteFault::Write`], where the device failed: a beginning of the schedule was written.
-pub fn write_schedule<O: Out>(cores: &[u8], out: &mut O) -> Result<(), WriteFault>
-    ensures written { Writes (O.device out.old) (O.device out.new) (schedule_text cores.now) result }
-    ensures read_back { schedule_of (schedule_text cores.now) ≡ Ok cores.now }
-{
-    out.put(b"schedule 1\n")?;
-    write_rows(cores, out)
 }

@@ -51,6 +51,15 @@ fn schedules_read(rt: HostRuntime) -> Result<(), ScheduleFault> {
         ),
         (b"schedule 1", [].as_slice()),
         (b"schedule 1\r\n\r\n 7  007\r\n255 ", [7, 7, 255].as_slice()),
+        (
+            b"schedule 2\n0*2 1*2 0*3 1\n".as_slice(),
+            [0, 0, 1, 1, 0, 0, 0, 1].as_slice(),
+        ),
+        (b"schedule 2".as_slice(), [].as_slice()),
+        (
+            b"schedule 2\r\n\r\n 02*007  255\r\n3*00000001 ".as_slice(),
+            [2, 2, 2, 2, 2, 2, 2, 255, 3].as_slice(),
+        ),
     ];
     for (text, cores) in &readable {
         let read = read_schedule(rt.alloc(), text)?;
@@ -66,6 +75,18 @@ fn schedules_read(rt: HostRuntime) -> Result<(), ScheduleFault> {
         (b"schedule 1\n1\t2\n".as_slice(), 2),
         (b"schedule 1\n1\r".as_slice(), 2),
         (b"schedule 1\n1,2\n".as_slice(), 2),
+        (b"schedule 1\n1*2\n".as_slice(), 2),
+        (b"schedule 3\n0\n".as_slice(), 1),
+        (b"schedule 2\n0*0\n".as_slice(), 2),
+        (b"schedule 2\n0\n256*1".as_slice(), 3),
+        (b"schedule 2\n0*16777217".as_slice(), 2),
+        (b"schedule 2\n0*000000001".as_slice(), 2),
+        (b"schedule 2\n1*".as_slice(), 2),
+        (b"schedule 2\n*1".as_slice(), 2),
+        (b"schedule 2\n1*2*3".as_slice(), 2),
+        (b"schedule 2\n1*+2".as_slice(), 2),
+        (b"schedule 2\n1 *2".as_slice(), 2),
+        (b"schedule 2\n0*16777216 x 0".as_slice(), 2),
     ];
     for (text, line) in &broken {
         match read_schedule(rt.alloc(), text) {
@@ -73,6 +94,28 @@ fn schedules_read(rt: HostRuntime) -> Result<(), ScheduleFault> {
             Err(fault) => {
                 assert!(rt; fault == ScheduleFault::BadSchedule(*line), "line {line}");
                 assert_eq!(rt; fault.code(), 52);
+            }
+        }
+    }
+    Ok(())
+}
+
+#[test]
+fn long_schedules(rt: HostRuntime) -> Result<(), ScheduleFault> {
+    let most = read_schedule(rt.alloc(), b"schedule 2\n0*16777215\n1\n\n")?;
+    assert_eq!(rt; most.len(), 16_777_216);
+    assert!(rt; most.last() == Some(&1));
+    let long = [
+        (b"schedule 2\n0*16777216 0\n".as_slice(), 2),
+        (b"schedule 2\n0*16777216\n\n 1\nx\n".as_slice(), 4),
+        (b"schedule 2\n0*16000000\n1*1000000\n".as_slice(), 3),
+    ];
+    for (text, line) in &long {
+        match read_schedule(rt.alloc(), text) {
+            Ok(_) => assert!(rt; false, "read, though the steps are too many at line {line}"),
+            Err(fault) => {
+                assert!(rt; fault == ScheduleFault::TooManySteps(*line), "line {line}");
+                assert_eq!(rt; fault.code(), 56);
             }
         }
     }
@@ -91,19 +134,29 @@ fn steps_read(rt: HostRuntime) -> Result<(), ScheduleFault> {
 
 #[test]
 fn schedules_written(rt: HostRuntime) -> Result<(), WriteFault> {
-    let mut out = ToVec::new(Vec::new(rt.alloc()));
-    let cores = [200; 33];
-    write_schedule(&cores, &mut out)?;
-    let mut lines: u8 = 0;
-    for byte in out.bytes.as_slice() {
-        if *byte == b'\n' {
-            lines = lines.saturating_add(1);
+    let lists = [
+        ([].as_slice(), b"schedule 2\n".as_slice()),
+        (
+            [0, 0, 1, 1, 0, 0, 0, 1].as_slice(),
+            b"schedule 2\n0*2 1*2 0*3 1\n".as_slice(),
+        ),
+        ([200; 33].as_slice(), b"schedule 2\n200*33\n".as_slice()),
+        (
+            [
+                1, 2, 3, 4, 5, 6, 7, 8, 9, 10, 11, 12, 13, 14, 15, 16, 17, 17,
+            ]
+            .as_slice(),
+            b"schedule 2\n1 2 3 4 5 6 7 8 9 10 11 12 13 14 15 16\n17*2\n".as_slice(),
+        ),
+    ];
+    for (cores, text) in &lists {
+        let mut out = ToVec::new(Vec::new(rt.alloc()));
+        write_schedule(cores, &mut out)?;
+        assert_eq!(rt; out.bytes.as_slice(), *text);
+        match read_schedule(rt.alloc(), out.bytes.as_slice()) {
+            Ok(back) => assert_eq!(rt; back.as_slice(), *cores),
+            Err(fault) => assert!(rt; false, "{fault}"),
         }
-    }
-    assert_eq!(rt; lines, 3);
-    match read_schedule(rt.alloc(), out.bytes.as_slice()) {
-        Ok(back) => assert_eq!(rt; back.as_slice(), cores.as_slice()),
-        Err(fault) => assert!(rt; false, "{fault}"),
     }
     Ok(())
 }

@@ -1,7 +1,7 @@
 use Rattle.std.proofs.Common.{◌≡◌, ◌+◌, ◌≤◌, length}
 use Rattle.ia_lex.specs.Lines.{lines_of}
 use Rattle.tm_hist.specs.Schedule.{behind, numbers_from}
-use Rattle.tm_hist.proofs.schedule.read_lines.Given as goal
+use Rattle.tm_hist.proofs.schedule.numbers.read_lines.Given as goal
 
 -- the numbers so far, and those of the lines that are left
 abbrev pub invariant-lines : goal.invariant-lines

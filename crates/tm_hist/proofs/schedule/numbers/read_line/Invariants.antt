@@ -1,7 +1,7 @@
 use Rattle.std.proofs.Common.{◌≡◌, Some}
-use Rattle.tm_hist.specs.Pieces.{size_left, words_left}
-use Rattle.tm_hist.specs.Schedule.{joined, line_numbers, numbers_of}
-use Rattle.tm_hist.proofs.schedule.read_line.Given as goal
+use Rattle.tm_hist.specs.Schedule.{joined, numbers_of, line_numbers}
+use Rattle.tm_hist.specs.Pieces.{words_left, size_left}
+use Rattle.tm_hist.proofs.schedule.numbers.read_line.Given as goal
 
 -- the numbers so far and those of the words that are left
 abbrev pub invariant-words : goal.invariant-words
