@@ -25,10 +25,10 @@ all_inside base code_len (e ∷ es) h =
     let both = neither (outside_code base code_len e) (list_any (outside_code base code_len) es) h in
     All-cons (λ x. (base ≤ x) × (x < base + code_len)) e es (inside base code_len e both.0) (all_inside base code_len es both.1)
 
-cores_right : (n : ℕ) → bad_cores n ≡ false → (0 < n) × (n ≤ 16)
+cores_right : (n : ℕ) → bad_cores n ≡ false → (0 < n) × (n ≤ 64)
 cores_right n h = grind (arith, nat_tests)
 
-size_right : (size cores : ℕ) → bad_memory_size size cores ≡ false → (size % 4096 ≡ 0) × (4096 * (cores + 1) ≤ size) × (size ≤ 67108864)
+size_right : (size cores : ℕ) → bad_memory_size size cores ≡ false → (size % 4096 ≡ 0) × (4096 * (cores + 1) ≤ size) × (size ≤ 268435456)
 size_right size cores h = grind (arith, nat_tests)
 
 some_byte : (n : ℕ) → (n == 0) ≡ false → 0 < n

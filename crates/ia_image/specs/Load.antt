@@ -15,13 +15,13 @@ fault_number fault.EntryOutsideCode = 24
 fault_number fault.CodeTooLong = 25
 fault_number fault.NoMemory = 26
 
--- not 1 to 16
+-- not 1 to 64
 abbrev pub bad_cores : ℕ → Bool
-bad_cores cores = cores == 0 || nat_lt 16 cores
+bad_cores cores = cores == 0 || nat_lt 64 cores
 
--- no whole pages of 4096 bytes, too few for a stack of each core and one more, or above 64 MiB
+-- no whole pages of 4096 bytes, too few for a stack of each core and one more, or above 256 MiB
 abbrev pub bad_memory_size : ℕ → ℕ → Bool
-bad_memory_size size cores = not (size % 4096 == 0) || (nat_lt size (4096 * (cores + 1)) || nat_lt 67108864 size)
+bad_memory_size size cores = not (size % 4096 == 0) || (nat_lt size (4096 * (cores + 1)) || nat_lt 268435456 size)
 
 -- no address of a byte of the code
 abbrev pub outside_code : ℕ → ℕ → ℕ → Bool

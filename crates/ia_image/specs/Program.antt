@@ -24,10 +24,10 @@ IsInCode program address = (program.base ≤ address) × (address < program.base
 pub record IsSound (program : ProgramValue) : Type 0 where
   pub not_empty : 0 < length program.bytes
   pub some_core : 0 < length program.entries
-  pub few_cores : length program.entries ≤ 16
+  pub few_cores : length program.entries ≤ 64
   pub whole_pages : program.mem_size % 4096 ≡ 0
   pub holds_stacks : 4096 * (length program.entries + 1) ≤ program.mem_size
-  pub not_large : program.mem_size ≤ 67108864
+  pub not_large : program.mem_size ≤ 268435456
   pub fits : program.base + length program.bytes ≤ program.mem_size
   pub code_fits : program.code_len ≤ length program.bytes
   pub entries_in_code : All (IsInCode program) program.entries

@@ -14,10 +14,10 @@ pub enum LoadFault {
     /// The image has no bytes.
     #[error("Empty")]
     Empty,
-    /// There are not 1 to 16 entries.
+    /// There are not 1 to 64 entries.
     #[error("BadCores")]
     BadCores,
-    /// The memory size is no multiple of 4096, below 4096 times the number of cores and one, or above 67,108,864.
+    /// The memory size is no multiple of 4096, below 4096 times the number of cores and one, or above 268,435,456.
     #[error("BadMemorySize")]
     BadMemorySize,
     /// The image ends above the memory size.

@@ -8,8 +8,8 @@ use crate::fault::LoadFault;
 use crate::program::{MOST_CORES, Program, entry_row};
 use std::alloc::Global;
 
-/// The largest memory: 64 MiB.
-const MOST_MEMORY: u32 = 67_108_864;
+/// The largest memory: 256 MiB.
+const MOST_MEMORY: u32 = 268_435_456;
 
 /// What a stack takes, and the unit of the memory size.
 const PAGE: u32 = 4096;
@@ -21,7 +21,7 @@ fn has_bad_cores(entries: &[u32]) -> bool
 }
 
 fn has_bad_memory_size(mem_size: u32, cores: u32) -> bool
-    requires { cores ≤ 16 }
+    requires { cores ≤ 64 }
     ensures { result ≡ bad_memory_size mem_size cores }
 {
     mem_size % PAGE != 0 || mem_size < PAGE * (cores + 1) || mem_size > MOST_MEMORY

@@ -5,7 +5,7 @@ use ia_text::{Out, ToVec};
 use std::alloc::Global;
 use std::test::Fail;
 
-const ENTRIES: [u32; 17] = [256; 17];
+const ENTRIES: [u32; 65] = [256; 65];
 
 fn outcome(
     alloc: Global,
@@ -29,16 +29,16 @@ fn outcome(
 
 #[test]
 fn limits(rt: HostRuntime) -> Result<(), Fail> {
-    let most = 67_108_864;
+    let most = 268_435_456;
     let cases: [(usize, u32, u32, u32, usize, Option<LoadFault>); 16] = [
         (1, 256, 1, 8192, 1, None),
         (0, 256, 1, 8192, 0, Some(LoadFault::Empty)),
         (1, 256, 1, 8191, 0, Some(LoadFault::BadCores)),
-        (1, 256, 1, 69_632, 16, None),
-        (1, 256, 1, 8191, 17, Some(LoadFault::BadCores)),
+        (1, 256, 1, 266_240, 64, None),
+        (1, 256, 1, 8191, 65, Some(LoadFault::BadCores)),
         (1, 8192, 1, 8191, 1, Some(LoadFault::BadMemorySize)),
         (1, 256, 1, 4096, 1, Some(LoadFault::BadMemorySize)),
-        (1, 256, 1, 65_536, 16, Some(LoadFault::BadMemorySize)),
+        (1, 256, 1, 262_144, 64, Some(LoadFault::BadMemorySize)),
         (1, 256, 1, most, 1, None),
         (1, 256, 1, most + 4096, 1, Some(LoadFault::BadMemorySize)),
         (16, 8176, 17, 8192, 1, Some(LoadFault::CodeTooLong)),
@@ -49,7 +49,7 @@ fn limits(rt: HostRuntime) -> Result<(), Fail> {
         (16, 255, 1, 8192, 1, Some(LoadFault::EntryOutsideCode)),
     ];
     for (len, base, code_len, mem_size, cores, fault) in cases {
-        assert!(rt; cores <= 17);
+        assert!(rt; cores <= 65);
         let found = outcome(rt.alloc(), len, base, code_len, mem_size, &ENTRIES[..cores]);
         assert_eq!(rt; found, fault);
     }
