@@ -240,7 +240,7 @@ fn ranges(rt: HostRuntime) -> Result<(), Fail> {
     );
     assert_eq!(rt; fault(alloc, b"org 4294967296\n"), Some(AsmFault::Range(1)));
     assert_eq!(rt;
-        fault(alloc, b"resb 67108864\n\ndb 1\n"),
+        fault(alloc, b"resb 268435456\n\ndb 1\n"),
         Some(AsmFault::Range(3))
     );
     assert_eq!(rt; fault(alloc, b"resb -1\n"), Some(AsmFault::Range(1)));

@@ -83,17 +83,17 @@ first_none (Some f) b e =
     let wrong : Some h ≡ None = sym is ∙ e in
     absurd cc
 
-end_none : (base end : ℕ) → end_fault base end ≡ None → end ≤ base + 2 ^ 26
-end_none base end e = by (nat_lt (base + 2 ^ 26) end) refl
+end_none : (base end : ℕ) → end_fault base end ≡ None → end ≤ base + 2 ^ 28
+end_none base end e = by (nat_lt (base + 2 ^ 28) end) refl
   where
-    by : (t : Bool) → nat_lt (base + 2 ^ 26) end ≡ t → end ≤ base + 2 ^ 26
+    by : (t : Bool) → nat_lt (base + 2 ^ 28) end ≡ t → end ≤ base + 2 ^ 28
     by true is =
         let some : end_fault base end ≡ Some Range = rw is refl in
         let wrong : Some Range ≡ None = sym some ∙ e in
         absurd cc
     by false is = ltb-false _ _ is
 
-ends : (env : Env) (base : ℕ) (p : EntryPlace) (i : Item) → p.size ≡ size_of p.at p.critical_value i → item_fault env base p i ≡ None → (p.size ≡ 0) ⊎ (p.at + p.size ≤ base + 2 ^ 26)
+ends : (env : Env) (base : ℕ) (p : EntryPlace) (i : Item) → p.size ≡ size_of p.at p.critical_value i → item_fault env base p i ≡ None → (p.size ≡ 0) ⊎ (p.at + p.size ≤ base + 2 ^ 28)
 unfolding item_fault size_of
 ends env base p (item.Label n) s e = inl s
 ends env base p (item.Equ n x) s e = inl s
@@ -105,25 +105,25 @@ ends env base p (item.Reserve x) s e = inr (end_none base (p.at + p.size) (first
 ends env base p (item.Align n) s e = inr (end_none base (p.at + p.size) e)
 ends env base p (item.Org n) s e = inl s
 
-next_short : (env : Env) (base : ℕ) (s : LayoutState) (e : Entry) → s.text ≤ base + 2 ^ 26 → place_fault env base (place_at s e) ≡ None → (next s e).text ≤ base + 2 ^ 26
+next_short : (env : Env) (base : ℕ) (s : LayoutState) (e : Entry) → s.text ≤ base + 2 ^ 28 → place_fault env base (place_at s e) ≡ None → (next s e).text ≤ base + 2 ^ 28
 next_short env base s e h none = by e.section refl
   where
     p : EntryPlace
     p = place_at s e
 
-    go : p.at ≡ s.text → (p.size ≡ 0) ⊎ (p.at + p.size ≤ base + 2 ^ 26) → s.text + p.size ≤ base + 2 ^ 26
+    go : p.at ≡ s.text → (p.size ≡ 0) ⊎ (p.at + p.size ≤ base + 2 ^ 28) → s.text + p.size ≤ base + 2 ^ 28
     go at (inl zero) = omega (arith, zero, h)
     go at (inr short) = omega (arith, at, short)
 
-    by : (x : Section) → e.section ≡ x → text_next e.section s.text p.size ≤ base + 2 ^ 26
+    by : (x : Section) → e.section ≡ x → text_next e.section s.text p.size ≤ base + 2 ^ 28
     by InText is =
         let at : p.at ≡ s.text = ap (λ x. at_in x s) is in
         let size : size_of s.text (critical_value s.above e.item) e.item ≡ p.size = ap (λ a. size_of a (critical_value s.above e.item) e.item) (sym at) in
-        rw is (subst (λ n. s.text + n ≤ base + 2 ^ 26) (sym size) (go at (ends env base p e.item refl none)))
+        rw is (subst (λ n. s.text + n ≤ base + 2 ^ 28) (sym size) (go at (ends env base p e.item refl none)))
     by InData is = rw is h
 
--- the code ends at most 2^26 bytes from the base
-pub code_short : (env : Env) (base : ℕ) (s : LayoutState) (es : List Entry) → s.text ≤ base + 2 ^ 26 → first_fault env base (places s es) ≡ None → (after s es).text ≤ base + 2 ^ 26
+-- the code ends at most 2^28 bytes from the base
+pub code_short : (env : Env) (base : ℕ) (s : LayoutState) (es : List Entry) → s.text ≤ base + 2 ^ 28 → first_fault env base (places s es) ≡ None → (after s es).text ≤ base + 2 ^ 28
 code_short env base s [] h e = h
 code_short env base s (x ∷ es) h e =
     let (none, later) = no_first (place_fault env base (place_at s x)) x.line (fault_on x.line env base (places (next s x) es)) (first_fault env base (places (next s x) es)) e in
@@ -134,7 +134,7 @@ code_short env base s (x ∷ es) h e =
 pub code_fits : (es : List Entry) → base_of es + length (code_of es) ≡ text_end es
 code_fits es = code_end (values (all_places es)) (start (base_of es) (tail_base (text_end es))) es ∙ text_alone [] (base_of es) (tail_base (text_end es)) 0 es
 
-pub code_near : (es : List Entry) → fault_of es ≡ None → text_end es ≤ base_of es + 2 ^ 26
+pub code_near : (es : List Entry) → fault_of es ≡ None → text_end es ≤ base_of es + 2 ^ 28
 code_near es e =
     let near = code_short (values (all_places es)) (base_of es) (start (base_of es) (tail_base (text_end es))) es (omega arith) e in
     omega (arith, near, text_alone [] (base_of es) (tail_base (text_end es)) 0 es)

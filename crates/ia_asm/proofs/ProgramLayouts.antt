@@ -49,7 +49,7 @@ found es fault.ShortJumpTooFar line e = ap (option_map (λ t. at_line t.0 t.1)) 
 pub begins_before_end : (es : List Entry) (l : ProgramLayout) → IsLayout es l → l.base ≤ l.end
 begins_before_end es l s = omega (arith, code_fits es, s.begins, s.ends)
 
-pub ends_near : (es : List Entry) (l : ProgramLayout) → IsLayout es l → l.end ≤ l.base + 2 ^ 26
+pub ends_near : (es : List Entry) (l : ProgramLayout) → IsLayout es l → l.end ≤ l.base + 2 ^ 28
 ends_near es l s = omega (arith, code_near es s.faultless, s.begins, s.ends)
 
 section_is : (part : Section) (es : List Entry) (l : ProgramLayout) → IsLayout es l → layout_bytes part l ≡ section_bytes part (values (all_places es)) (all_places es)

@@ -152,7 +152,7 @@ impl<'a> ProgramImage<'a> {
 
 fn code_length(base: u32, end: u128) -> u32
     requires begins { base ≤ end }
-    requires short { end ≤ base + 2 ^ 26 }
+    requires short { end ≤ base + 2 ^ 28 }
     ensures { base + result ≡ end }
 {
     (end - u128::from(base)) as u32
@@ -190,7 +190,7 @@ fn image_of<'a>(
 ) -> Result<ProgramImage<'a>, AllocError>
     requires bounded { All IsBounded layout.now.spots.items }
     requires begins { layout.now.base ≤ layout.now.end }
-    requires short { layout.now.end ≤ layout.now.base + 2 ^ 26 }
+    requires short { layout.now.end ≤ layout.now.base + 2 ^ 28 }
     ensures base { IfOk result (λ p. p.base ≡ layout.now.base) }
     ensures image { IfOk result (λ p. p.image.items
         ≡ code_and_data (layout_bytes Section.Text layout.now) (gap 64 layout.now.end)

@@ -11,11 +11,11 @@ use ia_item::{Field, Item};
 use ia_layout::PlacedEntry;
 use ia_resolve::{PlaceFault, Table, first_of, resolve_field, resolve_template};
 
-/// Whether an item ends more than 2^26 bytes from the base, or past 2^32.
+/// Whether an item ends more than 2^28 bytes from the base, or past 2^32.
 fn end_fault(base: u32, end: u128) -> Option<PlaceFault>
     ensures { result ≡ end_fault base end }
 {
-    if end > u128::from(base) + (1 << 26) || end > 1 << 32 {
+    if end > u128::from(base) + (1 << 28) || end > 1 << 32 {
         Some(PlaceFault::Range)
     } else {
         None

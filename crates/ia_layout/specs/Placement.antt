@@ -201,9 +201,9 @@ code_and_data code n tail = if length tail == 0 then code else code ++ replicate
 
 -- ---- faults
 
--- an item ends more than 2^26 bytes from the base, or past 2^32
+-- an item ends more than 2^28 bytes from the base, or past 2^32
 abbrev pub end_fault : ℕ → ℕ → Option PlaceFault
-end_fault base end = if nat_lt (base + 2 ^ 26) end || nat_lt (2 ^ 32) end then Some Range else None
+end_fault base end = if nat_lt (base + 2 ^ 28) end || nat_lt (2 ^ 32) end then Some Range else None
 
 abbrev pub org_fault : Option ℕ → Option PlaceFault
 org_fault None = Some Range

@@ -148,9 +148,9 @@ code_placed env s l m at t = append-nil (code_bytes env (s.text + 0) t)
 tail_placed : (env : Env) (s : LayoutState) (l m at : ℕ) (t : Template) → section_bytes InData env (places s (two l m at t)) ≡ []
 tail_placed env s l m at t = refl
 
-end_fine : (base end : ℕ) → end ≤ base + 2 ^ 26 → end ≤ 2 ^ 32 → end_fault base end ≡ None
+end_fine : (base end : ℕ) → end ≤ base + 2 ^ 28 → end ≤ 2 ^ 32 → end_fault base end ≡ None
 end_fine base end near low =
-    ap (λ b. cond (b || nat_lt (2 ^ 32) end) (Some Range) None) (le-ltb (base + 2 ^ 26) end near)
+    ap (λ b. cond (b || nat_lt (2 ^ 32) end) (Some Range) None) (le-ltb (base + 2 ^ 28) end near)
     ∙ ap (λ b. cond b (Some Range) None) (le-ltb (2 ^ 32) end low)
 
 told_none : (env : Env) (base : ℕ) (s : LayoutState) (l m at : ℕ) (t : Template) → at < 2 ^ 32 → template_fault env (s.text + 0) t ≡ None
