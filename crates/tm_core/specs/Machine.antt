@@ -70,7 +70,7 @@ shown_by content code base memory cpus = record {
 pub record IsMachine (content : Content) (code : List ℕ) (base : ℕ) (memory : List ℕ) (cpus : List Cpu) (busy : Bool)
     : Type 0 where
   pub some : 1 ≤ length cpus
-  pub few : length cpus ≤ 16
+  pub few : length cpus ≤ 64
   pub small : length memory < 2 ^ 32
   pub sound : IsSound (parts_setting code base (length memory) content) content cpus
   pub quiet : busy ≡ false → AreClosed cpus

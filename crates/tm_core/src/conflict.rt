@@ -61,7 +61,7 @@ fn hit_line<S: Sets>(cpus: &mut [Cpu], sets: &mut S, c: u8, line: u32, kind: Kin
     requires cores { length cpus.old ≤ (S.content sets.old).fixed.cores }
     requires exists { c < length cpus.old }
     requires line { line < (S.content sets.old).fixed.line_count }
-    requires few { length cpus.old ≤ 16 }
+    requires few { length cpus.old ≤ 64 }
     ensures kept { AreHit ((kind, line) ∷ []) c (length cpus.old)
         (kept_at (S.content sets.old) cpus.old) (kept_at (S.content sets.new) cpus.new) }
     ensures fixed { (S.content sets.new).fixed ≡ (S.content sets.old).fixed }
@@ -79,7 +79,7 @@ fn hit_access<S: Sets>(cpus: &mut [Cpu], sets: &mut S, c: u8, addr: u32, width: 
     requires cores { length cpus.old ≤ (S.content sets.old).fixed.cores }
     requires exists { c < length cpus.old }
     requires lines { IsOnLines (S.content sets.old) addr width }
-    requires few { length cpus.old ≤ 16 }
+    requires few { length cpus.old ≤ 64 }
     ensures kept { AreHit (addresses_touched kind (addresses_of addr width)) c (length cpus.old)
         (kept_at (S.content sets.old) cpus.old) (kept_at (S.content sets.new) cpus.new) }
     ensures fixed { (S.content sets.new).fixed ≡ (S.content sets.old).fixed }
@@ -97,7 +97,7 @@ pub fn hit_load<S: Sets>(cpus: &mut [Cpu], sets: &mut S, c: u8, access: Option<A
     requires cores { length cpus.old ≤ (S.content sets.old).fixed.cores }
     requires exists { c < length cpus.old }
     requires access { IfSome access (λ a. IsOnLines (S.content sets.old) a.addr a.width) }
-    requires few { length cpus.old ≤ 16 }
+    requires few { length cpus.old ≤ 64 }
     ensures kept { AreHit (addresses_touched Kind.Read (loaded_addresses access)) c (length cpus.old)
         (kept_at (S.content sets.old) cpus.old) (kept_at (S.content sets.new) cpus.new) }
     ensures fixed { (S.content sets.new).fixed ≡ (S.content sets.old).fixed }
@@ -112,7 +112,7 @@ fn hit_store<S: Sets>(cpus: &mut [Cpu], sets: &mut S, c: u8, store: Option<Store
     requires cores { length cpus.old ≤ (S.content sets.old).fixed.cores }
     requires exists { c < length cpus.old }
     requires store { IfSome store (λ w. IsOnLines (S.content sets.old) w.addr w.width) }
-    requires few { length cpus.old ≤ 16 }
+    requires few { length cpus.old ≤ 64 }
     ensures kept { AreHit (addresses_touched Kind.Write (store_addresses store)) c (length cpus.old)
         (kept_at (S.content sets.old) cpus.old) (kept_at (S.content sets.new) cpus.new) }
     ensures fixed { (S.content sets.new).fixed ≡ (S.content sets.old).fixed }
@@ -134,7 +134,7 @@ pub fn hit_touched<S: Sets>(
     requires exists { c < length cpus.old }
     requires access { IfSome access (λ a. IsOnLines (S.content sets.old) a.addr a.width) }
     requires store { IfSome store (λ w. IsOnLines (S.content sets.old) w.addr w.width) }
-    requires few { length cpus.old ≤ 16 }
+    requires few { length cpus.old ≤ 64 }
     ensures kept { AreHit (touched_by (loaded_addresses access) store) c (length cpus.old)
         (kept_at (S.content sets.old) cpus.old) (kept_at (S.content sets.new) cpus.new) }
     ensures fixed { (S.content sets.new).fixed ≡ (S.content sets.old).fixed }
@@ -149,7 +149,7 @@ pub fn hit_written<S: Sets>(cpus: &mut [Cpu], sets: &mut S, c: u8)
     requires exists { c < length cpus.old }
     requires lines { (i : ℕ) → i < length (cpu_at cpus.old c).buffer.order →
         slice_index (cpu_at cpus.old c).buffer.order i < (S.content sets.old).fixed.line_count }
-    requires few { length cpus.old ≤ 16 }
+    requires few { length cpus.old ≤ 64 }
     ensures kept { AreHit (lines_touched Kind.Write (cpu_at cpus.old c).buffer.order) c (length cpus.old)
         (kept_at (S.content sets.old) cpus.old) (kept_at (S.content sets.new) cpus.new) }
     ensures fixed { (S.content sets.new).fixed ≡ (S.content sets.old).fixed }

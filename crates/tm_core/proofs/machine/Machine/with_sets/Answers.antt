@@ -13,7 +13,7 @@ invariant_of-result g c =
     let a : Content = g.S.Sets.content c.args.sets in
     let start : (i : ℕ) → i < length p.entries → IsStart p (a.fixed.room Write) i (cpu_at c.in-Ok.cpus.items i) = λ i h. subst (λ n. IsStart p n i (cpu_at c.in-Ok.cpus.items i)) (sym c.requires.write_lines) (c.in-Ok.ensures.starts i h) in
     let size : length c.in-Ok.memory.items ≡ p.mem_size = c.in-Ok.ensures.size in
-    let large : p.mem_size ≤ 67108864 = c.base.ensures.sound.not_large in
+    let large : p.mem_size ≤ 268435456 = c.base.ensures.sound.not_large in
     let small : length c.in-Ok.memory.items < 2 ^ 32 = omega arith in
     let lines : p.mem_size ≤ a.fixed.line_count * 64 = c.requires.lines in
     opening_machine p a c.in-Ok.code.items c.base.result c.in-Ok.memory.items c.in-Ok.cpus.items c.requires.empty c.in-Ok.ensures.memory c.in-Ok.ensures.cores start
