@@ -244,11 +244,11 @@ impl Board {
         self.made() == self.limit()
     }
 
-    /// How many cores there are, 1 to 16.
+    /// How many cores there are, 1 to 64.
     pub fn cores(&self) -> u8
         ensures program { result ≡ length self.now.program.entries }
         ensures machine { result ≡ length self.now.machine.views }
-        ensures most { result ≤ 16 }
+        ensures most { result ≤ 64 }
     {
         self.program.cores()
     }
