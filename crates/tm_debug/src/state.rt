@@ -39,7 +39,7 @@ pub fn core_count(board: &Board) -> u8
     ensures program { result ≡ length board.now.program.entries }
     ensures machine { result ≡ length board.now.machine.views }
     ensures some { 0 < result }
-    ensures most { result ≤ 16 }
+    ensures most { result ≤ 64 }
 {
     let _count = board.program().cores();
     board.cores()
