@@ -1,7 +1,8 @@
 pub mod Rows
 pub mod Cuts
 pub mod Counts
-pub mod Back
+pub mod WordsBack
+pub mod NumbersBack
 pub mod RunsOf
 pub mod RunsBack
 pub mod RunsWritten

@@ -9,14 +9,15 @@ use Rattle.std.proofs.lemmas.Bool.{eqb-true, lt-ltb}
 use Rattle.std.proofs.lemmas.Bool.Decides.{nat_tests}
 use Rattle.std.proofs.lemmas.List.{length-map, length-append}
 use Rattle.std.proofs.lemmas.Int.Digits.{all_below_base_digits_of, number_digits_of, digits_value_is, length-digits_of_step, length-digits_of-le}
-use Rattle.ia_lex.specs.Lines.{onto, lines_of}
+use Rattle.ia_lex.specs.Lines.{lines_of}
 use Rattle.tm_hist.specs.declared.schedule.runs.Run.{Run}
-use Rattle.tm_hist.specs.declared.schedule.ScheduleFault.TheVariants.{TooManySteps}
-use Rattle.tm_hist.specs.Lines.{number_text, line_end}
-use Rattle.tm_hist.specs.ScheduleWords.{core_number}
-use Rattle.tm_hist.specs.ScheduleRuns.{run_steps, is_count, in_range, count_number, run_from, run_at, word_run, word_steps, Word, on_line, words_from, steps_fault, steps_said, first_of, first_fault, unless, runs_of, count_text, run_word, behind_word, runs_text}
+use Rattle.tm_hist.specs.Lines.{number_text}
+use Rattle.tm_hist.specs.ScheduleNumbers.{core_number}
+use Rattle.tm_hist.specs.ScheduleRuns.{most_steps, run_steps, is_count, in_range, count_number, run_from, run_at, word_run, word_steps, runs_of, count_text, run_word}
+use Rattle.tm_hist.specs.ScheduleWords.{steps_said, words_from, unless, words_text}
 use Rattle.tm_hist.specs.Schedule.{schedule_of, schedule_text}
-use Rattle.tm_hist.proofs.Back.{Above, above_append, above_less, differs, split_end, split_more, line_more, number_digits, core_back, bytes_are}
+use Rattle.tm_hist.proofs.WordsBack.{Above, Bytes, above_append, above_less, differs, bytes_are, by_test, IsWord, AreWords, AreSaid, words_back, fault_back, said_back}
+use Rattle.tm_hist.proofs.NumbersBack.{number_digits, number_long, core_back}
 use Rattle.tm_hist.proofs.RunsOf.{IsRun, AreRuns, runs_steps, are_runs}
 
 -- ---- a count
@@ -104,14 +105,9 @@ drop_front (x ∷ xs) y ys =
     let e : length (x ∷ xs) + 1 ≡ suc (length xs + 1) = omega arith in
     ap (λ n. drop n (x ∷ (xs ++ y ∷ ys))) e ∙ drop_front xs y ys
 
--- a word, whether its run is of one step or of more
-by_count : (P : List ℕ → Type 0) (b : Bool) (x y : List ℕ) → (b ≡ true → P x) → (b ≡ false → P y) → P (cond b x y)
-by_count P true x y p q = p refl
-by_count P false x y p q = q refl
-
 run_back : (run : Run) → IsRun run → word_run (run_word run) ≡ Some run
 unfolding run_word
-run_back run h = by_count (λ word. word_run word ≡ Some run) (run.count == 1) _ _
+run_back run h = by_test (λ word. word_run word ≡ Some run) (run.count == 1) _ _
     (λ e.
     let front = number_text run.core in
     let same = eqb-true run.count 1 e in
@@ -127,14 +123,9 @@ run_back run h = by_count (λ word. word_run word ≡ Some run) (run.count == 1)
     ∙ ap (λ core. run_from core (count_number count)) (core_back run.core h.core)
     ∙ ap (run_from (Some run.core)) (count_back run.count h.some h.few))
 
-number_long : (n : ℕ) → 0 < length (number_text n)
-unfolding number_text
-number_long n = by_count (λ text. 0 < length text) (nat_lt n 10) _ _ (λ _. omega arith)
-    (λ _. by_count (λ text. 0 < length text) (nat_lt n 100) _ _ (λ _. omega arith) (λ _. omega arith))
-
 word_long : (run : Run) → 0 < length (run_word run)
 unfolding run_word
-word_long run = by_count (λ word. 0 < length word) (run.count == 1) _ _
+word_long run = by_test (λ (word : List ℕ). 0 < length word) (run.count == 1) _ _
     (λ _. number_long run.core)
     (λ _. let some = number_long run.core in let long = length-append (number_text run.core) (42 ∷ count_text run.count) in omega arith)
 
@@ -142,7 +133,7 @@ word_above : (run : Run) → Above 32 (run_word run)
 unfolding run_word
 word_above run =
     let front = above_less 32 42 (number_text run.core) (omega arith) (number_digits run.core) in
-    by_count (Above 32) (run.count == 1) _ _
+    by_test (Above 32) (run.count == 1) _ _
     (λ _. front)
     (λ _. above_append 32 (number_text run.core) (42 ∷ count_text run.count) front
     (omega arith, above_less 32 42 (count_text run.count) (omega arith) (count_above run.count)))
@@ -154,105 +145,23 @@ steps_back run h =
     let some : (length (run_word run) == 0) ≡ false = grind (arith, nat_tests) in
     rw some (ap (option_map run_steps) (run_back run h))
 
--- ---- a line
+-- ---- a list
 
-abbrev texts : List Word → List (List ℕ)
-texts words = map (λ (word : Word). word.text) words
+are_words : (runs : List Run) → AreWords (map run_word runs)
+are_words [] = tt
+are_words (run ∷ runs) = (record { some = word_long run; above = word_above run }, are_words runs)
 
-abbrev spread : List ℕ → List (List ℕ) → List (List ℕ)
-spread [] ls = ls
-spread (b ∷ bs) ls = onto b (spread bs ls)
-
-spread_lines : (xs ys : List ℕ) → Above 32 xs → lines_of (xs ++ ys) ≡ spread xs (lines_of ys)
-spread_lines [] ys h = refl
-spread_lines (x ∷ xs) ys h = rw (differs 10 32 x (omega arith) h.0, differs 13 32 x (omega arith) h.0, spread_lines xs ys h.1) refl
-
-spread_front : (xs l : List ℕ) (ls : List (List ℕ)) → spread xs (l ∷ ls) ≡ (xs ++ l) ∷ ls
-spread_front [] l ls = refl
-spread_front (x ∷ xs) l ls = ap (onto x) (spread_front xs l ls)
-
-first_word : (word l : List ℕ) (ls : List (List ℕ)) (n : ℕ) → Above 32 word →
-    texts (words_from n (spread word (onto 32 (l ∷ ls)))) ≡ word ∷ texts (words_from n (l ∷ ls))
-first_word word l ls n h =
-    ap (λ lines. texts (words_from n lines)) (spread_front word (32 ∷ l) ls)
-    ∙ ap (λ words. texts (on_line n words ++ words_from (n + 1) ls)) (split_more 32 32 word l (omega arith) h)
-
-onto_word : (word : List ℕ) (b : ℕ) (ls : List (List ℕ)) (n : ℕ) → Above 32 word →
-    texts (words_from n (spread word (onto 32 (onto b ls)))) ≡ word ∷ texts (words_from n (onto b ls))
-onto_word word b [] n h = first_word word (b ∷ []) [] n h
-onto_word word b (l ∷ ls) n h = first_word word (b ∷ l) ls n h
-
--- a word with a space behind it, and then another word
-word_space : (word next tail : List ℕ) (n : ℕ) → Above 32 word → Above 32 next → 0 < length next →
-    texts (words_from n (lines_of (word ++ 32 ∷ (next ++ tail)))) ≡ word ∷ texts (words_from n (lines_of (next ++ tail)))
-word_space word [] tail n h k some = absurd (omega arith)
-word_space word (b ∷ bs) tail n h k some =
-    let line : lines_of (b ∷ (bs ++ tail)) ≡ onto b (lines_of (bs ++ tail)) =
-    rw (differs 10 32 b (omega arith) k.0, differs 13 32 b (omega arith) k.0) refl in
-    ap (λ lines. texts (words_from n lines)) (spread_lines word (32 ∷ b ∷ (bs ++ tail)) h)
-    ∙ ap (λ lines. texts (words_from n (spread word (onto 32 lines)))) line
-    ∙ onto_word word b (lines_of (bs ++ tail)) n h
-    ∙ ap (λ lines. word ∷ texts (words_from n lines)) (sym line)
-
--- a word with a line end behind it
-word_end : (word tail : List ℕ) (n : ℕ) → Above 32 word →
-    texts (words_from n (lines_of (word ++ 10 ∷ tail))) ≡ word ∷ texts (words_from (n + 1) (lines_of tail))
-word_end word tail n h =
-    ap (λ lines. texts (words_from n lines)) (line_more word tail (above_less 13 32 word (omega arith) h))
-    ∙ ap (λ words. texts (on_line n words ++ words_from (n + 1) (lines_of tail))) (split_end 32 32 word (omega arith) h)
-
-words_back : (runs : List Run) (column n : ℕ) → texts (words_from n (lines_of (runs_text column runs))) ≡ map run_word runs
-words_back [] column n = refl
-words_back (run ∷ []) column n =
-    ap (λ text. texts (words_from n (lines_of text))) (append_assoc (run_word run) line_end [])
-    ∙ word_end (run_word run) [] n (word_above run)
-words_back (run ∷ next ∷ runs) column n =
-    let after = (column + 1) % 16 in
-    let rest = runs_text after (next ∷ runs) in
-    let behind = behind_word after runs in
-    let more = runs_text ((after + 1) % 16) runs in
-    by_count (λ text. texts (words_from n (lines_of (run_word run ++ text ++ rest))) ≡ run_word run ∷ map run_word (next ∷ runs)) (column == 15) _ _
-    (λ _. ap (λ text. texts (words_from n (lines_of text))) (append_assoc (run_word run) line_end rest)
-    ∙ word_end (run_word run) rest n (word_above run)
-    ∙ ap (λ words. run_word run ∷ words) (words_back (next ∷ runs) after (n + 1)))
-    (λ _. ap (λ text. texts (words_from n (lines_of text))) (append_assoc (run_word run) (32 ∷ []) rest)
-    ∙ ap (λ text. texts (words_from n (lines_of (run_word run ++ 32 ∷ text)))) (append_assoc (run_word next) behind more)
-    ∙ word_space (run_word run) (run_word next) (behind ++ more) n (word_above run) (word_above next) (word_long next)
-    ∙ ap (λ text. run_word run ∷ texts (words_from n (lines_of text))) (sym (append_assoc (run_word next) behind more))
-    ∙ ap (λ words. run_word run ∷ words) (words_back (next ∷ runs) after n))
-
--- ---- the whole text
-
-fault_back : (words : List Word) (runs : List Run) (before : ℕ) → texts words ≡ map run_word runs → AreRuns runs →
-    before + length (flat_map run_steps runs) ≤ 16777216 → first_fault before words ≡ None
-fault_back [] runs before e h l = refl
-fault_back (word ∷ words) [] before e h l = absurd (cc)
-fault_back (word ∷ words) (run ∷ runs) before e h l =
-    let head : word.text ≡ run_word run = cc in
-    let tail : texts words ≡ map run_word runs = cc in
-    let said : word_steps word.text ≡ Some (run_steps run) = ap word_steps head ∙ steps_back run h.0 in
-    let long = length-append (run_steps run) (flat_map run_steps runs) in
-    ap (λ steps. first_of (steps_fault before word.line steps) (first_fault (before + length (unwrap_or steps [])) words)) said
-    ∙ ap (λ b. first_of (cond b (Some (TooManySteps word.line)) None) (first_fault (before + length (run_steps run)) words))
-    (not_above (before + length (run_steps run)) 16777216 (omega arith))
-    ∙ fault_back words runs (before + length (run_steps run)) tail h.1 (omega arith)
-
-said_back : (words : List Word) (runs : List Run) → texts words ≡ map run_word runs → AreRuns runs → flat_map steps_said words ≡ flat_map run_steps runs
-said_back [] [] e h = refl
-said_back [] (run ∷ runs) e h = absurd (cc)
-said_back (word ∷ words) [] e h = absurd (cc)
-said_back (word ∷ words) (run ∷ runs) e h =
-    let head : word.text ≡ run_word run = cc in
-    let tail : texts words ≡ map run_word runs = cc in
-    let said : word_steps word.text ≡ Some (run_steps run) = ap word_steps head ∙ steps_back run h.0 in
-    ap (λ steps. unwrap_or steps [] ++ flat_map steps_said words) said ∙ ap (λ steps. run_steps run ++ steps) (said_back words runs tail h.1)
+are_said : (runs : List Run) → AreRuns runs → AreSaid word_steps run_word run_steps runs
+are_said [] h = tt
+are_said (run ∷ runs) h = (steps_back run h.0, are_said runs h.1)
 
 pub runs_back : (cores : List ℕ) → ((i : ℕ) → get_or cores i 0 < 256) → length cores ≤ 16777216 → schedule_of (schedule_text cores) ≡ Ok cores
 runs_back cores h l =
     let runs = runs_of cores in
-    let words = words_from 2 (lines_of (runs_text 0 runs)) in
-    let same = words_back runs 0 2 in
-    let are = are_runs cores (bytes_are cores h) in
+    let words = words_from 2 (lines_of (words_text 16 0 (map run_word runs))) in
+    let same = words_back 16 0 2 (map run_word runs) (are_words runs) in
+    let said = are_said runs (are_runs cores (bytes_are cores h)) in
     let long = ap length (runs_steps cores) in
-    ap (λ fault. unless fault (flat_map steps_said words)) (fault_back words runs 0 same are (omega arith))
-    ∙ ap Ok (said_back words runs same are ∙ runs_steps cores)
+    ap (λ fault. unless fault (flat_map (steps_said word_steps) words))
+    (fault_back word_steps (Some 16777216) run_word run_steps words runs 0 same said (not_above (0 + length (flat_map run_steps runs)) 16777216 (omega arith)))
+    ∙ ap Ok (said_back word_steps run_word run_steps words runs same said ∙ runs_steps cores)

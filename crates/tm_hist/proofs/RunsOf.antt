@@ -1,13 +1,14 @@
 -- The runs of a list are the list.
-use Rattle.std.proofs.Common.{◌≡◌, ℕ, ◌+◌, ◌<◌, ◌≤◌, ◌==◌, ◌&&◌, Bool, true, false, List, [], ◌∷◌, ◌++◌, refl, sym, ◌∙◌, ap, arith, append_assoc, length}
+use Rattle.std.proofs.Common.{map, ◌≡◌, ℕ, ◌+◌, ◌<◌, ◌≤◌, ◌==◌, ◌&&◌, Bool, true, false, List, [], ◌∷◌, ◌++◌, refl, sym, ◌∙◌, ap, arith, append_assoc, length}
 use Rattle.std.specs.Prelude.{cond, nat_lt}
 use Rattle.std.specs.List.{AllByRecursion, flat_map}
 use Rattle.std.proofs.lemmas.Bool.{eq-eqb, eqb-true, ltb-true, ltb-false}
 use Rattle.std.proofs.lemmas.List.{replicate_more}
 use Rattle.tm_hist.specs.declared.schedule.runs.Run.{Run}
 use Rattle.tm_hist.specs.Lines.{line_end}
-use Rattle.tm_hist.specs.ScheduleRuns.{run_steps, once, runs_behind, runs_of, AreLongest, behind_word}
-use Rattle.tm_hist.proofs.Back.{Bytes}
+use Rattle.tm_hist.specs.ScheduleRuns.{run_steps, goes_on, once, runs_behind, runs_of, AreLongest, run_word}
+use Rattle.tm_hist.specs.ScheduleWords.{behind_word}
+use Rattle.tm_hist.proofs.WordsBack.{Bytes, by_test}
 use Rattle.tm_hist.proofs.Counts.{both}
 
 -- a run of a core's number, of 1 to 16,777,216 steps
@@ -18,11 +19,6 @@ pub record IsRun (run : Run) : Type 0 where
 
 abbrev pub AreRuns : List Run → Type 0
 AreRuns runs = AllByRecursion IsRun runs
-
--- the test of the next core
-by_test : (P : List Run → Type 0) (b : Bool) (x y : List Run) → (b ≡ true → P x) → (b ≡ false → P y) → P (cond b x y)
-by_test P true x y p q = p refl
-by_test P false x y p q = q refl
 
 steps_behind : (run : Run) (cores : List ℕ) → flat_map run_steps (runs_behind run cores) ≡ run_steps run ++ cores
 steps_behind run [] = refl
@@ -82,13 +78,13 @@ are_longest [] = tt
 are_longest (core ∷ cores) = longest_from (once core) cores (omega arith)
 
 -- what stands behind a word that is not the last
-behind_more : (column : ℕ) (run : Run) (cores : List ℕ) → behind_word column (runs_behind run cores) ≡ cond (column == 15) line_end (32 ∷ [])
+behind_more : (column : ℕ) (run : Run) (cores : List ℕ) → behind_word 16 column (map run_word (runs_behind run cores)) ≡ cond (column + 1 == 16) line_end (32 ∷ [])
 behind_more column run [] = refl
 behind_more column run (core ∷ cores) =
-    by_test (λ runs. behind_word column runs ≡ cond (column == 15) line_end (32 ∷ [])) ((core == run.core) && nat_lt run.count 16777216) _ _
+    by_test (λ runs. behind_word 16 column (map run_word runs) ≡ cond (column + 1 == 16) line_end (32 ∷ [])) ((core == run.core) && nat_lt run.count 16777216) _ _
     (λ e. behind_more column (record { core = run.core; count = run.count + 1 }) cores)
     (λ e. refl)
 
-pub behind_word_not_last : (column : ℕ) (cores : List ℕ) → 0 < length cores → behind_word column (runs_of cores) ≡ cond (column == 15) line_end (32 ∷ [])
+pub behind_word_not_last : (column : ℕ) (cores : List ℕ) → 0 < length cores → behind_word 16 column (map run_word (runs_of cores)) ≡ cond (column + 1 == 16) line_end (32 ∷ [])
 behind_word_not_last column [] h = absurd (omega arith)
 behind_word_not_last column (core ∷ cores) h = behind_more column (once core) cores

@@ -1,6 +1,7 @@
 pub mod Machine
 pub mod Lines
 pub mod ScheduleWords
+pub mod ScheduleNumbers
 pub mod ScheduleRuns
 pub mod Schedule
 pub mod Pieces

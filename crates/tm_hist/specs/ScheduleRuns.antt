@@ -1,15 +1,13 @@
 -- The second form of a schedule's text: words `c`, one step of the core c, and `c*n`, n steps of it (docs/FORMATS.md,
 -- "Schedules").
-use Rattle.std.specs.Prelude.{◌≡◌, ℕ, Bool, false, ◌+◌, ◌%◌, ◌==◌, ◌&&◌, List, [], ◌∷◌, ◌++◌, map, take, drop, replicate, length, Option, Some, None, option_map, unwrap_or, Result, Ok, Err, not, nat_lt, nat_le, if◌then◌else◌}
+use Rattle.std.specs.Prelude.{◌≡◌, ℕ, Bool, false, ◌+◌, ◌==◌, ◌&&◌, List, [], ◌∷◌, ◌++◌, map, take, drop, replicate, length, Option, Some, None, option_map, not, nat_lt, nat_le, if◌then◌else◌}
 use Rattle.std.specs.Char.{digit_char, is_ascii_digit}
 use Rattle.std.specs.Int.Digits.{digits_of}
-use Rattle.std.specs.List.{flat_map, list_all, position}
+use Rattle.std.specs.List.{list_all, position}
 use Rattle.std.specs.Str.Parse.{digits_value}
 use Rattle.tm_hist.specs.declared.schedule.runs.Run.{Run}
-use Rattle.tm_hist.specs.declared.schedule.ScheduleFault.{ScheduleFault}
-use Rattle.tm_hist.specs.declared.schedule.ScheduleFault.TheVariants.{BadSchedule, TooManySteps}
-use Rattle.tm_hist.specs.Lines.{number_text, line_end}
-use Rattle.tm_hist.specs.ScheduleWords.{words_of, core_number}
+use Rattle.tm_hist.specs.Lines.{number_text}
+use Rattle.tm_hist.specs.ScheduleNumbers.{core_number}
 
 -- the most steps of a text of this form, and of one of its words
 abbrev pub most_steps : ℕ
@@ -44,51 +42,9 @@ run_at word (Some star) = run_from (core_number (take star word)) (count_number 
 abbrev pub word_run : List ℕ → Option Run
 word_run word = run_at word (position (λ b. b == 42) word)
 
--- the steps that a word says, or nothing where it breaks the form; between two spaces side by side there is no word
+-- the steps that a word says, or nothing where it says none; the empty word says no step
 unfoldable pub word_steps : List ℕ → Option (List ℕ)
 word_steps word = if length word == 0 then Some [] else option_map run_steps (word_run word)
-
--- a word, and the number of its line
-pub record Word : Type 0 where
-  pub line : ℕ
-  pub text : List ℕ
-
-abbrev pub on_line : ℕ → List (List ℕ) → List Word
-on_line n words = map (λ word. record { line = n; text = word }) words
-
--- the words of lines, the first of which is line n
-abbrev pub words_from : ℕ → List (List ℕ) → List Word
-words_from n [] = []
-words_from n (line ∷ below) = on_line n (words_of line) ++ words_from (n + 1) below
-
--- what is wrong with a word that stands behind so many steps
-abbrev pub steps_fault : ℕ → ℕ → Option (List ℕ) → Option ScheduleFault
-steps_fault before n None = Some (BadSchedule n)
-steps_fault before n (Some steps) = if nat_lt most_steps (before + length steps) then Some (TooManySteps n) else None
-
-abbrev pub word_fault : ℕ → Word → Option ScheduleFault
-word_fault before word = steps_fault before word.line (word_steps word.text)
-
--- the steps of a word, of which there are none where it breaks the form
-abbrev pub steps_said : Word → List ℕ
-steps_said word = unwrap_or (word_steps word.text) []
-
--- the fault of the first word that has one, so many steps standing before these words
-abbrev pub first_of : Option ScheduleFault → Option ScheduleFault → Option ScheduleFault
-first_of None later = later
-first_of (Some fault) later = Some fault
-
-abbrev pub first_fault : ℕ → List Word → Option ScheduleFault
-first_fault before [] = None
-first_fault before (word ∷ words) = first_of (word_fault before word) (first_fault (before + length (steps_said word)) words)
-
--- words are the steps of each, one after another, unless one of them has a fault
-abbrev pub unless : Option ScheduleFault → List ℕ → Result (List ℕ) ScheduleFault
-unless None steps = Ok steps
-unless (Some fault) steps = Err fault
-
-abbrev pub runs_read : List Word → Result (List ℕ) ScheduleFault
-runs_read words = unless (first_fault 0 words) (flat_map steps_said words)
 
 -- ---- writing
 
@@ -124,13 +80,3 @@ count_text n = map digit_char (digits_of 10 n)
 -- the word of a run
 unfoldable pub run_word : Run → List ℕ
 run_word run = if run.count == 1 then number_text run.core else number_text run.core ++ 42 ∷ count_text run.count
-
--- behind a word stands a line end where it is the sixteenth of its line or the last of all, and else a space
-abbrev pub behind_word : ℕ → List Run → List ℕ
-behind_word column [] = line_end
-behind_word column (run ∷ runs) = if column == 15 then line_end else 32 ∷ []
-
--- the words of runs, so many standing before them on their line
-abbrev pub runs_text : ℕ → List Run → List ℕ
-runs_text column [] = []
-runs_text column (run ∷ runs) = run_word run ++ behind_word column runs ++ runs_text ((column + 1) % 16) runs

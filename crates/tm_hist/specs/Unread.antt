@@ -2,10 +2,13 @@
 use Rattle.std.specs.Prelude.{◌≡◌, ℕ, ◌+◌, List, [], ◌∷◌, ◌++◌, Option, Some, None}
 use Rattle.std.specs.Borrow.{Bor}
 use Rattle.ia_lex.specs.Lines.{lines_of}
-use Rattle.tm_hist.specs.Pieces.{words_left}
-use Rattle.tm_hist.specs.ScheduleWords.{words_of}
-use Rattle.tm_hist.specs.ScheduleRuns.{Word, words_from, on_line}
+use Rattle.tm_hist.specs.ScheduleWords.{Word, words_of, words_from, on_line}
 use Rattle.tm_hist.specs.declared.schedule.words.Unread.{Unread}
+
+-- the words of the rest of a line
+abbrev pub words_left : Option (Bor (List ℕ)) → List (List ℕ)
+words_left None = []
+words_left (Some rest) = words_of rest.now
 
 -- the words that are left
 abbrev pub unread_words : Unread → List Word

@@ -11,7 +11,7 @@ mod words;
 mod writing;
 
 use ia_lex::first_line;
-use numbers::read_lines;
+use numbers::read_numbers;
 use reading::read_runs;
 use std::alloc::Global;
 use thiserror::Error;
@@ -76,10 +76,10 @@ fn read_below(alloc: Global, title: &[u8], below: &[u8]) -> Result<Vec<u8>, Sche
     ensures err { IfErr result (λ fault. (fault ≡ ScheduleFault.NoMemory) ⊎ (below_title title.now (lines_of below.now) ≡ Err fault)) }
 {
     if title == b"schedule 1".as_slice() {
-        return read_lines(alloc, below, 2);
+        return read_numbers(alloc, Unread::below(1, below));
     }
     if title == b"schedule 2".as_slice() {
-        return read_runs(alloc, Unread::below(below));
+        return read_runs(alloc, Unread::below(1, below));
     }
     Err(ScheduleFault::BadSchedule(1))
 }
@@ -91,5 +91,5 @@ pub fn read_steps(alloc: Global, text: &[u8]) -> Result<Vec<u8>, ScheduleFault>
     ensures ok { IfOk result (λ cores. steps_of text.now ≡ Ok cores.items) }
     ensures err { IfErr result (λ fault. (fault ≡ ScheduleFault.NoMemory) ⊎ (steps_of text.now ≡ Err fault)) }
 {
-    read_lines(alloc, text, 1)
+    read_numbers(alloc, Unread::below(0, text))
 }

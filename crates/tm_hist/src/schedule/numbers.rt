@@ -1,13 +1,12 @@
-//! Lines of core numbers.
+//! Words that are core numbers.
 
-ghost use Rattle.std.specs.Prelude.{◌≡◌, ◌+◌, ◌-◌, ◌*◌, ◌<◌, ◌^◌, ◌⊎◌, Ok, Err, Some, None, IfOk, IfErr, OnOk, length};
-ghost use Rattle.tm_hist.specs.ScheduleWords.{three_digits, core_number};
-ghost use Rattle.tm_hist.specs.Schedule.{word_numbers, line_numbers, numbers_from, joined};
-ghost use Rattle.ia_lex.specs.Lines.{lines_of};
+ghost use Rattle.std.specs.Prelude.{◌≡◌, ◌++◌, ◌⊎◌, [], Ok, Err, Some, None, IfOk, IfErr, OnOk, length, unwrap_or};
+ghost use Rattle.tm_hist.specs.ScheduleNumbers.{three_digits, core_number, number_steps};
+ghost use Rattle.tm_hist.specs.ScheduleWords.{steps_fault, words_read};
+ghost use Rattle.tm_hist.specs.Unread.{unread_words};
 
 use super::ScheduleFault;
-use crate::pieces::cut;
-use ia_lex::first_line;
+use super::words::Unread;
 use std::alloc::Global;
 
 // The number of three decimal digits, at most 255.
@@ -23,7 +22,7 @@ fn number_of(a: u8, b: u8, c: u8) -> Option<u8>
 }
 
 /// The number of a core: one to three decimal digits.
-#[tactic(auto, unfolding(crate::specs::ScheduleWords::core_number))]
+#[tactic(auto, unfolding(crate::specs::ScheduleNumbers::core_number))]
 pub fn core_of(word: &[u8]) -> Option<u8>
     ensures { result ≡ core_number word.now }
 {
@@ -35,11 +34,12 @@ pub fn core_of(word: &[u8]) -> Option<u8>
     }
 }
 
-// Adds the number of a word, and none for an empty word.
-#[tactic(auto, unfolding(crate::specs::Schedule::word_numbers))]
+// Adds the step of a word, and none for an empty word.
+#[tactic(auto, unfolding(crate::specs::ScheduleNumbers::number_steps))]
 fn read_word(word: &[u8], line: usize, cores: &mut Vec<u8>) -> Result<(), ScheduleFault>
-    ensures ok { OnOk result (joined (Some cores.old.items) (word_numbers word.now) ≡ Some cores.new.items) }
-    ensures err { IfErr result (λ fault. (fault ≡ ScheduleFault.NoMemory) ⊎ ((fault ≡ ScheduleFault.BadSchedule line) × (word_numbers word.now ≡ None))) }
+    ensures fine { OnOk result (steps_fault None (length cores.old.items) line (number_steps word.now) ≡ None) }
+    ensures steps { OnOk result (cores.new.items ≡ cores.old.items ++ unwrap_or (number_steps word.now) []) }
+    ensures err { IfErr result (λ fault. (fault ≡ ScheduleFault.NoMemory) ⊎ (steps_fault None (length cores.old.items) line (number_steps word.now) ≡ Some fault)) }
 {
     if word.is_empty() {
         return Ok(());
@@ -53,34 +53,16 @@ fn read_word(word: &[u8], line: usize, cores: &mut Vec<u8>) -> Result<(), Schedu
     Ok(())
 }
 
-// Adds the numbers of a line.
-fn read_line(text: &[u8], line: usize, cores: &mut Vec<u8>) -> Result<(), ScheduleFault>
-    ensures ok { OnOk result (joined (Some cores.old.items) (line_numbers text.now) ≡ Some cores.new.items) }
-    ensures err { IfErr result (λ fault. (fault ≡ ScheduleFault.NoMemory) ⊎ ((fault ≡ ScheduleFault.BadSchedule line) × (line_numbers text.now ≡ None))) }
-{
-    let mut left = Some(text);
-    'words: while let Some(rest) = left {
-        let (word, behind) = cut(rest, b' ');
-        read_word(word, line, cores)?;
-        left = behind;
-    }
-    Ok(())
-}
-
-/// The numbers of lines, the first of which has this number.
-pub fn read_lines(alloc: Global, text: &[u8], first: usize) -> Result<Vec<u8>, ScheduleFault>
-    requires { first + length text.now < 2 ^ 64 }
-    ensures ok { IfOk result (λ cores. numbers_from first (lines_of text.now) ≡ Ok cores.items) }
-    ensures err { IfErr result (λ fault. (fault ≡ ScheduleFault.NoMemory) ⊎ (numbers_from first (lines_of text.now) ≡ Err fault)) }
+/// The steps that words say, of which each is a core number.
+pub fn read_numbers(alloc: Global, words: Unread) -> Result<Vec<u8>, ScheduleFault>
+    ensures ok { IfOk result (λ cores. words_read number_steps None (unread_words words.entry) ≡ Ok cores.items) }
+    ensures err { IfErr result (λ fault. (fault ≡ ScheduleFault.NoMemory) ⊎ (words_read number_steps None (unread_words words.entry) ≡ Err fault)) }
 {
     let mut cores = Vec::new(alloc);
-    let mut left = text;
-    let mut line = first;
-    'lines: while !left.is_empty() {
-        let (words, size) = first_line(left);
-        read_line(words, line, &mut cores)?;
-        left = &left[size..];
-        line += 1;
+    let mut unread = words;
+    'words: while let Some((word, rest)) = unread.next() {
+        read_word(word, rest.line, &mut cores)?;
+        unread = rest;
     }
     Ok(cores)
 }

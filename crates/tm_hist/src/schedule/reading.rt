@@ -4,7 +4,8 @@ ghost use Rattle.std.specs.Prelude.{◌≡◌, ◌+◌, ◌<◌, ◌≤◌, ◌+
 ghost use Rattle.std.specs.Char.{is_ascii_digit, digit_value};
 ghost use Rattle.std.specs.List.{flat_map, list_all};
 ghost use Rattle.std.specs.Str.Parse.{digits_value};
-ghost use Rattle.tm_hist.specs.ScheduleRuns.{is_count, count_number, run_from, word_run, word_steps, steps_fault, steps_said, first_fault, runs_read};
+ghost use Rattle.tm_hist.specs.ScheduleRuns.{most_steps, is_count, count_number, run_from, word_run, word_steps};
+ghost use Rattle.tm_hist.specs.ScheduleWords.{steps_fault, steps_said, first_fault, words_read};
 ghost use Rattle.tm_hist.specs.Unread.{unread_words};
 
 use super::ScheduleFault;
@@ -91,8 +92,8 @@ fn run_of(word: &[u8]) -> Option<Run>
 #[tactic(auto, unfolding(crate::specs::ScheduleRuns::word_steps))]
 fn count_word(word: &[u8], line: usize, before: usize) -> Result<usize, ScheduleFault>
     requires { before ≤ 16777216 }
-    ensures ok { IfOk result (λ count. (steps_fault before line (word_steps word.now) ≡ None) × (count ≡ before + length (unwrap_or (word_steps word.now) [])) × (count ≤ 16777216)) }
-    ensures err { IfErr result (λ fault. steps_fault before line (word_steps word.now) ≡ Some fault) }
+    ensures ok { IfOk result (λ count. (steps_fault (Some most_steps) before line (word_steps word.now) ≡ None) × (count ≡ before + length (unwrap_or (word_steps word.now) [])) × (count ≤ 16777216)) }
+    ensures err { IfErr result (λ fault. steps_fault (Some most_steps) before line (word_steps word.now) ≡ Some fault) }
 {
     if word.is_empty() {
         return Ok(before);
@@ -109,8 +110,8 @@ fn count_word(word: &[u8], line: usize, before: usize) -> Result<usize, Schedule
 
 // How many steps words say.
 fn count_steps(words: Unread) -> Result<usize, ScheduleFault>
-    ensures ok { OnOk result (first_fault 0 (unread_words words.entry) ≡ None) }
-    ensures err { IfErr result (λ fault. first_fault 0 (unread_words words.entry) ≡ Some fault) }
+    ensures ok { OnOk result (first_fault word_steps (Some most_steps) 0 (unread_words words.entry) ≡ None) }
+    ensures err { IfErr result (λ fault. first_fault word_steps (Some most_steps) 0 (unread_words words.entry) ≡ Some fault) }
 {
     let mut unread = words;
     let mut count = 0;
@@ -137,7 +138,7 @@ fn push_word(word: &[u8], steps: &mut Vec<u8>) -> Result<(), AllocError>
 
 // The steps that words say, so many being expected.
 fn list_steps(alloc: Global, words: Unread, count: usize) -> Result<Vec<u8>, AllocError>
-    ensures { IfOk result (λ steps. steps.items ≡ flat_map steps_said (unread_words words.entry)) }
+    ensures { IfOk result (λ steps. steps.items ≡ flat_map (steps_said word_steps) (unread_words words.entry)) }
 {
     let mut steps = Vec::with_capacity(alloc, count)?;
     let mut unread = words;
@@ -150,8 +151,8 @@ fn list_steps(alloc: Global, words: Unread, count: usize) -> Result<Vec<u8>, All
 
 /// The steps that words say. They are counted first, so that a text with too many takes no memory.
 pub fn read_runs(alloc: Global, words: Unread) -> Result<Vec<u8>, ScheduleFault>
-    ensures ok { IfOk result (λ cores. runs_read (unread_words words.entry) ≡ Ok cores.items) }
-    ensures err { IfErr result (λ fault. (fault ≡ ScheduleFault.NoMemory) ⊎ (runs_read (unread_words words.entry) ≡ Err fault)) }
+    ensures ok { IfOk result (λ cores. words_read word_steps (Some most_steps) (unread_words words.entry) ≡ Ok cores.items) }
+    ensures err { IfErr result (λ fault. (fault ≡ ScheduleFault.NoMemory) ⊎ (words_read word_steps (Some most_steps) (unread_words words.entry) ≡ Err fault)) }
 {
     let count = count_steps(words)?;
     match list_steps(alloc, words, count) {

@@ -20,18 +20,18 @@ pub struct Unread<'a> {
 impl<'a> Unread<'a> {
     ghost use Rattle.std.specs.Prelude.{map};
     ghost use Rattle.ia_lex.specs.Lines.{lines_of};
-    ghost use Rattle.tm_hist.specs.ScheduleRuns.{words_from};
+    ghost use Rattle.tm_hist.specs.ScheduleWords.{words_from};
     ghost use Rattle.tm_hist.specs.Unread.{unread_words, IsFirstWord, IsNextWord};
 
-    /// The lines below the first.
-    pub fn below(text: &'a [u8]) -> Unread<'a>
-        requires { 2 + length text.now < 2 ^ 64 }
-        ensures { unread_words result ≡ words_from 2 (lines_of text.now) }
+    /// The lines of a text below a line of this number.
+    pub fn below(line: usize, text: &'a [u8]) -> Unread<'a>
+        requires { line + length text.now < 2 ^ 64 }
+        ensures { unread_words result ≡ words_from (line + 1) (lines_of text.now) }
     {
         Unread {
             rest: None,
             below: text,
-            line: 1,
+            line,
         }
     }
 

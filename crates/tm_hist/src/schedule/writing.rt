@@ -1,17 +1,18 @@
 //! Writing a list of steps as runs.
 
-ghost use Rattle.std.specs.Prelude.{◌≡◌, ◌+◌, ◌<◌, ◌≤◌, ◌++◌, [], ◌∷◌, Ok, length};
+ghost use Rattle.std.specs.Prelude.{◌≡◌, ◌+◌, ◌<◌, ◌≤◌, ◌++◌, [], ◌∷◌, Ok, length, map};
 ghost use Rattle.arrayvec.specs.ArrayVec.{array_vec_len};
 ghost use Rattle.std.specs.Int.Digits.{digits_of};
 ghost use Rattle.ia_text.specs.Writing.{Writes};
 ghost use Rattle.tm_hist.specs.Schedule.{schedule_of, schedule_text, numbers_text};
-ghost use Rattle.tm_hist.specs.ScheduleRuns.{AreLongest, count_text, run_word, behind_word, runs_of, runs_text};
+ghost use Rattle.tm_hist.specs.ScheduleRuns.{AreLongest, count_text, run_word, runs_of};
+ghost use Rattle.tm_hist.specs.ScheduleWords.{behind_word, words_text};
 
 use super::runs::{MOST_STEPS, Run};
 use crate::text_line::{TextLine, push, push_number};
 use ia_text::{Out, WriteFault};
 
-const LAST_COLUMN: u8 = 15;
+const WORDS_A_LINE: u8 = 16;
 
 // Adds a number in decimal digits, and none for 0.
 #[tactic(auto, using(crate::proofs::Counts::count_text_step, crate::proofs::Counts::count_long, crate::proofs::Counts::count_none))]
@@ -42,13 +43,18 @@ fn push_run(row: &mut TextLine, run: Run)
 
 // What stands behind a word, by the words before it on its line and the cores that are left.
 fn separator(column: u8, left: &[u8]) -> &'static [u8]
-    ensures text { result.now ≡ behind_word column (runs_of left.now) }
+    requires { column < 16 }
+    ensures text { result.now ≡ behind_word 16 column (map run_word (runs_of left.now)) }
     ensures len { length result.now ≡ 1 }
 {
     if left.is_empty() {
         return b"\n";
     }
-    if column == LAST_COLUMN { b"\n" } else { b" " }
+    if column + 1 == WORDS_A_LINE {
+        b"\n"
+    } else {
+        b" "
+    }
 }
 
 fn write_run<O: Out>(run: Run, behind: &[u8], out: &mut O) -> Result<(), WriteFault>
@@ -63,13 +69,13 @@ fn write_run<O: Out>(run: Run, behind: &[u8], out: &mut O) -> Result<(), WriteFa
 }
 
 fn write_runs<O: Out>(cores: &[u8], out: &mut O) -> Result<(), WriteFault>
-    ensures { Writes (O.device out.old) (O.device out.new) (runs_text 0 (runs_of cores.now)) result }
+    ensures { Writes (O.device out.old) (O.device out.new) (words_text 16 0 (map run_word (runs_of cores.now))) result }
 {
     let mut left = cores;
     let mut column = 0;
     'runs: while let Some((run, rest)) = Run::first(left) {
         write_run(run, separator(column, rest), out)?;
-        column = (column + 1) % 16;
+        column = (column + 1) % WORDS_A_LINE;
         left = rest;
     }
     Ok(())

@@ -1,0 +1,22 @@
+-- The first form of a schedule's text: core numbers (docs/FORMATS.md, "Schedules").
+use Rattle.std.specs.Prelude.{ℕ, ◌+◌, ◌-◌, ◌*◌, ◌==◌, ◌&&◌, List, [], ◌∷◌, length, Option, Some, None, option_map, nat_lt, if◌then◌else◌}
+use Rattle.std.specs.Char.{is_ascii_digit}
+
+abbrev pub small : ℕ → Option ℕ
+small n = if nat_lt n 256 then Some n else None
+
+-- the number of three decimal digits, at most 255
+abbrev pub three_digits : ℕ → ℕ → ℕ → Option ℕ
+three_digits a b c =
+    if is_ascii_digit a && is_ascii_digit b && is_ascii_digit c then small ((a - 48) * 100 + (b - 48) * 10 + (c - 48)) else None
+
+-- a core's number: one to three decimal digits
+unfoldable pub core_number : List ℕ → Option ℕ
+core_number (c ∷ []) = three_digits 48 48 c
+core_number (b ∷ c ∷ []) = three_digits 48 b c
+core_number (a ∷ b ∷ c ∷ []) = three_digits a b c
+core_number _ = None
+
+-- the step that a word says, or nothing where it says none; the empty word says no step
+unfoldable pub number_steps : List ℕ → Option (List ℕ)
+number_steps word = if length word == 0 then Some [] else option_map (λ core. core ∷ []) (core_number word)
