@@ -1,5 +1,5 @@
 -- A list in the first form reads as that list.
-use Rattle.std.proofs.Common.{◌≡◌, ℕ, ◌+◌, ◌-◌, ◌*◌, ◌/◌, ◌%◌, ◌<◌, ◌≤◌, Bool, true, false, if◌then◌else◌, nat_lt, List, [], ◌∷◌, ◌++◌, refl, ◌∙◌, ap, arith, length, map, get_or, Option, Some, None, Ok}
+use Rattle.std.proofs.Common.{◌≡◌, ℕ, ◌+◌, ◌-◌, ◌*◌, ◌/◌, ◌%◌, ◌<◌, Bool, true, false, if◌then◌else◌, nat_lt, List, [], ◌∷◌, refl, ◌∙◌, ap, arith, length, map, get_or, Option, Some, None, Ok}
 use Rattle.std.specs.Char.{is_ascii_digit}
 use Rattle.std.specs.List.{flat_map}
 use Rattle.std.proofs.lemmas.Bool.{lt-ltb, ltb-true}
@@ -9,7 +9,7 @@ use Rattle.tm_hist.specs.Lines.{number_text}
 use Rattle.tm_hist.specs.ScheduleNumbers.{small, three_digits, core_number, number_steps}
 use Rattle.tm_hist.specs.ScheduleWords.{steps_said, words_from, unless, words_text}
 use Rattle.tm_hist.specs.Schedule.{schedule_of, numbers_text}
-use Rattle.tm_hist.proofs.WordsBack.{Above, Bytes, above_less, bytes_are, by_test, IsWord, AreWords, AreSaid, words_back, fault_back, said_back}
+use Rattle.tm_hist.proofs.WordsBack.{Above, Bytes, above_less, bytes_are, by_test, AreWords, AreSaid, words_back, fault_back, said_back}
 
 pub cases : (P : List ℕ → Type 0) (b c : Bool) (x y z : List ℕ) → (b ≡ true → P x) → (b ≡ false → c ≡ true → P y) → (b ≡ false → c ≡ false → P z) →
     P (if b then x else if c then y else z)

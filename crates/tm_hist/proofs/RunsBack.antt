@@ -1,6 +1,6 @@
 -- A list in the second form reads as that list.
-use Rattle.std.proofs.Common.{◌≡◌, ℕ, suc, ◌+◌, ◌%◌, ◌<◌, ◌≤◌, ◌==◌, Bool, true, false, List, [], ◌∷◌, ◌++◌, refl, sym, ◌∙◌, ap, arith, append_assoc, length, take, drop, map, get_or, Some, None, Ok}
-use Rattle.std.specs.Prelude.{cond, nat_lt, option_map, unwrap_or}
+use Rattle.std.proofs.Common.{◌≡◌, ℕ, suc, ◌+◌, ◌<◌, ◌≤◌, ◌==◌, Bool, true, false, List, [], ◌∷◌, ◌++◌, refl, sym, ◌∙◌, ap, arith, length, take, drop, map, get_or, Some, None, Ok}
+use Rattle.std.specs.Prelude.{cond, nat_lt, option_map}
 use Rattle.std.specs.Char.{digit_char, digit_value, is_ascii_digit}
 use Rattle.std.specs.Int.Digits.{digits_of, number_from_digits}
 use Rattle.std.specs.List.{AllByRecursion, flat_map, list_all, position, position_or_len}
@@ -13,10 +13,10 @@ use Rattle.ia_lex.specs.Lines.{lines_of}
 use Rattle.tm_hist.specs.declared.schedule.runs.Run.{Run}
 use Rattle.tm_hist.specs.Lines.{number_text}
 use Rattle.tm_hist.specs.ScheduleNumbers.{core_number}
-use Rattle.tm_hist.specs.ScheduleRuns.{most_steps, run_steps, is_count, in_range, count_number, run_from, run_at, word_run, word_steps, runs_of, count_text, run_word}
+use Rattle.tm_hist.specs.ScheduleRuns.{run_steps, is_count, in_range, count_number, run_from, run_at, word_run, word_steps, runs_of, count_text, run_word}
 use Rattle.tm_hist.specs.ScheduleWords.{steps_said, words_from, unless, words_text}
 use Rattle.tm_hist.specs.Schedule.{schedule_of, schedule_text}
-use Rattle.tm_hist.proofs.WordsBack.{Above, Bytes, above_append, above_less, differs, bytes_are, by_test, IsWord, AreWords, AreSaid, words_back, fault_back, said_back}
+use Rattle.tm_hist.proofs.WordsBack.{Above, above_append, above_less, differs, bytes_are, by_test, AreWords, AreSaid, words_back, fault_back, said_back}
 use Rattle.tm_hist.proofs.NumbersBack.{number_digits, number_long, core_back}
 use Rattle.tm_hist.proofs.RunsOf.{IsRun, AreRuns, runs_steps, are_runs}
 

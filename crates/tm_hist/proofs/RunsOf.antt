@@ -6,7 +6,7 @@ use Rattle.std.proofs.lemmas.Bool.{eq-eqb, eqb-true, ltb-true, ltb-false}
 use Rattle.std.proofs.lemmas.List.{replicate_more}
 use Rattle.tm_hist.specs.declared.schedule.runs.Run.{Run}
 use Rattle.tm_hist.specs.Lines.{line_end}
-use Rattle.tm_hist.specs.ScheduleRuns.{run_steps, goes_on, once, runs_behind, runs_of, AreLongest, run_word}
+use Rattle.tm_hist.specs.ScheduleRuns.{run_steps, once, runs_behind, runs_of, AreLongest, run_word}
 use Rattle.tm_hist.specs.ScheduleWords.{behind_word}
 use Rattle.tm_hist.proofs.WordsBack.{Bytes, by_test}
 use Rattle.tm_hist.proofs.Counts.{both}

@@ -1,8 +1,8 @@
 -- A text of words is read as those words.
-use Rattle.std.proofs.Common.{◌≡◌, ℕ, ◌+◌, ◌%◌, ◌<◌, ◌≤◌, ◌==◌, Bool, true, false, List, [], ◌∷◌, ◌++◌, refl, sym, ◌∙◌, ap, arith, append_assoc, length, map, Option, Some, None, zero, suc, get_or}
-use Rattle.std.specs.Prelude.{cond, nat_lt, unwrap_or}
+use Rattle.std.proofs.Common.{◌≡◌, ℕ, ◌+◌, ◌%◌, ◌<◌, ◌≤◌, ◌==◌, Bool, true, false, List, [], ◌∷◌, ◌++◌, refl, sym, ◌∙◌, ap, arith, append_assoc, length, map, Option, Some, None, suc, get_or}
+use Rattle.std.specs.Prelude.{cond, unwrap_or}
 use Rattle.std.specs.List.{AllByRecursion, flat_map, slice_split}
-use Rattle.std.proofs.lemmas.Bool.{ne_eqb, lt-ltb, ltb-false, cases_Bool}
+use Rattle.std.proofs.lemmas.Bool.{ne_eqb}
 use Rattle.std.proofs.lemmas.Bool.Decides.{nat_tests}
 use Rattle.std.proofs.lemmas.List.{length-append}
 use Rattle.ia_lex.specs.Lines.{onto, lines_of}

@@ -1,6 +1,6 @@
 //! Runs: steps of one core side by side.
 
-ghost use Rattle.std.specs.Prelude.{◌≡◌, ◌<◌, ◌≤◌, ◌∷◌, [], Some, None, length};
+ghost use Rattle.std.specs.Prelude.{◌≡◌, ◌<◌, ◌≤◌, ◌∷◌, Some, None, length};
 
 /// The most steps of a schedule of the second form, and of a run.
 pub const MOST_STEPS: u32 = 16_777_216;

@@ -18,7 +18,6 @@ pub struct Unread<'a> {
 }
 
 impl<'a> Unread<'a> {
-    ghost use Rattle.std.specs.Prelude.{map};
     ghost use Rattle.ia_lex.specs.Lines.{lines_of};
     ghost use Rattle.tm_hist.specs.ScheduleWords.{words_from};
     ghost use Rattle.tm_hist.specs.Unread.{unread_words, IsFirstWord, IsNextWord};
