@@ -69,12 +69,12 @@ fn machine_line<'a>(alloc: Global, name: &'a str) -> Result<Command<'a>, AllocEr
 fn cores<'a>(alloc: Global) -> Arg<'a> {
     option(alloc, "cores", "N")
         .default_value("1")
-        .help("Number of cores, 1 to 16")
+        .help("Number of cores, 1 to 64")
 }
 
 fn mem<'a>(alloc: Global) -> Arg<'a> {
     option(alloc, "mem", "BYTES").default_value("65536").help(
-        "Memory size: a multiple of 4096, at least 4096 * (cores + 1), at most 67108864",
+        "Memory size: a multiple of 4096, at least 4096 * (cores + 1), at most 268435456",
     )
 }
 
@@ -105,7 +105,7 @@ fn steps<'a>(alloc: Global) -> Arg<'a> {
 }
 
 fn schedule<'a>(alloc: Global) -> Arg<'a> {
-    option(alloc, "schedule", "PATH").help("The schedule: a file whose first line is `schedule 1`")
+    option(alloc, "schedule", "PATH").help("The schedule: a file whose first line is `schedule 1` or `schedule 2`")
 }
 
 fn run_line<'a>(alloc: Global) -> Result<Command<'a>, AllocError> {

@@ -123,5 +123,5 @@ fn starts_of(
 
 // One address for all cores. One more than the most cores is refused as any greater number is.
 fn same_start(alloc: Global, address: u32, cores: u32) -> Result<Vec<u32>, ProgramRefusal> {
-    Ok(vec![in alloc; address; cores.min(17) as usize]?)
+    Ok(vec![in alloc; address; cores.min(65) as usize]?)
 }

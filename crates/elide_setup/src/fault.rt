@@ -81,6 +81,7 @@ impl Fault {
         match self {
             Fault::Program(fault) => fault.line(),
             Fault::Schedule(ScheduleFault::BadSchedule(line)) => Some(line),
+            Fault::Schedule(ScheduleFault::TooManySteps(line)) => Some(line),
             _ => None,
         }
     }
