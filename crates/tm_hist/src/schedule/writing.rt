@@ -8,7 +8,7 @@ ghost use Rattle.tm_hist.specs.Schedule.{schedule_of, schedule_text, numbers_tex
 ghost use Rattle.tm_hist.specs.ScheduleRuns.{AreLongest, count_text, run_word, runs_of};
 ghost use Rattle.tm_hist.specs.ScheduleWords.{behind_word, words_text};
 
-use super::runs::{MOST_STEPS, Run};
+use super::runs::Run;
 use crate::text_line::{TextLine, push, push_number};
 use ia_text::{Out, WriteFault};
 
