@@ -105,7 +105,9 @@ fn steps<'a>(alloc: Global) -> Arg<'a> {
 }
 
 fn schedule<'a>(alloc: Global) -> Arg<'a> {
-    option(alloc, "schedule", "PATH").help("The schedule: a file whose first line is `schedule 1` or `schedule 2`")
+    option(alloc, "schedule", "PATH").help(
+        "The schedule: a file whose first line is `schedule 1` or `schedule 2`",
+    )
 }
 
 fn run_line<'a>(alloc: Global) -> Result<Command<'a>, AllocError> {
