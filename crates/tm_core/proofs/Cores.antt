@@ -12,11 +12,12 @@ use Rattle.tm_core.specs.Representation.{cpu_at, cpu_view, cpu_views, is_open, k
 use Rattle.tm_core.specs.Representation.{no_cpu}
 use Rattle.tm_core.specs.StepRefinement.{StepResult, Touched, condemn_view, finished, lines_hit, lines_touched}
 use Rattle.tm_core.specs.StepRefinement.{stepped, view_after_hit, views_after}
-use Rattle.tm_core.specs.Types.{AtStop, Committed, Condemned, CoreState, Open, Outcome, Read, Running, Write}
+use Rattle.tm_core.specs.Types.{AtStop, Committed, Condemned, CoreState, Mid, Open, Outcome, Read, Running, Write}
 use Rattle.tm_core.proofs.BufferLemmas.{items_any}
 use Rattle.tm_core.proofs.Held.{held_of, held_plain, ordered_as, ordered_of}
 use Rattle.tm_core.proofs.Hits.{hit_kept_view, lines_hit_same}
 use Rattle.tm_core.specs.declared.cpu.Cpu.{Cpu}
+use Rattle.tm_core.specs.Representation.{kept_in}
 
 pub held_as : (room : ℕ) (x y : KeptCore) → y.room ≡ x.room → y.order ≡ x.order → y.view.writes ≡ x.view.writes → IsHeld room x → IsHeld room y
 held_as room x y e f g h = held_of room y (e ∙ h.same_room) (ordered_as x.order y.order x.view.writes y.view.writes f g (ordered_of room x h))
@@ -24,6 +25,7 @@ held_as room x y e f g h = held_of room y (e ∙ h.same_room) (ordered_as x.orde
 condemn_held : (room : ℕ) (x : KeptCore) (mode : CoreState) → IsHeld room x → IsHeld room (condemn_kept mode x)
 condemn_held room x (Open depth) h = held_plain room (condemn_kept (Open depth) x) h.same_room refl refl
 condemn_held room x Running h = h
+condemn_held room x Mid h = h
 condemn_held room x (Condemned depth) h = h
 condemn_held room x (AtStop reason) h = h
 
@@ -45,7 +47,7 @@ pub view_other : (a b : Content) (cpus : List Cpu) (c j : ℕ) (x : Cpu) → Els
 view_other a b cpus c j x same e =
     let ne : eqb j c ≡ true → ⊥ = λ t. true≢false (sym t ∙ e) in
     ap (cpu_view b j) (cpu_other cpus c j x (eqb-false j c e))
-    ∙ (λ i. record { mode = (cpu_at cpus j).state; base = (cpu_at cpus j).base; regs = (cpu_at cpus j).regs; buffer = (cpu_at cpus j).buffer.bytes; reads = same.lines j ne Read i; writes = same.lines j ne Write i })
+    ∙ (λ i. record { mode = (cpu_at cpus j).state; base = (cpu_at cpus j).base; regs = (cpu_at cpus j).regs; kept = kept_in (cpu_at cpus j).state (cpu_at cpus j).kept; buffer = (cpu_at cpus j).buffer.bytes; reads = same.lines j ne Read i; writes = same.lines j ne Write i })
 
 pub held_after : (room : ℕ) (a b : Content) (cpus : List Cpu) (c : ℕ) (x : Cpu) → c < length cpus → Elsewhere a b c →
     ((j : ℕ) → j < length cpus → IsHeld room (kept_at a cpus j)) → IsHeld room (kept_of b c x) → (j : ℕ) → j < length cpus → IsHeld room (kept_at b (set cpus c x) j)
@@ -151,6 +153,7 @@ hit_is_step k m m2 a b b2 cpus cpus3 c x o mode r below elsewhere state is out m
 closed_condemn : (x : KeptCore) (mode : CoreState) → is_open mode ≡ false → condemn_kept mode x ≡ x
 closed_condemn x (Open depth) h = absurd (true≢false h)
 closed_condemn x Running h = refl
+closed_condemn x Mid h = refl
 closed_condemn x (Condemned depth) h = refl
 closed_condemn x (AtStop stop) h = refl
 

@@ -7,7 +7,7 @@ use Rattle.std.specs.FinSet as finset
 use Rattle.tm_model.specs.Shown.{view_outside}
 use Rattle.tm_core.specs.Representation.{KeptCore, condemn_kept, cpu_at, kept_after_hit, kept_at}
 use Rattle.tm_core.specs.StepRefinement.{Touched, condemn_view, line_hits, lines_hit, lines_touched, view_after_hit}
-use Rattle.tm_core.specs.Types.{AtStop, Condemned, CoreState, Kind, Lines, Open, Running}
+use Rattle.tm_core.specs.Types.{AtStop, Condemned, CoreState, Kind, Lines, Mid, Open, Running}
 use Rattle.tm_core.proofs.BufferLemmas.{any_same, lines_hit-append, lines_hit-empty, lines_hit-kind}
 use Rattle.tm_core.specs.declared.cpu.Cpu.{Cpu}
 
@@ -21,6 +21,7 @@ hit_kept_same kind xs ys x same = ap (λ t. cond t (condemn_kept x.view.mode x) 
 pub condemn_kept_view : (x : KeptCore) (mode : CoreState) → (condemn_kept mode x).view ≡ condemn_view mode x.view
 condemn_kept_view x (Open depth) = refl
 condemn_kept_view x Running = refl
+condemn_kept_view x Mid = refl
 condemn_kept_view x (Condemned depth) = refl
 condemn_kept_view x (AtStop reason) = refl
 
@@ -38,6 +39,7 @@ not_twice x ls e = (elim (lines_hit x.view.reads x.view.writes ls) as (λ t. con
 
 doomed_again : (x : KeptCore) (ls : Touched) (mode : CoreState) → x.view.mode ≡ mode → kept_after_hit ls (condemn_kept mode x) ≡ condemn_kept mode x
 doomed_again x ls (Open depth) e = let y : KeptCore = record { view = view_outside (Condemned depth) x.view.base; order = []; room = x.room } in ap (λ t. cond t (condemn_kept (Condemned depth) y) y) (lines_hit-empty ls)
+doomed_again x ls Mid e = not_twice x ls (ap (λ mode. condemn_kept mode x) e)
 doomed_again x ls Running e = not_twice x ls (ap (λ mode. condemn_kept mode x) e)
 doomed_again x ls (Condemned depth) e = not_twice x ls (ap (λ mode. condemn_kept mode x) e)
 doomed_again x ls (AtStop reason) e = not_twice x ls (ap (λ mode. condemn_kept mode x) e)

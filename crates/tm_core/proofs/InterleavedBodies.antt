@@ -1,4 +1,4 @@
-use Rattle.std.proofs.Common.{◌≡◌, ℕ, suc, ◌<◌, true, false, cond, eqb, nat_lt, List, [], ◌∷◌, length, Option, Some, None, refl, sym, ap, ◌∙◌, subst}
+use Rattle.std.proofs.Common.{◌≡◌, ℕ, suc, ◌<◌, Bool, true, false, cond, eqb, nat_lt, List, [], ◌∷◌, length, Option, Some, None, refl, sym, ap, ◌∙◌, subst}
 use Rattle.std.specs.Prelude.{option_and_then, option_map, MatchOption}
 use Rattle.std.proofs.lemmas.Option.{option_and_then_some, same_Some}
 use Rattle.std.proofs.lemmas.Bool.{lt-ltb, ltb-true}
@@ -8,17 +8,18 @@ use Rattle.tm_model.specs.Conflicts.{doom_after_own, doomed_after, is_hit}
 use Rattle.tm_model.specs.Isolated.{Body, isolated_body, longer_body, read_set}
 use Rattle.tm_model.specs.Owed.{owed_outcome}
 use Rattle.tm_model.specs.Runs.{AreOwed, doomed_at_end}
-use Rattle.tm_model.specs.Setting.{Setting, outside_at}
-use Rattle.tm_model.specs.Shown.{View, ViewsStandFor, body_alone, view_inside, view_of, view_outside, view_with_body}
-use Rattle.tm_model.specs.State.{Closed, Core, Halted, Opened, State, opening_state}
-use Rattle.tm_model.specs.Steps.{after_begin, after_commit, after_plain, after_step_of, after_stop}
+use Rattle.tm_model.specs.Setting.{Setting, outside_at, value_at}
+use Rattle.tm_model.specs.Shown.{View, ViewsStandFor, body_alone, view_between, view_inside, view_midway, view_of}
+use Rattle.tm_model.specs.Shown.{view_outside, view_with_body}
+use Rattle.tm_model.specs.State.{Closed, Core, Halted, Midway, Opened, State, opening_state}
+use Rattle.tm_model.specs.Steps.{after_begin, after_commit, after_load, after_plain, after_step_of, after_stop}
 use Rattle.tm_model.specs.Steps.{registers_after_abort, run, state_with, step, stop_number}
 use Rattle.tm_model.specs.Went.{after_step_with_body, body_after, opening_with_bodies, run_with_bodies}
 use Rattle.tm_model.specs.Went.{state_with_body, step_with_body}
 use Rattle.tm_core.specs.StepRefinement.{StepResult, stepped, views_after}
 use Rattle.tm_core.specs.Theorem.{TransactionsAsTheyWent, condemned_depth, machine_setting, view_at}
-use Rattle.tm_core.specs.Types.{Aborted, AtStop, Begins, Begun, Committed, Condemned, Goes, Idle, Inside, Outcome}
-use Rattle.tm_core.specs.Types.{OutsideResult, Plain, Regs, Running, Stop, Stopped, Stops}
+use Rattle.tm_core.specs.Types.{Aborted, AtStop, Begins, Begun, Committed, Condemned, Goes, Idle, Inside, Loaded}
+use Rattle.tm_core.specs.Types.{Outcome, OutsideResult, Plain, Regs, Running, Stop, Stopped, Stops}
 use Rattle.tm_core.proofs.BufferLemmas.{lines_on, not_hit}
 use Rattle.tm_core.proofs.Frame.{frame, length-memory_after}
 use Rattle.tm_core.proofs.OtherCores.{stores_missed, view_inside_is}
@@ -41,8 +42,10 @@ more k m s n w v is same =
 -- the owed step is the same with the body that bodies
 same_with_body : (k : Setting) (m : List ℕ) (x : Core) (w : Option Body) (dx : Option ℕ) (o : Outcome) (v : View) → o ≡ owed_outcome k m x dx → view_of k m x dx ≡ Some v → (dx ≡ None → w ≡ body_alone k m x) → after_step_with_body k m x w o ≡ after_step_of k m x o
 same_with_body k m (Closed s) w dx o v owes is same = refl
+same_with_body k m (Midway s value) w dx o v owes is same = refl
 same_with_body k m (Halted s x) w dx o v owes is same = refl
 same_with_body k m (Opened s n) w dx Plain v owes is same = refl
+same_with_body k m (Opened s n) w dx Loaded v owes is same = refl
 same_with_body k m (Opened s n) w dx (Stopped x) v owes is same = refl
 same_with_body k m (Opened s n) w dx Idle v owes is same = refl
 same_with_body k m (Opened s n) w dx Begun v owes is same = refl
@@ -55,6 +58,20 @@ after_plain_closed : (k : Setting) (m : List ℕ) (o : OutsideResult) (q : List 
 after_plain_closed k m (Goes t w) q e = ap (λ (p : List ℕ × Core). body_alone k p.0 p.1) (same_Some (memory_after m (stores_of w), Closed t) q e)
 after_plain_closed k m (Begins t) q e = cc
 after_plain_closed k m (Stops x) q e = cc
+
+after_load_closed : (k : Setting) (m : List ℕ) (s : Regs) (value : ℕ) (o : OutsideResult) (q : List ℕ × Core) → after_load m s value o ≡ Some q → None ≡ body_alone k q.0 q.1
+after_load_closed k m s value (Goes t w) q e = ap (λ (p : List ℕ × Core). body_alone k p.0 p.1) (same_Some (m, Midway s value) q e)
+after_load_closed k m s value (Begins t) q e = cc
+after_load_closed k m s value (Stops x) q e = cc
+
+-- in one step or in two
+one_closed : (k : Setting) (m : List ℕ) (two : Bool) (o : OutsideResult) (q : List ℕ × Core) → cond two None (after_plain m o) ≡ Some q → None ≡ body_alone k q.0 q.1
+one_closed k m true o q e = cc
+one_closed k m false o q e = after_plain_closed k m o q e
+
+two_closed : (k : Setting) (m : List ℕ) (s : Regs) (value : ℕ) (two : Bool) (o : OutsideResult) (q : List ℕ × Core) → cond two (after_load m s value o) None ≡ Some q → None ≡ body_alone k q.0 q.1
+two_closed k m s value true o q e = after_load_closed k m s value o q e
+two_closed k m s value false o q e = cc
 
 after_stop_closed : (k : Setting) (m : List ℕ) (s : Regs) (x : Stop) (o : OutsideResult) (q : List ℕ × Core) → after_stop m s x o ≡ Some q → None ≡ body_alone k q.0 q.1
 after_stop_closed k m s x (Goes t w) q = λ e. cc
@@ -79,15 +96,25 @@ begin_alone k m s (Stops x) q e = cc
 
 -- after its own step a core's body bodies as by itself
 went_own : (k : Setting) (m : List ℕ) (x : Core) (w : Option Body) (dx : Option ℕ) (o : Outcome) (q : List ℕ × Core) (v : View) → after_step_of k m x o ≡ Some q → view_of k m x dx ≡ Some v → (dx ≡ None → w ≡ body_alone k m x) → doom_after_own o dx ≡ None → body_after k m x w o ≡ body_alone k q.0 q.1
-went_own k m (Closed s) w dx Plain q v e is same free = after_plain_closed k m (outside_at k s m) q e
+went_own k m (Closed s) w dx Plain q v e is same free = one_closed k m (k.takes_two_steps s) (outside_at k s m) q e
+went_own k m (Closed s) w dx Loaded q v e is same free = two_closed k m s (value_at k s m) (k.takes_two_steps s) (outside_at k s m) q e
 went_own k m (Closed s) w dx (Stopped x) q v e is same free = after_stop_closed k m s x (outside_at k s m) q e
 went_own k m (Closed s) w dx Begun q v e is same free = begin_alone k m s (outside_at k s m) q e
 went_own k m (Closed s) w dx Idle q v e is same free = cc
 went_own k m (Closed s) w dx Inside q v e is same free = cc
 went_own k m (Closed s) w dx Committed q v e is same free = cc
 went_own k m (Closed s) w dx (Aborted status) q v e is same free = cc
+went_own k m (Midway s value) w dx Plain q v e is same free = after_plain_closed k m (k.outside s value) q e
+went_own k m (Midway s value) w dx Loaded q v e is same free = cc
+went_own k m (Midway s value) w dx (Stopped x) q v e is same free = cc
+went_own k m (Midway s value) w dx Begun q v e is same free = cc
+went_own k m (Midway s value) w dx Idle q v e is same free = cc
+went_own k m (Midway s value) w dx Inside q v e is same free = cc
+went_own k m (Midway s value) w dx Committed q v e is same free = cc
+went_own k m (Midway s value) w dx (Aborted status) q v e is same free = cc
 went_own k m (Halted s x) w dx Idle q v e is same free = ap (λ (p : List ℕ × Core). body_alone k p.0 p.1) (same_Some (m, Halted s x) q e)
 went_own k m (Halted s x) w dx Plain q v e is same free = cc
+went_own k m (Halted s x) w dx Loaded q v e is same free = cc
 went_own k m (Halted s x) w dx (Stopped y) q v e is same free = cc
 went_own k m (Halted s x) w dx Begun q v e is same free = cc
 went_own k m (Halted s x) w dx Inside q v e is same free = cc
@@ -99,6 +126,7 @@ went_own k m (Opened s n) w dx Inside q v e is same free =
 went_own k m (Opened s n) w dx Committed q v e is same free = option_and_then_some (after_commit m) (isolated_body k s m (suc n)) q e (λ b e1 e2. after_commit_closed k m b q e2)
 went_own k m (Opened s n) w dx (Aborted status) q v e is same free = ap (λ (p : List ℕ × Core). body_alone k p.0 p.1) (same_Some (m, Closed (registers_after_abort k s status)) q e)
 went_own k m (Opened s n) w dx Plain q v e is same free = cc
+went_own k m (Opened s n) w dx Loaded q v e is same free = cc
 went_own k m (Opened s n) w dx (Stopped x) q v e is same free = cc
 went_own k m (Opened s n) w dx Idle q v e is same free = cc
 went_own k m (Opened s n) w dx Begun q v e is same free = cc
@@ -116,6 +144,7 @@ missed loads stores b =
 went_other : (k : Setting) (m loads : List ℕ) (ws : Stores) (y : Core) (w : Option Body) (dy : Option ℕ) (v : View) → view_of k m y dy ≡ Some v → (dy ≡ None → w ≡ body_alone k m y) →
     doom_after_other k m loads (stored_addresses ws) y dy ≡ None → w ≡ body_alone k (memory_after m ws) y
 went_other k m loads ws (Closed s) w dy v is same free = same free
+went_other k m loads ws (Midway s value) w dy v is same free = same free
 went_other k m loads ws (Halted s x) w dy v is same free = same free
 went_other k m loads ws (Opened s n) w (Some depth) v is same free = cc
 went_other k m loads ws (Opened s n) w None v is same free =
@@ -224,22 +253,31 @@ all_go k sound cores views a w d (p ∷ ps) last size stands same owes e =
 
 -- ---- what is shown
 
-marks : (x : Core) (b : Option Body) (dx : Option ℕ) (v : View) → view_with_body x b dx ≡ Some v → condemned_depth v.mode ≡ dx
-marks (Closed s) b None v e = ap (λ (u : View). condemned_depth u.mode) (sym (same_Some (view_outside Running s) v e))
-marks (Closed s) b (Some depth) v e = cc
-marks (Halted s x) b None v e = ap (λ (u : View). condemned_depth u.mode) (sym (same_Some (view_outside (AtStop x) s) v e))
-marks (Halted s x) b (Some depth) v e = cc
-marks (Opened s n) b (Some depth) v e = ap (λ (u : View). condemned_depth u.mode) (sym (same_Some (view_outside (Condemned depth) s) v e))
-marks (Opened s n) b None v e = option_and_then_some (view_inside s) b v e (λ x e1 e2. ap (λ (u : View). condemned_depth u.mode) (sym (view_inside_is s x v e2).1))
+marks_midway : (s : Regs) (value : ℕ) (o : OutsideResult) (v : View) → view_midway s value o ≡ Some v → condemned_depth v.mode ≡ None
+marks_midway s value (Goes t w) v e = ap (λ (u : View). condemned_depth u.mode) (sym (same_Some (view_between s value) v e))
+marks_midway s value (Begins t) v e = cc
+marks_midway s value (Stops x) v e = cc
+
+marks : (k : Setting) (x : Core) (b : Option Body) (dx : Option ℕ) (v : View) → view_with_body k x b dx ≡ Some v → condemned_depth v.mode ≡ dx
+marks k (Closed s) b None v e = ap (λ (u : View). condemned_depth u.mode) (sym (same_Some (view_outside Running s) v e))
+marks k (Closed s) b (Some depth) v e = cc
+marks k (Midway s value) b None v e = marks_midway s value (k.outside s value) v e
+marks k (Midway s value) b (Some depth) v e = cc
+marks k (Halted s x) b None v e = ap (λ (u : View). condemned_depth u.mode) (sym (same_Some (view_outside (AtStop x) s) v e))
+marks k (Halted s x) b (Some depth) v e = cc
+marks k (Opened s n) b (Some depth) v e = ap (λ (u : View). condemned_depth u.mode) (sym (same_Some (view_outside (Condemned depth) s) v e))
+marks k (Opened s n) b None v e = option_and_then_some (view_inside s) b v e (λ x e1 e2. ap (λ (u : View). condemned_depth u.mode) (sym (view_inside_is s x v e2).1))
 
 -- of a doomed core no body is shown
-by_body : (x : Core) (b c : Option Body) (dx : Option ℕ) (v : View) → (dx ≡ None → b ≡ c) → view_with_body x c dx ≡ Some v → view_with_body x b dx ≡ Some v
-by_body (Closed s) b c None v same e = e
-by_body (Closed s) b c (Some depth) v same e = cc
-by_body (Halted s x) b c None v same e = e
-by_body (Halted s x) b c (Some depth) v same e = cc
-by_body (Opened s n) b c (Some depth) v same e = e
-by_body (Opened s n) b c None v same e = ap (option_and_then (view_inside s)) (same refl) ∙ e
+by_body : (k : Setting) (x : Core) (b c : Option Body) (dx : Option ℕ) (v : View) → (dx ≡ None → b ≡ c) → view_with_body k x c dx ≡ Some v → view_with_body k x b dx ≡ Some v
+by_body k (Closed s) b c None v same e = e
+by_body k (Closed s) b c (Some depth) v same e = cc
+by_body k (Midway s value) b c None v same e = e
+by_body k (Midway s value) b c (Some depth) v same e = cc
+by_body k (Halted s x) b c None v same e = e
+by_body k (Halted s x) b c (Some depth) v same e = cc
+by_body k (Opened s n) b c (Some depth) v same e = e
+by_body k (Opened s n) b c None v same e = ap (option_and_then (view_inside s)) (same refl) ∙ e
 
 pub as_they_went : TransactionsAsTheyWent
 as_they_went start now p steps stands is =
@@ -254,14 +292,14 @@ as_they_went start now p steps stands is =
     let dd : ℕ → Option ℕ = doomed_at_end k a d steps in
     let same_cores : length now.views ≡ n = is.same.cores in
     let each : (j : ℕ) → j < length now.views → view_of k last.memory (last.cores j) (dd j) ≡ Some (view_at now j) = λ j within. subst (λ (x : Setting). view_of x last.memory (last.cores j) (dd j) ≡ Some (view_at now j)) is.same.rules (is.takes.stands.each j within) in
-    let marked : (j : ℕ) → j < length now.views → condemned_depth (view_at now j).mode ≡ dd j = λ j within. marks (last.cores j) (body_alone k last.memory (last.cores j)) (dd j) (view_at now j) (each j within) in
+    let marked : (j : ℕ) → j < length now.views → condemned_depth (view_at now j).mode ≡ dd j = λ j within. marks k (last.cores j) (body_alone k last.memory (last.cores j)) (dd j) (view_at now j) (each j within) in
     record {
       end = record { state = last; bodies = all.0 };
       goes = all.1;
       memory = is.takes.stands.same_memory;
       count = is.takes.stands.same_count;
-      shows = λ j within. subst (λ t. view_with_body (last.cores j) (all.0 j) t ≡ Some (view_at now j)) (sym (marked j within))
-          (by_body (last.cores j) (all.0 j) (body_alone k last.memory (last.cores j)) (dd j) (view_at now j) (all.2 j (subst (λ x. j < x) same_cores within)) (each j within));
+      shows = λ j within. subst (λ t. view_with_body k (last.cores j) (all.0 j) t ≡ Some (view_at now j)) (sym (marked j within))
+          (by_body k (last.cores j) (all.0 j) (body_alone k last.memory (last.cores j)) (dd j) (view_at now j) (all.2 j (subst (λ x. j < x) same_cores within)) (each j within));
       by_itself = λ j within free. all.2 j (subst (λ x. j < x) same_cores within) (sym (marked j within) ∙ free)
           ∙ ap (λ m. body_alone k m (last.cores j)) (sym is.takes.stands.same_memory);
       same_run = is.takes.is_run;

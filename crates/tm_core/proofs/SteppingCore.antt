@@ -1,31 +1,32 @@
 use Rattle.ia_word.specs.Line.{line}
-use Rattle.std.proofs.Common.{◌≡◌, ℕ, zero, suc, ◌+◌, ◌-◌, true, false, cond, eqb, ◌||◌, List, [], ◌++◌, map, length, Option, Some, None, refl, sym, ap, ◌∙◌, subst, arith}
+use Rattle.std.proofs.Common.{◌≡◌, ℕ, zero, suc, ◌+◌, ◌-◌, Bool, true, false, cond, eqb, ◌||◌, List, [], ◌++◌, map, length, Option, Some, None, refl, sym, ap, ◌∙◌, subst, arith}
 use Rattle.std.proofs.lemmas.Bool.{eqb-true, eqb-false, eq-eqb, ne_eqb}
 use Rattle.std.specs.Prelude.{option_and_then, option_map}
 use Rattle.std.proofs.lemmas.Option.{option_and_then_some, same_Some}
 use Rattle.std.proofs.lemmas.List.{map-append}
 use Rattle.std.specs.FinSet as finset
-use Rattle.tm_model.specs.Access.{Stores, bytes_at, lines_of, memory_after, stored_addresses, stores_of}
+use Rattle.tm_model.specs.Access.{Stores, lines_of, memory_after, stored_addresses, stores_of}
 use Rattle.tm_model.specs.Conflicts.{addresses_loaded_after, addresses_loaded_by, addresses_stored_by}
 use Rattle.tm_model.specs.Conflicts.{addresses_stored_inside, addresses_stored_outside, doom_after_own}
 use Rattle.tm_model.specs.Isolated.{Body, first_body, instruction_after, isolated_body, longer_body, next_body}
 use Rattle.tm_model.specs.Isolated.{read_set, write_set}
 use Rattle.tm_model.specs.Owed.{have_room, owed_after, owed_inside, owed_outcome, owed_outside, status_at}
-use Rattle.tm_model.specs.Setting.{Setting, outside_at}
-use Rattle.tm_model.specs.Shown.{View, view_inside, view_of, view_of_body, view_outside}
-use Rattle.tm_model.specs.State.{Closed, Core, Halted, Opened}
-use Rattle.tm_model.specs.Steps.{after_begin, after_commit, after_plain, after_step_of, after_stop}
+use Rattle.tm_model.specs.Setting.{Setting, outside_at, value_at}
+use Rattle.tm_model.specs.Shown.{View, view_between, view_inside, view_midway, view_of, view_of_body, view_outside}
+use Rattle.tm_model.specs.State.{Closed, Core, Halted, Midway, Opened}
+use Rattle.tm_model.specs.Steps.{after_begin, after_commit, after_load, after_plain, after_step_of, after_stop}
 use Rattle.tm_model.specs.Steps.{registers_after_abort, stop_number}
 use Rattle.tm_core.specs.StepRefinement.{StepResult, ended, finished, grows, if_room, lines_hit, quit, ran}
 use Rattle.tm_core.specs.StepRefinement.{ran_inside, stayed, stepped}
 use Rattle.tm_core.specs.Types.{Aborted, AtStop, Begins, Capacity, Committed, Condemned, Conflict, Ends, Fails, Goes}
-use Rattle.tm_core.specs.Types.{GoesOn, Inside, InsideResult, Nests, Open, Outcome, OutsideResult, Regs, Running}
-use Rattle.tm_core.specs.Types.{Stop, Stops}
+use Rattle.tm_core.specs.Types.{GoesOn, Inside, InsideResult, Loaded, Nests, Open, Outcome, OutsideResult, Plain}
+use Rattle.tm_core.specs.Types.{Regs, Running, Stop, Stops, Store}
 use Rattle.tm_core.proofs.BufferLemmas.{InRange-append, add_all-lines, both_hit, drained-memory_after, hits}
 use Rattle.tm_core.proofs.BufferLemmas.{items_hit, loads_alone_hit, map_seen, with_bytes-buffer_of}
 use Rattle.tm_core.proofs.Frame.{longer_body-next_body}
 use Rattle.tm_core.proofs.OtherCores.{view_inside_at, view_inside_is}
 use Rattle.tm_core.proofs.Sound.{InRange, Sound}
+use Rattle.tm_core.specs.StepRefinement.{loaded, ran_on, stored}
 
 -- what a right step of core x does: the owed outcome, a step that the rules allow, and the core's own view after it
 pub record Own (k : Setting) (m : List ℕ) (x : Core) (dx : Option ℕ) (r : StepResult) : Type 0 where
@@ -57,11 +58,11 @@ first_body-range k ps (Goes s w) b e = cc
 first_body-range k ps (Begins s) b e = let e2 : ◌≡◌ {A = Body} (record { regs = s; depth = 1; stores = []; loads = ps }) b = cc in subst (λ (x : Body). InRange k.size x.stores) e2 tt
 first_body-range k ps (Stops x) b e = cc
 
-next_body-range : (k : Setting) → Sound k → (x : Body) (bs ps : List ℕ) (o : InsideResult) (b : Body) → k.inside x.regs x.depth bs ≡ o → InRange k.size x.stores → next_body x ps o ≡ Some b → InRange k.size b.stores
-next_body-range k sound x bs ps (GoesOn s w) b is h e = let e2 : ◌≡◌ {A = Body} (record { regs = s; depth = x.depth; stores = stores_of w ++ x.stores; loads = ps ++ x.loads }) b = cc in subst (λ (x : Body). InRange k.size x.stores) e2 (InRange-append k.size (stores_of w) x.stores (sound.goes_on x.regs x.depth bs s w is) h)
-next_body-range k sound x bs ps (Nests s) b is h e = let e2 : ◌≡◌ {A = Body} (record { regs = s; depth = x.depth + 1; stores = x.stores; loads = ps ++ x.loads }) b = cc in subst (λ (x : Body). InRange k.size x.stores) e2 h
-next_body-range k sound x bs ps (Ends s) b is h e = let e2 : ◌≡◌ {A = Body} (record { regs = s; depth = x.depth - 1; stores = x.stores; loads = ps ++ x.loads }) b = cc in subst (λ (x : Body). InRange k.size x.stores) e2 h
-next_body-range k sound x bs ps (Fails cause) b is h e = cc
+next_body-range : (k : Setting) → Sound k → (x : Body) (value : ℕ) (ps : List ℕ) (o : InsideResult) (b : Body) → k.inside x.regs x.depth value ≡ o → InRange k.size x.stores → next_body x ps o ≡ Some b → InRange k.size b.stores
+next_body-range k sound x value ps (GoesOn s w) b is h e = let e2 : ◌≡◌ {A = Body} (record { regs = s; depth = x.depth; stores = stores_of w ++ x.stores; loads = ps ++ x.loads }) b = cc in subst (λ (x : Body). InRange k.size x.stores) e2 (InRange-append k.size (stores_of w) x.stores (sound.goes_on x.regs x.depth value s w is) h)
+next_body-range k sound x value ps (Nests s) b is h e = let e2 : ◌≡◌ {A = Body} (record { regs = s; depth = x.depth + 1; stores = x.stores; loads = ps ++ x.loads }) b = cc in subst (λ (x : Body). InRange k.size x.stores) e2 h
+next_body-range k sound x value ps (Ends s) b is h e = let e2 : ◌≡◌ {A = Body} (record { regs = s; depth = x.depth - 1; stores = x.stores; loads = ps ++ x.loads }) b = cc in subst (λ (x : Body). InRange k.size x.stores) e2 h
+next_body-range k sound x value ps (Fails cause) b is h e = cc
 
 -- a body stores below the memory's size
 pub isolated_body-range : (k : Setting) → Sound k → (s : Regs) (m : List ℕ) (n : ℕ) (b : Body) → isolated_body k s m n ≡ Some b → InRange k.size b.stores
@@ -69,17 +70,20 @@ isolated_body-range k sound s m zero b e = cc
 isolated_body-range k sound s m (suc zero) b e = first_body-range k (k.load_of s) (outside_at k s m) b e
 isolated_body-range k sound s m (suc (suc n)) b e =
     option_and_then_some (longer_body k m) (isolated_body k s m (suc n)) b e (λ x e1 e2.
-    next_body-range k sound x (bytes_at (memory_after m x.stores) (k.load_of x.regs)) (k.load_of x.regs) (instruction_after k m x) b refl (isolated_body-range k sound s m (suc n) x e1) (longer_body-next_body k m x b e2))
+    next_body-range k sound x (value_at k x.regs (memory_after m x.stores)) (k.load_of x.regs) (instruction_after k m x) b refl (isolated_body-range k sound s m (suc n) x e1) (longer_body-next_body k m x b e2))
 
 -- ---- outside
 
 module _ (k : Setting) (sound : Sound k) (m : List ℕ) (s : Regs) where
-  own_closed : (o : OutsideResult) → outside_at k s m ≡ o → Own k m (Closed s) None (ran k m s o)
-  own_closed (Goes t w) e = record {
-    owes = sym (ap owed_outside e);
+  abbrev value : ℕ
+  value = value_at k s m
+
+  own_goes : (two : Bool) (t : Regs) (w : Option Store) → k.takes_two_steps s ≡ two → outside_at k s m ≡ Goes t w → Own k m (Closed s) None (cond two (loaded m (k.load_of s) s value) (stored m (k.load_of s) t w))
+  own_goes false t w one e = record {
+    owes = sym (ap (owed_outside (k.takes_two_steps s)) e ∙ ap (λ u. cond u Loaded Plain) one);
     next = Closed t;
     stores = stores_of w;
-    moves = ap (after_plain m) e;
+    moves = ap (λ u. cond u None (after_plain m (outside_at k s m))) one ∙ ap (after_plain m) e;
     memory = refl;
     shows = refl;
     wrote = sym (ap addresses_stored_outside e);
@@ -87,21 +91,36 @@ module _ (k : Setting) (sound : Sound k) (m : List ℕ) (s : Regs) where
     loaded = refl;
     touch = λ v. both_hit v.reads v.writes (k.load_of s) (stored_addresses (stores_of w));
   }
+  own_goes true t w two e = record {
+    owes = sym (ap (owed_outside (k.takes_two_steps s)) e ∙ ap (λ u. cond u Loaded Plain) two);
+    next = Midway s value;
+    stores = [];
+    moves = ap (λ u. cond u (after_load m s value (outside_at k s m)) None) two ∙ ap (after_load m s value) e;
+    memory = refl;
+    shows = ap (view_midway s value) e;
+    wrote = refl;
+    loads = k.load_of s;
+    loaded = refl;
+    touch = λ v. both_hit v.reads v.writes (k.load_of s) [];
+  }
+
+  own_closed : (o : OutsideResult) → outside_at k s m ≡ o → Own k m (Closed s) None (ran k m s o)
+  own_closed (Goes t w) e = own_goes (k.takes_two_steps s) t w refl e
   own_closed (Begins t) e = record {
-    owes = sym (ap owed_outside e);
+    owes = sym (ap (owed_outside (k.takes_two_steps s)) e);
     next = Opened s 1;
     stores = [];
     moves = ap (after_begin m s) e;
     memory = refl;
     shows = ap (λ o. option_and_then (view_inside s) (first_body (k.load_of s) o)) e
-        ∙ ap (λ ps. Some (view_of_body s (record { regs = t; depth = 1; stores = []; loads = ps }))) (sound.begins s (bytes_at m (k.load_of s)) t e);
+        ∙ ap (λ ps. Some (view_of_body s (record { regs = t; depth = 1; stores = []; loads = ps }))) (sound.begins s (value_at k s m) t e);
     wrote = refl;
     loads = [];
     loaded = refl;
     touch = λ v. refl;
   }
   own_closed (Stops x) e = record {
-    owes = sym (ap owed_outside e);
+    owes = sym (ap (owed_outside (k.takes_two_steps s)) e);
     next = Halted s x;
     stores = [];
     moves = ap (after_stop m s x) e ∙ ap (λ t. cond t (Some (m, Halted s x)) None) (same_number x);
@@ -113,6 +132,26 @@ module _ (k : Setting) (sound : Sound k) (m : List ℕ) (s : Regs) where
     touch = λ v. refl;
   }
 
+-- ---- between the two steps of an instruction
+
+own_midway : (k : Setting) (m : List ℕ) (s : Regs) (value : ℕ) (v : View) (o : OutsideResult) → k.outside s value ≡ o → view_midway s value o ≡ Some v → Own k m (Midway s value) None (stepped k m v v.mode)
+own_midway k m s value v (Goes t w) e is =
+    subst (λ (u : View). Own k m (Midway s value) None (stepped k m u u.mode)) (same_Some (view_between s value) v is)
+    (subst (λ o. Own k m (Midway s value) None (ran_on m (view_between s value) o)) (sym e) (record {
+      owes = refl;
+      next = Closed t;
+      stores = stores_of w;
+      moves = ap (after_plain m) e;
+      memory = refl;
+      shows = refl;
+      wrote = sym (ap addresses_stored_outside e);
+      loads = [];
+      loaded = refl;
+      touch = λ u. both_hit u.reads u.writes [] (stored_addresses (stores_of w));
+    }))
+own_midway k m s value v (Begins t) e is = cc
+own_midway k m s value v (Stops x) e is = cc
+
 -- ---- inside
 
 grown_view : (s : Regs) (b : Body) (depth : ℕ) (t : Regs) (ps : List ℕ) (ws : Stores) → grows (view_of_body s b) depth t ps ws ≡ view_of_body s (record { regs = t; depth = depth; stores = ws ++ b.stores; loads = ps ++ b.loads })
@@ -120,6 +159,7 @@ grown_view s b depth t ps ws = λ i. record {
   mode = Open depth;
   base = s;
   regs = t;
+  kept = 0;
   buffer = with_bytes-buffer_of b.stores ws i;
   reads = add_all-lines b.loads ps i;
   writes = (add_all-lines (stored_addresses b.stores) (stored_addresses ws) ∙ ap lines_of (sym (map-append (λ (w : ℕ × ℕ). w.0) ws b.stores))) i;
@@ -219,6 +259,8 @@ module _ (k : Setting) (sound : Sound k) (m : List ℕ) (size : length m ≡ k.s
 pub own : (k : Setting) → Sound k → (m : List ℕ) → length m ≡ k.size → (x : Core) (dx : Option ℕ) (v : View) → view_of k m x dx ≡ Some v → Own k m x dx (stepped k m v v.mode)
 own k sound m size (Closed s) None v e = subst (λ (u : View). Own k m (Closed s) None (stepped k m u u.mode)) (same_Some (view_outside Running s) v e) (own_closed k sound m s (outside_at k s m) refl)
 own k sound m size (Closed s) (Some depth) v e = cc
+own k sound m size (Midway s value) None v e = own_midway k m s value v (k.outside s value) refl e
+own k sound m size (Midway s value) (Some depth) v e = cc
 own k sound m size (Halted s x) None v e = subst (λ (u : View). Own k m (Halted s x) None (stepped k m u u.mode)) (same_Some (view_outside (AtStop x) s) v e) (record {
   owes = refl;
   next = Halted s x;
@@ -248,6 +290,6 @@ own k sound m size (Opened s n) None v e =
     option_and_then_some (view_inside s) (isolated_body k s m n) v e (λ b is e2.
     let parts : (eqb b.depth 0 ≡ false) × (view_of_body s b ≡ v) = view_inside_is s b v e2 in
     subst (λ (u : View). Own k m (Opened s n) None (stepped k m u u.mode)) parts.1
-    (subst (λ bs. Own k m (Opened s n) None (ran_inside k m (view_of_body s b) b.depth (k.load_of b.regs) (k.inside b.regs b.depth bs)))
+    (subst (λ bs. Own k m (Opened s n) None (ran_inside k m (view_of_body s b) b.depth (k.load_of b.regs) (k.inside b.regs b.depth (k.value_of b.regs bs))))
     (sym (map_seen m b.stores (k.load_of b.regs) (subst (λ z. InRange z b.stores) (sym size) (isolated_body-range k sound s m n b is))))
     (own_open k sound m size s n b is parts.0 (instruction_after k m b) refl)))

@@ -21,10 +21,10 @@ in_range size (Some w) h = placed_in size w.addr w.width w.value h.0
 -- the facts of the table that the machine rests on
 pub sound : (code : List ℕ) (base size reads writes : ℕ) → Sound (setting_of code base size reads writes)
 sound code base size reads writes = record {
-  goes = λ s bs t w e. in_range size w (store_within code base size s _ t w e);
-  goes_on = λ s depth bs t w e. in_range size w (store_within_inside code base size s depth _ t w e);
-  nests = λ s depth bs t e. nests_below code base size s depth _ t e;
-  begins = λ s bs t e. ap loaded_addresses (begins_without_load code base size s _ t e);
+  goes = λ s value t w e. in_range size w (store_within code base size s value t w e);
+  goes_on = λ s depth value t w e. in_range size w (store_within_inside code base size s depth value t w e);
+  nests = λ s depth value t e. nests_below code base size s depth value t e;
+  begins = λ s value t e. ap loaded_addresses (begins_without_load code base size s value t e);
 }
 
 -- an access of memory lies on its lines

@@ -17,16 +17,18 @@ use Rattle.tm_model.specs.Shown.{Buffer, View}
 abbrev pub view_code : Coded CoreState → Coded Regs → Coded View
 view_code mode regs =
     let lines : Coded Lines = set.code coded_ℕ in
-    code_by (CoreState × (Regs × (Regs × (Buffer × (Lines × Lines)))))
-    (coded× mode (coded× regs (coded× regs (coded× (map_of.code coded_ℕ coded_ℕ) (coded× lines lines)))))
-    (λ view. (view.mode, (view.base, (view.regs, (view.buffer, (view.reads, view.writes))))))
+    let buffer : Coded Buffer = map_of.code coded_ℕ coded_ℕ in
+    code_by (CoreState × (Regs × (Regs × (ℕ × (Buffer × (Lines × Lines))))))
+    (coded× mode (coded× regs (coded× regs (coded× coded_ℕ (coded× buffer (coded× lines lines))))))
+    (λ view. (view.mode, (view.base, (view.regs, (view.kept, (view.buffer, (view.reads, view.writes)))))))
     (λ parts. record {
       mode = parts.0;
       base = parts.1.0;
       regs = parts.1.1.0;
-      buffer = parts.1.1.1.0;
-      reads = parts.1.1.1.1.0;
-      writes = parts.1.1.1.1.1;
+      kept = parts.1.1.1.0;
+      buffer = parts.1.1.1.1.0;
+      reads = parts.1.1.1.1.1.0;
+      writes = parts.1.1.1.1.1.1;
     })
     (λ _. refl)
 

@@ -1,5 +1,6 @@
 -- How a machine's parts show its views, and what holds of them between steps.
-use Rattle.std.specs.Prelude.{◌≡◌, ℕ, ◌+◌, ◌*◌, ◌^◌, ◌<◌, ◌≤◌, Bool, true, false, List, [], Option, Some, if◌then◌else◌, length}
+use Rattle.std.specs.Prelude.{◌≡◌, ℕ, ◌+◌, ◌*◌, ◌^◌, ◌<◌, ◌≤◌, Bool, true, false, List, [], Option, Some}
+use Rattle.std.specs.Prelude.{if◌then◌else◌, length}
 use Rattle.std.specs.Prelude.{slice_index_or, nat_eq, IfSome}
 use Rattle.std.specs.List.{list_any}
 use Rattle.std.specs.FinSet as set
@@ -13,22 +14,33 @@ use Rattle.tm_core.specs.declared.transaction.InsideStep.TheVariants.{Aborts, Co
 use Rattle.tm_core.specs.StepRefinement.{StepResult, Touched, finished, lines_hit, stayed, stepped, touched_by}
 use Rattle.tm_core.specs.StepRefinement.{views_after}
 use Rattle.tm_core.specs.Theorem.{no_regs}
-use Rattle.tm_core.specs.Types.{Aborted, Access, AtStop, Begun, Committed, Condemned, CoreState, Idle, Inside, Kind}
+use Rattle.tm_core.specs.Types.{Aborted, Access, AtStop, Begins, Begun, Committed, Condemned, CoreState, Goes, Idle}
+use Rattle.tm_core.specs.Types.{Inside, Kind}
 use Rattle.tm_core.specs.Types.{Lines}
 use Rattle.tm_core.specs.Types.{Open}
-use Rattle.tm_core.specs.Types.{Outcome, Plain, Read, Regs, Running, Stopped, Store, Width, Write}
+use Rattle.tm_core.specs.Types.{Loaded, Mid, Outcome, OutsideResult, Plain, Read, Regs, Running, Stopped, Stops}
+use Rattle.tm_core.specs.Types.{Store, Width, Write}
 use Rattle.tm_model.specs.Access.{loaded_addresses, memory_after, stores_of}
 use Rattle.tm_model.specs.Owed.{have_room}
 use Rattle.tm_model.specs.Setting.{Setting, setting_of}
-use Rattle.tm_model.specs.Shown.{View, view_outside}
+use Rattle.tm_model.specs.Shown.{View, view_between, view_outside}
 
 -- ---- views
+
+-- between the two steps of an instruction
+abbrev pub kept_in : CoreState → ℕ → ℕ
+kept_in Mid value = value
+kept_in Running value = 0
+kept_in (Open depth) value = 0
+kept_in (Condemned depth) value = 0
+kept_in (AtStop stop) value = 0
 
 abbrev pub cpu_view : Content → ℕ → Cpu → View
 cpu_view content number cpu = record {
   mode = cpu.state;
   base = cpu.base;
   regs = cpu.regs;
+  kept = kept_in cpu.state cpu.kept;
   buffer = cpu.buffer.bytes;
   reads = content.lines number Read;
   writes = content.lines number Write;
@@ -39,6 +51,7 @@ no_cpu = record {
   base = no_regs;
   regs = no_regs;
   state = Running;
+  kept = 0;
   buffer = record { bytes = map_of.empty; order = []; room = 0 };
 }
 
@@ -67,6 +80,7 @@ abbrev pub condemn_kept : CoreState → KeptCore → KeptCore
 condemn_kept (Open depth) core =
     record { view = view_outside (Condemned depth) core.view.base; order = []; room = core.room }
 condemn_kept Running core = core
+condemn_kept Mid core = core
 condemn_kept (Condemned depth) core = core
 condemn_kept (AtStop stop) core = core
 
@@ -112,12 +126,20 @@ parts_setting code base size content =
 abbrev pub AreLines : Lines → ℕ → Type 0
 AreLines lines size = (q : ℕ) → set.contains lines q ≡ true → q * 64 < size
 
+-- the instruction goes on
+abbrev pub IsGoing : OutsideResult → Type 0
+IsGoing (Goes regs store) = Unit {0}
+IsGoing (Begins regs) = ⊥
+IsGoing (Stops stop) = ⊥
+
 -- what holds of each core
 abbrev pub Sane : Setting → View → CoreState → Type 0
 Sane setting view (Open depth) =
     (0 < depth) × (depth ≤ 7) × (have_room setting view.reads view.writes ≡ true)
     × Fits view.buffer setting.size × AreLines view.writes setting.size
 Sane setting view Running = view ≡ view_outside Running view.base
+Sane setting view Mid =
+    (view ≡ view_between view.base view.kept) × IsGoing (setting.outside view.base view.kept)
 Sane setting view (Condemned depth) = view ≡ view_outside (Condemned depth) view.base
 Sane setting view (AtStop stop) = view ≡ view_outside (AtStop stop) view.base
 
@@ -129,6 +151,7 @@ pub record IsSound (setting : Setting) (content : Content) (cpus : List Cpu) : T
 abbrev pub is_open : CoreState → Bool
 is_open (Open depth) = true
 is_open Running = false
+is_open Mid = false
 is_open (Condemned depth) = false
 is_open (AtStop stop) = false
 
@@ -140,6 +163,7 @@ AreClosed cpus = (number : ℕ) → number < length cpus → is_open (cpu_at cpu
 abbrev pub has_begun : Outcome → Bool
 has_begun Begun = true
 has_begun Plain = false
+has_begun Loaded = false
 has_begun (Stopped stop) = false
 has_begun Idle = false
 has_begun Inside = false

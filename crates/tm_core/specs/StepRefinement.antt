@@ -10,12 +10,12 @@ use Rattle.ia_word.specs.Line.{line}
 use Rattle.tm_buffer.specs.Held.{with_bytes, drained}
 use Rattle.tm_model.specs.Access.{Stores, addresses_of, memory_after, stored_addresses, stores_of}
 use Rattle.tm_model.specs.Owed.{have_room, status_at}
-use Rattle.tm_model.specs.Setting.{Setting, outside_at}
-use Rattle.tm_model.specs.Shown.{Buffer, View, view_outside}
+use Rattle.tm_model.specs.Setting.{Setting, outside_at, value_at}
+use Rattle.tm_model.specs.Shown.{Buffer, View, view_between, view_outside}
 use Rattle.tm_model.specs.Steps.{registers_after_abort}
 use Rattle.tm_core.specs.Types.{Aborted, AtStop, Begins, Begun, Capacity, Committed, Condemned, Conflict, CoreState}
-use Rattle.tm_core.specs.Types.{Ends, Fails, Goes, GoesOn, Idle, Inside, InsideResult, Kind, Lines, Nests, Open}
-use Rattle.tm_core.specs.Types.{Outcome, OutsideResult, Plain, Read, Regs, Running, Stopped, Stops, Store, Write}
+use Rattle.tm_core.specs.Types.{Ends, Fails, Goes, GoesOn, Idle, Inside, InsideResult, Kind, Lines, Loaded, Mid, Nests}
+use Rattle.tm_core.specs.Types.{Open, Outcome, OutsideResult, Plain, Read, Regs, Running, Stopped, Stops, Store, Write}
 
 -- ---- bytes and lines
 
@@ -55,6 +55,7 @@ lines_hit reads writes touched = list_any (λ each. line_hits reads writes each.
 abbrev pub condemn_view : CoreState → View → View
 condemn_view (Open depth) view = view_outside (Condemned depth) view.base
 condemn_view Running view = view
+condemn_view Mid view = view
 condemn_view (Condemned depth) view = view
 condemn_view (AtStop stop) view = view
 
@@ -83,6 +84,7 @@ begun_view base regs = record {
   mode = Open 1;
   base = base;
   regs = regs;
+  kept = 0;
   buffer = map_of.empty;
   reads = set.empty;
   writes = set.empty;
@@ -92,17 +94,39 @@ begun_view base regs = record {
 abbrev pub touched_by : List ℕ → Option Store → Touched
 touched_by loads store = addresses_touched Read loads ++ addresses_touched Write (stored_addresses (stores_of store))
 
-abbrev pub ran : Setting → List ℕ → Regs → OutsideResult → StepResult
-ran setting memory base (Goes regs store) = record {
+-- an instruction that stores here and has these loads: the whole, or the second step of two
+abbrev pub stored : List ℕ → List ℕ → Regs → Option Store → StepResult
+stored memory loads regs store = record {
   outcome = Plain;
   memory = memory_after memory (stores_of store);
   view = view_outside Running regs;
-  touched = touched_by (setting.load_of base) store;
+  touched = touched_by loads store;
 }
+
+-- the first step of two
+abbrev pub loaded : List ℕ → List ℕ → Regs → ℕ → StepResult
+loaded memory loads base value = record {
+  outcome = Loaded;
+  memory = memory;
+  view = view_between base value;
+  touched = touched_by loads None;
+}
+
+abbrev pub ran : Setting → List ℕ → Regs → OutsideResult → StepResult
+ran setting memory base (Goes regs store) =
+    if setting.takes_two_steps base
+    then loaded memory (setting.load_of base) base (value_at setting base memory)
+    else stored memory (setting.load_of base) regs store
 ran setting memory base (Begins regs) =
     record { outcome = Begun; memory = memory; view = begun_view base regs; touched = [] }
 ran setting memory base (Stops stop) =
     record { outcome = Stopped stop; memory = memory; view = view_outside (AtStop stop) base; touched = [] }
+
+-- the second step of two, which goes on
+abbrev pub ran_on : List ℕ → View → OutsideResult → StepResult
+ran_on memory view (Goes regs store) = stored memory [] regs store
+ran_on memory view (Begins regs) = record { outcome = Plain; memory = memory; view = view; touched = [] }
+ran_on memory view (Stops stop) = record { outcome = Plain; memory = memory; view = view; touched = [] }
 
 -- an instruction of a transaction with these loads, whose sets and buffer are then those of the view
 abbrev pub stayed : List ℕ → List ℕ → View → StepResult
@@ -126,6 +150,7 @@ grows view depth regs addresses stores = record {
   mode = Open depth;
   base = view.base;
   regs = regs;
+  kept = 0;
   buffer = with_bytes view.buffer stores;
   reads = add_all view.reads addresses;
   writes = add_all view.writes (stored_addresses stores);
@@ -148,9 +173,11 @@ ran_inside setting memory view depth addresses (Fails cause) = quit setting memo
 
 abbrev pub stepped : Setting → List ℕ → View → CoreState → StepResult
 stepped setting memory view Running = ran setting memory view.base (outside_at setting view.base memory)
+stepped setting memory view Mid = ran_on memory view (setting.outside view.base view.kept)
 stepped setting memory view (Open depth) =
     ran_inside setting memory view depth (setting.load_of view.regs)
-    (setting.inside view.regs depth (map (seen view.buffer memory) (setting.load_of view.regs)))
+    (setting.inside view.regs depth
+    (setting.value_of view.regs (map (seen view.buffer memory) (setting.load_of view.regs))))
 stepped setting memory view (Condemned depth) = quit setting memory view (status_at Conflict depth)
 stepped setting memory view (AtStop stop) = record { outcome = Idle; memory = memory; view = view; touched = [] }
 

@@ -12,7 +12,7 @@ use Rattle.tm_model.specs.Setting.{Setting, setting_of}
 use Rattle.tm_model.specs.Shown.{View, ViewsStandFor, body_alone, view_outside, view_with_body}
 use Rattle.tm_model.specs.State.{State, opening_state}
 use Rattle.tm_model.specs.Steps.{run, step}
-use Rattle.tm_core.specs.Types.{AtStop, Condemned, CoreState, Open, Outcome, Regs, Running}
+use Rattle.tm_core.specs.Types.{AtStop, Condemned, CoreState, Mid, Open, Outcome, Regs, Running}
 use Rattle.tm_model.specs.Went.{StateWithBodies, opening_with_bodies, run_with_bodies}
 
 -- ---- what is shown
@@ -80,6 +80,7 @@ pub record IsRun (start now : ShownMachine) (state : State) (doomed : Doomed) (h
 -- the depth of a condemned core: the machine's mark of one that is doomed
 abbrev pub condemned_depth : CoreState → Option ℕ
 condemned_depth Running = None
+condemned_depth Mid = None
 condemned_depth (Open depth) = None
 condemned_depth (Condemned depth) = Some depth
 condemned_depth (AtStop stop) = None
@@ -93,7 +94,8 @@ pub record WentWithBodies (start now : ShownMachine) (program : Program) (histor
   pub memory : now.memory ≡ end.state.memory
   pub count : length now.views ≡ end.state.count
   pub shows : (number : ℕ) → number < length now.views →
-      view_with_body (end.state.cores number) (end.bodies number) (condemned_depth (view_at now number).mode)
+      view_with_body (machine_setting start) (end.state.cores number) (end.bodies number)
+      (condemned_depth (view_at now number).mode)
       ≡ Some (view_at now number)
   pub by_itself : (number : ℕ) → number < length now.views → condemned_depth (view_at now number).mode ≡ None →
       end.bodies number ≡ body_alone (machine_setting start) now.memory (end.state.cores number)

@@ -13,6 +13,8 @@ pub struct Cpu {
     pub regs: Regs,
     /// What the core is doing.
     pub state: CoreState,
+    /// The value that the first of two steps has loaded, while the core is between them.
+    pub kept: u32,
     /// The bytes that the open transaction has stored.
     pub buffer: Buffer,
 }

@@ -22,6 +22,7 @@ mod opening;
 mod start;
 mod step;
 mod transaction;
+mod two_steps;
 
 pub use fault::{MachineFault, NoSuchCore, RunFault};
 pub use laws::transactions_are_as_they_went;
@@ -29,3 +30,4 @@ pub use limits::Limits;
 pub use machine::Machine;
 pub use start::{opening_memory, start_regs};
 pub use tm_model::{CoreState, Outcome, Stop};
+pub use two_steps::takes_two_steps;

@@ -39,6 +39,7 @@ fn start_cpu(
             base: regs,
             regs,
             state: CoreState::Running,
+            kept: 0,
             buffer,
         }),
         Err(_) => Err(AllocError),

@@ -11,7 +11,8 @@ ghost use Rattle.tm_sets.specs.declared.interface.Kind as AnyKind;
 ghost use Rattle.tm_model.specs.Access.{addresses_of, loaded_addresses, loaded_value, stores_of};
 ghost use Rattle.tm_model.specs.Owed.{have_room};
 ghost use Rattle.tm_model.specs.Shown.{view_outside};
-ghost use Rattle.tm_core.specs.Representation.{IsLoadOnLines, Elsewhere, IsHeld, cpu_view, kept_of, left_inside, parts_setting};
+ghost use Rattle.tm_core.specs.Representation.{IsLoadOnLines, Elsewhere, IsHeld, cpu_view, kept_of, left_inside};
+ghost use Rattle.tm_core.specs.Representation.{parts_setting};
 ghost use Rattle.tm_core.specs.StepRefinement.{add_all, grows, seen, stepped, store_addresses};
 
 use crate::cpu::Cpu;
@@ -175,7 +176,8 @@ fn grow<S: Sets>(
         result ≡ have_room (parts_setting code base size (S.content sets.old)) new.reads new.writes }
     ensures grown { result ≡ true → cpu_view (S.content sets.new) c cpu.new
         ≡ grows (cpu_view (S.content sets.old) c cpu.old) depth next (loaded_addresses access) (stores_of store) }
-    ensures held { result ≡ true → IsHeld ((S.content sets.old).fixed.room Kind.Write) (kept_of (S.content sets.new) c cpu.new) }
+    ensures held { result ≡ true → IsHeld ((S.content sets.old).fixed.room Kind.Write)
+        (kept_of (S.content sets.new) c cpu.new) }
     ensures base { cpu.new.base ≡ cpu.old.base }
     ensures elsewhere { Elsewhere (S.content sets.old) (S.content sets.new) c }
     ensures room { cpu.new.buffer.room ≡ cpu.old.buffer.room }

@@ -8,8 +8,8 @@ use Rattle.tm_core.specs.declared.limits.Limits.{Limits}
 use Rattle.tm_model.specs.Isolated.{Body, isolated_body}
 use Rattle.tm_model.specs.Runs.{AreOwed, doomed_at_end}
 use Rattle.tm_model.specs.Setting.{Setting, program_setting}
-use Rattle.tm_model.specs.Shown.{View, view_inside, view_of, view_of_body, view_outside}
-use Rattle.tm_model.specs.State.{Closed, Core, Halted, Opened, State, opening_state}
+use Rattle.tm_model.specs.Shown.{View, view_between, view_inside, view_midway, view_of, view_of_body, view_outside}
+use Rattle.tm_model.specs.State.{Closed, Core, Halted, Midway, Opened, State, opening_state}
 use Rattle.tm_model.specs.Steps.{run}
 use Rattle.tm_core.specs.Theorem.{ShownMachine as Machine, StandsFor, machine_setting as machine_setting, view_at}
 use Rattle.tm_hist.specs.Board.{IsBoard, IsHistory, ShownBoard, bad_limit, stop_shown}
@@ -19,7 +19,9 @@ use Rattle.tm_hist.specs.Serial.{IsStuck, base_of, core_at, stop_of}
 use Rattle.tm_hist.proofs.Limits.{run_front, same_run}
 use Rattle.tm_model.specs.declared.outcome.Outcome.{Outcome}
 use Rattle.tm_model.specs.declared.outcome.CoreState.{CoreState}
-use Rattle.tm_model.specs.declared.outcome.CoreState.TheVariants.{Running, Condemned, Stopped as AtStop}
+use Rattle.tm_model.specs.declared.outcome.CoreState.TheVariants.{Running, Mid, Condemned, Stopped as AtStop}
+use Rattle.tm_rule.specs.declared.kinds.OutsideResult.{OutsideResult}
+use Rattle.tm_rule.specs.declared.kinds.OutsideResult.TheVariants.{Goes, Begins, Stops}
 use Rattle.tm_hist.specs.declared.pair.Pair.{Pair}
 use Rattle.tm_hist.specs.declared.replay.Serial.{Serial}
 use Rattle.tm_hist.specs.declared.replay.SerialFault.{SerialFault}
@@ -76,9 +78,16 @@ opened s n b v =
       | false ↦ λ e. let same : view_of_body s b ≡ v = same_Some (view_of_body s b) v e in record { base = ap (λ (u : View). u.base) same; stop = ap (λ (u : View). stop_shown u.mode) same }
     ]
 
+midway : (s : Regs) (value : ℕ) (o : OutsideResult) (v : View) → view_midway s value o ≡ Some v → Shows (Midway s value) v
+midway s value (Goes t w) v e = let same : view_between s value ≡ v = same_Some (view_between s value) v e in record { base = ap (λ (u : View). u.base) same; stop = ap (λ (u : View). stop_shown u.mode) same }
+midway s value (Begins t) v e = cc
+midway s value (Stops x) v e = cc
+
 shows : (k : Setting) (m : List ℕ) (x : Core) (dx : Option ℕ) (v : View) → view_of k m x dx ≡ Some v → Shows x v
 shows k m (Closed s) None v e = plain (Closed s) Running s v refl refl (same_Some (view_outside Running s) v e)
 shows k m (Closed s) (Some depth) v e = cc
+shows k m (Midway s value) None v e = midway s value (k.outside s value) v e
+shows k m (Midway s value) (Some depth) v e = cc
 shows k m (Halted s y) None v e = plain (Halted s y) (AtStop y) s v refl refl (same_Some (view_outside (AtStop y) s) v e)
 shows k m (Halted s y) (Some depth) v e = cc
 shows k m (Opened s n) (Some depth) v e = plain (Opened s n) (Condemned depth) s v refl refl (same_Some (view_outside (Condemned depth) s) v e)

@@ -4,10 +4,10 @@ use Rattle.std.specs.Option.{option_and_then, option_map}
 use Rattle.ia_regs.specs.declared.Regs.{Regs}
 use Rattle.tm_model.specs.Isolated.{isolated_body, longer_body}
 use Rattle.tm_model.specs.Setting.{Setting, setting_of}
-use Rattle.tm_model.specs.State.{Closed, Core, Halted, Opened, State}
+use Rattle.tm_model.specs.State.{Closed, Core, Halted, Midway, Opened, State}
 use Rattle.tm_model.specs.Steps.{after_commit, after_step_of, run, state_with, step}
 use Rattle.tm_model.specs.declared.outcome.Outcome.{Outcome}
-use Rattle.tm_model.specs.declared.outcome.Outcome.TheVariants.{Plain, Stopped, Idle, Begun, Inside, Committed, Aborted}
+use Rattle.tm_model.specs.declared.outcome.Outcome.TheVariants.{Plain, Loaded, Stopped, Idle, Begun, Inside, Committed, Aborted}
 
 module _ (code : List ℕ) (base size reads writes : ℕ) where
   abbrev limited : Setting
@@ -23,6 +23,15 @@ module _ (code : List ℕ) (base size reads writes : ℕ) where
 
   same_moved : (m : List ℕ) (x : Core) (o : Outcome) → after_step_of limited m x o ≡ after_step_of free m x o
   same_moved m (Closed s) Plain = refl
+  same_moved m (Closed s) Loaded = refl
+  same_moved m (Midway s value) Plain = refl
+  same_moved m (Midway s value) Loaded = refl
+  same_moved m (Midway s value) (Stopped why) = refl
+  same_moved m (Midway s value) Idle = refl
+  same_moved m (Midway s value) Begun = refl
+  same_moved m (Midway s value) Inside = refl
+  same_moved m (Midway s value) Committed = refl
+  same_moved m (Midway s value) (Aborted status) = refl
   same_moved m (Closed s) (Stopped why) = refl
   same_moved m (Closed s) Idle = refl
   same_moved m (Closed s) Begun = refl
@@ -30,6 +39,7 @@ module _ (code : List ℕ) (base size reads writes : ℕ) where
   same_moved m (Closed s) Committed = refl
   same_moved m (Closed s) (Aborted status) = refl
   same_moved m (Halted s x) Plain = refl
+  same_moved m (Halted s x) Loaded = refl
   same_moved m (Halted s x) (Stopped why) = refl
   same_moved m (Halted s x) Idle = refl
   same_moved m (Halted s x) Begun = refl
@@ -37,6 +47,7 @@ module _ (code : List ℕ) (base size reads writes : ℕ) where
   same_moved m (Halted s x) Committed = refl
   same_moved m (Halted s x) (Aborted status) = refl
   same_moved m (Opened s n) Plain = refl
+  same_moved m (Opened s n) Loaded = refl
   same_moved m (Opened s n) (Stopped why) = refl
   same_moved m (Opened s n) Idle = refl
   same_moved m (Opened s n) Begun = refl

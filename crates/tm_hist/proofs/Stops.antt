@@ -6,19 +6,21 @@ use Rattle.std.proofs.lemmas.List.{get_or_past}
 use Rattle.std.proofs.lemmas.Option.{option_and_then_some, same_Some}
 use Rattle.ia_regs.specs.declared.Regs.{Regs}
 use Rattle.tm_rule.specs.declared.kinds.Stop.{Stop}
+use Rattle.tm_rule.specs.declared.kinds.OutsideResult.{OutsideResult}
+use Rattle.tm_rule.specs.declared.kinds.OutsideResult.TheVariants.{Goes, Begins, Stops}
 use Rattle.tm_model.specs.Conflicts.{addresses_loaded_by, addresses_stored_by, doom_after_other, doom_after_own, doomed_after}
 use Rattle.tm_model.specs.Isolated.{Body, isolated_body}
 use Rattle.tm_model.specs.Setting.{Setting}
-use Rattle.tm_model.specs.Shown.{View, view_inside, view_of, view_of_body, view_outside}
-use Rattle.tm_model.specs.State.{Closed, Core, Halted, Opened, State}
+use Rattle.tm_model.specs.Shown.{View, view_between, view_inside, view_midway, view_of, view_of_body, view_outside}
+use Rattle.tm_model.specs.State.{Closed, Core, Halted, Midway, Opened, State}
 use Rattle.tm_model.specs.Steps.{after_step_of, state_with, step}
 use Rattle.tm_core.specs.Theorem.{SameMachine, ShownMachine as Machine, StandsFor, TakesStep, machine_setting}
 use Rattle.tm_core.specs.Theorem.{no_regs, view_at}
 use Rattle.tm_hist.specs.Board.{stop_shown}
 use Rattle.tm_model.specs.declared.outcome.Outcome.{Outcome}
-use Rattle.tm_model.specs.declared.outcome.Outcome.TheVariants.{Plain, Stopped, Idle, Begun, Inside, Committed, Aborted}
+use Rattle.tm_model.specs.declared.outcome.Outcome.TheVariants.{Plain, Loaded, Stopped, Idle, Begun, Inside, Committed, Aborted}
 use Rattle.tm_model.specs.declared.outcome.CoreState.{CoreState}
-use Rattle.tm_model.specs.declared.outcome.CoreState.TheVariants.{Running, Open, Condemned, Stopped as AtStop}
+use Rattle.tm_model.specs.declared.outcome.CoreState.TheVariants.{Running, Mid, Open, Condemned, Stopped as AtStop}
 
 -- a core that shows a stop is halted, and not doomed
 record IsHalted (x : Core) (dx : Option ℕ) (why : Stop) : Type 0 where
@@ -37,9 +39,16 @@ module _ (k : Setting) (m : List ℕ) (why : Stop) where
         | false ↦ λ e stop. let e2 : stop_shown (Open b.depth) ≡ Some why = ap (λ (u : View). stop_shown u.mode) (same_Some (view_of_body s b) v e) ∙ stop in cc
       ]
 
+  no_midway : (s : Regs) (value : ℕ) (o : OutsideResult) (v : View) → view_midway s value o ≡ Some v → stop_shown v.mode ≡ Some why → ⊥
+  no_midway s value (Goes t w) v e stop = let e2 : stop_shown Mid ≡ Some why = ap (λ (u : View). stop_shown u.mode) (same_Some (view_between s value) v e) ∙ stop in cc
+  no_midway s value (Begins t) v e stop = cc
+  no_midway s value (Stops x) v e stop = cc
+
   is_halted : (x : Core) (dx : Option ℕ) (v : View) → view_of k m x dx ≡ Some v → stop_shown v.mode ≡ Some why → IsHalted x dx why
   is_halted (Closed s) None v e stop = absurd (no_stop Running s v refl (same_Some (view_outside Running s) v e) stop)
   is_halted (Closed s) (Some depth) v e stop = cc
+  is_halted (Midway s value) None v e stop = absurd (no_midway s value (k.outside s value) v e stop)
+  is_halted (Midway s value) (Some depth) v e stop = cc
   is_halted (Halted s y) None v e stop =
       let same : y ≡ why = same_Some y why (ap (λ (u : View). stop_shown u.mode) (same_Some (view_outside (AtStop y) s) v e) ∙ stop) in
       record { regs = s; core = ap (Halted s) same; doom = refl }
@@ -49,6 +58,7 @@ module _ (k : Setting) (m : List ℕ) (why : Stop) where
 
 halted_moved : (k : Setting) (m : List ℕ) (s : Regs) (why : Stop) (o : Outcome) (p : List ℕ × Core) → after_step_of k m (Halted s why) o ≡ Some p → p.1 ≡ Halted s why
 halted_moved k m s why Plain p e = cc
+halted_moved k m s why Loaded p e = cc
 halted_moved k m s why (Stopped x) p e = cc
 halted_moved k m s why Idle p e = ap (λ (q : List ℕ × Core). q.1) (sym (same_Some (m, Halted s why) p e))
 halted_moved k m s why Begun p e = cc
@@ -58,6 +68,7 @@ halted_moved k m s why (Aborted status) p e = cc
 
 not_doomed : (o : Outcome) → doom_after_own o None ≡ None
 not_doomed Plain = refl
+not_doomed Loaded = refl
 not_doomed (Stopped x) = refl
 not_doomed Idle = refl
 not_doomed Begun = refl

@@ -98,6 +98,7 @@ pub record SameBoard (old new : ShownBoard) : Type 0 where
 abbrev pub stop_shown : CoreState → Option Stop
 stop_shown (state.Stopped why) = Some why
 stop_shown state.Running = None
+stop_shown state.Mid = None
 stop_shown (state.Open depth) = None
 stop_shown (state.Condemned depth) = None
 

@@ -2,7 +2,8 @@
 use Rattle.std.specs.Prelude.{ℕ, List, map}
 use Rattle.ia_word.specs.Bytes.{long_of}
 use Rattle.tm_model.specs.declared.outcome.Outcome.{Outcome}
-use Rattle.tm_model.specs.declared.outcome.Outcome.TheVariants.{Plain, Stopped, Idle, Begun, Inside, Committed, Aborted}
+use Rattle.tm_model.specs.declared.outcome.Outcome.TheVariants.{Plain, Loaded, Stopped, Idle, Begun, Inside}
+use Rattle.tm_model.specs.declared.outcome.Outcome.TheVariants.{Committed, Aborted}
 use Rattle.tm_hist.specs.declared.pair.PackedOutcome.{PackedOutcome}
 use Rattle.tm_hist.specs.declared.pair.PackedOutcome.TheVariants as kept
 use Rattle.tm_hist.specs.declared.pair.Pair.{Pair}
@@ -13,6 +14,7 @@ use Rattle.tm_hist.specs.declared.history.Steps.TheVariants.{Given, Made}
 -- the status of an abort is kept in its four bytes
 abbrev pub outcome_of : PackedOutcome → Outcome
 outcome_of kept.Plain = Plain
+outcome_of kept.Loaded = Loaded
 outcome_of (kept.Stopped why) = Stopped why
 outcome_of kept.Idle = Idle
 outcome_of kept.Begun = Begun

@@ -50,6 +50,7 @@ stop_word stop.NotInSubset = codes "not-in-subset"
 
 abbrev pub state_word : CoreState → List ℕ
 state_word state.Running = codes "run"
+state_word state.Mid = codes "mid"
 state_word (state.Open depth) = codes "tx" ++ number_text depth
 state_word (state.Condemned depth) = codes "condemned"
 state_word (state.Stopped why) = codes "stop:" ++ stop_word why
@@ -81,6 +82,7 @@ state_text machine = flat_map (core_text machine) (range_with_len 0 (core_count 
 
 abbrev pub outcome_words : Outcome → List ℕ
 outcome_words outcome.Plain = codes "plain"
+outcome_words outcome.Loaded = codes "loaded"
 outcome_words (outcome.Stopped why) = codes "stopped " ++ stop_word why
 outcome_words outcome.Idle = codes "idle"
 outcome_words outcome.Begun = codes "begun"

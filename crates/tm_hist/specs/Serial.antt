@@ -11,7 +11,7 @@ use Rattle.tm_rule.specs.declared.kinds.InsideResult.TheVariants.{GoesOn, Nests,
 use Rattle.tm_model.specs.declared.outcome.Outcome.{Outcome}
 use Rattle.tm_model.specs.Access.{memory_after, stores_of}
 use Rattle.tm_model.specs.Setting.{Setting}
-use Rattle.tm_model.specs.State.{Closed, Core, Halted, Opened, State}
+use Rattle.tm_model.specs.State.{Closed, Core, Halted, Midway, Opened, State}
 use Rattle.tm_model.specs.Steps.{after_step_of, run}
 use Rattle.tm_hist.specs.declared.flat.FlatBody.{FlatBody}
 use Rattle.tm_hist.specs.declared.replay.SerialFault.{SerialFault}
@@ -41,12 +41,14 @@ memory_after_instruction memory (Fails cause) = memory
 -- a core as the definitions see it
 abbrev pub core_of : SerialCore → Core
 core_of (serial_core.Closed regs) = Closed regs
+core_of (serial_core.Midway regs value) = Midway regs value
 core_of (serial_core.Halted regs stop) = Halted regs stop
 core_of (serial_core.Opened regs steps) = Opened regs steps
 
 -- how many steps a core has made since its XBEGIN
 abbrev pub steps_of : SerialCore → ℕ
 steps_of (serial_core.Closed regs) = 0
+steps_of (serial_core.Midway regs value) = 0
 steps_of (serial_core.Halted regs stop) = 0
 steps_of (serial_core.Opened regs steps) = steps
 
@@ -57,11 +59,13 @@ first_core program number = serial_core.Closed (start_regs program number)
 -- the registers of a core, those before XBEGIN where it is open; and why it stopped
 abbrev pub base_of : Core → Regs
 base_of (Closed regs) = regs
+base_of (Midway regs value) = regs
 base_of (Halted regs stop) = regs
 base_of (Opened regs steps) = regs
 
 abbrev pub stop_of : Core → Option Stop
 stop_of (Closed regs) = None
+stop_of (Midway regs value) = None
 stop_of (Halted regs stop) = Some stop
 stop_of (Opened regs steps) = None
 
@@ -95,8 +99,8 @@ pub record IsStuck (setting : Setting) (state : State) (history : List (ℕ × O
   pub stuck : run setting state (take (index + 1) history) ≡ None
 
 -- the same over lists
-pub record ListStuck (setting : Setting) (memory : List ℕ) (cores : List Core) (history : List (ℕ × Outcome)) (index : ℕ)
-    : Type 0 where
+pub record ListStuck (setting : Setting) (memory : List ℕ) (cores : List Core) (history : List (ℕ × Outcome))
+    (index : ℕ) : Type 0 where
   pub within : index < length history
   pub before : List ℕ × List Core
   pub ran : list_run setting memory cores (take index history) ≡ Some before

@@ -172,7 +172,8 @@ impl Board {
     /// [`StepFault::LimitReached`] exactly where the history is full. Then the board is as before. Takes no memory.
     pub fn step(&mut self, core: u8) -> Result<Outcome, StepFault>
         ensures none { result ≡ Err StepFault.NoSuchCore ↔ (length self.old.program.entries ≤ core) }
-        ensures full { result ≡ Err StepFault.LimitReached ↔ ((core < length self.old.program.entries) × IsFull self.old) }
+        ensures full { result ≡ Err StepFault.LimitReached
+            ↔ ((core < length self.old.program.entries) × IsFull self.old) }
         ensures same { SameBoard self.old self.new }
         ensures ok { IfOk result (λ outcome. self.new.history ≡ self.old.history ++ (core, outcome) ∷ []) }
         ensures stops { (k : ℕ) → IsStopped self.old k → IsStopped self.new k }

@@ -31,7 +31,7 @@ fn stop_text(stop: Stop) -> &'static [u8]
     }
 }
 
-/// Adds what a core is doing: `run`, `tx` and the depth, `condemned`, or `stop:` and why.
+/// Adds what a core is doing: `run`, `mid`, `tx` and the depth, `condemned`, or `stop:` and why.
 pub fn push_state(row: &mut TextLine, state: CoreState)
     requires { array_vec_len row.old + 18 ≤ 160 }
     ensures text { row.new.items ≡ row.old.items ++ state_word state }
@@ -39,6 +39,7 @@ pub fn push_state(row: &mut TextLine, state: CoreState)
 {
     match state {
         CoreState::Running => push(row, b"run"),
+        CoreState::Mid => push(row, b"mid"),
         CoreState::Open(depth) => {
             push(row, b"tx");
             push_number(row, depth);
@@ -157,6 +158,7 @@ fn push_outcome(row: &mut TextLine, core: u8, outcome: &Outcome)
     push(row, b" ");
     match outcome {
         Outcome::Plain => push(row, b"plain"),
+        Outcome::Loaded => push(row, b"loaded"),
         Outcome::Stopped(stop) => {
             push(row, b"stopped ");
             push(row, stop_text(*stop));

@@ -86,7 +86,8 @@ fn first_cores(alloc: Global, program: &Program) -> Result<Vec<SerialCore>, Seri
 /// [`SerialFault::NoMemory`], where memory or the list of cores found no memory.
 pub fn serial(alloc: Global, program: &Program, history: History<'_>) -> Result<Serial, SerialFault>
     ensures ok { IfOk result (λ s. IsReplay program.now (pairs_of history.entry) s) }
-    ensures err { IfErr result (λ fault. (fault ≡ SerialFault.NoMemory) ⊎ IsRefused program.now (pairs_of history.entry) fault) }
+    ensures err { IfErr result (λ fault. (fault ≡ SerialFault.NoMemory)
+        ⊎ IsRefused program.now (pairs_of history.entry) fault) }
 {
     let code = Code {
         bytes: program.code(),

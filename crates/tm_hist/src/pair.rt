@@ -10,6 +10,7 @@ use tm_core::{Outcome, Stop};
 #[derive(Clone, Copy, Debug)]
 pub enum PackedOutcome {
     Plain,
+    Loaded,
     Stopped(Stop),
     Idle,
     Begun,
@@ -30,6 +31,7 @@ fn pack(outcome: Outcome) -> PackedOutcome
 {
     match outcome {
         Outcome::Plain => PackedOutcome::Plain,
+        Outcome::Loaded => PackedOutcome::Loaded,
         Outcome::Stopped(stop) => PackedOutcome::Stopped(stop),
         Outcome::Idle => PackedOutcome::Idle,
         Outcome::Begun => PackedOutcome::Begun,
@@ -56,6 +58,7 @@ impl Pair {
     {
         match self.outcome {
             PackedOutcome::Plain => Outcome::Plain,
+            PackedOutcome::Loaded => Outcome::Loaded,
             PackedOutcome::Stopped(stop) => Outcome::Stopped(stop),
             PackedOutcome::Idle => Outcome::Idle,
             PackedOutcome::Begun => Outcome::Begun,

@@ -11,6 +11,8 @@ use tm_rule::Stop;
 pub enum SerialCore {
     /// It is in no transaction.
     Closed(Regs),
+    /// It is between the two steps of an instruction, which has loaded this value.
+    Midway(Regs, u32),
     /// It has stopped.
     Halted(Regs, Stop),
     /// It is in a transaction: its registers before the XBEGIN, and how many steps it made since then, that one
@@ -24,8 +26,10 @@ impl SerialCore {
         ensures { result ≡ base_of (core_of self.now) }
     {
         match self {
-            SerialCore::Closed(regs) | SerialCore::Halted(regs, _) | SerialCore::Opened(regs, _) =>
-                *regs,
+            SerialCore::Closed(regs)
+            | SerialCore::Midway(regs, _)
+            | SerialCore::Halted(regs, _)
+            | SerialCore::Opened(regs, _) => *regs,
         }
     }
 
@@ -35,7 +39,7 @@ impl SerialCore {
     {
         match self {
             SerialCore::Halted(_, stop) => Some(*stop),
-            SerialCore::Closed(_) | SerialCore::Opened(_, _) => None,
+            SerialCore::Closed(_) | SerialCore::Midway(_, _) | SerialCore::Opened(_, _) => None,
         }
     }
 }

@@ -3,13 +3,15 @@
 ghost use Rattle.std.specs.Prelude.{◌≡◌, ℕ, ◌+◌, ◌<◌, ◌^◌, ◌≤◌, length, map, Some, None, IfSome, option_map};
 ghost use Rattle.std.specs.Prelude.{if◌then◌else◌};
 ghost use Rattle.std.specs.List.{AllByRecursion};
-ghost use Rattle.tm_model.specs.Setting.{outside_at, setting_of};
-ghost use Rattle.tm_model.specs.State.{Closed, Halted, Opened};
-ghost use Rattle.tm_model.specs.Steps.{after_begin, after_plain, after_step_of, after_stop, registers_after_abort};
+ghost use Rattle.tm_model.specs.Setting.{outside_at, setting_of, value_at};
+ghost use Rattle.tm_model.specs.State.{Closed, Halted, Midway, Opened};
+ghost use Rattle.tm_rule.specs.Rule.{outside_of};
+ghost use Rattle.tm_model.specs.Steps.{after_load, after_begin, after_plain, after_step_of, after_stop};
+ghost use Rattle.tm_model.specs.Steps.{registers_after_abort};
 ghost use Rattle.tm_model.specs.Steps.{stop_number};
 ghost use Rattle.tm_hist.specs.Serial.{core_of, list_step, steps_of};
 
-use crate::flat::{outside_on, run_body};
+use crate::flat::{is_in_two_steps, outside_on, outside_with, run_body, value_on};
 use crate::serial_core::SerialCore;
 use ia_regs::Regs;
 use tm_core::Outcome;
@@ -19,11 +21,51 @@ use tm_rule::{Code, OutsideResult, Stop, fallback, fetch};
 // One instruction outside of transactions that goes on.
 fn plain_step(code: &Code<'_>, size: u32, memory: &mut [u8], regs: &Regs) -> Option<SerialCore>
     requires { length memory.old ≡ size }
-    ensures step { after_plain memory.old (outside_at (setting_of code.now.bytes.now code.now.base size 0 0) regs.now memory.old)
-        ≡ option_map (λ c. (memory.new, core_of c)) result }
+    ensures step { after_plain memory.old (outside_at (setting_of code.now.bytes.now code.now.base size 0 0) regs.now
+        memory.old) ≡ option_map (λ c. (memory.new, core_of c)) result }
     ensures growth { IfSome result (λ c. steps_of c ≤ 1) }
 {
     match outside_on(code, size, memory, regs) {
+        OutsideResult::Goes(next, store) => {
+            write(memory, store);
+            Some(SerialCore::Closed(next))
+        }
+        OutsideResult::Begins(_) | OutsideResult::Stops(_) => None,
+    }
+}
+
+// The first step of an instruction that takes two.
+fn load_step(code: &Code<'_>, size: u32, memory: &[u8], regs: &Regs) -> Option<SerialCore>
+    requires { length memory.now ≡ size }
+    ensures step { after_load memory.now regs.now
+        (value_at (setting_of code.now.bytes.now code.now.base size 0 0) regs.now memory.now)
+        (outside_at (setting_of code.now.bytes.now code.now.base size 0 0) regs.now memory.now)
+        ≡ option_map (λ c. (memory.now, core_of c)) result }
+    ensures growth { IfSome result (λ c. steps_of c ≤ 1) }
+{
+    match outside_on(code, size, memory, regs) {
+        OutsideResult::Goes(_, _) => {
+            let value = value_on(code, size, memory, regs);
+            Some(SerialCore::Midway(*regs, value))
+        }
+        OutsideResult::Begins(_) | OutsideResult::Stops(_) => None,
+    }
+}
+
+// The second step of an instruction that takes two, which has loaded this value.
+fn store_step(
+    code: &Code<'_>,
+    size: u32,
+    memory: &mut [u8],
+    regs: &Regs,
+    value: u32,
+) -> Option<SerialCore>
+    requires { length memory.old ≡ size }
+    ensures step { after_plain memory.old (outside_of code.now.bytes.now code.now.base size regs.now value)
+        ≡ option_map (λ c. (memory.new, core_of c)) result }
+    ensures growth { IfSome result (λ c. steps_of c ≤ 1) }
+{
+    match outside_with(code, size, regs, value) {
         OutsideResult::Goes(next, store) => {
             write(memory, store);
             Some(SerialCore::Closed(next))
@@ -58,8 +100,9 @@ fn stop_step(
     stop: Stop,
 ) -> Option<SerialCore>
     requires { length memory.now ≡ size }
-    ensures step { after_stop memory.now regs.now stop (outside_at (setting_of code.now.bytes.now code.now.base size 0 0)
-        regs.now memory.now) ≡ option_map (λ c. (memory.now, core_of c)) result }
+    ensures step { after_stop memory.now regs.now stop
+        (outside_at (setting_of code.now.bytes.now code.now.base size 0 0) regs.now memory.now)
+        ≡ option_map (λ c. (memory.now, core_of c)) result }
     ensures growth { IfSome result (λ c. steps_of c ≤ 1) }
 {
     match outside_on(code, size, memory, regs) {
@@ -77,8 +120,8 @@ fn stop_step(
 // An XBEGIN outside of transactions.
 fn begin_step(code: &Code<'_>, size: u32, memory: &[u8], regs: &Regs) -> Option<SerialCore>
     requires { length memory.now ≡ size }
-    ensures step { after_begin memory.now regs.now (outside_at (setting_of code.now.bytes.now code.now.base size 0 0) regs.now
-        memory.now) ≡ option_map (λ c. (memory.now, core_of c)) result }
+    ensures step { after_begin memory.now regs.now (outside_at (setting_of code.now.bytes.now code.now.base size 0 0)
+        regs.now memory.now) ≡ option_map (λ c. (memory.now, core_of c)) result }
     ensures growth { IfSome result (λ c. steps_of c ≤ 1) }
 {
     match outside_on(code, size, memory, regs) {
@@ -96,12 +139,25 @@ fn closed_step(
     outcome: &Outcome,
 ) -> Option<SerialCore>
     requires { length memory.old ≡ size }
-    ensures step { after_step_of (setting_of code.now.bytes.now code.now.base size 0 0) memory.old (Closed regs.now) outcome.now
-        ≡ option_map (λ c. (memory.new, core_of c)) result }
+    ensures step { after_step_of (setting_of code.now.bytes.now code.now.base size 0 0) memory.old (Closed regs.now)
+        outcome.now ≡ option_map (λ c. (memory.new, core_of c)) result }
     ensures growth { IfSome result (λ c. steps_of c ≤ 1) }
 {
     match outcome {
-        Outcome::Plain => plain_step(code, size, memory, regs),
+        Outcome::Plain => {
+            if is_in_two_steps(code, regs) {
+                None
+            } else {
+                plain_step(code, size, memory, regs)
+            }
+        }
+        Outcome::Loaded => {
+            if is_in_two_steps(code, regs) {
+                load_step(code, size, memory, regs)
+            } else {
+                None
+            }
+        }
         Outcome::Stopped(stop) => stop_step(code, size, memory, regs, *stop),
         Outcome::Begun => begin_step(code, size, memory, regs),
         Outcome::Idle | Outcome::Inside | Outcome::Committed | Outcome::Aborted(_) => None,
@@ -110,8 +166,8 @@ fn closed_step(
 
 // The registers after an abort with this status.
 fn registers_after_abort(code: &Code<'_>, regs: &Regs, status: u32) -> Regs
-    ensures { (size : ℕ) → result ≡ registers_after_abort (setting_of code.now.bytes.now code.now.base size 0 0) regs.now
-        status }
+    ensures { (size : ℕ) → result ≡ registers_after_abort (setting_of code.now.bytes.now code.now.base size 0 0)
+        regs.now status }
 {
     let fetched = fetch(code, regs.eip);
     let mut next = *regs;
@@ -131,8 +187,8 @@ fn open_step(
 ) -> Option<SerialCore>
     requires size { length memory.old ≡ size }
     requires few { steps + 1 < 2 ^ 64 }
-    ensures step { after_step_of (setting_of code.now.bytes.now code.now.base size 0 0) memory.old (Opened regs.now steps)
-        outcome.now ≡ option_map (λ c. (memory.new, core_of c)) result }
+    ensures step { after_step_of (setting_of code.now.bytes.now code.now.base size 0 0) memory.old
+        (Opened regs.now steps) outcome.now ≡ option_map (λ c. (memory.new, core_of c)) result }
     ensures growth { IfSome result (λ c. steps_of c ≤ steps + 1) }
 {
     match outcome {
@@ -144,7 +200,8 @@ fn open_step(
         Outcome::Aborted(status) => Some(SerialCore::Closed(registers_after_abort(
             code, regs, *status,
         ))),
-        Outcome::Plain | Outcome::Stopped(_) | Outcome::Idle | Outcome::Begun => None,
+        Outcome::Plain | Outcome::Loaded | Outcome::Stopped(_) | Outcome::Idle | Outcome::Begun =>
+            None,
     }
 }
 
@@ -158,13 +215,17 @@ pub fn core_step(
 ) -> Option<SerialCore>
     requires size { length memory.old ≡ size }
     requires few { steps_of core.now + 1 < 2 ^ 64 }
-    ensures step { after_step_of (setting_of code.now.bytes.now code.now.base size 0 0) memory.old (core_of core.now) outcome.now
-        ≡ option_map (λ c. (memory.new, core_of c)) result }
+    ensures step { after_step_of (setting_of code.now.bytes.now code.now.base size 0 0) memory.old (core_of core.now)
+        outcome.now ≡ option_map (λ c. (memory.new, core_of c)) result }
     ensures growth { IfSome result (λ c. steps_of c ≤ steps_of core.now + 1) }
 {
     match core {
         SerialCore::Closed(regs) => closed_step(code, size, memory, regs, outcome),
         SerialCore::Opened(regs, steps) => open_step(code, size, memory, regs, *steps, outcome),
+        SerialCore::Midway(regs, value) => match outcome {
+            Outcome::Plain => store_step(code, size, memory, regs, *value),
+            _ => None,
+        },
         SerialCore::Halted(regs, stop) => match outcome {
             Outcome::Idle => Some(SerialCore::Halted(*regs, *stop)),
             _ => None,
@@ -183,8 +244,8 @@ pub fn step(
 ) -> bool
     requires size { length memory.old ≡ size }
     requires few { AllByRecursion (λ c. steps_of c + 1 < 2 ^ 64) cores.old }
-    ensures step { list_step (setting_of code.now.bytes.now code.now.base size 0 0) memory.old (map core_of cores.old) core
-        outcome.now ≡ (if result then Some (memory.new, map core_of cores.new) else None) }
+    ensures step { list_step (setting_of code.now.bytes.now code.now.base size 0 0) memory.old (map core_of cores.old)
+        core outcome.now ≡ (if result then Some (memory.new, map core_of cores.new) else None) }
     ensures growth { (most : ℕ) → AllByRecursion (λ c. steps_of c ≤ most) cores.old →
         AllByRecursion (λ c. steps_of c ≤ most + 1) cores.new }
 {

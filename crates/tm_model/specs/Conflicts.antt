@@ -6,8 +6,9 @@ use Rattle.std.specs.Prelude.{ℕ, suc, Bool, ◌||◌, if◌then◌else◌, Lis
 use Rattle.tm_model.specs.Access.{have_line_of, stored_addresses, stores_of}
 use Rattle.tm_model.specs.Isolated.{Body, isolated_body, read_set, write_set}
 use Rattle.tm_model.specs.Setting.{Setting, outside_at}
-use Rattle.tm_model.specs.State.{Closed, Core, Opened, State}
-use Rattle.tm_model.specs.Types.{Aborted, Begins, Committed, Goes, Inside, Outcome, OutsideResult, Plain, Stops}
+use Rattle.tm_model.specs.State.{Closed, Core, Midway, Opened, State}
+use Rattle.tm_model.specs.Types.{Aborted, Begins, Committed, Goes, Inside, Loaded, Outcome, OutsideResult, Plain}
+use Rattle.tm_model.specs.Types.{Stops}
 
 -- ---- what a step loads and stores
 
@@ -15,11 +16,12 @@ abbrev pub addresses_loaded_after : Setting → Option Body → List ℕ
 addresses_loaded_after setting None = []
 addresses_loaded_after setting (Some body) = setting.load_of body.regs
 
--- The addresses that a step loads: outside, those of an instruction that goes on, which it takes from memory; inside,
--- those of the one instruction, also where the transaction's own bytes answer. A commit runs no instruction anew, and
--- a step that stops or aborts loads nothing.
+-- The addresses that a step loads: outside, those of an instruction's one step or of the first of two, which it takes
+-- from memory; inside, those of the one instruction, also where the transaction's own bytes answer. A commit runs no
+-- instruction anew, and a step that stops or aborts loads nothing.
 abbrev pub addresses_loaded_by : Setting → List ℕ → Core → Outcome → List ℕ
 addresses_loaded_by setting memory (Closed regs) Plain = setting.load_of regs
+addresses_loaded_by setting memory (Closed regs) Loaded = setting.load_of regs
 addresses_loaded_by setting memory (Opened regs steps) Inside =
     addresses_loaded_after setting (isolated_body setting regs memory steps)
 addresses_loaded_by setting memory core outcome = []
@@ -33,9 +35,11 @@ abbrev pub addresses_stored_inside : Option Body → List ℕ
 addresses_stored_inside None = []
 addresses_stored_inside (Some body) = stored_addresses body.stores
 
--- the addresses that a step stores to in memory; of a commit, those of its whole body
+-- The addresses that a step stores to in memory: outside, those of an instruction's one step or of the second of two;
+-- of a commit, those of its whole body.
 abbrev pub addresses_stored_by : Setting → List ℕ → Core → Outcome → List ℕ
 addresses_stored_by setting memory (Closed regs) Plain = addresses_stored_outside (outside_at setting regs memory)
+addresses_stored_by setting memory (Midway regs value) Plain = addresses_stored_outside (setting.outside regs value)
 addresses_stored_by setting memory (Opened regs steps) Committed =
     addresses_stored_inside (isolated_body setting regs memory (suc steps))
 addresses_stored_by setting memory core outcome = []

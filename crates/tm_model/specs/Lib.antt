@@ -1,5 +1,6 @@
 pub mod Types
 pub mod Access
+pub mod TwoSteps
 pub mod Setting
 pub mod Isolated
 pub mod State

@@ -6,10 +6,10 @@ use Rattle.tm_status.specs.Status.{status_of}
 use Rattle.tm_model.specs.Access.{Lines, Stores, lines_of, stored_addresses, stores_of}
 use Rattle.tm_model.specs.Isolated.{Body, instruction_after, isolated_body}
 use Rattle.tm_model.specs.Setting.{Setting, outside_at}
-use Rattle.tm_model.specs.State.{Closed, Core, Halted, Opened}
+use Rattle.tm_model.specs.State.{Closed, Core, Halted, Midway, Opened}
 use Rattle.tm_model.specs.Types.{Aborted, Begins, Begun, Capacity, Cause, Committed, Conflict, Ends, Fails, Goes}
-use Rattle.tm_model.specs.Types.{GoesOn, Idle, Inside, InsideResult, Nests, Outcome, OutsideResult, Plain, Stopped}
-use Rattle.tm_model.specs.Types.{Stops}
+use Rattle.tm_model.specs.Types.{GoesOn, Idle, Inside, InsideResult, Loaded, Nests, Outcome, OutsideResult}
+use Rattle.tm_model.specs.Types.{Plain, Stopped, Stops}
 
 -- the status of an abort at this depth, and its outcome
 abbrev pub status_at : Cause → ℕ → ℕ
@@ -20,10 +20,10 @@ abort_at cause depth = Aborted (status_at cause depth)
 
 -- ---- outside of transactions
 
-abbrev pub owed_outside : OutsideResult → Outcome
-owed_outside (Stops stop) = Stopped stop
-owed_outside (Begins regs) = Begun
-owed_outside (Goes regs store) = Plain
+abbrev pub owed_outside : Bool → OutsideResult → Outcome
+owed_outside two_steps (Stops stop) = Stopped stop
+owed_outside two_steps (Begins regs) = Begun
+owed_outside two_steps (Goes regs store) = if two_steps then Loaded else Plain
 
 -- ---- inside
 
@@ -58,6 +58,8 @@ owed_after setting memory (Some body) = owed_inside setting body (instruction_af
 abbrev pub owed_outcome : Setting → List ℕ → Core → Option ℕ → Outcome
 owed_outcome setting memory (Halted regs stop) doom = Idle
 owed_outcome setting memory core (Some depth) = abort_at Conflict depth
-owed_outcome setting memory (Closed regs) None = owed_outside (outside_at setting regs memory)
+owed_outcome setting memory (Midway regs value) None = Plain
+owed_outcome setting memory (Closed regs) None =
+    owed_outside (setting.takes_two_steps regs) (outside_at setting regs memory)
 owed_outcome setting memory (Opened regs steps) None =
     owed_after setting memory (isolated_body setting regs memory steps)

@@ -1,15 +1,15 @@
--- What each step does to memory and to its own core. An instruction outside a transaction is its row of the
--- table; a commit is the whole body, run by itself at its XEND; an abort changes EAX and EIP alone; every other step
--- inside a transaction changes nothing (SDM volume 1, 16.2.2 and 16.3.5).
+-- What each step does to memory and to its own core. An instruction outside a transaction is its row of the table, in
+-- one step or in two; a commit is the whole body, run by itself at its XEND; an abort changes EAX and EIP alone;
+-- every other step inside a transaction changes nothing (SDM volume 1, 16.2.2 and 16.3.5).
 use Rattle.std.specs.Prelude.{ℕ, suc, if◌then◌else◌, List, [], ◌∷◌, slice_set, Option, Some, None, option_map}
 use Rattle.std.specs.Prelude.{option_and_then, nat_eq, nat_lt}
 use Rattle.tm_rule.specs.declared.kinds.Stop.TheVariants as why
 use Rattle.tm_model.specs.Access.{memory_after, stores_of}
 use Rattle.tm_model.specs.Isolated.{Body, isolated_body}
-use Rattle.tm_model.specs.Setting.{Setting, outside_at}
-use Rattle.tm_model.specs.State.{Closed, Core, Halted, Opened, State}
-use Rattle.tm_model.specs.Types.{Aborted, Begins, Begun, Committed, Goes, Idle, Inside, Outcome, OutsideResult}
-use Rattle.tm_model.specs.Types.{Plain, Regs, Stop, Stopped, Stops}
+use Rattle.tm_model.specs.Setting.{Setting, outside_at, value_at}
+use Rattle.tm_model.specs.State.{Closed, Core, Halted, Midway, Opened, State}
+use Rattle.tm_model.specs.Types.{Aborted, Begins, Begun, Committed, Goes, Idle, Inside, Loaded, Outcome}
+use Rattle.tm_model.specs.Types.{OutsideResult, Plain, Regs, Stop, Stopped, Stops}
 
 -- memory and the core after a step; nothing where the rules do not allow the step
 abbrev pub Change : Type 0
@@ -17,10 +17,17 @@ Change = Option (List ℕ × Core)
 
 -- ---- outside of transactions
 
+-- the whole instruction, or the second step of one that takes two
 abbrev pub after_plain : List ℕ → OutsideResult → Change
 after_plain memory (Goes regs store) = Some (memory_after memory (stores_of store), Closed regs)
 after_plain memory (Begins regs) = None
 after_plain memory (Stops stop) = None
+
+-- the first step of an instruction that takes two: the core keeps the value, and all else stays
+abbrev pub after_load : List ℕ → Regs → ℕ → OutsideResult → Change
+after_load memory regs value (Goes next store) = Some (memory, Midway regs value)
+after_load memory regs value (Begins next) = None
+after_load memory regs value (Stops stop) = None
 
 abbrev pub stop_number : Stop → ℕ
 stop_number why.Divide = 0
@@ -59,9 +66,15 @@ registers_after_abort setting regs status =
 -- ---- every step
 
 abbrev pub after_step_of : Setting → List ℕ → Core → Outcome → Change
-after_step_of setting memory (Closed regs) Plain = after_plain memory (outside_at setting regs memory)
+after_step_of setting memory (Closed regs) Plain =
+    if setting.takes_two_steps regs then None else after_plain memory (outside_at setting regs memory)
+after_step_of setting memory (Closed regs) Loaded =
+    if setting.takes_two_steps regs
+    then after_load memory regs (value_at setting regs memory) (outside_at setting regs memory)
+    else None
 after_step_of setting memory (Closed regs) (Stopped stop) = after_stop memory regs stop (outside_at setting regs memory)
 after_step_of setting memory (Closed regs) Begun = after_begin memory regs (outside_at setting regs memory)
+after_step_of setting memory (Midway regs value) Plain = after_plain memory (setting.outside regs value)
 after_step_of setting memory (Halted regs stop) Idle = Some (memory, Halted regs stop)
 after_step_of setting memory (Opened regs steps) Inside = Some (memory, Opened regs (suc steps))
 after_step_of setting memory (Opened regs steps) Committed =

@@ -13,7 +13,7 @@ pub use Rattle.tm_rule.specs.declared.kinds.OutsideResult.TheVariants.{Goes, Beg
 pub use Rattle.tm_rule.specs.declared.kinds.InsideResult.{InsideResult}
 pub use Rattle.tm_rule.specs.declared.kinds.InsideResult.TheVariants.{GoesOn, Nests, Ends, Fails}
 pub use Rattle.tm_model.specs.declared.outcome.Outcome.{Outcome}
-pub use Rattle.tm_model.specs.declared.outcome.Outcome.TheVariants.{Plain, Stopped, Idle, Begun, Inside}
+pub use Rattle.tm_model.specs.declared.outcome.Outcome.TheVariants.{Plain, Loaded, Stopped, Idle, Begun, Inside}
 pub use Rattle.tm_model.specs.declared.outcome.Outcome.TheVariants.{Committed, Aborted}
 pub use Rattle.tm_model.specs.declared.outcome.CoreState.{CoreState}
-pub use Rattle.tm_model.specs.declared.outcome.CoreState.TheVariants.{Running, Open, Condemned, Stopped as AtStop}
+pub use Rattle.tm_model.specs.declared.outcome.CoreState.TheVariants.{Running, Mid, Open, Condemned, Stopped as AtStop}

@@ -1,11 +1,11 @@
 //! The machine as one flat memory and its cores: definitions alone, which the contracts of the machine speak of.
 //!
 //! What a reader must believe of the machine stands in `specs/`, in the order of its `Lib.antt`: memory by addresses
-//! and lines (`Access`), the rules of one instruction (`Setting`), a transaction's body run by itself (`Isolated`),
-//! the state and what a step does to it (`State`, `Steps`), whom a step hits (`Conflicts`), which outcome is owed
-//! (`Owed`), runs (`Runs`, `Went`) and what a machine shows of it all (`Shown`). There is no code but the two types
-//! of `outcome`. Stands on `tm_rule` and `tm_status`, whose definitions are the rows of one instruction and the
-//! status of an abort.
+//! and lines (`Access`), the instructions that take two steps (`TwoSteps`), the rules of one instruction (`Setting`),
+//! a transaction's body run by itself (`Isolated`), the state and what a step does to it (`State`, `Steps`), whom a
+//! step hits (`Conflicts`), which outcome is owed (`Owed`), runs (`Runs`, `Went`) and what a machine shows of it all
+//! (`Shown`). There is no code but the two types of `outcome`. Stands on `tm_rule` and `tm_status`, whose definitions
+//! are the rows of one instruction and the status of an abort.
 #![tactic(auto)]
 
 mod outcome;

@@ -145,9 +145,24 @@ fn a_load_inside_condemns_the_writer(rt: HostRuntime) {
     let program = program(&rt, rt.alloc(), &ADDS, &[0x100, 0x100]);
     let mut machine: Machine = Machine::new(rt.alloc(), &program, LIMITS).expect(&rt, "makes");
     let want = [
-        Begun, Inside, Inside, Inside, Begun, Inside, Aborted(6), Inside, Inside, Committed,
+        Begun,
+        Inside,
+        Inside,
+        Inside,
+        Begun,
+        Inside,
+        Aborted(6),
+        Inside,
+        Inside,
+        Committed,
     ];
-    steps(&rt, rt.alloc(), &mut machine, &[0, 0, 0, 0, 1, 1, 0, 1, 1, 1], &want);
+    steps(
+        &rt,
+        rt.alloc(),
+        &mut machine,
+        &[0, 0, 0, 0, 1, 1, 0, 1, 1, 1],
+        &want,
+    );
     assert_eq!(rt; machine.view().get(0x1000), Some(&1));
 }
 

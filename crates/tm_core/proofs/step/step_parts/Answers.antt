@@ -13,6 +13,14 @@ use Rattle.tm_core.proofs.Cores.{commit_step, cpu_same, held_after, held_as, hit
 use Rattle.tm_core.proofs.Cores.{nothing_else, quiet_kept}
 use Rattle.tm_core.proofs.Held.{held_plain}
 use Rattle.tm_core.proofs.step.step_parts.Goals as goal
+use Rattle.tm_core.specs.StepRefinement.{stayed}
+use Rattle.tm_core.specs.Types.{Inside}
+use Rattle.tm_model.specs.Access.{loaded_addresses}
+use Rattle.tm_core.specs.StepRefinement.{ran_on}
+use Rattle.tm_core.specs.Types.{CoreState, Mid}
+use Rattle.tm_core.specs.Representation.{kept_in}
+use Rattle.tm_model.specs.Shown.{view_between}
+use Rattle.tm_rule.specs.Rule.{outside_of}
 
 pub hit_written-requires-clause-lines : goal.hit_written-requires-clause-lines
 hit_written-requires-clause-lines g c =
@@ -77,6 +85,53 @@ returns-then-busy-clause-held g c j h =
     let own : IsHeld (a.fixed.room Write) (kept_of a c.args.c x) = held_as (a.fixed.room Write) (kept_at a cpus c.args.c) (kept_of a c.args.c x) (ap (λ b. b.room) c.step_outside-step.ensures.buffer ∙ ap (λ (z : Cpu). z.buffer.room) here) (ap (λ b. b.order) c.step_outside-step.ensures.buffer ∙ ap (λ (z : Cpu). z.buffer.order) here) refl (c.requires.sound.held c.args.c c.requires.exists) in
     hit_held_by (a.fixed.room Write) (eqb j c.args.c) _ (kept_at a (set cpus c.args.c x) j) _ (c.hit_touched.ensures.kept j (subst (λ n. j < n) (sym (length-set cpus c.args.c x)) h))
     (held_after (a.fixed.room Write) a a cpus c.args.c x c.requires.exists (nothing_else a c.args.c) c.requires.sound.held own j h)
+
+pub returns-then-busy-2-clause-held : goal.returns-then-busy-2-clause-held
+returns-then-busy-2-clause-held g c j h =
+    let a : Content = g.S.Sets.content c.args.sets.now in
+    let cpus : List Cpu = c.args.cpus.now in
+    let x : Cpu = c.finish_step-step.new.cpu in
+    let here : get_or cpus c.args.c c.index-cpus-c-in-Mid.result ≡ cpu_at cpus c.args.c = get_or_default cpus c.args.c c.index-cpus-c-in-Mid.result no_cpu c.requires.exists in
+    let own : IsHeld (a.fixed.room Write) (kept_of a c.args.c x) = held_as (a.fixed.room Write) (kept_at a cpus c.args.c) (kept_of a c.args.c x) (ap (λ b. b.room) c.finish_step-step.ensures.buffer ∙ ap (λ (z : Cpu). z.buffer.room) here) (ap (λ b. b.order) c.finish_step-step.ensures.buffer ∙ ap (λ (z : Cpu). z.buffer.order) here) refl (c.requires.sound.held c.args.c c.requires.exists) in
+    hit_held_by (a.fixed.room Write) (eqb j c.args.c) _ (kept_at a (set cpus c.args.c x) j) _ (c.hit_touched-then-busy-2.ensures.kept j (subst (λ n. j < n) (sym (length-set cpus c.args.c x)) h))
+    (held_after (a.fixed.room Write) a a cpus c.args.c x c.requires.exists (nothing_else a c.args.c) c.requires.sound.held own j h)
+
+pub returns-then-busy-2-clause-step : goal.returns-then-busy-2-clause-step
+returns-then-busy-2-clause-step g c =
+    let a : Content = g.S.Sets.content c.args.sets.now in
+    let m : List ℕ = c.args.memory.now in
+    let k : Setting = parts_setting c.args.code.now.bytes.now c.args.code.now.base (length m) a in
+    let cpus : List Cpu = c.args.cpus.now in
+    let x : Cpu = c.finish_step-step.new.cpu in
+    let old : Cpu = get_or cpus c.args.c c.index-cpus-c-in-Mid.result in
+    let here : old ≡ cpu_at cpus c.args.c = get_or_default cpus c.args.c c.index-cpus-c-in-Mid.result no_cpu c.requires.exists in
+    let state : (cpu_at cpus c.args.c).state ≡ Mid = ap (λ (z : Cpu). z.state) (sym (get_or_default cpus c.args.c _ no_cpu c.requires.exists)) ∙ c.in-Mid.is in
+    let kept : kept_in (cpu_at cpus c.args.c).state (cpu_at cpus c.args.c).kept ≡ (cpu_at cpus c.args.c).kept = ap (λ (t : CoreState). kept_in t (cpu_at cpus c.args.c).kept) state in
+    let sane : Sane k (cpu_views a cpus c.args.c) Mid = subst (Sane k (cpu_views a cpus c.args.c)) state (c.requires.sound.sane c.args.c c.requires.exists) in
+    let between : cpu_view a c.args.c (cpu_at cpus c.args.c) ≡ view_between (cpu_at cpus c.args.c).base (cpu_at cpus c.args.c).kept = sane.0 ∙ ap (view_between (cpu_at cpus c.args.c).base) kept in
+    let plain : cpu_view a c.args.c old ≡ view_between old.base old.kept = subst (λ (z : Cpu). cpu_view a c.args.c z ≡ view_between z.base z.kept) (sym here) between in
+    let r : StepResult = left_outside m c.finish_step-step.result.outcome c.finish_step-step.result.access c.finish_step-step.result.store (cpu_view a c.args.c x) in
+    let with_old : ran_on m (cpu_view a c.args.c old) (outside_of c.args.code.now.bytes.now c.args.code.now.base (length m) old.base old.kept) ≡ r = c.finish_step-step.ensures.step a c.args.c m plain in
+    let is : stepped k m (cpu_views a cpus c.args.c) Mid ≡ r =
+    ap (λ n. ran_on m (cpu_views a cpus c.args.c) (k.outside (cpu_at cpus c.args.c).base n)) kept
+    ∙ ap (λ (z : Cpu). ran_on m (cpu_view a c.args.c z) (k.outside z.base z.kept)) (sym here) ∙ with_old in
+    hit_is_step k m c.write-in-Mid.new.memory a a (g.S.Sets.content c.hit_touched-then-busy-2.new.sets) cpus c.hit_touched-then-busy-2.new.cpus c.args.c x c.finish_step-step.result.outcome Mid r
+    c.requires.exists (nothing_else a c.args.c) state is refl c.write-in-Mid.ensures refl (λ j h. c.hit_touched-then-busy-2.ensures.kept j (subst (λ n. j < n) (sym (length-set cpus c.args.c x)) h))
+
+pub returns-in-GoesInside-clause-step : goal.returns-in-GoesInside-clause-step
+returns-in-GoesInside-clause-step g c =
+    let a : Content = g.S.Sets.content c.args.sets.now in
+    let m : List ℕ = c.args.memory.now in
+    let k : Setting = parts_setting c.args.code.now.bytes.now c.args.code.now.base (length m) a in
+    let cpus : List Cpu = c.args.cpus.now in
+    let b : Content = g.S.Sets.content c.step_inside.new.sets in
+    let x : Cpu = c.step_inside.new.cpu in
+    let here : get_or cpus c.args.c c.index-cpus-c-in-Open.result ≡ cpu_at cpus c.args.c = get_or_default cpus c.args.c c.index-cpus-c-in-Open.result no_cpu c.requires.exists in
+    let state : (cpu_at cpus c.args.c).state ≡ Open c.in-Open.depth = ap (λ (z : Cpu). z.state) (sym (get_or_default cpus c.args.c _ no_cpu c.requires.exists)) ∙ c.in-Open.is in
+    let r : StepResult = stayed m (loaded_addresses c.in-GoesInside.access) (cpu_view b c.args.c x) in
+    let is : stepped k m (cpu_views a cpus c.args.c) (Open c.in-Open.depth) ≡ r = ap (λ (z : Cpu). stepped k m (cpu_view a c.args.c z) (Open c.in-Open.depth)) (sym here) ∙ c.in-GoesInside.ensures.step in
+    hit_is_step k m m a b (g.S.Sets.content c.hit_load.new.sets) cpus c.hit_load.new.cpus c.args.c x Inside (Open c.in-Open.depth) r
+    c.requires.exists c.step_inside.ensures.elsewhere state is refl refl refl (λ j h. c.hit_load.ensures.kept j (subst (λ n. j < n) (sym (length-set cpus c.args.c x)) h))
 
 pub returns-in-GoesInside-clause-held : goal.returns-in-GoesInside-clause-held
 returns-in-GoesInside-clause-held g c j h =
