@@ -11,6 +11,7 @@ use Rattle.ia_text.specs.Number.{eight_digits, hex_digits}
 use Rattle.ia_text.specs.declared.out.WriteFault.{WriteFault}
 use Rattle.ia_text.specs.Writing.{Device, Stopped, Writes, Wrote}
 use Rattle.tm_model.specs.declared.outcome.CoreState.{CoreState}
+use Rattle.tm_model.specs.declared.outcome.CoreState.TheVariants.{Mid}
 use Rattle.tm_model.specs.declared.outcome.Outcome.{Outcome}
 use Rattle.tm_core.specs.Theorem.{ShownMachine as Machine, view_at}
 use Rattle.tm_hist.specs.Board.{IsHistory, SameBoard, ShownBoard as Board, stop_shown}
@@ -90,13 +91,19 @@ running_from board core (suc left) =
 abbrev pub next_running : SessionValue → Option ℕ
 next_running session = running_from session.board session.next (cores_of session)
 
+-- a core is between the two steps of an instruction
+abbrev pub is_midway : CoreState → Bool
+is_midway Mid = true
+is_midway _ = false
+
 -- before a step of a run, in this order: whether all cores have stopped, the history is full, or a breakpoint stands at
--- the address that the core shows, which is not asked before the first step
+-- the address that the core shows, which is not asked before the first step, nor in the midst of an instruction
 abbrev pub run_check_by : Option ℕ → Bool → SessionValue → RunCheck
 run_check_by None first session = AllStopped
 run_check_by (Some core) first session =
     if nat_eq (length session.board.history) session.board.limit then Full
-    else if not first && list_any (λ b. b == (shown_regs session.board.machine core).eip) session.breaks
+    else if not first && not (is_midway (shown_state session.board.machine core))
+        && list_any (λ b. b == (shown_regs session.board.machine core).eip) session.breaks
     then AtBreakpoint core (shown_regs session.board.machine core).eip
     else Go core
 

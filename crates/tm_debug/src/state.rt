@@ -4,7 +4,7 @@ ghost use Rattle.std.specs.Prelude.{◌≡◌, ◌↔◌, ℕ, ◌+◌, ◌<◌,
 ghost use Rattle.std.specs.Prelude.{length};
 ghost use Rattle.tm_hist.specs.Board.{IsFull, stop_shown};
 ghost use Rattle.tm_hist.specs.Machine.{shown_regs, shown_state};
-ghost use Rattle.tm_debug.specs.Session.{IsStep, is_stopped, value_of, next_running, running_from, start, run_check};
+ghost use Rattle.tm_debug.specs.Session.{IsStep, is_midway, is_stopped, value_of, next_running, running_from, start, run_check};
 
 use arrayvec::ArrayVec;
 use tm_core::{CoreState, Outcome};
@@ -106,6 +106,17 @@ impl SessionState {
         }
     }
 
+    // Whether a core is between the two steps of an instruction.
+    fn is_midway(&self, core: u8) -> bool
+        requires { core < length self.now.board.machine.views }
+        ensures { result ≡ is_midway (shown_state self.now.board.machine core) }
+    {
+        match self.board.machine().state(core) {
+            Ok(state) => matches!(state, CoreState::Mid),
+            Err(_) => unreachable!(),
+        }
+    }
+
     /// The tests before a step of a run.
     #[tactic(auto, unfolding(crate::specs::Session::run_check))]
     pub fn check_run(&self, first: bool) -> RunCheck
@@ -120,7 +131,7 @@ impl SessionState {
             return RunCheck::Full;
         }
         let eip = self.eip(core);
-        if !first && self.breakpoints.contains(&eip) {
+        if !first && !self.is_midway(core) && self.breakpoints.contains(&eip) {
             RunCheck::AtBreakpoint(core, eip)
         } else {
             RunCheck::Go(core)
