@@ -1,10 +1,12 @@
 //! What no clause says: the names of the faults. And each function once, on values of the manual.
 
+use crate::rows::row_of;
 use ia_insn::{
     DecodeFault, Insn, Mem, Op, Operand, is_encodable, is_lockable, is_signed_byte,
     no_spelling_begins_another, one_instruction, rows_are_reached,
 };
-use ia_word::{AluOp, BitOp, UnaryOp, Width};
+use ia_word::{AluOp, Width};
+use std::alloc::Global;
 use std::test::Fail;
 
 const PLACE: Operand = Operand::Mem(Mem {
@@ -37,20 +39,35 @@ fn faults(rt: HostRuntime) -> Result<(), Fail> {
     Ok(())
 }
 
+// An instruction, and whether LOCK may stand before it.
+const LOCKABLE: &str = "\
+01048b; add dword [ebx+ecx*4], eax; yes\n\
+39048b; cmp dword [ebx+ecx*4], eax; no\n\
+03048b; add eax, dword [ebx+ecx*4]; no\n\
+0fba3c8b07; btc dword [ebx+ecx*4], 0x7; yes\n\
+f71c8b; neg dword [ebx+ecx*4]; yes\n\
+0fba248b07; bt dword [ebx+ecx*4], 0x7; no\n\
+f7248b; mul dword [ebx+ecx*4]; no\n\
+89048b; mov dword [ebx+ecx*4], eax; no\n\
+40; inc eax; no\n";
+
+// Whether LOCK may stand before the instruction of a row as it says, be the prefix there or not.
+fn row_agrees(alloc: Global, row: &str) -> bool {
+    match row_of(alloc, row) {
+        None => false,
+        Some((insn, wanted)) => {
+            let fits = is_lockable(&plain(insn.op)) && is_lockable(&with_lock(insn.op));
+            let neither = !is_lockable(&plain(insn.op)) && !is_lockable(&with_lock(insn.op));
+            (wanted == "yes" && fits) || (wanted == "no" && neither)
+        }
+    }
+}
+
 #[test]
 fn lockable(rt: HostRuntime) {
-    let add = Op::Alu(AluOp::Add, Width::D, PLACE, Operand::Reg(0));
-    let cmp = Op::Alu(AluOp::Cmp, Width::D, PLACE, Operand::Reg(0));
-    let load = Op::Alu(AluOp::Add, Width::D, Operand::Reg(0), PLACE);
-    assert!(rt; is_lockable(&plain(add)));
-    assert!(rt; is_lockable(&with_lock(Op::Bit(BitOp::Btc, PLACE, 7))));
-    assert!(rt; is_lockable(&plain(Op::Unary(UnaryOp::Neg, PLACE))));
-    assert!(rt; !is_lockable(&with_lock(cmp)));
-    assert!(rt; !is_lockable(&plain(load)));
-    assert!(rt; !is_lockable(&plain(Op::Bit(BitOp::Bt, PLACE, 7))));
-    assert!(rt; !is_lockable(&plain(Op::Unary(UnaryOp::Mul, PLACE))));
-    assert!(rt; !is_lockable(&plain(Op::Mov(Width::D, PLACE, Operand::Reg(0)))));
-    assert!(rt; !is_lockable(&plain(Op::Inc(Width::D, Operand::Reg(0)))));
+    for row in LOCKABLE.lines() {
+        assert!(rt; row_agrees(rt.alloc(), row), "{row}");
+    }
 }
 
 #[test]

@@ -1,23 +1,14 @@
-//! Tests of the crates of instructions, by their public calls: what no contract says (printed words and the names of
-//! faults), and each call on values that come from outside, from Intel's manual, other assemblers and a processor.
+//! Tests of the crates of instructions, by their public calls: spellings, addresses and loads, and the names of faults,
+//! on values that come from outside, from Intel's manual and other assemblers.
 //!
-//! Stands on every crate from `ia_word` to `ia_image`, and has no function of its own. `tests-data/` has the programs
-//! that asked a processor.
+//! Stands on `ia_insn`, those that read, write and print an instruction, and `ia_addr`, and has no function of its own.
 #![tactic(auto)]
 
 #[cfg(test)]
 mod addresses;
 #[cfg(test)]
-mod arithmetic;
-#[cfg(test)]
-mod execution;
-#[cfg(test)]
-mod images;
-#[cfg(test)]
 mod instructions;
 #[cfg(test)]
-mod numbers;
+mod rows;
 #[cfg(test)]
 mod spellings;
-#[cfg(test)]
-mod text;

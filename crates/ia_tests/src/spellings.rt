@@ -5,13 +5,13 @@ mod table;
 ghost use Rattle.std.specs.Prelude.{IsTrue};
 ghost use Rattle.ia_insn.specs.Encoding.{is_encodable};
 
+use crate::rows::is_printed;
 use ia_decode::decode;
 use ia_encode::{encode, encode_with};
 use ia_insn::{DecodeFault, Insn};
-use ia_text::{ToVec, write_insn};
 use std::alloc::Global;
 use std::process::Abort;
-use table::{ASSEMBLED, BY_HAND};
+use table::{ASSEMBLED, BY_HAND, LOCK_NOT_ALLOWED, NOT_IN_SUBSET, SHORT};
 
 type Answer = Result<(Insn, u8), DecodeFault>;
 
@@ -23,12 +23,6 @@ fn is_written(insn: &Insn, marks: &str, bytes: &[u8]) -> bool
         && (!marks.contains('n') || encode_with(insn, true, false).as_slice() == bytes)
         && (!marks.contains('p') || encode_with(insn, false, true).as_slice() == bytes)
         && (!marks.contains('b') || encode_with(insn, true, true).as_slice() == bytes)
-}
-
-/// Whether an instruction is printed like this at address 0.
-fn is_printed(alloc: Global, insn: &Insn, text: &str) -> bool {
-    let mut out = ToVec::new(Vec::new(alloc));
-    write_insn(insn, 0, &mut out).is_ok() && out.bytes.as_slice() == text.as_bytes()
 }
 
 /// Whether bytes are, all of them, the instruction of this text, and are written again where the marks say so.
@@ -71,62 +65,30 @@ fn by_hand(rt: HostRuntime) {
     }
 }
 
-const SHORT: [&[u8]; 12] = [
-    &[],
-    &[0xf0],
-    &[0xf3],
-    &[0xf0, 0xf3],
-    &[0x0f],
-    &[0x0f, 0x01],
-    &[0xf0, 0x0f],
-    &[0x8b, 0x05, 0x00, 0x10, 0x00],
-    &[0x8b, 0x04],
-    &[0xc7, 0xf8, 0x00, 0x00, 0x00],
-    &[0xc6, 0xf8],
-    &[0xf0, 0x39],
-];
+/// Whether bytes in hex are refused with this fault.
+fn is_refused(alloc: Global, digits: &str, fault: DecodeFault) -> bool {
+    match hex::decode(alloc, digits) {
+        Err(_) => false,
+        Ok(bytes) => decode(bytes.as_slice()).err() == Some(fault),
+    }
+}
 
-const NOT_IN_SUBSET: [&[u8]; 16] = [
-    &[0xf0, 0xf0],
-    &[0xf3, 0x40],
-    &[0x66, 0x90],
-    &[0x0f, 0x01, 0xd4],
-    &[0x0f, 0x01, 0x05],
-    &[0x0f, 0xae, 0xe9],
-    &[0x0f, 0x1f, 0x08],
-    &[0x0f, 0x90, 0xc8],
-    &[0x0f, 0xba, 0xd8],
-    &[0x8d, 0xc0],
-    &[0xc6, 0x58],
-    &[0xc7, 0xf9],
-    &[0xd1, 0xd0],
-    &[0xf6, 0xd0],
-    &[0xff, 0x18],
-    &[0xff, 0xf8],
-];
-
-const LOCK_NOT_ALLOWED: [&[u8]; 8] = [
-    &[0xf0, 0xf3, 0x90],
-    &[0xf0, 0x89, 0x18],
-    &[0xf0, 0x01, 0xd8],
-    &[0xf0, 0x03, 0x18],
-    &[0xf0, 0x39, 0x18],
-    &[0xf0, 0x0f, 0xba, 0x20, 0x01],
-    &[0xf0, 0x90],
-    &[0xf0, 0xf7, 0x20],
-];
-
-fn refuses(rt: &impl Abort, fault: DecodeFault, rows: &[&[u8]]) {
-    for bytes in rows {
-        assert_eq!(rt; decode(bytes), Err(fault), "{bytes:?}");
+fn refuses(rt: &impl Abort, alloc: Global, fault: DecodeFault, rows: &str) {
+    for digits in rows.lines() {
+        assert!(rt; is_refused(alloc, digits, fault), "{digits}");
     }
 }
 
 #[test]
 fn faults(rt: HostRuntime) {
-    refuses(&rt, DecodeFault::Short, &SHORT);
-    refuses(&rt, DecodeFault::NotInSubset, &NOT_IN_SUBSET);
-    refuses(&rt, DecodeFault::LockNotAllowed, &LOCK_NOT_ALLOWED);
+    refuses(&rt, rt.alloc(), DecodeFault::Short, SHORT);
+    refuses(&rt, rt.alloc(), DecodeFault::NotInSubset, NOT_IN_SUBSET);
+    refuses(
+        &rt,
+        rt.alloc(),
+        DecodeFault::LockNotAllowed,
+        LOCK_NOT_ALLOWED,
+    );
 }
 
 /// How often each answer came.

@@ -427,3 +427,48 @@ e f7c080000000 test eax, 0x80\n\
 e f6c080 test al, 0x80\n\
 n c1c301 rol ebx, 0x1\n\
 - f08184880010000078563412 lock add dword [eax+ecx*4+0x1000], 0x12345678\n";
+
+/// Bytes in hex that end within an instruction; the first row has none.
+pub(super) const SHORT: &str = "\
+\n\
+f0\n\
+f3\n\
+f0f3\n\
+0f\n\
+0f01\n\
+f00f\n\
+8b05001000\n\
+8b04\n\
+c7f8000000\n\
+c6f8\n\
+f039\n";
+
+/// Bytes in hex that begin no instruction.
+pub(super) const NOT_IN_SUBSET: &str = "\
+f0f0\n\
+f340\n\
+6690\n\
+0f01d4\n\
+0f0105\n\
+0faee9\n\
+0f1f08\n\
+0f90c8\n\
+0fbad8\n\
+8dc0\n\
+c658\n\
+c7f9\n\
+d1d0\n\
+f6d0\n\
+ff18\n\
+fff8\n";
+
+/// Bytes in hex with LOCK before an instruction that it may not stand before.
+pub(super) const LOCK_NOT_ALLOWED: &str = "\
+f0f390\n\
+f08918\n\
+f001d8\n\
+f00318\n\
+f03918\n\
+f00fba2001\n\
+f090\n\
+f0f720\n";

@@ -2,6 +2,7 @@
 
 use ia_insn::{Insn, Op};
 use ia_text::{Out, ToVec, ToWriter, WriteFault, disassemble, write_insn, write_line};
+use std::alloc::Global;
 use std::io::{self, ErrorKind, Write};
 use std::test::Fail;
 
@@ -16,6 +17,57 @@ const LISTING: &[u8] = b"\
 00000111  0f01d5                    xend\n\
 00000114  f4                        hlt\n\
 00000115  f4                        hlt\n";
+
+/// Bytes in hex, and the instruction as it is printed at 100h.
+const INSTRUCTIONS: &str = "\
+8b448810 mov eax, dword [eax+ecx*4+0x10]\n\
+8b43fc mov eax, dword [ebx+0xfffffffc]\n\
+8b0d00100000 mov ecx, dword [0x1000]\n\
+8b0d00000000 mov ecx, dword [0x0]\n\
+8b044d00000000 mov eax, dword [ecx*2]\n\
+8b040d05000000 mov eax, dword [ecx*1+0x5]\n\
+8b4500 mov eax, dword [ebp]\n\
+8b0424 mov eax, dword [esp]\n\
+8a23 mov ah, byte [ebx]\n\
+c60380 mov byte [ebx], 0x80\n\
+8d448b08 lea eax, [ebx+ecx*4+0x8]\n\
+83c0ff add eax, 0xffffffff\n\
+80efff sub bh, 0xff\n\
+d1e0 shl eax, 0x1\n\
+c1f81f sar eax, 0x1f\n\
+d32b shr dword [ebx], cl\n\
+ebfe jmp short 0x100\n\
+e910000000 jmp 0x115\n\
+7405 je short 0x107\n\
+0f8500000000 jne 0x106\n\
+e8fbffffff call 0x100\n\
+e2fe loop 0x100\n\
+e300 jecxz 0x102\n\
+ffe0 jmp eax\n\
+ff13 call dword [ebx]\n\
+c20800 ret 0x8\n\
+c3 ret\n\
+0f94c0 sete al\n\
+0f4cc3 cmovl eax, ebx\n\
+0fb6c1 movzx eax, cl\n\
+0fbe03 movsx eax, byte [ebx]\n\
+0fba2b05 bts dword [ebx], 0x5\n\
+69c300010000 imul eax, ebx, 0x100\n\
+0fafc3 imul eax, ebx\n\
+f7fb idiv ebx\n\
+c6f8ff xabort 0xff\n\
+0f01d6 xtest\n\
+f00fb10b lock cmpxchg dword [ebx], ecx\n\
+870b xchg dword [ebx], ecx\n\
+6aff push 0xffffffff\n\
+5f pop edi\n\
+f6c301 test bl, 0x1\n\
+90 nop\n\
+f390 pause\n\
+cc int3\n\
+0f0b ud2\n\
+99 cdq\n\
+c9 leave\n";
 
 #[test]
 fn a_program(rt: HostRuntime) -> Result<(), Fail> {
@@ -59,70 +111,32 @@ fn a_line(rt: HostRuntime) -> Result<(), Fail> {
     Ok(())
 }
 
-#[test]
-fn instructions(rt: HostRuntime) -> Result<(), Fail> {
-    let cases: [(&[u8], &[u8]); 48] = [
-        (b"\x8b\x44\x88\x10", b"mov eax, dword [eax+ecx*4+0x10]"),
-        (b"\x8b\x43\xfc", b"mov eax, dword [ebx+0xfffffffc]"),
-        (b"\x8b\x0d\x00\x10\x00\x00", b"mov ecx, dword [0x1000]"),
-        (b"\x8b\x0d\x00\x00\x00\x00", b"mov ecx, dword [0x0]"),
-        (b"\x8b\x04\x4d\x00\x00\x00\x00", b"mov eax, dword [ecx*2]"),
-        (
-            b"\x8b\x04\x0d\x05\x00\x00\x00",
-            b"mov eax, dword [ecx*1+0x5]",
-        ),
-        (b"\x8b\x45\x00", b"mov eax, dword [ebp]"),
-        (b"\x8b\x04\x24", b"mov eax, dword [esp]"),
-        (b"\x8a\x23", b"mov ah, byte [ebx]"),
-        (b"\xc6\x03\x80", b"mov byte [ebx], 0x80"),
-        (b"\x8d\x44\x8b\x08", b"lea eax, [ebx+ecx*4+0x8]"),
-        (b"\x83\xc0\xff", b"add eax, 0xffffffff"),
-        (b"\x80\xef\xff", b"sub bh, 0xff"),
-        (b"\xd1\xe0", b"shl eax, 0x1"),
-        (b"\xc1\xf8\x1f", b"sar eax, 0x1f"),
-        (b"\xd3\x2b", b"shr dword [ebx], cl"),
-        (b"\xeb\xfe", b"jmp short 0x100"),
-        (b"\xe9\x10\x00\x00\x00", b"jmp 0x115"),
-        (b"\x74\x05", b"je short 0x107"),
-        (b"\x0f\x85\x00\x00\x00\x00", b"jne 0x106"),
-        (b"\xe8\xfb\xff\xff\xff", b"call 0x100"),
-        (b"\xe2\xfe", b"loop 0x100"),
-        (b"\xe3\x00", b"jecxz 0x102"),
-        (b"\xff\xe0", b"jmp eax"),
-        (b"\xff\x13", b"call dword [ebx]"),
-        (b"\xc2\x08\x00", b"ret 0x8"),
-        (b"\xc3", b"ret"),
-        (b"\x0f\x94\xc0", b"sete al"),
-        (b"\x0f\x4c\xc3", b"cmovl eax, ebx"),
-        (b"\x0f\xb6\xc1", b"movzx eax, cl"),
-        (b"\x0f\xbe\x03", b"movsx eax, byte [ebx]"),
-        (b"\x0f\xba\x2b\x05", b"bts dword [ebx], 0x5"),
-        (b"\x69\xc3\x00\x01\x00\x00", b"imul eax, ebx, 0x100"),
-        (b"\x0f\xaf\xc3", b"imul eax, ebx"),
-        (b"\xf7\xfb", b"idiv ebx"),
-        (b"\xc6\xf8\xff", b"xabort 0xff"),
-        (b"\x0f\x01\xd6", b"xtest"),
-        (b"\xf0\x0f\xb1\x0b", b"lock cmpxchg dword [ebx], ecx"),
-        (b"\x87\x0b", b"xchg dword [ebx], ecx"),
-        (b"\x6a\xff", b"push 0xffffffff"),
-        (b"\x5f", b"pop edi"),
-        (b"\xf6\xc3\x01", b"test bl, 0x1"),
-        (b"\x90", b"nop"),
-        (b"\xf3\x90", b"pause"),
-        (b"\xcc", b"int3"),
-        (b"\x0f\x0b", b"ud2"),
-        (b"\x99", b"cdq"),
-        (b"\xc9", b"leave"),
-    ];
-    for (bytes, text) in cases {
-        let mut out = ToVec::new(Vec::new(rt.alloc()));
-        let shown = write_line(bytes, 0x100, &mut out)?;
-        assert_eq!(rt; usize::from(shown), bytes.len());
-        let line = out.bytes.as_slice();
-        assert!(rt; line.len() > 37);
-        assert_eq!(rt; &line[36..line.len() - 1], text);
+/// Whether a line at 100h shows all the bytes of a row, in hex, as its text.
+fn row_agrees(alloc: Global, row: &str) -> bool {
+    let Some((digits, text)) = row.split_once(' ') else {
+        return false;
+    };
+    match hex::decode(alloc, digits) {
+        Err(_) => false,
+        Ok(bytes) => is_shown(alloc, bytes.as_slice(), text),
     }
-    Ok(())
+}
+
+/// Whether the line of these bytes at 100h shows all of them, and has this text in its last column.
+fn is_shown(alloc: Global, bytes: &[u8], text: &str) -> bool {
+    let mut out = ToVec::new(Vec::new(alloc));
+    let shown = write_line(bytes, 0x100, &mut out);
+    let line = out.bytes.as_slice();
+    shown.map(usize::from) == Ok(bytes.len())
+        && line.len() > 37
+        && &line[36..line.len() - 1] == text.as_bytes()
+}
+
+#[test]
+fn instructions(rt: HostRuntime) {
+    for row in INSTRUCTIONS.lines() {
+        assert!(rt; row_agrees(rt.alloc(), row), "{row}");
+    }
 }
 
 #[test]

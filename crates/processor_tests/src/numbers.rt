@@ -19,6 +19,16 @@ impl<'a> Numbers<'a> {
         u32::from_str_radix(digits, 16).ok()
     }
 
+    /// The next two numbers.
+    pub fn take_two(&mut self) -> Option<(u32, u32)> {
+        Some((self.take()?, self.take()?))
+    }
+
+    /// The next three.
+    pub fn take_three(&mut self) -> Option<(u32, u32, u32)> {
+        Some((self.take()?, self.take()?, self.take()?))
+    }
+
     /// Whether no number is left.
     pub fn is_empty(&self) -> bool {
         self.text.is_empty()

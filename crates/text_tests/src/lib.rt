@@ -1,0 +1,9 @@
+//! Tests of listings, their devices and images, by the public calls, on values by hand.
+//!
+//! Stands on `ia_text` and `ia_image`, and has no function of its own.
+#![tactic(auto)]
+
+#[cfg(test)]
+mod images;
+#[cfg(test)]
+mod listings;
