@@ -338,6 +338,7 @@ fn number_of(outcome: &Outcome) -> u64 {
         Outcome::Begun => 4,
         Outcome::Inside => 5,
         Outcome::Committed => 6,
+        Outcome::Loaded => 7,
         Outcome::Aborted(status) => u64::from(*status).wrapping_add(1 << 32),
     }
 }
