@@ -103,7 +103,7 @@ run_check_by None first session = AllStopped
 run_check_by (Some core) first session =
     if nat_eq (length session.board.history) session.board.limit then Full
     else if not first && not (is_midway (shown_state session.board.machine core))
-        && list_any (λ b. b == (shown_regs session.board.machine core).eip) session.breaks
+    && list_any (λ b. b == (shown_regs session.board.machine core).eip) session.breaks
     then AtBreakpoint core (shown_regs session.board.machine core).eip
     else Go core
 

@@ -3,7 +3,8 @@
 use ia_regs::{Flags, Regs};
 use ia_word::Width;
 use tm_rule::{
-    Access, Code, OutsideResult, Stop, Store, InsideResult, fallback, fetch, inside, load_at, outside,
+    Access, Code, InsideResult, OutsideResult, Stop, Store, fallback, fetch, inside, load_at,
+    outside,
 };
 use tm_status::Cause;
 
@@ -73,7 +74,10 @@ fn goes_on_outside(rt: HostRuntime) {
         alone(&[0xc6, 0xf8, 0xab], 0),
         OutsideResult::Goes(behind(3), None)
     );
-    assert_eq!(rt; alone(&[0xf3, 0x90], 0), OutsideResult::Goes(behind(2), None));
+    assert_eq!(rt;
+        alone(&[0xf3, 0x90], 0),
+        OutsideResult::Goes(behind(2), None)
+    );
     assert_eq!(rt;
         alone(&[0xc7, 0xf8, 0x0f, 0, 0, 0], 0),
         OutsideResult::Begins(behind(6))
@@ -117,7 +121,11 @@ fn fails_inside(rt: HostRuntime) {
         ([0xa3, 0xfd, 0xff, 0, 0].as_slice(), Cause::Other),
         ([0xa3, 0x00, 0x01, 0, 0].as_slice(), Cause::Other),
     ] {
-        assert_eq!(rt; within(bytes, 0, 1), InsideResult::Fails(cause), "{bytes:?}");
+        assert_eq!(rt;
+            within(bytes, 0, 1),
+            InsideResult::Fails(cause),
+            "{bytes:?}"
+        );
     }
 }
 
