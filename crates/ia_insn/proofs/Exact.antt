@@ -72,25 +72,27 @@ pub record Then {A B : Type 0} (S : List ℕ → A → Type 0) (T : A → List �
   pub second : T value back b
   pub parts : bytes ≡ front ++ back
 
-module _ {A B : Type 0} (S : List ℕ → A → Type 0) (T : A → List ℕ → B → Type 0) (r : List ℕ → Read A) (q : A → List ℕ → Read B)
-    (x : Exact S r) (y : (s : List ℕ) (a : A) → S s a → Exact (T a) (q a)) where
-  then_again : (s : List ℕ) (b : B) (rest : List ℕ) → Then S T s b → (r (s ++ rest) >>= λ p. q p.0 p.1) ≡ Ok (b, rest)
-  then_again s b rest h =
+-- what is spelt so is read so, and the other way round, where both readers read what is spelt
+module _ {A B : Type 0} (S : List ℕ → A → Type 0) (T : A → List ℕ → B → Type 0) (r : List ℕ → Read A) (q : A → List ℕ → Read B) (x : Exact S r) where
+  pub then_again : ((s : List ℕ) (a : A) → S s a → (back : List ℕ) (b : B) (rest : List ℕ) → T a back b → q a (back ++ rest) ≡ Ok (b, rest)) → (s : List ℕ) (b : B) (rest : List ℕ) → Then S T s b → (r (s ++ rest) >>= λ p. q p.0 p.1) ≡ Ok (b, rest)
+  then_again again s b rest h =
       let regrouped : s ++ rest ≡ h.front ++ (h.back ++ rest) = ap (λ (z : List ℕ). z ++ rest) h.parts ∙ append_assoc h.front h.back rest in
       ap (λ (z : List ℕ). r z >>= λ p. q p.0 p.1) regrouped
       ∙ ap (λ (z : Read A). z >>= λ p. q p.0 p.1) (x.again h.front h.value (h.back ++ rest) h.first)
-      ∙ (y h.front h.value h.first).again h.back b rest h.second
+      ∙ again h.front h.value h.first h.back b rest h.second
 
-  then_found : (bytes : List ℕ) (b : B) (rest : List ℕ) → IsBytes bytes → (r bytes >>= λ p. q p.0 p.1) ≡ Ok (b, rest) → (s : List ℕ) × Then S T s b × (bytes ≡ s ++ rest)
-  then_found bytes b rest fits e =
+  pub then_found : ((s : List ℕ) (a : A) → S s a → (bytes : List ℕ) (b : B) (rest : List ℕ) → IsBytes bytes → q a bytes ≡ Ok (b, rest) → (t : List ℕ) × T a t b × (bytes ≡ t ++ rest)) → (bytes : List ℕ) (b : B) (rest : List ℕ) → IsBytes bytes → (r bytes >>= λ p. q p.0 p.1) ≡ Ok (b, rest) → (s : List ℕ) × Then S T s b × (bytes ≡ s ++ rest)
+  then_found found bytes b rest fits e =
       let k = bind_ok (r bytes) (λ p. q p.0 p.1) (b, rest) e in
       let f = x.found bytes k.0.0 k.0.1 fits k.1 in
-      let g = (y f.0 k.0.0 f.1).found k.0.1 b rest (IsBytes-right f.0 k.0.1 (subst IsBytes f.2 fits)) k.2 in (
+      let g = found f.0 k.0.0 f.1 k.0.1 b rest (IsBytes-right f.0 k.0.1 (subst IsBytes f.2 fits)) k.2 in (
         f.0 ++ g.0,
         record { value = k.0.0; front = f.0; back = g.0; first = f.1; second = g.1; parts = refl },
         f.2 ∙ ap (λ (z : List ℕ). f.0 ++ z) g.2 ∙ sym (append_assoc f.0 g.0 rest),
       )
 
+module _ {A B : Type 0} (S : List ℕ → A → Type 0) (T : A → List ℕ → B → Type 0) (r : List ℕ → Read A) (q : A → List ℕ → Read B)
+    (x : Exact S r) (y : (s : List ℕ) (a : A) → S s a → Exact (T a) (q a)) where
   then_short : (bytes : List ℕ) (e : DecodeFault) → IsBytes bytes → (r bytes >>= λ p. q p.0 p.1) ≡ Err e → (e ≡ Short) × (more : List ℕ) × (b : B) × Then S T (bytes ++ more) b
   then_short bytes e fits h = go (r bytes) refl h
     where
@@ -106,8 +108,8 @@ module _ {A B : Type 0} (S : List ℕ → A → Type 0) (T : A → List ℕ → 
 
   pub Exact-then : Exact (Then S T) (λ bytes. r bytes >>= λ p. q p.0 p.1)
   Exact-then = record {
-    again = then_again;
-    found = then_found;
+    again = then_again S T r q x (λ s a h. (y s a h).again);
+    found = then_found S T r q x (λ s a h. (y s a h).found);
     short = then_short;
     some =
         let one = x.some in

@@ -6,9 +6,11 @@ pub mod Forms
 pub mod Maps
 pub mod Whole
 pub mod Lengths
+pub mod Numbers
 pub mod Order
 pub mod Written
 pub mod Templates
 pub mod Spelt
 pub mod Makes
 pub mod Decodes
+pub mod ByOperands

@@ -1,11 +1,13 @@
 -- What is spelt can be encoded.
 use Rattle.std.proofs.Common.{◌≡◌, ℕ, zero, suc, ◌+◌, ◌-◌, ◌/◌, ◌%◌, ◌^◌, ◌<◌, ◌≤◌, Bool, true, false, cond, List, [], ◌∷◌, Option, Some, None, refl, subst, arith}
-use Rattle.std.specs.Prelude.{◌&&◌, ◌||◌, ◌==◌, not, nat_lt, nat_le, slice_index_or}
+use Rattle.std.specs.Prelude.{◌&&◌, ◌||◌, ◌==◌, not, nat_lt, nat_le}
 use Rattle.std.specs.Option.{option_map}
-use Rattle.std.proofs.lemmas.Bool.{ltb-true, ltb-false, lt-ltb, leb-true, le-leb}
+use Rattle.std.proofs.lemmas.Bool.{ltb-true, ltb-false, lt-ltb, leb-true, le-leb, and_parts, and_from, or_left, or_right}
 use Rattle.ia_word.specs.declared.operation.AluOp.{AluOp}
 use Rattle.ia_word.specs.Bytes.{sign_extended}
 use Rattle.ia_word.specs.declared.operation.UnaryOp.TheVariants as unary
+use Rattle.ia_word.specs.declared.operation.IncDecOp.TheVariants as inc_dec
+use Rattle.ia_word.specs.declared.operation.BareOp.TheVariants as bare
 use Rattle.ia_word.specs.declared.width.Width.{Width}
 use Rattle.ia_word.specs.declared.width.Width.TheVariants.{B, D}
 use Rattle.ia_insn.specs.declared.op.Op.{Op}
@@ -16,26 +18,10 @@ use Rattle.ia_insn.specs.declared.operand.Operand.{Operand}
 use Rattle.ia_insn.specs.declared.operand.Operand.TheVariants.{Reg, Imm, Mem as Memory}
 use Rattle.ia_insn.specs.Operands.{Head, head_of, index_of, scale_of, SpellsDisp, no_disp, disp8, disp32, SpellsBase, no_base, base, SpellsMem, plain as plain_mem, sib, SpellsOperand, register, memory}
 use Rattle.ia_insn.specs.Form.{Tail, done, ib, ibs, iw, id, Form, none, plain, modrm, group, r_memory, SpellsTail, nothing, byte, signed_byte, two_bytes, four_bytes, SpellsForm, alone, operand, chosen, place}
-use Rattle.ia_insn.specs.Table.{OpcodeRow, row, look_up, alu_rows, rows_40, rows_80, rows_A0, rows_C0, two_byte_rows, one_byte, alu_row, row_40, row_80, row_A0, row_C0, two_byte, behind_f3, alu_of, shift_of, bit_of, unary_of, ff_of, SpellsOp, one, two, with_f3}
+use Rattle.ia_insn.specs.Table.{OpcodeRow, row, look_up, alu_rows, rows_40, rows_80, rows_A0, rows_C0, two_byte_rows, one_byte, alu_row, row_40, row_80, row_A0, row_C0, two_byte, behind_f3, alu_of, shift_of, bit_of, inc_dec_of, fence_of, unary_of, ff_of, SpellsOp, one, two, with_f3}
 use Rattle.ia_insn.specs.Spelling.{lockable, Spells, unlocked, locked}
 use Rattle.ia_insn.specs.Writing.{fits_base, fits_index, fits_mem, fits_operand, is_signed_byte}
 use Rattle.ia_insn.specs.Encoding.{fits_imm, fits_short, fits_pair, encodable, is_encodable}
-
-and2 : (a b : Bool) → a ≡ true → b ≡ true → (a && b) ≡ true
-and2 true true p q = refl
-and2 true false p q = q
-and2 false b p q = p
-
-or_left : (a b : Bool) → a ≡ true → (a || b) ≡ true
-or_left true b p = refl
-or_left false b p = absurd cc
-
-or_right : (a b : Bool) → b ≡ true → (a || b) ≡ true
-or_right true b p = refl
-or_right false b p = p
-
-below : (a b : ℕ) → a < b → nat_lt a b ≡ true
-below a b lt = lt-ltb a b lt
 
 -- ---- operands that are spelt fit
 
@@ -45,27 +31,23 @@ sign_at t b = cond t b (b + (2 ^ 32 - 256))
 short_go : (b : ℕ) (t : Bool) → nat_lt b 128 ≡ t → b < 256 → fits_short (sign_at t b) ≡ true
 short_go b true e lt =
     let l : b < 128 = ltb-true _ _ e in
-    and2 (nat_lt b (2 ^ 32)) (is_signed_byte b) (below b (2 ^ 32) (omega arith)) (or_left (nat_lt b 128) (nat_le (2 ^ 32 - 128) b) e)
+    and_from (nat_lt b (2 ^ 32)) (is_signed_byte b) (lt-ltb b (2 ^ 32) (omega arith)) (or_left (nat_lt b 128) (nat_le (2 ^ 32 - 128) b) e)
 short_go b false e lt =
     let l : 128 ≤ b = ltb-false _ _ e in
     let n = b + (2 ^ 32 - 256) in
-    and2 (nat_lt n (2 ^ 32)) (is_signed_byte n) (below n (2 ^ 32) (omega arith)) (or_right (nat_lt n 128) (nat_le (2 ^ 32 - 128) n) (le-leb (2 ^ 32 - 128) n (omega arith)))
+    and_from (nat_lt n (2 ^ 32)) (is_signed_byte n) (lt-ltb n (2 ^ 32) (omega arith)) (or_right (nat_lt n 128) (nat_le (2 ^ 32 - 128) n) (le-leb (2 ^ 32 - 128) n (omega arith)))
 
 short_fits : (b : ℕ) → b < 256 → fits_short (sign_extended b) ≡ true
 short_fits b lt = short_go b (nat_lt b 128) refl lt
 
-both : (a b : Bool) → (a && b) ≡ true → (a ≡ true) × (b ≡ true)
-both true b e = (refl, e)
-both false b e = absurd cc
-
 disp_fits : {m d : ℕ} {s : List ℕ} → SpellsDisp m s d → d < 2 ^ 32
 disp_fits no_disp = omega arith
-disp_fits (disp8 {b} lt) = ltb-true _ _ (both (nat_lt (sign_extended b) (2 ^ 32)) (is_signed_byte (sign_extended b)) (short_fits b lt)).0
+disp_fits (disp8 {b} lt) = ltb-true _ _ (and_parts (nat_lt (sign_extended b) (2 ^ 32)) (is_signed_byte (sign_extended b)) (short_fits b lt)).0
 disp_fits (disp32 lt) = lt
 
 base_fits : {m r d : ℕ} {s : List ℕ} {b : Option ℕ} → SpellsBase m r s b d → r < 8 → (fits_base b ≡ true) × (d < 2 ^ 32)
 base_fits (no_base lt) lr = (refl, lt)
-base_fits (base {r = r} n x) lr = (below r 8 lr, disp_fits x)
+base_fits (base {r = r} n x) lr = (lt-ltb r 8 lr, disp_fits x)
 
 abbrev index_at : Bool → ℕ → Option ℕ
 index_at t i = cond t None (Some i)
@@ -82,19 +64,19 @@ scale_fits (suc (suc (suc (suc n)))) lt = absurd (omega arith)
 
 index_go : (i k : ℕ) (t : Bool) → (i == 4) ≡ t → i < 8 → k < 4 → fits_index (index_at t i) (scale_at t k) ≡ true
 index_go i k true e li lk = refl
-index_go i k false e li lk = and2 (nat_lt i 8 && not (i == 4)) (2 ^ k == 1 || 2 ^ k == 2 || 2 ^ k == 4 || 2 ^ k == 8) (and2 (nat_lt i 8) (not (i == 4)) (below i 8 li) (rw e refl)) (scale_fits k lk)
+index_go i k false e li lk = and_from (nat_lt i 8 && not (i == 4)) (2 ^ k == 1 || 2 ^ k == 2 || 2 ^ k == 4 || 2 ^ k == 8) (and_from (nat_lt i 8) (not (i == 4)) (lt-ltb i 8 li) (rw e refl)) (scale_fits k lk)
 
 mem_fits : {mode rm : ℕ} {s : List ℕ} {m : Mem} → SpellsMem mode rm s m → rm < 8 → fits_mem m ≡ true
 mem_fits (plain_mem {disp = d} {b = b} n h) lr =
     let p = base_fits h lr in
-    and2 (fits_base b && true) (nat_lt d (2 ^ 32)) (and2 (fits_base b) true p.0 refl) (below d (2 ^ 32) p.1)
+    and_from (fits_base b && true) (nat_lt d (2 ^ 32)) (and_from (fits_base b) true p.0 refl) (lt-ltb d (2 ^ 32) p.1)
 mem_fits (sib {s = s} {disp = d} {b = b} lt h) lr =
     let p = base_fits h (omega arith) in
-    and2 (fits_base b && fits_index (index_of s) (scale_of s)) (nat_lt d (2 ^ 32))
-    (and2 (fits_base b) (fits_index (index_of s) (scale_of s)) p.0 (index_go (s / 8 % 8) (s / 64) (s / 8 % 8 == 4) refl (omega arith) (omega arith))) (below d (2 ^ 32) p.1)
+    and_from (fits_base b && fits_index (index_of s) (scale_of s)) (nat_lt d (2 ^ 32))
+    (and_from (fits_base b) (fits_index (index_of s) (scale_of s)) p.0 (index_go (s / 8 % 8) (s / 64) (s / 8 % 8 == 4) refl (omega arith) (omega arith))) (lt-ltb d (2 ^ 32) p.1)
 
 operand_fits : {h : Head} {s : List ℕ} {m : Operand} → SpellsOperand h s m → h.rm < 8 → fits_operand m ≡ true
-operand_fits (register {h} e) lr = below h.rm 8 lr
+operand_fits (register {h} e) lr = lt-ltb h.rm 8 lr
 operand_fits (memory n x) lr = mem_fits x lr
 
 -- ---- what a form makes can be encoded
@@ -128,82 +110,67 @@ makes_form (place {b = b} {m = m} lt ne h) k = k (b / 8 % 8) m (omega arith) (me
 
 -- ---- rows
 
-abbrev MakesRows : List OpcodeRow → Type 0
-MakesRows [] = Unit {0}
-MakesRows (r ∷ rs) = ((k : ℕ) → k < r.many → Makes (r.form k)) × MakesRows rs
+infixr 5 ◌▸◌
+data MakesRows : List OpcodeRow → Type 0 where
+  no_more : MakesRows []
+  ◌▸◌ : {r : OpcodeRow} {rs : List OpcodeRow} → ((k : ℕ) → k < r.many → Makes (r.form k)) → MakesRows rs → MakesRows (r ∷ rs)
 
 row_go : (r : OpcodeRow) (rs : List OpcodeRow) (b : ℕ) (t : Bool) → (nat_le r.first b && nat_lt b (r.first + r.many)) ≡ t → ((k : ℕ) → k < r.many → Makes (r.form k)) → Makes (look_up rs b) → Makes (cond t (r.form (b - r.first)) (look_up rs b))
 row_go r rs b true e here rest =
-    let p = both (nat_le r.first b) (nat_lt b (r.first + r.many)) e in
+    let p = and_parts (nat_le r.first b) (nat_lt b (r.first + r.many)) e in
     let le : r.first ≤ b = leb-true _ _ p.0 in
     let lt : b < r.first + r.many = ltb-true _ _ p.1 in
     here (b - r.first) (omega arith)
 row_go r rs b false e here rest = rest
 
 makes_rows : (rs : List OpcodeRow) → MakesRows rs → (b : ℕ) → Makes (look_up rs b)
-makes_rows [] k b = tt
-makes_rows (r ∷ rs) k b = row_go r rs b (nat_le r.first b && nat_lt b (r.first + r.many)) refl k.0 (makes_rows rs k.1 b)
+makes_rows [] no_more b = tt
+makes_rows (r ∷ rs) (k ▸ ks) b = row_go r rs b (nat_le r.first b && nat_lt b (r.first + r.many)) refl k (makes_rows rs ks b)
 
 -- ---- what rows need
 
+r_and_m : (r : ℕ) (m : Operand) → r < 8 → fits_operand m ≡ true → (nat_lt r 8 && fits_operand m) ≡ true
+r_and_m r m lr fm = and_from (nat_lt r 8) (fits_operand m) (lt-ltb r 8 lr) fm
+
+m_and_r : (r : ℕ) (m : Operand) → r < 8 → fits_operand m ≡ true → (fits_operand m && nat_lt r 8) ≡ true
+m_and_r r m lr fm = and_from (fits_operand m) (nat_lt r 8) fm (lt-ltb r 8 lr)
+
 pair_mr : (w : Width) (r : ℕ) (m : Operand) → r < 8 → fits_operand m ≡ true → fits_pair w m (Reg r) ≡ true
-pair_mr w r m lr fm = and2 (fits_operand m) (nat_lt r 8) fm (below r 8 lr)
+pair_mr w r m lr fm = m_and_r r m lr fm
 
 pair_rm : (w : Width) (r : ℕ) (m : Operand) → r < 8 → fits_operand m ≡ true → fits_pair w (Reg r) m ≡ true
-pair_rm w r (Reg s) lr fm = and2 (nat_lt r 8) (nat_lt s 8) (below r 8 lr) fm
-pair_rm w r (Memory m) lr fm = and2 (nat_lt r 8) (fits_mem m) (below r 8 lr) fm
+pair_rm w r (Reg s) lr fm = and_from (nat_lt r 8) (nat_lt s 8) (lt-ltb r 8 lr) fm
+pair_rm w r (Memory m) lr fm = and_from (nat_lt r 8) (fits_mem m) (lt-ltb r 8 lr) fm
 pair_rm w r (Imm n) lr fm = absurd cc
 
 pair_imm : (w : Width) (m : Operand) (n : ℕ) → fits_operand m ≡ true → fits_imm w n ≡ true → fits_pair w m (Imm n) ≡ true
-pair_imm w m n fm fi = and2 (fits_operand m) (fits_imm w n) fm fi
+pair_imm w m n fm fi = and_from (fits_operand m) (fits_imm w n) fm fi
 
 short_long : (n : ℕ) → fits_short n ≡ true → nat_lt n (2 ^ 32) ≡ true
-short_long n e = (both (nat_lt n (2 ^ 32)) (is_signed_byte n) e).0
+short_long n e = (and_parts (nat_lt n (2 ^ 32)) (is_signed_byte n) e).0
 
 alu_makes : (k : AluOp) → MakesRows (alu_rows k)
-alu_makes k = (
-  (λ _ _ r m lr fm. pair_mr B r m lr fm),
-  (
-    (λ _ _ r m lr fm. pair_mr D r m lr fm),
-    (
-      (λ _ _ r m lr fm. pair_rm B r m lr fm),
-      (
-        (λ _ _ r m lr fm. pair_rm D r m lr fm),
-        (
-          (λ _ _ n lt. pair_imm B (Reg 0) n refl (below n 256 lt)),
-          ((λ _ _ n lt. pair_imm D (Reg 0) n refl (below n (2 ^ 32) lt)), tt),
-        ),
-      ),
-    ),
-  ),
-)
+alu_makes k =
+    (λ _ _ r m lr fm. pair_mr B r m lr fm) ▸
+    (λ _ _ r m lr fm. pair_mr D r m lr fm) ▸
+    (λ _ _ r m lr fm. pair_rm B r m lr fm) ▸
+    (λ _ _ r m lr fm. pair_rm D r m lr fm) ▸
+    (λ _ _ n lt. pair_imm B (Reg 0) n refl (lt-ltb n 256 lt)) ▸
+    (λ _ _ n lt. pair_imm D (Reg 0) n refl (lt-ltb n (2 ^ 32) lt)) ▸
+    no_more
 
 makes_40 : MakesRows rows_40
-makes_40 = (
-  (λ r lt. below r 8 lt),
-  (
-    (λ r lt. below r 8 lt),
-    (
-      (λ r lt. below r 8 lt),
-      (
-        (λ r lt. below r 8 lt),
-        (
-          (λ _ _ n lt. below n (2 ^ 32) lt),
-          (
-            (λ _ _ r m lr fm n lt. and2 (nat_lt r 8 && fits_operand m) (nat_lt n (2 ^ 32)) (and2 (nat_lt r 8) (fits_operand m) (below r 8 lr) fm) (below n (2 ^ 32) lt)),
-            (
-              (λ _ _ n e. short_long n e),
-              (
-                (λ _ _ r m lr fm n e. and2 (nat_lt r 8 && fits_operand m) (nat_lt n (2 ^ 32)) (and2 (nat_lt r 8) (fits_operand m) (below r 8 lr) fm) (short_long n e)),
-                ((λ _ _ n e. e), tt),
-              ),
-            ),
-          ),
-        ),
-      ),
-    ),
-  ),
-)
+makes_40 =
+    (λ r lt. lt-ltb r 8 lt) ▸
+    (λ r lt. lt-ltb r 8 lt) ▸
+    (λ r lt. lt-ltb r 8 lt) ▸
+    (λ r lt. lt-ltb r 8 lt) ▸
+    (λ _ _ n lt. lt-ltb n (2 ^ 32) lt) ▸
+    (λ _ _ r m lr fm n lt. and_from (nat_lt r 8 && fits_operand m) (nat_lt n (2 ^ 32)) (r_and_m r m lr fm) (lt-ltb n (2 ^ 32) lt)) ▸
+    (λ _ _ n e. short_long n e) ▸
+    (λ _ _ r m lr fm n e. and_from (nat_lt r 8 && fits_operand m) (nat_lt n (2 ^ 32)) (r_and_m r m lr fm) (short_long n e)) ▸
+    (λ _ _ n e. e) ▸
+    no_more
 
 -- ---- groups
 
@@ -232,7 +199,7 @@ push_makes (Memory m) e = e
 push_makes (Imm n) e = absurd cc
 
 unary_makes : (n : ℕ) (g : Operand → Tail) (m : Operand) → fits_operand m ≡ true → unary_of n ≡ Some g → MakesTail (g m)
-unary_makes zero g m fm e = only_makes true (λ m. id (λ i. op.Test D m (Imm i))) g m e (λ n lt. pair_imm D m n fm (below n (2 ^ 32) lt))
+unary_makes zero g m fm e = only_makes true (λ m. id (λ i. op.Test D m (Imm i))) g m e (λ n lt. pair_imm D m n fm (lt-ltb n (2 ^ 32) lt))
 unary_makes (suc zero) g m fm e = absurd cc
 unary_makes (suc (suc zero)) g m fm e = only_makes true (λ m. done (op.Unary unary.Not m)) g m e (fm)
 unary_makes (suc (suc (suc zero))) g m fm e = only_makes true (λ m. done (op.Unary unary.Neg m)) g m e (fm)
@@ -243,8 +210,8 @@ unary_makes (suc (suc (suc (suc (suc (suc (suc zero))))))) g m fm e = only_makes
 unary_makes (suc (suc (suc (suc (suc (suc (suc (suc n)))))))) g m fm e = absurd cc
 
 ff_makes : (n : ℕ) (g : Operand → Tail) (m : Operand) → fits_operand m ≡ true → ff_of n ≡ Some g → MakesTail (g m)
-ff_makes zero g m fm e = only_makes true (λ m. done (op.Inc D m)) g m e (fm)
-ff_makes (suc zero) g m fm e = only_makes true (λ m. done (op.Dec D m)) g m e (fm)
+ff_makes zero g m fm e = only_makes true (λ m. done (op.IncDec inc_dec.Inc D m)) g m e (fm)
+ff_makes (suc zero) g m fm e = only_makes true (λ m. done (op.IncDec inc_dec.Dec D m)) g m e (fm)
 ff_makes (suc (suc zero)) g m fm e = only_makes true (λ m. done (op.CallTo m)) g m e (fm)
 ff_makes (suc (suc (suc zero))) g m fm e = absurd cc
 ff_makes (suc (suc (suc (suc zero)))) g m fm e = only_makes true (λ m. done (op.JmpTo m)) g m e (fm)
@@ -252,203 +219,86 @@ ff_makes (suc (suc (suc (suc (suc zero))))) g m fm e = absurd cc
 ff_makes (suc (suc (suc (suc (suc (suc zero)))))) g m fm e = only_makes true (λ m. done (op.Push m)) g m e (push_makes m fm)
 ff_makes (suc (suc (suc (suc (suc (suc (suc n))))))) g m fm e = absurd cc
 
-fence_cases : (n : ℕ) (g : Operand → Tail) (m : Operand) → fits_operand m ≡ true → slice_index_or (None ∷ None ∷ None ∷ None ∷ None ∷ Some (λ m. done op.Lfence) ∷ Some (λ m. done op.Mfence) ∷ Some (λ m. done op.Sfence) ∷ []) n None ≡ Some g → MakesTail (g m)
-fence_cases zero g m fm e = absurd cc
-fence_cases (suc zero) g m fm e = absurd cc
-fence_cases (suc (suc zero)) g m fm e = absurd cc
-fence_cases (suc (suc (suc zero))) g m fm e = absurd cc
-fence_cases (suc (suc (suc (suc zero)))) g m fm e = absurd cc
-fence_cases (suc (suc (suc (suc (suc zero))))) g m fm e = only_makes true (λ m. done op.Lfence) g m e (refl)
-fence_cases (suc (suc (suc (suc (suc (suc zero)))))) g m fm e = only_makes true (λ m. done op.Mfence) g m e (refl)
-fence_cases (suc (suc (suc (suc (suc (suc (suc zero))))))) g m fm e = only_makes true (λ m. done op.Sfence) g m e (refl)
-fence_cases (suc (suc (suc (suc (suc (suc (suc (suc n)))))))) g m fm e = absurd cc
-
-fence_makes : (t : Bool) (n : ℕ) (g : Operand → Tail) (m : Operand) → fits_operand m ≡ true → cond t (slice_index_or (None ∷ None ∷ None ∷ None ∷ None ∷ Some (λ m. done op.Lfence) ∷ Some (λ m. done op.Mfence) ∷ Some (λ m. done op.Sfence) ∷ []) n None) None ≡ Some g → MakesTail (g m)
-fence_makes true n g m fm e = fence_cases n g m fm e
-fence_makes false n g m fm e = absurd cc
+fence_makes : (t : Bool) (n : ℕ) (g : Operand → Tail) (m : Operand) → cond t (option_map (λ k m. done (op.Bare k)) (fence_of n)) None ≡ Some g → MakesTail (g m)
+fence_makes true n g m e = map_makes (fence_of n) _ g m e (λ k. refl)
+fence_makes false n g m e = absurd cc
 
 makes_80 : MakesRows rows_80
-makes_80 = (
-  (λ _ _ r m lr fm n lt. pair_imm B m n fm (below n 256 lt)),
-  (
-    (λ _ _ r m lr fm n lt. pair_imm D m n fm (below n (2 ^ 32) lt)),
-    (
-      (λ _ _ r m lr fm n e. pair_imm D m n fm (short_long n e)),
-      (
-        (λ _ _ r m lr fm. and2 (fits_operand m) (nat_lt r 8) fm (below r 8 lr)),
-        (
-          (λ _ _ r m lr fm. and2 (fits_operand m) (nat_lt r 8) fm (below r 8 lr)),
-          (
-            (λ _ _ r m lr fm. and2 (fits_operand m) (nat_lt r 8) fm (below r 8 lr)),
-            (
-              (λ _ _ r m lr fm. and2 (fits_operand m) (nat_lt r 8) fm (below r 8 lr)),
-              (
-                (λ _ _ r m lr fm. pair_mr B r m lr fm),
-                (
-                  (λ _ _ r m lr fm. pair_mr D r m lr fm),
-                  (
-                    (λ _ _ r m lr fm. pair_rm B r m lr fm),
-                    (
-                      (λ _ _ r m lr fm. pair_rm D r m lr fm),
-                      (
-                        (λ _ _ r m lr fm. and2 (nat_lt r 8) (fits_mem m) (below r 8 lr) fm),
-                        (
-                          (λ _ _ h g m e fm. only_makes (h.reg == 0) _ g m e (fm)),
-                          (
-                            (λ _ _. refl),
-                            (
-                              (λ r lt. and2 (nat_lt (r + 1) 8) (nat_lt 0 8) (below (r + 1) 8 (omega arith)) refl),
-                              (
-                                (λ _ _. refl),
-                                ((λ _ _. refl), tt),
-                              ),
-                            ),
-                          ),
-                        ),
-                      ),
-                    ),
-                  ),
-                ),
-              ),
-            ),
-          ),
-        ),
-      ),
-    ),
-  ),
-)
+makes_80 =
+    (λ _ _ r m lr fm n lt. pair_imm B m n fm (lt-ltb n 256 lt)) ▸
+    (λ _ _ r m lr fm n lt. pair_imm D m n fm (lt-ltb n (2 ^ 32) lt)) ▸
+    (λ _ _ r m lr fm n e. pair_imm D m n fm (short_long n e)) ▸
+    (λ _ _ r m lr fm. m_and_r r m lr fm) ▸
+    (λ _ _ r m lr fm. m_and_r r m lr fm) ▸
+    (λ _ _ r m lr fm. m_and_r r m lr fm) ▸
+    (λ _ _ r m lr fm. m_and_r r m lr fm) ▸
+    (λ _ _ r m lr fm. pair_mr B r m lr fm) ▸
+    (λ _ _ r m lr fm. pair_mr D r m lr fm) ▸
+    (λ _ _ r m lr fm. pair_rm B r m lr fm) ▸
+    (λ _ _ r m lr fm. pair_rm D r m lr fm) ▸
+    (λ _ _ r m lr fm. and_from (nat_lt r 8) (fits_mem m) (lt-ltb r 8 lr) fm) ▸
+    (λ _ _ h g m e fm. only_makes (h.reg == 0) _ g m e (fm)) ▸
+    (λ _ _. refl) ▸
+    (λ r lt. and_from (nat_lt (r + 1) 8) (nat_lt 0 8) (lt-ltb (r + 1) 8 (omega arith)) refl) ▸
+    (λ _ _. refl) ▸
+    (λ _ _. refl) ▸
+    no_more
 
 makes_A0 : MakesRows rows_A0
-makes_A0 = (
-  (λ _ _ n lt. below n (2 ^ 32) lt),
-  (
-    (λ _ _ n lt. below n (2 ^ 32) lt),
-    (
-      (λ _ _ n lt. and2 (nat_lt n (2 ^ 32)) true (below n (2 ^ 32) lt) refl),
-      (
-        (λ _ _ n lt. and2 (nat_lt n (2 ^ 32)) true (below n (2 ^ 32) lt) refl),
-        (
-          (λ _ _ n lt. below n 256 lt),
-          (
-            (λ _ _ n lt. below n (2 ^ 32) lt),
-            (
-              (λ r lr n lt. pair_imm B (Reg r) n (below r 8 lr) (below n 256 lt)),
-              ((λ r lr n lt. pair_imm D (Reg r) n (below r 8 lr) (below n (2 ^ 32) lt)), tt),
-            ),
-          ),
-        ),
-      ),
-    ),
-  ),
-)
+makes_A0 =
+    (λ _ _ n lt. lt-ltb n (2 ^ 32) lt) ▸
+    (λ _ _ n lt. lt-ltb n (2 ^ 32) lt) ▸
+    (λ _ _ n lt. and_from (nat_lt n (2 ^ 32)) true (lt-ltb n (2 ^ 32) lt) refl) ▸
+    (λ _ _ n lt. and_from (nat_lt n (2 ^ 32)) true (lt-ltb n (2 ^ 32) lt) refl) ▸
+    (λ _ _ n lt. lt-ltb n 256 lt) ▸
+    (λ _ _ n lt. lt-ltb n (2 ^ 32) lt) ▸
+    (λ r lr n lt. pair_imm B (Reg r) n (lt-ltb r 8 lr) (lt-ltb n 256 lt)) ▸
+    (λ r lr n lt. pair_imm D (Reg r) n (lt-ltb r 8 lr) (lt-ltb n (2 ^ 32) lt)) ▸
+    no_more
 
 makes_C0 : MakesRows rows_C0
-makes_C0 = (
-  (λ _ _ h g m e fm. map_makes (shift_of h.reg) _ g m e (λ k. λ n lt. and2 (fits_operand m) (nat_lt n 256) fm (below n 256 lt))),
-  (
-    (λ _ _ n lt. below n (2 ^ 16) lt),
-    (
-      (λ _ _. refl),
-      (
-        (λ _ _ h g m e fm. or_makes (h.reg == 0) (h.mode == 3 && h.reg == 7 && h.rm == 0) _ _ g m e (λ n lt. pair_imm B m n fm (below n 256 lt)) (λ n lt. below n 256 lt)),
-        (
-          (λ _ _ h g m e fm. or_makes (h.reg == 0) (h.mode == 3 && h.reg == 7 && h.rm == 0) _ _ g m e (λ n lt. pair_imm D m n fm (below n (2 ^ 32) lt)) (λ n lt. below n (2 ^ 32) lt)),
-          (
-            (λ _ _. refl),
-            (
-              (λ _ _. refl),
-              (
-                (λ _ _ h g m e fm. map_makes (shift_of h.reg) _ g m e (λ k. and2 (fits_operand m) true fm refl)),
-                (
-                  (λ _ _ h g m e fm. map_makes (shift_of h.reg) _ g m e (λ k. and2 (fits_operand m) true fm refl)),
-                  (
-                    (λ _ _ n e. e),
-                    (
-                      (λ _ _ n e. e),
-                      (
-                        (λ _ _ n lt. below n (2 ^ 32) lt),
-                        (
-                          (λ _ _ n lt. below n (2 ^ 32) lt),
-                          (
-                            (λ _ _ n e. e),
-                            (
-                              (λ _ _. refl),
-                              (
-                                (λ _ _. refl),
-                                (
-                                  (λ _ _ h g m e fm. only_makes (h.reg == 0) _ g m e (λ n lt. pair_imm B m n fm (below n 256 lt))),
-                                  (
-                                    (λ _ _ h g m e fm. unary_makes h.reg g m fm e),
-                                    (
-                                      (λ _ _. refl),
-                                      (
-                                        (λ _ _. refl),
-                                        (
-                                          (λ _ _ h g m e fm. or_makes (h.reg == 0) (h.reg == 1) _ _ g m e fm fm),
-                                          ((λ _ _ h g m e fm. ff_makes h.reg g m fm e), tt),
-                                        ),
-                                      ),
-                                    ),
-                                  ),
-                                ),
-                              ),
-                            ),
-                          ),
-                        ),
-                      ),
-                    ),
-                  ),
-                ),
-              ),
-            ),
-          ),
-        ),
-      ),
-    ),
-  ),
-)
+makes_C0 =
+    (λ _ _ h g m e fm. map_makes (shift_of h.reg) _ g m e (λ k. λ n lt. and_from (fits_operand m) (nat_lt n 256) fm (lt-ltb n 256 lt))) ▸
+    (λ _ _ n lt. lt-ltb n (2 ^ 16) lt) ▸
+    (λ _ _. refl) ▸
+    (λ _ _ h g m e fm. or_makes (h.reg == 0) (h.mode == 3 && h.reg == 7 && h.rm == 0) _ _ g m e (λ n lt. pair_imm B m n fm (lt-ltb n 256 lt)) (λ n lt. lt-ltb n 256 lt)) ▸
+    (λ _ _ h g m e fm. or_makes (h.reg == 0) (h.mode == 3 && h.reg == 7 && h.rm == 0) _ _ g m e (λ n lt. pair_imm D m n fm (lt-ltb n (2 ^ 32) lt)) (λ n lt. lt-ltb n (2 ^ 32) lt)) ▸
+    (λ _ _. refl) ▸
+    (λ _ _. refl) ▸
+    (λ _ _ h g m e fm. map_makes (shift_of h.reg) _ g m e (λ k. and_from (fits_operand m) true fm refl)) ▸
+    (λ _ _ h g m e fm. map_makes (shift_of h.reg) _ g m e (λ k. and_from (fits_operand m) true fm refl)) ▸
+    (λ _ _ n e. e) ▸
+    (λ _ _ n e. e) ▸
+    (λ _ _ n lt. lt-ltb n (2 ^ 32) lt) ▸
+    (λ _ _ n lt. lt-ltb n (2 ^ 32) lt) ▸
+    (λ _ _ n e. e) ▸
+    (λ _ _. refl) ▸
+    (λ _ _. refl) ▸
+    (λ _ _ h g m e fm. only_makes (h.reg == 0) _ g m e (λ n lt. pair_imm B m n fm (lt-ltb n 256 lt))) ▸
+    (λ _ _ h g m e fm. unary_makes h.reg g m fm e) ▸
+    (λ _ _. refl) ▸
+    (λ _ _. refl) ▸
+    (λ _ _ h g m e fm. map_makes (inc_dec_of h.reg) _ g m e (λ k. fm)) ▸
+    (λ _ _ h g m e fm. ff_makes h.reg g m fm e) ▸
+    no_more
 
 makes_two_rows : MakesRows two_byte_rows
-makes_two_rows = (
-  (λ _ _ h g m e fm. or_makes (h.mode == 3 && h.reg == 2 && h.rm == 5) (h.mode == 3 && h.reg == 2 && h.rm == 6) _ _ g m e refl refl),
-  (
-    (λ _ _. refl),
-    (
-      (λ _ _ h g m e fm. only_makes (h.reg == 0) _ g m e (fm)),
-      (
-        (λ _ _ r m lr fm. and2 (nat_lt r 8) (fits_operand m) (below r 8 lr) fm),
-        (
-          (λ _ _ n lt. below n (2 ^ 32) lt),
-          (
-            (λ _ _ h g m e fm. only_makes (h.reg == 0) _ g m e (fm)),
-            (
-              (λ _ _. refl),
-              (
-                (λ _ _ h g m e fm. fence_makes (h.mode == 3 && h.rm == 0) h.reg g m fm e),
-                (
-                  (λ _ _ r m lr fm. and2 (nat_lt r 8) (fits_operand m) (below r 8 lr) fm),
-                  (
-                    (λ _ _ r m lr fm. and2 (fits_operand m) (nat_lt r 8) fm (below r 8 lr)),
-                    (
-                      (λ _ _ r m lr fm. and2 (nat_lt r 8) (fits_operand m) (below r 8 lr) fm),
-                      (
-                        (λ _ _ h g m e fm. map_makes (bit_of h.reg) _ g m e (λ k n lt. and2 (fits_operand m) (nat_lt n 256) fm (below n 256 lt))),
-                        (
-                          (λ _ _ r m lr fm. and2 (nat_lt r 8) (fits_operand m) (below r 8 lr) fm),
-                          ((λ _ _ r m lr fm. and2 (fits_operand m) (nat_lt r 8) fm (below r 8 lr)), tt),
-                        ),
-                      ),
-                    ),
-                  ),
-                ),
-              ),
-            ),
-          ),
-        ),
-      ),
-    ),
-  ),
-)
+makes_two_rows =
+    (λ _ _ h g m e fm. or_makes (h.mode == 3 && h.reg == 2 && h.rm == 5) (h.mode == 3 && h.reg == 2 && h.rm == 6) _ _ g m e refl refl) ▸
+    (λ _ _. refl) ▸
+    (λ _ _ h g m e fm. only_makes (h.reg == 0) _ g m e (fm)) ▸
+    (λ _ _ r m lr fm. r_and_m r m lr fm) ▸
+    (λ _ _ n lt. lt-ltb n (2 ^ 32) lt) ▸
+    (λ _ _ h g m e fm. only_makes (h.reg == 0) _ g m e (fm)) ▸
+    (λ _ _. refl) ▸
+    (λ _ _ h g m e fm. fence_makes (h.mode == 3 && h.rm == 0) h.reg g m e) ▸
+    (λ _ _ r m lr fm. r_and_m r m lr fm) ▸
+    (λ _ _ r m lr fm. m_and_r r m lr fm) ▸
+    (λ _ _ r m lr fm. r_and_m r m lr fm) ▸
+    (λ _ _ h g m e fm. map_makes (bit_of h.reg) _ g m e (λ k n lt. and_from (fits_operand m) (nat_lt n 256) fm (lt-ltb n 256 lt))) ▸
+    (λ _ _ r m lr fm. r_and_m r m lr fm) ▸
+    (λ _ _ r m lr fm. m_and_r r m lr fm) ▸
+    no_more
 
 makes_if : (t : Bool) (f g : Form) → Makes f → Makes g → Makes (cond t f g)
 makes_if true f g x y = x
@@ -468,7 +318,7 @@ makes_two b = makes_rows two_byte_rows makes_two_rows b
 
 makes_f3 : (b : ℕ) → Makes (behind_f3 b)
 unfolding behind_f3
-makes_f3 b = makes_rows (row 0x90 (plain (done op.Pause)) ∷ []) ((λ _ _. refl), tt) b
+makes_f3 b = makes_rows (row 0x90 (plain (done (op.Bare bare.Pause))) ∷ []) ((λ _ _. refl) ▸ no_more) b
 
 op_encodable : {s : List ℕ} {i : Op} → SpellsOp s i → encodable i ≡ true
 op_encodable (one {b = b} lt h) = makes_form h (makes_one b)
@@ -476,5 +326,5 @@ op_encodable (two {b = b} lt h) = makes_form h (makes_two b)
 op_encodable (with_f3 {b = b} lt h) = makes_form h (makes_f3 b)
 
 pub insn_encodable : {s : List ℕ} {i : Insn} → Spells s i → is_encodable i ≡ true
-insn_encodable (unlocked {i = i} h) = and2 (encodable i) true (op_encodable h) refl
-insn_encodable (locked {i = i} h l) = and2 (encodable i) (lockable i) (op_encodable h) l
+insn_encodable (unlocked {i = i} h) = and_from (encodable i) true (op_encodable h) refl
+insn_encodable (locked {i = i} h l) = and_from (encodable i) (lockable i) (op_encodable h) l

@@ -3,6 +3,7 @@ use Rattle.std.proofs.Common.{◌≡◌, ◌≢◌, ℕ, zero, suc, ◌<◌, ◌
 use Rattle.std.specs.Prelude.{◌&&◌, ◌==◌}
 use Rattle.std.proofs.lemmas.Bool.{eqb-true, eqb-false}
 use Rattle.ia_insn.specs.declared.fault.DecodeFault.TheVariants.{Short}
+use Rattle.ia_word.specs.declared.operation.BareOp.TheVariants as bare
 use Rattle.ia_insn.specs.declared.op.Op.{Op}
 use Rattle.ia_insn.specs.declared.op.Op.TheVariants as op
 use Rattle.ia_insn.specs.Form.{Form, none, nothing, SpellsForm, alone}
@@ -62,11 +63,11 @@ module _ (map : ℕ → Form) (all : all_below 256 (λ b. live (map b)) ≡ true
   reads_two = Reads-then IsByte (λ x. SpellsForm (map x)) byte_at (λ x. form_at (map x)) exact_byte
       (λ s x y. reads_form (map x) (all_below-true 256 (λ b. live (map b)) all x y.0)) two_more
 
-cpuid : SpellsForm (two_byte 0xA2) [] op.Cpuid
+cpuid : SpellsForm (two_byte 0xA2) [] (op.Bare bare.Cpuid)
 unfolding two_byte
 cpuid = alone nothing
 
-pause : SpellsForm (behind_f3 0x90) [] op.Pause
+pause : SpellsForm (behind_f3 0x90) [] (op.Bare bare.Pause)
 unfolding behind_f3
 pause = alone nothing
 
@@ -116,14 +117,14 @@ reads_behind b lt = Reads-if (b == 0x0F)
     Reads-same
     (λ s i h. rw (is, h.parts, h.first.1) (two h.first.0 h.second))
     (λ s i h. from_0f h is)
-    (reads_two two_byte two_live 0xA2 (omega arith) op.Cpuid cpuid))
+    (reads_two two_byte two_live 0xA2 (omega arith) (op.Bare bare.Cpuid) cpuid))
     (λ e. let n : b ≢ 0x0F = eqb-false _ _ e in
     Reads-if (b == 0xF3)
     (λ e. let is : b ≡ 0xF3 = eqb-true _ _ e in
     Reads-same
     (λ s i h. rw (is, h.parts, h.first.1) (with_f3 h.first.0 h.second))
     (λ s i h. from_f3 h is)
-    (reads_two behind_f3 f3_live 0x90 (omega arith) op.Pause pause))
+    (reads_two behind_f3 f3_live 0x90 (omega arith) (op.Bare bare.Pause) pause))
     (λ e. let m : b ≢ 0xF3 = eqb-false _ _ e in
     Reads-same (λ s i h. one lt h) (λ s i h. from_other h n m)
     (reads_form (one_byte b) (all_below-true 256 (λ b. live (one_byte b)) one_live b lt))))

@@ -2,7 +2,7 @@
 use Rattle.std.proofs.Common.{◌≡◌, ◌≢◌, ℕ, zero, suc, ◌%◌, ◌^◌, ◌<◌, Bool, true, false, List, [], ◌∷◌, Option, Some, None, refl, arith}
 use Rattle.std.specs.Prelude.{◌&&◌, ◌==◌}
 use Rattle.std.specs.Int.{w32}
-use Rattle.std.proofs.lemmas.Bool.{eqb-true, eqb-false}
+use Rattle.std.proofs.lemmas.Bool.{eqb-true, eqb-false, and_parts}
 use Rattle.ia_word.specs.Bytes.{sign_extended}
 use Rattle.ia_insn.specs.declared.operand.Mem.{Mem}
 use Rattle.ia_insn.specs.declared.operand.Operand.{Operand}
@@ -50,11 +50,6 @@ some_from (base h x) p = (refl, x)
 pair_is : (p : Option ℕ × ℕ) (o : Option ℕ) → p.0 ≡ o → p ≡ (o, p.1)
 pair_is p o e = λ i. (e i, p.1)
 
-and_true : (a b : Bool) → (a && b) ≡ true → (a ≡ true) × (b ≡ true)
-and_true true true e = (refl, refl)
-and_true true false e = absurd cc
-and_true false b e = absurd cc
-
 and_false : (a b : Bool) → (a && b) ≡ false → a ≡ true → b ≡ true → ⊥
 and_false true true e p q = cc
 and_false true false e p q = cc
@@ -63,7 +58,7 @@ and_false false b e p q = cc
 pub exact_base : (mode r : ℕ) → mode < 3 → Exact (IsBase mode r) (base_at mode r)
 unfolding base_at
 exact_base mode r lt = Exact-if (mode == 0 && r == 5)
-    (λ e. let t = and_true (mode == 0) (r == 5) e in
+    (λ e. let t = and_parts (mode == 0) (r == 5) e in
     let m0 : mode ≡ 0 = eqb-true _ _ t.0 in
     let r5 : r ≡ 5 = eqb-true _ _ t.1 in
     Exact-same

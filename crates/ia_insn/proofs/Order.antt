@@ -1,45 +1,33 @@
 -- No row hides another: the rows of each block rise, do not overlap, and lie within the block.
-use Rattle.std.proofs.Common.{◌≡◌, ℕ, zero, suc, ◌+◌, ◌-◌, ◌*◌, ◌/◌, ◌%◌, ◌<◌, ◌≤◌, Bool, true, false, cond, List, [], ◌∷◌, length, refl, ap, ◌∙◌, arith}
+use Rattle.std.proofs.Common.{◌≡◌, ℕ, zero, suc, ◌+◌, ◌-◌, ◌*◌, ◌/◌, ◌%◌, ◌<◌, ◌≤◌, Bool, true, cond, List, [], ◌∷◌, length, refl, ap, ◌∙◌, arith}
 use Rattle.std.specs.Prelude.{◌&&◌, nat_le, nat_lt, slice_index_or, All}
-use Rattle.std.proofs.lemmas.Bool.{leb-true, le-leb, lt-ltb, le-ltb}
+use Rattle.std.proofs.lemmas.Bool.{leb-true, le-leb, lt-ltb, le-ltb, and_parts, and_from, and_right}
 use Rattle.ia_word.specs.declared.operation.AluOp.{AluOp}
-use Rattle.ia_word.specs.declared.operation.AluOp.TheVariants as alu
 use Rattle.ia_insn.specs.Form.{Form}
-use Rattle.ia_insn.specs.Table.{OpcodeRow, look_up, alu_of, alu_rows, alu_row, rows_40, rows_80, rows_A0, rows_C0, row_40, row_80, row_A0, row_C0, one_byte, two_byte_rows, two_byte}
-use Rattle.ia_insn.specs.Encoding.{alu_number}
+use Rattle.ia_insn.specs.Table.{OpcodeRow, look_up, alu_rows, alu_row, rows_40, rows_80, rows_A0, rows_C0, row_40, row_80, row_A0, row_C0, one_byte, two_byte_rows, two_byte}
+use Rattle.ia_insn.specs.Operations.{alu_number}
 use Rattle.ia_insn.specs.Order.{IsReached}
+use Rattle.ia_insn.proofs.Numbers.{alu_low, alu_back}
 
 abbrev in_order : ℕ → ℕ → List OpcodeRow → Bool
 in_order from end [] = nat_le from end
 in_order from end (r ∷ rs) = nat_le from r.first && in_order (r.first + r.many) end rs
 
-both : (a b : Bool) → (a && b) ≡ true → (a ≡ true) × (b ≡ true)
-both true b e = (refl, e)
-both false b e = absurd cc
-
-and_true : (a b : Bool) → a ≡ true → b ≡ true → (a && b) ≡ true
-and_true true b p q = q
-and_true false b p q = p
-
-and_false : (a b : Bool) → b ≡ false → (a && b) ≡ false
-and_false true b q = q
-and_false false b q = refl
-
 order_le : (rs : List OpcodeRow) (from end : ℕ) → in_order from end rs ≡ true → from ≤ end
 order_le [] from end e = leb-true _ _ e
 order_le (r ∷ rs) from end e =
-    let p = both (nat_le from r.first) (in_order (r.first + r.many) end rs) e in
+    let p = and_parts (nat_le from r.first) (in_order (r.first + r.many) end rs) e in
     omega (arith, leb-true from r.first p.0, order_le rs (r.first + r.many) end p.1)
 
 first_row : (r : OpcodeRow) (rs : List OpcodeRow) (j : ℕ) → j < r.many → look_up (r ∷ rs) (r.first + j) ≡ r.form j
 first_row r rs j lt =
-    let t = and_true (nat_le r.first (r.first + j)) (nat_lt (r.first + j) (r.first + r.many)) (le-leb r.first (r.first + j) (omega arith)) (lt-ltb (r.first + j) (r.first + r.many) (omega arith)) in
+    let t = and_from (nat_le r.first (r.first + j)) (nat_lt (r.first + j) (r.first + r.many)) (le-leb r.first (r.first + j) (omega arith)) (lt-ltb (r.first + j) (r.first + r.many) (omega arith)) in
     let m : r.first + j - r.first ≡ j = omega arith in
     ap (λ (z : Bool). cond z (r.form (r.first + j - r.first)) (look_up rs (r.first + j))) t ∙ ap r.form m
 
 later_row : (r : OpcodeRow) (rs : List OpcodeRow) (b : ℕ) → r.first + r.many ≤ b → look_up (r ∷ rs) b ≡ look_up rs b
 later_row r rs b le =
-    let t = and_false (nat_le r.first b) (nat_lt b (r.first + r.many)) (le-ltb b (r.first + r.many) le) in
+    let t = and_right (nat_le r.first b) (nat_lt b (r.first + r.many)) (le-ltb b (r.first + r.many) le) in
     ap (λ (z : Bool). cond z (r.form (b - r.first)) (look_up rs b)) t
 
 record Within (look : ℕ → Form) (from end : ℕ) (r : OpcodeRow) : Type 0 where
@@ -50,10 +38,10 @@ record Within (look : ℕ → Form) (from end : ℕ) (r : OpcodeRow) : Type 0 wh
 reached : (rs : List OpcodeRow) (from end : ℕ) → in_order from end rs ≡ true → (k : ℕ) (d : OpcodeRow) → k < length rs → Within (look_up rs) from end (slice_index_or rs k d)
 reached [] from end e k d lt = absurd (omega arith)
 reached (r ∷ rs) from end e zero d lt =
-    let p = both (nat_le from r.first) (in_order (r.first + r.many) end rs) e in
+    let p = and_parts (nat_le from r.first) (in_order (r.first + r.many) end rs) e in
     record { low = leb-true from r.first p.0; high = order_le rs (r.first + r.many) end p.1; here = λ j lj. first_row r rs j lj }
 reached (r ∷ rs) from end e (suc k) d lt =
-    let p = both (nat_le from r.first) (in_order (r.first + r.many) end rs) e in
+    let p = and_parts (nat_le from r.first) (in_order (r.first + r.many) end rs) e in
     let w = reached rs (r.first + r.many) end p.1 k d (omega arith) in
     let x = slice_index_or rs k d in
     record { low = omega (arith, leb-true from r.first p.0, w.low); high = w.high; here = λ j lj. later_row r rs (x.first + j) (omega (arith, w.low)) ∙ w.here j lj }
@@ -70,19 +58,10 @@ in_block map rs from end e same k d lt j lj =
 alu_block : (k : AluOp) (b : ℕ) → b < 6 → one_byte (8 * alu_number k + b) ≡ look_up (alu_rows k) b
 unfolding one_byte alu_row
 alu_block k b lt =
-    let low = alu_low k in
-    let t : nat_lt (8 * alu_number k + b) 0x40 ≡ true = lt-ltb (8 * alu_number k + b) 0x40 (omega (arith, low)) in
+    let t : nat_lt (8 * alu_number k + b) 0x40 ≡ true = lt-ltb (8 * alu_number k + b) 0x40 (omega (arith, alu_low k)) in
     let n : (8 * alu_number k + b) / 8 ≡ alu_number k = omega arith in
     let m : (8 * alu_number k + b) % 8 ≡ b = omega arith in
     rw (t, n, m, alu_back k) refl
-  where
-    alu_low : (k : AluOp) → alu_number k < 8
-    alu_low alu.Add = omega arith
-    alu_low _ = omega arith
-
-    alu_back : (k : AluOp) → alu_of (alu_number k) ≡ k
-    alu_back alu.Add = refl
-    alu_back _ = refl
 
 block_40 : (b : ℕ) → 0x40 ≤ b → b < 0x80 → one_byte b ≡ look_up rows_40 b
 unfolding one_byte row_40

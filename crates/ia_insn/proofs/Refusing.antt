@@ -3,7 +3,7 @@ use Rattle.std.proofs.Common.{◌≡◌, ◌≢◌, ℕ, Bool, true, false, cond
 use Rattle.ia_insn.specs.declared.fault.DecodeFault.{DecodeFault}
 use Rattle.ia_insn.specs.declared.fault.DecodeFault.TheVariants.{Short, NotInSubset}
 use Rattle.ia_insn.specs.Reading.{◌>>=◌, Read}
-use Rattle.ia_insn.proofs.Exact.{IsBytes, IsBytes-append, IsBytes-right, bind_ok, Exact, Then}
+use Rattle.ia_insn.proofs.Exact.{IsBytes, IsBytes-append, IsBytes-right, Exact, Then, then_again, then_found}
 
 pub record Reads {A : Type 0} (S : List ℕ → A → Type 0) (read : List ℕ → Read A) : Type 0 where
   pub again : (s : List ℕ) (a : A) (rest : List ℕ) → S s a → read (s ++ rest) ≡ Ok (a, rest)
@@ -49,23 +49,6 @@ Reads-if false x y = y refl
 module _ {A B : Type 0} (S : List ℕ → A → Type 0) (T : A → List ℕ → B → Type 0) (r : List ℕ → Read A) (q : A → List ℕ → Read B)
     (x : Exact S r) (y : (s : List ℕ) (a : A) → S s a → Reads (T a) (q a))
     (live : (bytes : List ℕ) → r bytes ≡ Err Short → (more : List ℕ) × (b : B) × Then S T (bytes ++ more) b) where
-  then_again : (s : List ℕ) (b : B) (rest : List ℕ) → Then S T s b → (r (s ++ rest) >>= λ p. q p.0 p.1) ≡ Ok (b, rest)
-  then_again s b rest h =
-      let regrouped : s ++ rest ≡ h.front ++ (h.back ++ rest) = ap (λ (z : List ℕ). z ++ rest) h.parts ∙ append_assoc h.front h.back rest in
-      ap (λ (z : List ℕ). r z >>= λ p. q p.0 p.1) regrouped
-      ∙ ap (λ (z : Read A). z >>= λ p. q p.0 p.1) (x.again h.front h.value (h.back ++ rest) h.first)
-      ∙ (y h.front h.value h.first).again h.back b rest h.second
-
-  then_found : (bytes : List ℕ) (b : B) (rest : List ℕ) → IsBytes bytes → (r bytes >>= λ p. q p.0 p.1) ≡ Ok (b, rest) → (s : List ℕ) × Then S T s b × (bytes ≡ s ++ rest)
-  then_found bytes b rest fits e =
-      let k = bind_ok (r bytes) (λ p. q p.0 p.1) (b, rest) e in
-      let f = x.found bytes k.0.0 k.0.1 fits k.1 in
-      let g = (y f.0 k.0.0 f.1).found k.0.1 b rest (IsBytes-right f.0 k.0.1 (subst IsBytes f.2 fits)) k.2 in (
-        f.0 ++ g.0,
-        record { value = k.0.0; front = f.0; back = g.0; first = f.1; second = g.1; parts = refl },
-        f.2 ∙ ap (λ (z : List ℕ). f.0 ++ z) g.2 ∙ sym (append_assoc f.0 g.0 rest),
-      )
-
   then_short : (bytes : List ℕ) → IsBytes bytes → (z : Read A) → r bytes ≡ z → (z >>= λ p. q p.0 p.1) ≡ Err Short → (more : List ℕ) × (b : B) × Then S T (bytes ++ more) b
   then_short bytes fits (Err d) was h = live bytes (was ∙ cc h)
   then_short bytes fits (Ok p) was h =
@@ -88,8 +71,8 @@ module _ {A B : Type 0} (S : List ℕ → A → Type 0) (T : A → List ℕ → 
 
   pub Reads-then : Reads (Then S T) (λ bytes. r bytes >>= λ p. q p.0 p.1)
   Reads-then = record {
-    again = then_again;
-    found = then_found;
+    again = then_again S T r q x (λ s a h. (y s a h).again);
+    found = then_found S T r q x (λ s a h. (y s a h).found);
     short = λ bytes fits h. then_short bytes fits (r bytes) refl h;
     other = λ bytes e fits h ne. then_other bytes e fits (r bytes) refl h ne;
     fits = λ s b h. subst IsBytes (sym h.parts) (IsBytes-append h.front h.back (x.fits h.front h.value h.first) ((y h.front h.value h.first).fits h.back b h.second));

@@ -220,7 +220,7 @@ short_plain b bytes fits (Err d) was h =
     let no : op_at (b ∷ bytes) ≡ Err Short = was ∙ cc h in
     let f = reads_op.short (b ∷ bytes) fits no in
     let m = op_missing (b ∷ bytes) no f.0 f.1 f.2 in
-    (m.0, m.1, plain_insn f.1, unlocked m.2)
+    (m.0, m.1, plain_insn f.1, unlocked {bytes = b ∷ (bytes ++ m.0 ∷ m.1)} m.2)
 short_plain b bytes fits (Ok p) was h = absurd (cc h)
 
 pub short_is : (bytes : List ℕ) → IsBytes bytes → insn_at bytes ≡ Err Short → IsShort bytes

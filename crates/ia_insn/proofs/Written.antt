@@ -1,38 +1,13 @@
 -- What is written of an operand spells it.
-use Rattle.std.proofs.Common.{◌≡◌, ◌≢◌, ◌⊎◌, inl, inr, ℕ, ◌+◌, ◌-◌, ◌*◌, ◌/◌, ◌%◌, ◌^◌, ◌<◌, ◌≤◌, Bool, true, false, cond, eqb, List, [], ◌∷◌, Option, Some, None, refl, sym, ap, subst, ◌∙◌, arith}
+use Rattle.std.proofs.Common.{◌≡◌, ◌≢◌, inl, inr, ℕ, ◌+◌, ◌-◌, ◌*◌, ◌/◌, ◌%◌, ◌^◌, ◌<◌, ◌≤◌, Bool, true, false, cond, List, [], ◌∷◌, Option, Some, None, refl, sym, ap, subst, ◌∙◌, arith}
 use Rattle.std.specs.Prelude.{◌&&◌, ◌||◌, ◌==◌, not, nat_lt, nat_le}
-use Rattle.std.proofs.lemmas.Bool.{eqb-true, eqb-false, ltb-true, leb-true, le-ltb}
+use Rattle.std.proofs.lemmas.Bool.{eqb-true, eqb-false, ltb-true, leb-true, le-ltb, ne_eqb, not-true, and_parts, or_cases}
 use Rattle.ia_word.specs.Bytes.{long_bytes, sign_extended}
 use Rattle.ia_insn.specs.declared.operand.Mem.{Mem}
 use Rattle.ia_insn.specs.declared.operand.Operand.{Operand}
 use Rattle.ia_insn.specs.declared.operand.Operand.TheVariants.{Reg, Imm, Mem as Memory}
 use Rattle.ia_insn.specs.Operands.{Head, head_of, index_of, scale_of, SpellsDisp, no_disp, disp8, disp32, SpellsBase, no_base, base, SpellsMem, plain, sib, SpellsOperand, register, memory}
 use Rattle.ia_insn.specs.Writing.{fits_base, fits_index, fits_operand, three, is_signed_byte, mode_for, disp_bytes, scale_bits, place_bytes, operand_bytes}
-
--- ---- tests
-
-both : (a b : Bool) → (a && b) ≡ true → (a ≡ true) × (b ≡ true)
-both true b e = (refl, e)
-both false b e = absurd cc
-
-either : (a b : Bool) → (a || b) ≡ true → (a ≡ true) ⊎ (b ≡ true)
-either true b e = inl refl
-either false b e = inr e
-
-neither : (a b : Bool) → (a || b) ≡ false → (a ≡ false) × (b ≡ false)
-neither true b e = absurd cc
-neither false b e = (refl, e)
-
-not_true : (a : Bool) → not a ≡ true → a ≡ false
-not_true true e = absurd cc
-not_true false e = refl
-
-not-eqb : (a b : ℕ) → a ≢ b → eqb a b ≡ false
-not-eqb a b ne = go (eqb a b) refl
-  where
-    go : (t : Bool) → eqb a b ≡ t → eqb a b ≡ false
-    go true e = absurd (ne (eqb-true a b e))
-    go false e = e
 
 -- ---- the fields of a byte
 
@@ -64,7 +39,7 @@ extended_high d lt h =
 
 pub extended : (d : ℕ) → d < 2 ^ 32 → is_signed_byte d ≡ true → sign_extended (d % 256) ≡ d
 extended d lt e =
-    elim (either (nat_lt d 128) (nat_le (2 ^ 32 - 128) d) e) [ inl h ↦ extended_low d h | inr h ↦ extended_high d lt h ]
+    elim (or_cases (nat_lt d 128) (nat_le (2 ^ 32 - 128) d) e) [ inl h ↦ extended_low d h | inr h ↦ extended_high d lt h ]
 
 abbrev mode_at : Bool → Bool → Bool → ℕ
 mode_at v t u = cond v 2 (cond t 0 (cond u 1 2))
@@ -75,9 +50,9 @@ IsDisp r d mode = (mode ≡ 0 → r ≢ 5) × SpellsDisp mode (disp_bytes mode d
 disp_go : (r d : ℕ) (v t u : Bool) → d < 2 ^ 32 → (d == 0 && not (r == 5)) ≡ t → is_signed_byte d ≡ u → IsDisp r d (mode_at v t u)
 disp_go r d true t u lt e f = (λ z. absurd (omega arith), disp32 lt, omega arith)
 disp_go r d false true u lt e f =
-    let p = both (d == 0) (not (r == 5)) e in
+    let p = and_parts (d == 0) (not (r == 5)) e in
     let d0 : d ≡ 0 = eqb-true _ _ p.0 in
-    (λ _. eqb-false _ _ (not_true (r == 5) p.1), rw d0 no_disp, omega arith)
+    (λ _. eqb-false _ _ (not-true (r == 5) p.1), rw d0 no_disp, omega arith)
 disp_go r d false false true lt e f =
     (λ z. absurd (omega arith), subst (λ (n : ℕ). SpellsDisp 1 (d % 256 ∷ []) n) (extended d lt f) (disp8 (omega arith)), omega arith)
 disp_go r d false false false lt e f = (λ z. absurd (omega arith), disp32 lt, omega arith)
@@ -115,14 +90,14 @@ mem_of b i s d = record { base = b; index = i; scale = s; disp = d }
 sib_index : (t i l : ℕ) → t < 4 → i < 8 → l < 8 → i ≢ 4 → index_of (three t i l) ≡ Some i
 sib_index t i l p q r ne =
     let e : (64 * t + 8 * i + l) / 8 % 8 ≡ i = omega arith in
-    let test : (i == 4) ≡ false = not-eqb i 4 ne in
+    let test : (i == 4) ≡ false = ne_eqb i 4 ne in
     rw (e, test) refl
 
 sib_scale : (t i l : ℕ) → t < 4 → i < 8 → l < 8 → i ≢ 4 → scale_of (three t i l) ≡ 2 ^ t
 sib_scale t i l p q r ne =
     let e : (64 * t + 8 * i + l) / 8 % 8 ≡ i = omega arith in
     let f : (64 * t + 8 * i + l) / 64 ≡ t = omega arith in
-    let test : (i == 4) ≡ false = not-eqb i 4 ne in
+    let test : (i == 4) ≡ false = ne_eqb i 4 ne in
     rw (e, test, f) refl
 
 -- a scale that fits is two to the power of its bits
@@ -140,10 +115,10 @@ record Index (i s : ℕ) : Type 0 where
 
 index_fits : (i s : ℕ) → fits_index (Some i) s ≡ true → Index i s
 index_fits i s e =
-    let p = both (nat_lt i 8 && not (i == 4)) (s == 1 || s == 2 || s == 4 || s == 8) e in
-    let q = both (nat_lt i 8) (not (i == 4)) p.0 in
+    let p = and_parts (nat_lt i 8 && not (i == 4)) (s == 1 || s == 2 || s == 4 || s == 8) e in
+    let q = and_parts (nat_lt i 8) (not (i == 4)) p.0 in
     let r = scale_go s (s == 1) (s == 2) (s == 4) refl refl refl p.1 in
-    record { below = ltb-true _ _ q.0; other = eqb-false _ _ (not_true (i == 4) q.1); power = r.0; bits = r.1 }
+    record { below = ltb-true _ _ q.0; other = eqb-false _ _ (not-true (i == 4) q.1); power = r.0; bits = r.1 }
 
 -- a place with an index
 sib_spelt : (mode t i l : ℕ) (b : Option ℕ) (s d : ℕ) (x : List ℕ) → t < 4 → i < 8 → l < 8 → i ≢ 4 → 2 ^ t ≡ s → SpellsBase mode l x b d → SpellsMem mode 4 (three t i l ∷ x) (mem_of b (Some i) s d)
@@ -198,7 +173,7 @@ pub operand_spelt : (wide : Bool) (reg : ℕ) (m : Operand) → reg < 8 → fits
 unfolding operand_bytes
 operand_spelt wide reg (Reg r) lr e = written 3 reg r [] (Reg r) (omega arith) lr (ltb-true _ _ e) (register refl)
 operand_spelt wide reg (Memory m) lr e =
-    let p = both (fits_base m.base && fits_index m.index m.scale) (nat_lt m.disp (2 ^ 32)) e in
-    let q = both (fits_base m.base) (fits_index m.index m.scale) p.0 in
+    let p = and_parts (fits_base m.base && fits_index m.index m.scale) (nat_lt m.disp (2 ^ 32)) e in
+    let q = and_parts (fits_base m.base) (fits_index m.index m.scale) p.0 in
     place_go wide reg m.base m.index m.scale m.disp lr q.0 q.1 (ltb-true _ _ p.1)
 operand_spelt wide reg (Imm n) lr e = absurd cc

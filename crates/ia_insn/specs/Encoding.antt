@@ -1,16 +1,12 @@
 -- The one spelling of an instruction that is written, and which instructions have one.
-use Rattle.std.specs.Prelude.{ℕ, ◌+◌, ◌*◌, ◌%◌, ◌^◌, Bool, true, false, not, List, [], ◌∷◌, ◌++◌, if◌then◌else◌, nat_lt, ◌==◌, ◌&&◌, ◌||◌}
+use Rattle.std.specs.Prelude.{ℕ, ◌+◌, ◌*◌, ◌%◌, ◌^◌, Bool, true, false, not, List, [], ◌∷◌, ◌++◌, if◌then◌else◌}
+use Rattle.std.specs.Prelude.{nat_lt, ◌==◌, ◌&&◌, ◌||◌}
 use Rattle.ia_word.specs.declared.operation.AluOp.{AluOp}
-use Rattle.ia_word.specs.declared.operation.AluOp.TheVariants as alu
 use Rattle.ia_word.specs.declared.operation.ShiftOp.{ShiftOp}
-use Rattle.ia_word.specs.declared.operation.ShiftOp.TheVariants as shift
 use Rattle.ia_word.specs.Bytes.{long_bytes}
 use Rattle.ia_insn.specs.declared.kinds.Count.{Count}
 use Rattle.ia_insn.specs.declared.kinds.Count.TheVariants as count
-use Rattle.ia_word.specs.declared.operation.BitOp.{BitOp}
-use Rattle.ia_word.specs.declared.operation.BitOp.TheVariants as bit
-use Rattle.ia_word.specs.declared.operation.UnaryOp.{UnaryOp}
-use Rattle.ia_word.specs.declared.operation.UnaryOp.TheVariants as unary
+use Rattle.ia_word.specs.declared.operation.IncDecOp.{IncDecOp}
 use Rattle.ia_word.specs.declared.width.Width.{Width}
 use Rattle.ia_word.specs.declared.width.Width.TheVariants.{B, D}
 use Rattle.ia_word.specs.Condition.{condition_number}
@@ -22,39 +18,7 @@ use Rattle.ia_insn.specs.declared.operand.Operand.TheVariants.{Reg, Imm, Mem as 
 use Rattle.ia_insn.specs.Operands.{word}
 use Rattle.ia_insn.specs.Spelling.{lockable}
 use Rattle.ia_insn.specs.Writing.{fits_mem, fits_operand, is_signed_byte, operand_bytes}
-
--- ---- numbers
-
-abbrev pub alu_number : AluOp → ℕ
-alu_number alu.Add = 0
-alu_number alu.Or = 1
-alu_number alu.Adc = 2
-alu_number alu.Sbb = 3
-alu_number alu.And = 4
-alu_number alu.Sub = 5
-alu_number alu.Xor = 6
-alu_number alu.Cmp = 7
-
-abbrev pub shift_number : ShiftOp → ℕ
-shift_number shift.Rol = 0
-shift_number shift.Ror = 1
-shift_number shift.Shl = 4
-shift_number shift.Shr = 5
-shift_number shift.Sar = 7
-
-abbrev pub bit_number : BitOp → ℕ
-bit_number bit.Bt = 4
-bit_number bit.Bts = 5
-bit_number bit.Btr = 6
-bit_number bit.Btc = 7
-
-abbrev pub unary_number : UnaryOp → ℕ
-unary_number unary.Not = 2
-unary_number unary.Neg = 3
-unary_number unary.Mul = 4
-unary_number unary.Imul = 5
-unary_number unary.Div = 6
-unary_number unary.Idiv = 7
+use Rattle.ia_insn.specs.Operations.{alu_number, shift_number, bit_number, unary_number, inc_dec_number, extend_opcode, exchange_opcode, loop_opcode, bare_bytes}
 
 -- 0 at bytes, 1 at doublewords
 abbrev pub width_bit : Width → ℕ
@@ -93,8 +57,8 @@ encodable (op.Alu kind width to from) = fits_pair width to from
 encodable (op.Mov width to from) = fits_pair width to from
 encodable (op.Lea register operand) = nat_lt register 8 && fits_mem operand
 encodable (op.Xchg width operand register) = fits_operand operand && nat_lt register 8
-encodable (op.Inc width operand) = fits_operand operand
-encodable (op.Dec width operand) = fits_operand operand
+encodable (op.IncDec kind width operand) = fits_operand operand
+encodable (op.Test width to from) = fits_test width to from
 encodable (op.Unary kind operand) = fits_operand operand
 encodable (op.Imul register operand) = nat_lt register 8 && fits_operand operand
 encodable (op.ImulImm register operand n) = nat_lt register 8 && fits_operand operand && nat_lt n (2 ^ 32)
@@ -102,45 +66,26 @@ encodable (op.Shift kind operand amount) = fits_operand operand && fits_count am
 encodable (op.Push (Imm n)) = nat_lt n (2 ^ 32)
 encodable (op.Push operand) = fits_operand operand
 encodable (op.Pop operand) = fits_operand operand
-encodable (op.RetPop n) = nat_lt n (2 ^ 16)
-encodable (op.Jmp distance) = nat_lt distance (2 ^ 32)
-encodable (op.JmpShort distance) = fits_short distance
-encodable (op.Jcc condition distance) = nat_lt distance (2 ^ 32)
-encodable (op.JccShort condition distance) = fits_short distance
-encodable (op.Setcc condition operand) = fits_operand operand
-encodable (op.Cmpxchg operand register) = fits_operand operand && nat_lt register 8
-encodable (op.Xadd operand register) = fits_operand operand && nat_lt register 8
-encodable (op.Bit kind operand n) = fits_operand operand && nat_lt n 256
-encodable (op.Test width to from) = fits_test width to from
-encodable op.Leave = true
 encodable (op.Call distance) = nat_lt distance (2 ^ 32)
 encodable (op.CallTo operand) = fits_operand operand
 encodable op.Ret = true
+encodable (op.RetPop n) = nat_lt n (2 ^ 16)
+encodable (op.Jmp distance) = nat_lt distance (2 ^ 32)
+encodable (op.JmpShort distance) = fits_short distance
 encodable (op.JmpTo operand) = fits_operand operand
+encodable (op.Jcc condition distance) = nat_lt distance (2 ^ 32)
+encodable (op.JccShort condition distance) = fits_short distance
+encodable (op.Setcc condition operand) = fits_operand operand
 encodable (op.Cmovcc condition register operand) = nat_lt register 8 && fits_operand operand
-encodable (op.Loop distance) = fits_short distance
-encodable (op.Jecxz distance) = fits_short distance
-encodable (op.Movzx register operand) = nat_lt register 8 && fits_operand operand
-encodable (op.Movsx register operand) = nat_lt register 8 && fits_operand operand
-encodable op.Cdq = true
-encodable op.Cwde = true
-encodable op.Clc = true
-encodable op.Stc = true
-encodable op.Cmc = true
-encodable (op.NopOf operand) = fits_operand operand
-encodable op.Int3 = true
-encodable op.Ud2 = true
-encodable op.Mfence = true
-encodable op.Sfence = true
+encodable (op.LoopJump kind distance) = fits_short distance
+encodable (op.Extend kind register operand) = nat_lt register 8 && fits_operand operand
+encodable (op.Exchange kind operand register) = fits_operand operand && nat_lt register 8
+encodable (op.Bit kind operand n) = fits_operand operand && nat_lt n 256
 encodable op.Nop = true
-encodable op.Pause = true
-encodable op.Hlt = true
-encodable op.Cpuid = true
-encodable op.Lfence = true
+encodable (op.NopOf operand) = fits_operand operand
+encodable (op.Bare kind) = true
 encodable (op.Xbegin distance) = nat_lt distance (2 ^ 32)
 encodable (op.Xabort n) = nat_lt n 256
-encodable op.Xend = true
-encodable op.Xtest = true
 
 -- ---- bytes
 
@@ -179,11 +124,11 @@ test_bytes place width to (Reg from) = (0x84 + width_bit width) ∷ operand_byte
 test_bytes place width to (Memory operand) = []
 test_bytes place width to (Imm n) = (0xF6 + width_bit width) ∷ (operand_bytes place 0 to ++ imm_bytes width n)
 
--- r32: base + r; else first /n
-unfoldable pub inc_dec_bytes : Bool → Width → ℕ → ℕ → Operand → List ℕ
-inc_dec_bytes place D base n (Reg register) = (base + register) ∷ []
-inc_dec_bytes place D base n operand = 0xFF ∷ operand_bytes place n operand
-inc_dec_bytes place B base n operand = 0xFE ∷ operand_bytes place n operand
+-- r32: 40 + r or 48 + r; else FF or FE, /n
+unfoldable pub inc_dec_bytes : Bool → IncDecOp → Width → Operand → List ℕ
+inc_dec_bytes place kind D (Reg register) = (0x40 + 8 * inc_dec_number kind + register) ∷ []
+inc_dec_bytes place kind D operand = 0xFF ∷ operand_bytes place (inc_dec_number kind) operand
+inc_dec_bytes place kind B operand = 0xFE ∷ operand_bytes place (inc_dec_number kind) operand
 
 unfoldable pub shift_bytes : Bool → Bool → ShiftOp → Operand → Count → List ℕ
 shift_bytes number place kind operand count.Cl = 0xD3 ∷ operand_bytes place (shift_number kind) operand
@@ -205,8 +150,8 @@ op_bytes number place (op.Alu kind width to from) = alu_bytes number place kind 
 op_bytes number place (op.Mov width to from) = mov_bytes place width to from
 op_bytes number place (op.Lea register operand) = 0x8D ∷ operand_bytes place register (Memory operand)
 op_bytes number place (op.Xchg width operand register) = (0x86 + width_bit width) ∷ operand_bytes place register operand
-op_bytes number place (op.Inc width operand) = inc_dec_bytes place width 0x40 0 operand
-op_bytes number place (op.Dec width operand) = inc_dec_bytes place width 0x48 1 operand
+op_bytes number place (op.IncDec kind width operand) = inc_dec_bytes place kind width operand
+op_bytes number place (op.Test width to from) = test_bytes place width to from
 op_bytes number place (op.Unary kind operand) = 0xF7 ∷ operand_bytes place (unary_number kind) operand
 op_bytes number place (op.Imul register operand) = 0x0F ∷ 0xAF ∷ operand_bytes place register operand
 op_bytes number place (op.ImulImm register operand n) =
@@ -214,47 +159,30 @@ op_bytes number place (op.ImulImm register operand n) =
 op_bytes number place (op.Shift kind operand amount) = shift_bytes number place kind operand amount
 op_bytes number place (op.Push operand) = push_bytes number place operand
 op_bytes number place (op.Pop operand) = pop_bytes place operand
+op_bytes number place (op.Call distance) = 0xE8 ∷ long_bytes distance
+op_bytes number place (op.CallTo operand) = 0xFF ∷ operand_bytes place 2 operand
+op_bytes number place op.Ret = 0xC3 ∷ []
 op_bytes number place (op.RetPop n) = 0xC2 ∷ word n
 op_bytes number place (op.Jmp distance) = 0xE9 ∷ long_bytes distance
 op_bytes number place (op.JmpShort distance) = 0xEB ∷ (distance % 256) ∷ []
+op_bytes number place (op.JmpTo operand) = 0xFF ∷ operand_bytes place 4 operand
 op_bytes number place (op.Jcc condition distance) = 0x0F ∷ (0x80 + condition_number condition) ∷ long_bytes distance
 op_bytes number place (op.JccShort condition distance) = (0x70 + condition_number condition) ∷ (distance % 256) ∷ []
 op_bytes number place (op.Setcc condition operand) =
     0x0F ∷ (0x90 + condition_number condition) ∷ operand_bytes place 0 operand
-op_bytes number place (op.Cmpxchg operand register) = 0x0F ∷ 0xB1 ∷ operand_bytes place register operand
-op_bytes number place (op.Xadd operand register) = 0x0F ∷ 0xC1 ∷ operand_bytes place register operand
-op_bytes number place (op.Bit kind operand n) = 0x0F ∷ 0xBA ∷ (operand_bytes place (bit_number kind) operand ++ n ∷ [])
-op_bytes number place (op.Test width to from) = test_bytes place width to from
-op_bytes number place op.Leave = 0xC9 ∷ []
-op_bytes number place (op.Call distance) = 0xE8 ∷ long_bytes distance
-op_bytes number place (op.CallTo operand) = 0xFF ∷ operand_bytes place 2 operand
-op_bytes number place op.Ret = 0xC3 ∷ []
-op_bytes number place (op.JmpTo operand) = 0xFF ∷ operand_bytes place 4 operand
 op_bytes number place (op.Cmovcc condition register operand) =
     0x0F ∷ (0x40 + condition_number condition) ∷ operand_bytes place register operand
-op_bytes number place (op.Loop distance) = 0xE2 ∷ (distance % 256) ∷ []
-op_bytes number place (op.Jecxz distance) = 0xE3 ∷ (distance % 256) ∷ []
-op_bytes number place (op.Movzx register operand) = 0x0F ∷ 0xB6 ∷ operand_bytes place register operand
-op_bytes number place (op.Movsx register operand) = 0x0F ∷ 0xBE ∷ operand_bytes place register operand
-op_bytes number place op.Cdq = 0x99 ∷ []
-op_bytes number place op.Cwde = 0x98 ∷ []
-op_bytes number place op.Clc = 0xF8 ∷ []
-op_bytes number place op.Stc = 0xF9 ∷ []
-op_bytes number place op.Cmc = 0xF5 ∷ []
-op_bytes number place (op.NopOf operand) = 0x0F ∷ 0x1F ∷ operand_bytes place 0 operand
-op_bytes number place op.Int3 = 0xCC ∷ []
-op_bytes number place op.Ud2 = 0x0F ∷ 0x0B ∷ []
-op_bytes number place op.Mfence = 0x0F ∷ 0xAE ∷ 0xF0 ∷ []
-op_bytes number place op.Sfence = 0x0F ∷ 0xAE ∷ 0xF8 ∷ []
+op_bytes number place (op.LoopJump kind distance) = loop_opcode kind ∷ (distance % 256) ∷ []
+op_bytes number place (op.Extend kind register operand) =
+    0x0F ∷ extend_opcode kind ∷ operand_bytes place register operand
+op_bytes number place (op.Exchange kind operand register) =
+    0x0F ∷ exchange_opcode kind ∷ operand_bytes place register operand
+op_bytes number place (op.Bit kind operand n) = 0x0F ∷ 0xBA ∷ (operand_bytes place (bit_number kind) operand ++ n ∷ [])
 op_bytes number place op.Nop = 0x90 ∷ []
-op_bytes number place op.Pause = 0xF3 ∷ 0x90 ∷ []
-op_bytes number place op.Hlt = 0xF4 ∷ []
-op_bytes number place op.Cpuid = 0x0F ∷ 0xA2 ∷ []
-op_bytes number place op.Lfence = 0x0F ∷ 0xAE ∷ 0xE8 ∷ []
+op_bytes number place (op.NopOf operand) = 0x0F ∷ 0x1F ∷ operand_bytes place 0 operand
+op_bytes number place (op.Bare kind) = bare_bytes kind
 op_bytes number place (op.Xbegin distance) = 0xC7 ∷ 0xF8 ∷ long_bytes distance
 op_bytes number place (op.Xabort n) = 0xC6 ∷ 0xF8 ∷ n ∷ []
-op_bytes number place op.Xend = 0x0F ∷ 0x01 ∷ 0xD5 ∷ []
-op_bytes number place op.Xtest = 0x0F ∷ 0x01 ∷ 0xD6 ∷ []
 
 abbrev pub is_encodable : Insn → Bool
 is_encodable insn = encodable insn.op && (not insn.lock || lockable insn.op)

@@ -7,3 +7,6 @@ pub mod Spelling
 pub mod Reading
 pub mod Writing
 pub mod Encoding
+pub mod Operations
+pub mod Arguments
+pub mod Mnemonics

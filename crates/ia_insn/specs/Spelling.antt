@@ -29,13 +29,11 @@ is_place _ = false
 -- F0 may stand in front: SDM vol. 2A, "LOCK—Assert LOCK# Signal Prefix"
 abbrev pub lockable : Op → Bool
 lockable (op.Alu kind width (Memory operand) from) = writes_destination kind
-lockable (op.Inc width operand) = is_place operand
-lockable (op.Dec width operand) = is_place operand
+lockable (op.IncDec kind width operand) = is_place operand
 lockable (op.Unary unary.Not operand) = is_place operand
 lockable (op.Unary unary.Neg operand) = is_place operand
 lockable (op.Xchg width operand register) = is_place operand
-lockable (op.Xadd operand register) = is_place operand
-lockable (op.Cmpxchg operand register) = is_place operand
+lockable (op.Exchange kind operand register) = is_place operand
 lockable (op.Bit kind (Memory operand) n) = sets_bit kind
 lockable _ = false
 

@@ -1,6 +1,7 @@
 -- The opcode maps: one row an opcode, to be laid beside the opcode column of the page that is named in front of it
 -- (SDM volumes 2A to 2D). A row says what follows the opcode and which instruction it then is.
-use Rattle.std.specs.Prelude.{ℕ, ◌+◌, ◌-◌, ◌/◌, ◌%◌, ◌<◌, List, [], ◌∷◌, Option, Some, None, if◌then◌else◌, nat_lt, nat_le, ◌==◌, ◌&&◌, slice_index_or, option_map}
+use Rattle.std.specs.Prelude.{ℕ, ◌+◌, ◌-◌, ◌/◌, ◌%◌, ◌<◌, List, [], ◌∷◌, Option, Some, None, if◌then◌else◌, nat_lt}
+use Rattle.std.specs.Prelude.{nat_le, ◌==◌, ◌&&◌, slice_index_or, option_map}
 use Rattle.ia_word.specs.declared.operation.AluOp.{AluOp}
 use Rattle.ia_word.specs.declared.operation.AluOp.TheVariants as alu
 use Rattle.ia_word.specs.declared.operation.ShiftOp.{ShiftOp}
@@ -9,6 +10,13 @@ use Rattle.ia_insn.specs.declared.kinds.Count.TheVariants as count
 use Rattle.ia_word.specs.declared.operation.BitOp.{BitOp}
 use Rattle.ia_word.specs.declared.operation.BitOp.TheVariants as bit
 use Rattle.ia_word.specs.declared.operation.UnaryOp.TheVariants as unary
+use Rattle.ia_word.specs.declared.operation.IncDecOp.{IncDecOp}
+use Rattle.ia_word.specs.declared.operation.IncDecOp.TheVariants as inc_dec
+use Rattle.ia_word.specs.declared.operation.ExtendOp.TheVariants as extend
+use Rattle.ia_word.specs.declared.operation.ExchangeOp.TheVariants as exchange
+use Rattle.ia_word.specs.declared.operation.LoopOp.TheVariants as loop
+use Rattle.ia_word.specs.declared.operation.BareOp.{BareOp}
+use Rattle.ia_word.specs.declared.operation.BareOp.TheVariants as bare
 use Rattle.ia_word.specs.declared.width.Width.TheVariants.{B, D}
 use Rattle.ia_word.specs.Condition.{condition_of}
 use Rattle.ia_word.specs.Register.{EAX}
@@ -37,8 +45,8 @@ abbrev pub only : ℕ → (Operand → Tail) → Form
 only n f = group (λ h. if h.reg == n then Some f else None)
 
 -- m and no immediate
-abbrev pub bare : (Operand → Op) → Operand → Tail
-bare f m = done (f m)
+abbrev pub no_imm : (Operand → Op) → Operand → Tail
+no_imm f m = done (f m)
 
 abbrev pub eax : Operand
 eax = Reg EAX
@@ -64,6 +72,16 @@ abbrev pub bit_of : ℕ → Option BitOp
 bit_of number = slice_index_or (
     None ∷ None ∷ None ∷ None ∷
     Some bit.Bt ∷ Some bit.Bts ∷ Some bit.Btr ∷ Some bit.Btc ∷ []) number None
+
+-- /0 /1
+abbrev pub inc_dec_of : ℕ → Option IncDecOp
+inc_dec_of number = slice_index_or (Some inc_dec.Inc ∷ Some inc_dec.Dec ∷ []) number None
+
+-- /5 to /7
+abbrev pub fence_of : ℕ → Option BareOp
+fence_of number = slice_index_or (
+    None ∷ None ∷ None ∷ None ∷ None ∷
+    Some bare.Lfence ∷ Some bare.Mfence ∷ Some bare.Sfence ∷ []) number None
 
 -- ---- rows
 
@@ -116,8 +134,8 @@ unary_of n = slice_index_or (
 -- "PUSH—Push Word, Doubleword, or Quadword Onto the Stack"
 abbrev pub ff_of : ℕ → Option (Operand → Tail)
 ff_of n = slice_index_or (
-    Some (λ m. done (op.Inc D m)) ∷
-    Some (λ m. done (op.Dec D m)) ∷
+    Some (λ m. done (op.IncDec inc_dec.Inc D m)) ∷
+    Some (λ m. done (op.IncDec inc_dec.Dec D m)) ∷
     Some (λ m. done (op.CallTo m)) ∷
     None ∷
     Some (λ m. done (op.JmpTo m)) ∷
@@ -132,8 +150,8 @@ mov_or f x =
 abbrev pub rows_40 : List OpcodeRow
 rows_40 =
     -- vol. 2A "INC—Increment by 1", "DEC—Decrement by 1"
-    rows 0x40 8 (λ r. plain (done (op.Inc D (Reg r)))) ∷
-    rows 0x48 8 (λ r. plain (done (op.Dec D (Reg r)))) ∷
+    rows 0x40 8 (λ r. plain (done (op.IncDec inc_dec.Inc D (Reg r)))) ∷
+    rows 0x48 8 (λ r. plain (done (op.IncDec inc_dec.Dec D (Reg r)))) ∷
     -- vol. 2B "PUSH—Push Word, Doubleword, or Quadword Onto the Stack", "POP—Pop a Value From the Stack"
     rows 0x50 8 (λ r. plain (done (op.Push (Reg r)))) ∷
     rows 0x58 8 (λ r. plain (done (op.Pop (Reg r)))) ∷
@@ -168,14 +186,14 @@ rows_80 =
     -- vol. 2A "LEA—Load Effective Address"
     row 0x8D (r_memory (λ r m. op.Lea r m)) ∷
     -- vol. 2B "POP—Pop a Value From the Stack"
-    row 0x8F (only 0 (bare (λ m. op.Pop m))) ∷
+    row 0x8F (only 0 (no_imm (λ m. op.Pop m))) ∷
     -- vol. 2B "NOP—No Operation"; vol. 2D "XCHG—Exchange Register/Memory With Register"
     row 0x90 (plain (done op.Nop)) ∷
     rows 0x91 7 (λ r. plain (done (op.Xchg D (Reg (r + 1)) EAX))) ∷
     -- vol. 2A "CBW/CWDE/CDQE—Convert Byte to Word/Convert Word to Doubleword/Convert Doubleword to Quadword",
     -- "CWD/CDQ/CQO—Convert Word to Doubleword/Convert Doubleword to Quadword"
-    row 0x98 (plain (done op.Cwde)) ∷
-    row 0x99 (plain (done op.Cdq)) ∷ []
+    row 0x98 (plain (done (op.Bare bare.Cwde))) ∷
+    row 0x99 (plain (done (op.Bare bare.Cdq))) ∷ []
 
 unfoldable pub row_80 : ℕ → Form
 row_80 b = look_up rows_80 b
@@ -208,32 +226,29 @@ rows_C0 =
     row 0xC6 (mov_or (λ m. ib (λ i. op.Mov B m (Imm i))) (ib (λ i. op.Xabort i))) ∷
     row 0xC7 (mov_or (λ m. id (λ i. op.Mov D m (Imm i))) (id (λ i. op.Xbegin i))) ∷
     -- vol. 2A "LEAVE—High Level Procedure Exit", "INT n/INTO/INT3/INT1—Call to Interrupt Procedure"
-    row 0xC9 (plain (done op.Leave)) ∷
-    row 0xCC (plain (done op.Int3)) ∷
+    row 0xC9 (plain (done (op.Bare bare.Leave))) ∷
+    row 0xCC (plain (done (op.Bare bare.Int3))) ∷
     -- vol. 2B "RCL/RCR/ROL/ROR—Rotate", "SAL/SAR/SHL/SHR—Shift"
     row 0xD1 (digit (λ n. option_map (λ k m. done (op.Shift k m (count.Imm 1))) (shift_of n))) ∷
     row 0xD3 (digit (λ n. option_map (λ k m. done (op.Shift k m count.Cl)) (shift_of n))) ∷
     -- vol. 2A "LOOP/LOOPcc—Loop According to ECX Counter", "Jcc—Jump if Condition Is Met" (JECXZ)
-    row 0xE2 (plain (ibs (λ n. op.Loop n))) ∷
-    row 0xE3 (plain (ibs (λ n. op.Jecxz n))) ∷
+    row 0xE2 (plain (ibs (λ n. op.LoopJump loop.Loop n))) ∷
+    row 0xE3 (plain (ibs (λ n. op.LoopJump loop.Ecx n))) ∷
     -- vol. 2A "CALL—Call Procedure", "JMP—Jump"
     row 0xE8 (plain (id (λ n. op.Call n))) ∷
     row 0xE9 (plain (id (λ n. op.Jmp n))) ∷
     row 0xEB (plain (ibs (λ n. op.JmpShort n))) ∷
     -- vol. 2A "HLT—Halt", "CMC—Complement Carry Flag"
-    row 0xF4 (plain (done op.Hlt)) ∷
-    row 0xF5 (plain (done op.Cmc)) ∷
+    row 0xF4 (plain (done (op.Bare bare.Hlt))) ∷
+    row 0xF5 (plain (done (op.Bare bare.Cmc))) ∷
     -- vol. 2B "TEST—Logical Compare", and the pages of unary_of
     row 0xF6 (only 0 (λ m. ib (λ i. op.Test B m (Imm i)))) ∷
     row 0xF7 (digit unary_of) ∷
     -- vol. 2A "CLC—Clear Carry Flag"; vol. 2B "STC—Set Carry Flag"
-    row 0xF8 (plain (done op.Clc)) ∷
-    row 0xF9 (plain (done op.Stc)) ∷
+    row 0xF8 (plain (done (op.Bare bare.Clc))) ∷
+    row 0xF9 (plain (done (op.Bare bare.Stc))) ∷
     -- vol. 2A "INC—Increment by 1", "DEC—Decrement by 1", and the pages of ff_of
-    row 0xFE (digit (λ n.
-    if n == 0 then Some (bare (λ m. op.Inc B m))
-    else if n == 1 then Some (bare (λ m. op.Dec B m))
-    else None)) ∷
+    row 0xFE (digit (λ n. option_map (λ k m. done (op.IncDec k B m)) (inc_dec_of n))) ∷
     row 0xFF (digit ff_of) ∷ []
 
 unfoldable pub row_C0 : ℕ → Form
@@ -253,33 +268,30 @@ abbrev pub two_byte_rows : List OpcodeRow
 two_byte_rows =
     -- vol. 2D "XEND—Transactional End", "XTEST—Test if in Transactional Execution": the bytes D5 and D6
     row 0x01 (group (λ h.
-    if h.mode == 3 && h.reg == 2 && h.rm == 5 then Some (bare (λ m. op.Xend))
-    else if h.mode == 3 && h.reg == 2 && h.rm == 6 then Some (bare (λ m. op.Xtest))
+    if h.mode == 3 && h.reg == 2 && h.rm == 5 then Some (no_imm (λ m. op.Bare bare.Xend))
+    else if h.mode == 3 && h.reg == 2 && h.rm == 6 then Some (no_imm (λ m. op.Bare bare.Xtest))
     else None)) ∷
     -- vol. 2B "UD—Undefined Instruction", "NOP—No Operation"
-    row 0x0B (plain (done op.Ud2)) ∷
-    row 0x1F (only 0 (bare (λ m. op.NopOf m))) ∷
+    row 0x0B (plain (done (op.Bare bare.Ud2))) ∷
+    row 0x1F (only 0 (no_imm (λ m. op.NopOf m))) ∷
     -- vol. 2A "CMOVcc—Conditional Move", "Jcc—Jump if Condition Is Met"; vol. 2B "SETcc—Set Byte on Condition"
     rows 0x40 16 (λ c. r_m (λ r m. op.Cmovcc (condition_of c) r m)) ∷
     rows 0x80 16 (λ c. plain (id (λ n. op.Jcc (condition_of c) n))) ∷
-    rows 0x90 16 (λ c. only 0 (bare (λ m. op.Setcc (condition_of c) m))) ∷
+    rows 0x90 16 (λ c. only 0 (no_imm (λ m. op.Setcc (condition_of c) m))) ∷
     -- vol. 2A "CPUID—CPU Identification"
-    row 0xA2 (plain (done op.Cpuid)) ∷
+    row 0xA2 (plain (done (op.Bare bare.Cpuid))) ∷
     -- vol. 2A "LFENCE—Load Fence"; vol. 2B "MFENCE—Memory Fence", "SFENCE—Store Fence": the bytes E8, F0 and F8
     row 0xAE (group (λ h.
-    if h.mode == 3 && h.rm == 0 then slice_index_or (
-    None ∷ None ∷ None ∷ None ∷ None ∷
-    Some (bare (λ m. op.Lfence)) ∷ Some (bare (λ m. op.Mfence)) ∷ Some (bare (λ m. op.Sfence)) ∷ []) h.reg None
-    else None)) ∷
+    if h.mode == 3 && h.rm == 0 then option_map (λ k m. done (op.Bare k)) (fence_of h.reg) else None)) ∷
     -- vol. 2A "IMUL—Signed Multiply", "CMPXCHG—Compare and Exchange"; vol. 2B "MOVZX—Move With Zero-Extend"
     row 0xAF (r_m (λ r m. op.Imul r m)) ∷
-    row 0xB1 (m_r (λ m r. op.Cmpxchg m r)) ∷
-    row 0xB6 (r_m (λ r m. op.Movzx r m)) ∷
+    row 0xB1 (m_r (λ m r. op.Exchange exchange.Compare m r)) ∷
+    row 0xB6 (r_m (λ r m. op.Extend extend.Zero r m)) ∷
     -- vol. 2A "BT—Bit Test", "BTS—Bit Test and Set", "BTR—Bit Test and Reset", "BTC—Bit Test and Complement"
     row 0xBA (digit (λ n. option_map (λ k m. ib (λ i. op.Bit k m i)) (bit_of n))) ∷
     -- vol. 2B "MOVSX/MOVSXD—Move With Sign-Extension"; vol. 2D "XADD—Exchange and Add"
-    row 0xBE (r_m (λ r m. op.Movsx r m)) ∷
-    row 0xC1 (m_r (λ m r. op.Xadd m r)) ∷ []
+    row 0xBE (r_m (λ r m. op.Extend extend.Sign r m)) ∷
+    row 0xC1 (m_r (λ m r. op.Exchange exchange.Add m r)) ∷ []
 
 unfoldable pub two_byte : ℕ → Form
 two_byte b = look_up two_byte_rows b
@@ -288,7 +300,7 @@ two_byte b = look_up two_byte_rows b
 
 -- F3 90. SDM vol. 2B "PAUSE—Spin Loop Hint"
 unfoldable pub behind_f3 : ℕ → Form
-behind_f3 b = look_up (row 0x90 (plain (done op.Pause)) ∷ []) b
+behind_f3 b = look_up (row 0x90 (plain (done (op.Bare bare.Pause))) ∷ []) b
 
 -- the bytes of an instruction without F0: an opcode of one byte, or one behind 0F (SDM vol. 2A, "Opcode Maps"), or
 -- behind F3

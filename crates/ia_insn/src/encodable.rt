@@ -1,10 +1,12 @@
 //! Which instructions have a spelling.
 
-ghost use Rattle.std.specs.Prelude.{◌≡◌, ◌↔◌, ◌++◌, IsTrue, List, ℕ};
-ghost use Rattle.ia_insn.specs.Spelling.{Spells};
+ghost use Rattle.std.specs.Prelude.{◌≡◌, ◌↔◌, ◌&&◌, ◌++◌, IsTrue, List, ℕ};
+ghost use Rattle.ia_insn.specs.Spelling.{Spells, is_place};
 ghost use Rattle.ia_insn.specs.Writing.{fits_base, fits_index, fits_mem, fits_operand, is_signed_byte};
-ghost use Rattle.ia_insn.specs.Encoding.{fits_imm, fits_short, fits_pair, fits_test, fits_count, encodable, is_encodable};
+ghost use Rattle.ia_insn.specs.Encoding.{fits_imm, fits_short, fits_count, encodable, is_encodable};
+ghost use Rattle.ia_insn.specs.Arguments.{operands_of, fits_argument, fits_where_there, all_fit, may_meet};
 
+use crate::argument::Argument;
 use crate::kinds::Count;
 use crate::lockable::op_lockable;
 use crate::op::{Insn, Op};
@@ -67,27 +69,6 @@ fn imm_fits(width: Width, number: u32) -> bool
     }
 }
 
-fn pair_fits(width: Width, to: &Operand, from: &Operand) -> bool
-    ensures { result ≡ fits_pair width to.now from.now }
-{
-    match (to, from) {
-        (_, Operand::Reg(reg)) => operand_fits(to) && *reg < 8,
-        (Operand::Reg(reg), Operand::Mem(place)) => *reg < 8 && mem_fits(place),
-        (_, Operand::Mem(_)) => false,
-        (_, Operand::Imm(number)) => operand_fits(to) && imm_fits(width, *number),
-    }
-}
-
-fn test_fits(width: Width, left: &Operand, right: &Operand) -> bool
-    ensures { result ≡ fits_test width left.now right.now }
-{
-    match right {
-        Operand::Reg(reg) => operand_fits(left) && *reg < 8,
-        Operand::Mem(_) => false,
-        Operand::Imm(number) => operand_fits(left) && imm_fits(width, *number),
-    }
-}
-
 fn short_fits(distance: u32) -> bool
     ensures { result ≡ fits_short distance }
 {
@@ -103,55 +84,63 @@ fn count_fits(count: Count) -> bool
     }
 }
 
-fn push_fits(operand: &Operand) -> bool
-    ensures { result ≡ encodable (Op.Push operand.now) }
+fn argument_fits(argument: Argument) -> bool
+    ensures { result ≡ fits_argument argument }
 {
-    match *operand {
-        Operand::Reg(reg) => reg < 8,
-        Operand::Mem(place) => mem_fits(&place),
-        Operand::Imm(_number) => true,
+    match argument {
+        Argument::Operand(_, _, operand) => operand_fits(&operand),
+        Argument::Source(width, Operand::Imm(number)) => imm_fits(width, number),
+        Argument::Source(_, operand) => operand_fits(&operand),
+        Argument::Address(place) => mem_fits(&place),
+        Argument::Count(count) => count_fits(count),
+        Argument::Byte(_number) => true,
+        Argument::Half(_number) => true,
+        Argument::Near(_length, _distance) => true,
+        Argument::Short(distance) => short_fits(distance),
     }
+}
+
+fn fits_where_there(argument: Option<Argument>) -> bool
+    ensures { result ≡ fits_where_there argument }
+{
+    match argument {
+        None => true,
+        Some(argument) => argument_fits(argument),
+    }
+}
+
+fn is_place(operand: &Operand) -> bool
+    ensures { result ≡ is_place operand.now }
+{
+    matches!(operand, Operand::Mem(_))
+}
+
+/// Whether the operands may stand together: one at most is in memory, and of TEST not the second.
+fn may_meet(op: &Op) -> bool
+    ensures { result ≡ may_meet op.now }
+{
+    match op {
+        Op::Alu(_, _, to, from) => !(is_place(to) && is_place(from)),
+        Op::Mov(_, to, from) => !(is_place(to) && is_place(from)),
+        Op::Test(_, _, from) => !is_place(from),
+        _ => true,
+    }
+}
+
+fn operands_fit(op: &Op) -> bool
+    ensures { result ≡ (all_fit (operands_of op.now) && may_meet op.now) }
+{
+    let operands = op.operands();
+    fits_where_there(operands.first)
+        && fits_where_there(operands.second)
+        && fits_where_there(operands.third)
+        && may_meet(op)
 }
 
 fn op_fits(op: &Op) -> bool
     ensures { result ≡ encodable op.now }
 {
-    match *op {
-        Op::Alu(_, width, to, from) => pair_fits(width, &to, &from),
-        Op::Mov(width, to, from) => pair_fits(width, &to, &from),
-        Op::Test(width, left, right) => test_fits(width, &left, &right),
-        Op::Lea(reg, place) => reg < 8 && mem_fits(&place),
-        Op::Xchg(_, operand, reg) => operand_fits(&operand) && reg < 8,
-        Op::Cmpxchg(operand, reg) => operand_fits(&operand) && reg < 8,
-        Op::Xadd(operand, reg) => operand_fits(&operand) && reg < 8,
-        Op::Inc(_, operand) => operand_fits(&operand),
-        Op::Dec(_, operand) => operand_fits(&operand),
-        Op::Unary(_, operand) => operand_fits(&operand),
-        Op::Pop(operand) => operand_fits(&operand),
-        Op::CallTo(operand) => operand_fits(&operand),
-        Op::JmpTo(operand) => operand_fits(&operand),
-        Op::NopOf(operand) => operand_fits(&operand),
-        Op::Shift(_, operand, count) => operand_fits(&operand) && count_fits(count),
-        Op::Bit(_, operand, _number) => operand_fits(&operand),
-        Op::Push(operand) => push_fits(&operand),
-        Op::Imul(reg, operand) => reg < 8 && operand_fits(&operand),
-        Op::ImulImm(reg, operand, _number) => reg < 8 && operand_fits(&operand),
-        Op::Movzx(reg, operand) => reg < 8 && operand_fits(&operand),
-        Op::Movsx(reg, operand) => reg < 8 && operand_fits(&operand),
-        Op::JmpShort(distance) => short_fits(distance),
-        Op::Loop(distance) => short_fits(distance),
-        Op::Jecxz(distance) => short_fits(distance),
-        Op::Jcc(_, _distance) => true,
-        Op::JccShort(_, distance) => short_fits(distance),
-        Op::Setcc(_, operand) => operand_fits(&operand),
-        Op::Cmovcc(_, reg, operand) => reg < 8 && operand_fits(&operand),
-        Op::Call(_distance) => true,
-        Op::Jmp(_distance) => true,
-        Op::Xbegin(_distance) => true,
-        Op::RetPop(_bytes) => true,
-        Op::Xabort(_number) => true,
-        _ => true,
-    }
+    operands_fit(op)
 }
 
 fn fits(insn: &Insn) -> bool

@@ -22,13 +22,11 @@ pub(crate) fn op_lockable(op: &Op) -> bool
 {
     match op {
         Op::Alu(kind, _, Operand::Mem(_), _) => !matches!(kind, AluOp::Cmp),
-        Op::Inc(_, Operand::Mem(_)) => true,
-        Op::Dec(_, Operand::Mem(_)) => true,
+        Op::IncDec(_, _, Operand::Mem(_)) => true,
         Op::Unary(UnaryOp::Not, Operand::Mem(_)) => true,
         Op::Unary(UnaryOp::Neg, Operand::Mem(_)) => true,
         Op::Xchg(_, Operand::Mem(_), _) => true,
-        Op::Xadd(Operand::Mem(_), _) => true,
-        Op::Cmpxchg(Operand::Mem(_), _) => true,
+        Op::Exchange(_, Operand::Mem(_), _) => true,
         Op::Bit(kind, Operand::Mem(_), _) => !matches!(kind, BitOp::Bt),
         _ => false,
     }

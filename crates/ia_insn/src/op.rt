@@ -2,7 +2,10 @@
 
 use crate::kinds::Count;
 use crate::operand::{Mem, Operand};
-use ia_word::{AluOp, BitOp, Condition, ShiftOp, UnaryOp, Width};
+use ia_word::{
+    AluOp, BareOp, BitOp, Condition, ExchangeOp, ExtendOp, IncDecOp, LoopOp, ShiftOp, UnaryOp,
+    Width,
+};
 
 /// What an instruction does. A register is 0 to 7; a jump distance is a 32-bit value, counted from the end of the
 /// instruction, modulo 2^32. Where two operands stand, the destination is the first. Instructions of one shape that
@@ -18,10 +21,8 @@ pub enum Op {
     Lea(u8, Mem),
     /// XCHG: the operand and the register.
     Xchg(Width, Operand, u8),
-    /// INC.
-    Inc(Width, Operand),
-    /// DEC.
-    Dec(Width, Operand),
+    /// INC, DEC.
+    IncDec(IncDecOp, Width, Operand),
     /// TEST: both operands are read alone.
     Test(Width, Operand, Operand),
     /// NOT, NEG, MUL, IMUL, DIV, IDIV of a doubleword.
@@ -36,8 +37,6 @@ pub enum Op {
     Push(Operand),
     /// POP of a doubleword.
     Pop(Operand),
-    /// LEAVE.
-    Leave,
     /// CALL, near, by a distance.
     Call(u32),
     /// CALL, near, to the address in the operand.
@@ -60,58 +59,24 @@ pub enum Op {
     Setcc(Condition, Operand),
     /// CMOVcc: from the operand to the register.
     Cmovcc(Condition, u8, Operand),
-    /// LOOP, by a distance that is a sign-extended byte.
-    Loop(u32),
-    /// JECXZ, by a distance that is a sign-extended byte.
-    Jecxz(u32),
-    /// MOVZX: from an operand of a byte to the register.
-    Movzx(u8, Operand),
-    /// MOVSX: from an operand of a byte to the register.
-    Movsx(u8, Operand),
-    /// CMPXCHG: the operand, and the register that is stored where it equals EAX.
-    Cmpxchg(Operand, u8),
-    /// XADD: the operand and the register.
-    Xadd(Operand, u8),
+    /// LOOP, JECXZ, by a distance that is a sign-extended byte.
+    LoopJump(LoopOp, u32),
+    /// MOVZX, MOVSX: from an operand of a byte to the register.
+    Extend(ExtendOp, u8, Operand),
+    /// CMPXCHG, XADD: the operand and the register.
+    Exchange(ExchangeOp, Operand, u8),
     /// BT, BTS, BTR, BTC: the bit of this number of the operand.
     Bit(BitOp, Operand, u8),
-    /// CDQ.
-    Cdq,
-    /// CWDE.
-    Cwde,
-    /// CLC.
-    Clc,
-    /// STC.
-    Stc,
-    /// CMC.
-    Cmc,
     /// NOP of one byte.
     Nop,
     /// NOP with an operand, which is not read.
     NopOf(Operand),
-    /// PAUSE.
-    Pause,
-    /// HLT.
-    Hlt,
-    /// INT3.
-    Int3,
-    /// UD2.
-    Ud2,
-    /// CPUID.
-    Cpuid,
-    /// LFENCE.
-    Lfence,
-    /// MFENCE.
-    Mfence,
-    /// SFENCE.
-    Sfence,
+    /// LEAVE, CDQ, CWDE, CLC, STC, CMC, PAUSE, HLT, INT3, UD2, CPUID, LFENCE, MFENCE, SFENCE, XEND, XTEST.
+    Bare(BareOp),
     /// XBEGIN: the fallback stands at this distance.
     Xbegin(u32),
     /// XABORT with a code.
     Xabort(u8),
-    /// XEND.
-    Xend,
-    /// XTEST.
-    Xtest,
 }
 
 /// An instruction, with LOCK (the byte F0) in front or without (SDM volume 2, "LOCK—Assert LOCK# Signal Prefix").

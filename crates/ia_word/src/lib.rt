@@ -15,7 +15,9 @@ mod width;
 pub use bytes::{from_le, le_bytes, parity_even, sign_extend};
 pub use condition::Condition;
 pub use line::{line_of, lines_of};
-pub use operation::{AluOp, BitOp, ShiftOp, UnaryOp};
+pub use operation::{
+    AluOp, BareOp, BitOp, ExchangeOp, ExtendOp, IncDecOp, LoopOp, ShiftOp, UnaryOp,
+};
 pub use register::{CL, EAX, EBP, EBX, ECX, EDI, EDX, ESI, ESP};
 pub use width::Width;
 

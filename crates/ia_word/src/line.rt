@@ -9,6 +9,7 @@ use crate::width::Width;
 use arrayvec::ArrayVec;
 
 /// The line of an address: the address divided by 64.
+#[inline(always)]
 pub fn line_of(address: u32) -> u32
     ensures { result ≡ line address }
 {

@@ -66,3 +66,77 @@ pub enum UnaryOp {
     /// EDX:EAX by the operand, signed, rounded toward zero.
     Idiv,
 }
+
+/// One more or one less (SDM volume 2, INC, DEC).
+#[derive(Clone, Copy, PartialEq, Eq, Debug)]
+pub enum IncDecOp {
+    /// Adds 1.
+    Inc,
+    /// Takes 1 away.
+    Dec,
+}
+
+/// What fills the upper 24 bits where a byte becomes a doubleword (SDM volume 2, MOVZX, MOVSX).
+#[derive(Clone, Copy, PartialEq, Eq, Debug)]
+pub enum ExtendOp {
+    /// Zeros: MOVZX.
+    Zero,
+    /// Copies of the sign: MOVSX.
+    Sign,
+}
+
+/// How an operand and a register are exchanged (SDM volume 2, CMPXCHG, XADD).
+#[derive(Clone, Copy, PartialEq, Eq, Debug)]
+pub enum ExchangeOp {
+    /// CMPXCHG: the register is stored where the operand equals EAX, and else EAX takes the operand.
+    Compare,
+    /// XADD: the operand becomes the sum of both, and the register the operand.
+    Add,
+}
+
+/// A short jump by what ECX holds (SDM volume 2, LOOP/LOOPcc, and JECXZ under Jcc).
+#[derive(Clone, Copy, PartialEq, Eq, Debug)]
+pub enum LoopOp {
+    /// LOOP: ECX is one less, and then the jump is taken where it is not 0.
+    Loop,
+    /// JECXZ: the jump is taken where ECX is 0.
+    Ecx,
+}
+
+/// An instruction that never has operands. The page of each is that of its mnemonic in SDM volume 2; CDQ stands under
+/// CWD/CDQ/CQO, CWDE under CBW/CWDE/CDQE, INT3 under INT n/INTO/INT3/INT1, and UD2 under UD.
+#[derive(Clone, Copy, PartialEq, Eq, Debug)]
+pub enum BareOp {
+    /// LEAVE: ESP takes EBP, and EBP what then is popped.
+    Leave,
+    /// CDQ: EDX takes copies of the sign of EAX.
+    Cdq,
+    /// CWDE: the low half of EAX is sign-extended.
+    Cwde,
+    /// CLC: CF is cleared.
+    Clc,
+    /// STC: CF is set.
+    Stc,
+    /// CMC: CF is turned.
+    Cmc,
+    /// PAUSE: a hint in a loop that waits.
+    Pause,
+    /// HLT.
+    Hlt,
+    /// INT3: the breakpoint.
+    Int3,
+    /// UD2: the instruction that is undefined on purpose.
+    Ud2,
+    /// CPUID.
+    Cpuid,
+    /// LFENCE.
+    Lfence,
+    /// MFENCE.
+    Mfence,
+    /// SFENCE.
+    Sfence,
+    /// XEND: a transaction's end.
+    Xend,
+    /// XTEST: whether a transaction runs.
+    Xtest,
+}

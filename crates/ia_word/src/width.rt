@@ -14,6 +14,7 @@ pub enum Width {
 
 impl Width {
     /// How many values an operand of this width has: 2^8 or 2^32.
+    #[inline(always)]
     pub fn range(self) -> u64
         ensures { result ≡ 2 ^ bits_of self }
     {
@@ -24,6 +25,7 @@ impl Width {
     }
 
     /// How many bytes an operand of this width takes in memory: 1 or 4.
+    #[inline(always)]
     pub fn bytes(self) -> u32
         ensures { result ≡ bytes_of self }
     {
