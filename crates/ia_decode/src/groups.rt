@@ -4,10 +4,10 @@
 ghost use Rattle.ia_insn.specs.Table.{row_C0};
 ghost use Rattle.ia_insn.specs.Reading.{Gives, form_at};
 
-use crate::rows::{head_byte, shift};
+use crate::rows::{head_byte, inc_dec, shift};
 use ia_insn::{Count, DecodeFault, Op, Operand};
 use ia_modrm::{byte, long, operand};
-use ia_word::{UnaryOp, Width};
+use ia_word::{IncDecOp, UnaryOp, Width};
 
 /// C1: a shift by a number.
 #[tactic(auto, unfolding(ia_insn::specs::Table::row_C0))]
@@ -137,15 +137,11 @@ pub fn row_fe(bytes: &[u8]) -> Result<(Op, &[u8]), DecodeFault>
     ensures { Gives (λ x. (x.0, x.1.now)) result (form_at (row_C0 0xFE) bytes.now) }
 {
     let (head, rest) = head_byte(bytes)?;
-    if head.reg > 1 {
+    let Some(kind) = inc_dec(head.reg) else {
         return Err(DecodeFault::NotInSubset);
-    }
+    };
     let (operand, rest) = operand(head, rest)?;
-    if head.reg == 0 {
-        Ok((Op::Inc(Width::B, operand), rest))
-    } else {
-        Ok((Op::Dec(Width::B, operand), rest))
-    }
+    Ok((Op::IncDec(kind, Width::B, operand), rest))
 }
 
 /// FF: INC /0, DEC /1, CALL /2, JMP /4, PUSH /6.
@@ -159,8 +155,8 @@ pub fn row_ff(bytes: &[u8]) -> Result<(Op, &[u8]), DecodeFault>
     }
     let (operand, rest) = operand(head, rest)?;
     match head.reg {
-        0 => Ok((Op::Inc(Width::D, operand), rest)),
-        1 => Ok((Op::Dec(Width::D, operand), rest)),
+        0 => Ok((Op::IncDec(IncDecOp::Inc, Width::D, operand), rest)),
+        1 => Ok((Op::IncDec(IncDecOp::Dec, Width::D, operand), rest)),
         2 => Ok((Op::CallTo(operand), rest)),
         4 => Ok((Op::JmpTo(operand), rest)),
         _ => Ok((Op::Push(operand), rest)),

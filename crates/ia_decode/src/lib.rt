@@ -15,4 +15,4 @@ mod rows_c0;
 mod two_byte;
 mod whole;
 
-pub use whole::decode;
+pub use whole::{Decoded, decode};

@@ -2,13 +2,13 @@
 
 ghost use Rattle.std.specs.Prelude.{◌≡◌, ◌<◌, IfOk};
 ghost use Rattle.ia_insn.specs.Operands.{Head, head_of};
-ghost use Rattle.ia_insn.specs.Table.{alu_of, shift_of, bit_of};
+ghost use Rattle.ia_insn.specs.Table.{alu_of, shift_of, bit_of, inc_dec_of};
 ghost use Rattle.ia_insn.specs.Reading.{Gives, head_at, modrm_at};
 ghost use Rattle.ia_modrm.specs.Heads.{head};
 
 use ia_insn::{DecodeFault, Operand};
 use ia_modrm::{ModRm, byte, operand};
-use ia_word::{AluOp, BitOp, ShiftOp};
+use ia_word::{AluOp, BitOp, IncDecOp, ShiftOp};
 
 /// A ModRM byte.
 #[tactic(auto, unfolding(ia_insn::specs::Reading::head_at))]
@@ -71,6 +71,17 @@ pub fn bit_op(number: u8) -> Option<BitOp>
         5 => Some(BitOp::Bts),
         6 => Some(BitOp::Btr),
         7 => Some(BitOp::Btc),
+        _ => None,
+    }
+}
+
+/// INC and DEC by /n.
+pub fn inc_dec(number: u8) -> Option<IncDecOp>
+    ensures { result ≡ inc_dec_of number }
+{
+    match number {
+        0 => Some(IncDecOp::Inc),
+        1 => Some(IncDecOp::Dec),
         _ => None,
     }
 }

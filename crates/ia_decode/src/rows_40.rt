@@ -6,7 +6,7 @@ ghost use Rattle.ia_insn.specs.Reading.{Gives, form_at};
 use crate::rows::modrm;
 use ia_insn::{DecodeFault, Op, Operand};
 use ia_modrm::{long, signed_byte};
-use ia_word::{Condition, Width};
+use ia_word::{Condition, IncDecOp, Width};
 
 /// INC, DEC, PUSH and POP of a register, PUSH and IMUL with a number, the short Jcc.
 #[tactic(auto, unfolding(ia_insn::specs::Table::row_40))]
@@ -14,8 +14,14 @@ pub fn row_40(opcode: u8, bytes: &[u8]) -> Result<(Op, &[u8]), DecodeFault>
     ensures { Gives (λ x. (x.0, x.1.now)) result (form_at (row_40 opcode) bytes.now) }
 {
     match opcode {
-        0x40..=0x47 => Ok((Op::Inc(Width::D, Operand::Reg(opcode - 0x40)), bytes)),
-        0x48..=0x4f => Ok((Op::Dec(Width::D, Operand::Reg(opcode - 0x48)), bytes)),
+        0x40..=0x47 => Ok((
+            Op::IncDec(IncDecOp::Inc, Width::D, Operand::Reg(opcode - 0x40)),
+            bytes,
+        )),
+        0x48..=0x4f => Ok((
+            Op::IncDec(IncDecOp::Dec, Width::D, Operand::Reg(opcode - 0x48)),
+            bytes,
+        )),
         0x50..=0x57 => Ok((Op::Push(Operand::Reg(opcode - 0x50)), bytes)),
         0x58..=0x5f => Ok((Op::Pop(Operand::Reg(opcode - 0x58)), bytes)),
         0x68 => {

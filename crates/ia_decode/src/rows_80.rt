@@ -7,7 +7,7 @@ ghost use Rattle.ia_insn.specs.Reading.{Gives, form_at};
 use crate::rows::{alu, head_byte, modrm};
 use ia_insn::{DecodeFault, Op, Operand};
 use ia_modrm::{byte, long, memory, operand, signed_byte};
-use ia_word::Width;
+use ia_word::{BareOp, Width};
 
 /// 80, 81 and 83: ADD to CMP with a number, by /n.
 #[tactic(auto, unfolding(ia_insn::specs::Table::row_80))]
@@ -99,8 +99,8 @@ pub fn row_80(opcode: u8, bytes: &[u8]) -> Result<(Op, &[u8]), DecodeFault>
         0x8f => pop(bytes),
         0x90 => Ok((Op::Nop, bytes)),
         0x91..=0x97 => Ok((Op::Xchg(Width::D, Operand::Reg(opcode - 0x90), 0), bytes)),
-        0x98 => Ok((Op::Cwde, bytes)),
-        0x99 => Ok((Op::Cdq, bytes)),
+        0x98 => Ok((Op::Bare(BareOp::Cwde), bytes)),
+        0x99 => Ok((Op::Bare(BareOp::Cdq), bytes)),
         _ => Err(DecodeFault::NotInSubset),
     }
 }

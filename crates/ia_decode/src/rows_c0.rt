@@ -10,6 +10,7 @@ use crate::groups::{
 };
 use ia_insn::{DecodeFault, Op};
 use ia_modrm::{long, signed_byte, word};
+use ia_word::{BareOp, LoopOp};
 
 /// The opcodes E0 to FF: jumps, flags, and the groups F6, F7, FE and FF.
 #[tactic(auto, unfolding(ia_insn::specs::Table::row_C0))]
@@ -20,11 +21,11 @@ fn row_e0(opcode: u8, bytes: &[u8]) -> Result<(Op, &[u8]), DecodeFault>
     match opcode {
         0xe2 => {
             let (distance, rest) = signed_byte(bytes)?;
-            Ok((Op::Loop(distance), rest))
+            Ok((Op::LoopJump(LoopOp::Loop, distance), rest))
         }
         0xe3 => {
             let (distance, rest) = signed_byte(bytes)?;
-            Ok((Op::Jecxz(distance), rest))
+            Ok((Op::LoopJump(LoopOp::Ecx, distance), rest))
         }
         0xe8 => {
             let (distance, rest) = long(bytes)?;
@@ -38,12 +39,12 @@ fn row_e0(opcode: u8, bytes: &[u8]) -> Result<(Op, &[u8]), DecodeFault>
             let (distance, rest) = signed_byte(bytes)?;
             Ok((Op::JmpShort(distance), rest))
         }
-        0xf4 => Ok((Op::Hlt, bytes)),
-        0xf5 => Ok((Op::Cmc, bytes)),
+        0xf4 => Ok((Op::Bare(BareOp::Hlt), bytes)),
+        0xf5 => Ok((Op::Bare(BareOp::Cmc), bytes)),
         0xf6 => row_f6(bytes),
         0xf7 => row_f7(bytes),
-        0xf8 => Ok((Op::Clc, bytes)),
-        0xf9 => Ok((Op::Stc, bytes)),
+        0xf8 => Ok((Op::Bare(BareOp::Clc), bytes)),
+        0xf9 => Ok((Op::Bare(BareOp::Stc), bytes)),
         0xfe => row_fe(bytes),
         0xff => row_ff(bytes),
         _ => Err(DecodeFault::NotInSubset),
@@ -64,8 +65,8 @@ pub fn row_c0(opcode: u8, bytes: &[u8]) -> Result<(Op, &[u8]), DecodeFault>
         0xc3 => Ok((Op::Ret, bytes)),
         0xc6 => mov_or_xabort(bytes),
         0xc7 => mov_or_xbegin(bytes),
-        0xc9 => Ok((Op::Leave, bytes)),
-        0xcc => Ok((Op::Int3, bytes)),
+        0xc9 => Ok((Op::Bare(BareOp::Leave), bytes)),
+        0xcc => Ok((Op::Bare(BareOp::Int3), bytes)),
         0xd1 => shift_once(bytes),
         0xd3 => shift_by_cl(bytes),
         0xe0.. => row_e0(opcode, bytes),

@@ -7,7 +7,7 @@ ghost use Rattle.ia_insn.specs.Reading.{Gives, form_at};
 use crate::rows::{bit_op, head_byte, modrm};
 use ia_insn::{DecodeFault, Op};
 use ia_modrm::{byte, long, operand};
-use ia_word::Condition;
+use ia_word::{BareOp, Condition, ExchangeOp, ExtendOp};
 
 /// 0F 01: XEND and XTEST.
 #[tactic(auto, unfolding(ia_insn::specs::Table::two_byte, ia_insn::specs::Reading::operand_at))]
@@ -16,8 +16,8 @@ fn row_01(bytes: &[u8]) -> Result<(Op, &[u8]), DecodeFault>
 {
     let (head, rest) = head_byte(bytes)?;
     match (head.mode, head.reg, head.rm) {
-        (3, 2, 5) => Ok((Op::Xend, rest)),
-        (3, 2, 6) => Ok((Op::Xtest, rest)),
+        (3, 2, 5) => Ok((Op::Bare(BareOp::Xend), rest)),
+        (3, 2, 6) => Ok((Op::Bare(BareOp::Xtest), rest)),
         _ => Err(DecodeFault::NotInSubset),
     }
 }
@@ -29,9 +29,9 @@ fn row_ae(bytes: &[u8]) -> Result<(Op, &[u8]), DecodeFault>
 {
     let (head, rest) = head_byte(bytes)?;
     match (head.mode, head.reg, head.rm) {
-        (3, 5, 0) => Ok((Op::Lfence, rest)),
-        (3, 6, 0) => Ok((Op::Mfence, rest)),
-        (3, 7, 0) => Ok((Op::Sfence, rest)),
+        (3, 5, 0) => Ok((Op::Bare(BareOp::Lfence), rest)),
+        (3, 6, 0) => Ok((Op::Bare(BareOp::Mfence), rest)),
+        (3, 7, 0) => Ok((Op::Bare(BareOp::Sfence), rest)),
         _ => Err(DecodeFault::NotInSubset),
     }
 }
@@ -85,7 +85,7 @@ pub fn behind_0f(opcode: u8, bytes: &[u8]) -> Result<(Op, &[u8]), DecodeFault>
 {
     match opcode {
         0x01 => row_01(bytes),
-        0x0b => Ok((Op::Ud2, bytes)),
+        0x0b => Ok((Op::Bare(BareOp::Ud2), bytes)),
         0x1f => nop_of(bytes),
         0x40..=0x4f => {
             let (reg, operand, rest) = modrm(bytes)?;
@@ -96,7 +96,7 @@ pub fn behind_0f(opcode: u8, bytes: &[u8]) -> Result<(Op, &[u8]), DecodeFault>
             Ok((Op::Jcc(Condition::of(opcode - 0x80), distance), rest))
         }
         0x90..=0x9f => setcc(opcode, bytes),
-        0xa2 => Ok((Op::Cpuid, bytes)),
+        0xa2 => Ok((Op::Bare(BareOp::Cpuid), bytes)),
         0xae => row_ae(bytes),
         0xaf => {
             let (reg, operand, rest) = modrm(bytes)?;
@@ -104,20 +104,20 @@ pub fn behind_0f(opcode: u8, bytes: &[u8]) -> Result<(Op, &[u8]), DecodeFault>
         }
         0xb1 => {
             let (reg, operand, rest) = modrm(bytes)?;
-            Ok((Op::Cmpxchg(operand, reg), rest))
+            Ok((Op::Exchange(ExchangeOp::Compare, operand, reg), rest))
         }
         0xb6 => {
             let (reg, operand, rest) = modrm(bytes)?;
-            Ok((Op::Movzx(reg, operand), rest))
+            Ok((Op::Extend(ExtendOp::Zero, reg, operand), rest))
         }
         0xba => row_ba(bytes),
         0xbe => {
             let (reg, operand, rest) = modrm(bytes)?;
-            Ok((Op::Movsx(reg, operand), rest))
+            Ok((Op::Extend(ExtendOp::Sign, reg, operand), rest))
         }
         0xc1 => {
             let (reg, operand, rest) = modrm(bytes)?;
-            Ok((Op::Xadd(operand, reg), rest))
+            Ok((Op::Exchange(ExchangeOp::Add, operand, reg), rest))
         }
         _ => Err(DecodeFault::NotInSubset),
     }
@@ -129,7 +129,7 @@ pub fn behind_f3(opcode: u8, bytes: &[u8]) -> Result<(Op, &[u8]), DecodeFault>
     ensures { Gives (λ x. (x.0, x.1.now)) result (form_at (behind_f3 opcode) bytes.now) }
 {
     match opcode {
-        0x90 => Ok((Op::Pause, bytes)),
+        0x90 => Ok((Op::Bare(BareOp::Pause), bytes)),
         _ => Err(DecodeFault::NotInSubset),
     }
 }

@@ -57,6 +57,9 @@ fn measured(bytes: &[u8]) -> Result<(Insn, u8), DecodeFault>
     Ok((found, (bytes.len() - rest.len()) as u8))
 }
 
+/// What decoding gives: an instruction and how many bytes it takes, or why there is none.
+pub type Decoded = Result<(Insn, u8), DecodeFault>;
+
 /// The instruction that stands in front, and how many bytes it takes, 1 to 15. Faults: `Short` where the bytes end
 /// within an instruction, `LockNotAllowed` where LOCK stands before an instruction that it may not stand before, else
 /// `NotInSubset`. Takes no memory, and reads no byte behind the one that decides.

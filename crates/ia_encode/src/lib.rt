@@ -4,10 +4,10 @@
 //! it is read again as the same instruction and as many bytes. Stands on `ia_insn` and `ia_modrm`; takes no memory.
 #![tactic(auto)]
 
-mod kinds;
 mod parts;
 mod whole;
 mod wide;
+mod width;
 mod writing;
 
 pub use whole::{encode, encode_with};

@@ -23,16 +23,28 @@ pub fn put_bytes(out: &mut Bytes, bytes: &[u8])
     }
 }
 
-/// Writes an opcode and a ModRM operand beside a reg field.
-pub fn put_form(out: &mut Bytes, wide: Wide, opcode: &[u8], reg: u8, operand: &Operand)
+/// Writes an opcode of one byte and a ModRM operand beside a reg field.
+pub fn put_form(out: &mut Bytes, wide: Wide, opcode: u8, reg: u8, operand: &Operand)
     requires reg { reg < 8 }
     requires operand { IsTrue (fits_operand operand.now) }
-    requires room { array_vec_len out.old + length opcode.now ≤ 9 }
-    ensures items { out.new.items ≡ out.old.items ++ (opcode.now ++ operand_bytes wide.place reg operand.now) }
-    ensures len { array_vec_len out.new ≤ array_vec_len out.old + length opcode.now + 6 }
+    requires room { array_vec_len out.old ≤ 8 }
+    ensures items { out.new.items ≡ out.old.items ++ (opcode ∷ operand_bytes wide.place reg operand.now) }
+    ensures len { array_vec_len out.new ≤ array_vec_len out.old + 7 }
 {
-    put_bytes(out, opcode);
+    out.push(opcode);
     put_operand(out, wide.place, reg, operand);
+}
+
+/// Writes 0F, an opcode, and a ModRM operand beside a reg field.
+pub fn put_form_0f(out: &mut Bytes, wide: Wide, opcode: u8, reg: u8, operand: &Operand)
+    requires reg { reg < 8 }
+    requires operand { IsTrue (fits_operand operand.now) }
+    requires room { array_vec_len out.old ≤ 7 }
+    ensures items { out.new.items ≡ out.old.items ++ (0x0F ∷ opcode ∷ operand_bytes wide.place reg operand.now) }
+    ensures len { array_vec_len out.new ≤ array_vec_len out.old + 8 }
+{
+    out.push(0x0f);
+    put_form(out, wide, opcode, reg, operand);
 }
 
 /// Writes an opcode and 32 bits.

@@ -6,15 +6,17 @@ ghost use Rattle.ia_insn.specs.Spelling.{Spells};
 ghost use Rattle.ia_insn.specs.Reading.{decoding_of};
 ghost use Rattle.ia_insn.specs.Encoding.{encodable, op_bytes, is_encodable, insn_bytes, insn_bytes_with};
 
-use crate::kinds::{unary_number, width_bit};
-use crate::parts::{put_bytes, put_form, put_near, put_short};
+use crate::parts::{put_bytes, put_form, put_form_0f, put_near, put_short};
 use crate::wide::Wide;
+use crate::width::width_bit;
 use crate::writing::{
     put_alu, put_bit, put_imul, put_inc_dec, put_mov, put_pop, put_push, put_ret, put_shift,
     put_test,
 };
 use arrayvec::ArrayVec;
-use ia_insn::{Insn, Op, Operand};
+use ia_insn::{
+    Insn, Op, Operand, bare_bytes, exchange_opcode, extend_opcode, loop_opcode, unary_number,
+};
 use ia_modrm::Bytes;
 
 /// Writes an operation.
@@ -27,77 +29,48 @@ fn put_op(out: &mut Bytes, wide: Wide, op: &Op)
     match op {
         Op::Alu(kind, width, to, from) => put_alu(out, wide, *kind, *width, to, from),
         Op::Mov(width, to, from) => put_mov(out, wide, *width, to, from),
-        Op::Lea(reg, place) => put_form(out, wide, &[0x8d], *reg, &Operand::Mem(*place)),
-        Op::Xchg(width, operand, reg) => put_form(
-            out,
-            wide,
-            &[0x86 + width_bit(*width)],
-            *reg,
-            operand,
-        ),
-        Op::Inc(width, operand) => put_inc_dec(out, wide, *width, 0x40, 0, operand),
-        Op::Dec(width, operand) => put_inc_dec(out, wide, *width, 0x48, 1, operand),
+        Op::Lea(reg, place) => put_form(out, wide, 0x8d, *reg, &Operand::Mem(*place)),
+        Op::Xchg(width, operand, reg) => {
+            put_form(out, wide, 0x86 + width_bit(*width), *reg, operand);
+        }
+        Op::IncDec(kind, width, operand) => put_inc_dec(out, wide, *kind, *width, operand),
         Op::Test(width, left, right) => put_test(out, wide, *width, left, right),
-        Op::Unary(kind, operand) => put_form(out, wide, &[0xf7], unary_number(*kind), operand),
-        Op::Imul(reg, operand) => put_form(out, wide, &[0x0f, 0xaf], *reg, operand),
+        Op::Unary(kind, operand) => put_form(out, wide, 0xf7, unary_number(*kind), operand),
+        Op::Imul(reg, operand) => put_form_0f(out, wide, 0xaf, *reg, operand),
         Op::ImulImm(reg, operand, number) => put_imul(out, wide, *reg, operand, *number),
         Op::Shift(kind, operand, count) => put_shift(out, wide, *kind, operand, *count),
         Op::Push(operand) => put_push(out, wide, operand),
         Op::Pop(operand) => put_pop(out, wide, operand),
-        Op::Leave => out.push(0xc9),
         Op::Call(distance) => put_near(out, &[0xe8], *distance),
-        Op::CallTo(operand) => put_form(out, wide, &[0xff], 2, operand),
+        Op::CallTo(operand) => put_form(out, wide, 0xff, 2, operand),
         Op::Ret => out.push(0xc3),
         Op::RetPop(bytes) => put_ret(out, *bytes),
         Op::Jmp(distance) => put_near(out, &[0xe9], *distance),
         Op::JmpShort(distance) => put_short(out, 0xeb, *distance),
-        Op::JmpTo(operand) => put_form(out, wide, &[0xff], 4, operand),
-        Op::Jcc(condition, distance) => put_near(
-            out,
-            &[0x0f, 0x80 + condition.number()],
-            *distance,
-        ),
+        Op::JmpTo(operand) => put_form(out, wide, 0xff, 4, operand),
+        Op::Jcc(condition, distance) => {
+            put_near(out, &[0x0f, 0x80 + condition.number()], *distance);
+        }
         Op::JccShort(condition, distance) => put_short(out, 0x70 + condition.number(), *distance),
-        Op::Setcc(condition, operand) => put_form(
-            out,
-            wide,
-            &[0x0f, 0x90 + condition.number()],
-            0,
-            operand,
-        ),
-        Op::Cmovcc(condition, reg, operand) => put_form(
-            out,
-            wide,
-            &[0x0f, 0x40 + condition.number()],
-            *reg,
-            operand,
-        ),
-        Op::Loop(distance) => put_short(out, 0xe2, *distance),
-        Op::Jecxz(distance) => put_short(out, 0xe3, *distance),
-        Op::Movzx(reg, operand) => put_form(out, wide, &[0x0f, 0xb6], *reg, operand),
-        Op::Movsx(reg, operand) => put_form(out, wide, &[0x0f, 0xbe], *reg, operand),
-        Op::Cmpxchg(operand, reg) => put_form(out, wide, &[0x0f, 0xb1], *reg, operand),
-        Op::Xadd(operand, reg) => put_form(out, wide, &[0x0f, 0xc1], *reg, operand),
+        Op::Setcc(condition, operand) => {
+            put_form_0f(out, wide, 0x90 + condition.number(), 0, operand);
+        }
+        Op::Cmovcc(condition, reg, operand) => {
+            put_form_0f(out, wide, 0x40 + condition.number(), *reg, operand);
+        }
+        Op::LoopJump(kind, distance) => put_short(out, loop_opcode(*kind), *distance),
+        Op::Extend(kind, reg, operand) => {
+            put_form_0f(out, wide, extend_opcode(*kind), *reg, operand);
+        }
+        Op::Exchange(kind, operand, reg) => {
+            put_form_0f(out, wide, exchange_opcode(*kind), *reg, operand);
+        }
         Op::Bit(kind, operand, number) => put_bit(out, wide, *kind, operand, *number),
-        Op::Cdq => out.push(0x99),
-        Op::Cwde => out.push(0x98),
-        Op::Clc => out.push(0xf8),
-        Op::Stc => out.push(0xf9),
-        Op::Cmc => out.push(0xf5),
         Op::Nop => out.push(0x90),
-        Op::NopOf(operand) => put_form(out, wide, &[0x0f, 0x1f], 0, operand),
-        Op::Pause => put_bytes(out, &[0xf3, 0x90]),
-        Op::Hlt => out.push(0xf4),
-        Op::Int3 => out.push(0xcc),
-        Op::Ud2 => put_bytes(out, &[0x0f, 0x0b]),
-        Op::Cpuid => put_bytes(out, &[0x0f, 0xa2]),
-        Op::Lfence => put_bytes(out, &[0x0f, 0xae, 0xe8]),
-        Op::Mfence => put_bytes(out, &[0x0f, 0xae, 0xf0]),
-        Op::Sfence => put_bytes(out, &[0x0f, 0xae, 0xf8]),
+        Op::NopOf(operand) => put_form_0f(out, wide, 0x1f, 0, operand),
+        Op::Bare(kind) => put_bytes(out, bare_bytes(*kind)),
         Op::Xbegin(distance) => put_near(out, &[0xc7, 0xf8], *distance),
         Op::Xabort(code) => put_bytes(out, &[0xc6, 0xf8, *code]),
-        Op::Xend => put_bytes(out, &[0x0f, 0x01, 0xd5]),
-        Op::Xtest => put_bytes(out, &[0x0f, 0x01, 0xd6]),
     }
 }
 

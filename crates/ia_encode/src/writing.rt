@@ -4,14 +4,17 @@ ghost use Rattle.std.specs.Prelude.{◌≡◌, ◌<◌, ◌≤◌, ◌+◌, ◌+
 ghost use Rattle.arrayvec.specs.ArrayVec.{array_vec_len};
 ghost use Rattle.ia_insn.specs.Operands.{word};
 ghost use Rattle.ia_insn.specs.Writing.{fits_operand};
-ghost use Rattle.ia_insn.specs.Encoding.{fits_pair, fits_test, encodable, op_bytes, alu_bytes, mov_bytes, test_bytes, inc_dec_bytes, shift_bytes, push_bytes, pop_bytes};
+ghost use Rattle.ia_insn.specs.Encoding.{fits_pair, fits_test, encodable, op_bytes, alu_bytes, mov_bytes, test_bytes};
+ghost use Rattle.ia_insn.specs.Encoding.{inc_dec_bytes, shift_bytes, push_bytes, pop_bytes};
 
-use crate::kinds::{alu_number, bit_number, shift_number, width_bit};
-use crate::parts::{put_form, put_imm, put_near, put_short};
+use crate::parts::{put_form, put_form_0f, put_imm, put_near, put_short};
 use crate::wide::Wide;
-use ia_insn::{Count, Op, Operand, is_signed_byte};
+use crate::width::width_bit;
+use ia_insn::{
+    Count, Op, Operand, alu_number, bit_number, inc_dec_number, is_signed_byte, shift_number,
+};
 use ia_modrm::{Bytes, put_long};
-use ia_word::{AluOp, BitOp, ShiftOp, Width};
+use ia_word::{AluOp, BitOp, IncDecOp, ShiftOp, Width};
 
 /// ADD to CMP: of two registers the form that writes the ModRM operand.
 #[tactic(auto, unfolding(ia_insn::specs::Encoding::alu_bytes))]
@@ -23,23 +26,23 @@ pub fn put_alu(out: &mut Bytes, wide: Wide, kind: AluOp, width: Width, to: &Oper
     let number = alu_number(kind);
     match (to, from) {
         (_, Operand::Reg(reg)) => {
-            put_form(out, wide, &[8 * number + width_bit(width)], *reg, to);
+            put_form(out, wide, 8 * number + width_bit(width), *reg, to);
         }
         (Operand::Reg(reg), Operand::Mem(_)) => {
-            put_form(out, wide, &[8 * number + 2 + width_bit(width)], *reg, from);
+            put_form(out, wide, 8 * number + 2 + width_bit(width), *reg, from);
         }
         (_, Operand::Mem(_)) => unreachable!(),
         (_, Operand::Imm(value)) => match width {
             Width::B => {
-                put_form(out, wide, &[0x80], number, to);
+                put_form(out, wide, 0x80, number, to);
                 out.push(*value as u8);
             }
             Width::D => {
                 if !wide.number && is_signed_byte(*value) {
-                    put_form(out, wide, &[0x83], number, to);
+                    put_form(out, wide, 0x83, number, to);
                     out.push((*value % 256) as u8);
                 } else {
-                    put_form(out, wide, &[0x81], number, to);
+                    put_form(out, wide, 0x81, number, to);
                     put_long(out, *value);
                 }
             }
@@ -56,17 +59,17 @@ pub fn put_mov(out: &mut Bytes, wide: Wide, width: Width, to: &Operand, from: &O
 {
     match (to, from) {
         (_, Operand::Reg(reg)) => {
-            put_form(out, wide, &[0x88 + width_bit(width)], *reg, to);
+            put_form(out, wide, 0x88 + width_bit(width), *reg, to);
         }
         (Operand::Reg(reg), Operand::Mem(_)) => {
-            put_form(out, wide, &[0x8a + width_bit(width)], *reg, from);
+            put_form(out, wide, 0x8a + width_bit(width), *reg, from);
         }
         (Operand::Reg(reg), Operand::Imm(value)) => {
             out.push(0xb0 + 8 * width_bit(width) + *reg);
             put_imm(out, width, *value);
         }
         (Operand::Mem(_), Operand::Imm(value)) => {
-            put_form(out, wide, &[0xc6 + width_bit(width)], 0, to);
+            put_form(out, wide, 0xc6 + width_bit(width), 0, to);
             put_imm(out, width, *value);
         }
         _ => unreachable!(),
@@ -75,27 +78,19 @@ pub fn put_mov(out: &mut Bytes, wide: Wide, width: Width, to: &Operand, from: &O
 
 /// INC and DEC: of a doubleword the opcode of a register, else FE or FF with a digit.
 #[tactic(auto, unfolding(ia_insn::specs::Encoding::inc_dec_bytes))]
-pub fn put_inc_dec(
-    out: &mut Bytes,
-    wide: Wide,
-    width: Width,
-    base: u8,
-    digit: u8,
-    operand: &Operand,
-)
+pub fn put_inc_dec(out: &mut Bytes, wide: Wide, kind: IncDecOp, width: Width, operand: &Operand)
     requires operand { IsTrue (fits_operand operand.now) }
-    requires base { base ≤ 0x48 }
-    requires digit { digit < 8 }
     requires room { array_vec_len out.old ≤ 1 }
-    ensures { out.new.items ≡ out.old.items ++ inc_dec_bytes wide.place width base digit operand.now }
+    ensures { out.new.items ≡ out.old.items ++ inc_dec_bytes wide.place kind width operand.now }
 {
+    let number = inc_dec_number(kind);
     match (width, operand) {
-        (Width::D, Operand::Reg(reg)) => out.push(base + *reg),
+        (Width::D, Operand::Reg(reg)) => out.push(0x40 + 8 * number + *reg),
         (Width::D, _) => {
-            put_form(out, wide, &[0xff], digit, operand);
+            put_form(out, wide, 0xff, number, operand);
         }
         (Width::B, _) => {
-            put_form(out, wide, &[0xfe], digit, operand);
+            put_form(out, wide, 0xfe, number, operand);
         }
     }
 }
@@ -110,13 +105,13 @@ pub fn put_shift(out: &mut Bytes, wide: Wide, kind: ShiftOp, operand: &Operand, 
     let number = shift_number(kind);
     match count {
         Count::Cl => {
-            put_form(out, wide, &[0xd3], number, operand);
+            put_form(out, wide, 0xd3, number, operand);
         }
         Count::Imm(1) if !wide.number => {
-            put_form(out, wide, &[0xd1], number, operand);
+            put_form(out, wide, 0xd1, number, operand);
         }
         Count::Imm(bits) => {
-            put_form(out, wide, &[0xc1], number, operand);
+            put_form(out, wide, 0xc1, number, operand);
             out.push(bits);
         }
     }
@@ -132,7 +127,7 @@ pub fn put_push(out: &mut Bytes, wide: Wide, operand: &Operand)
     match operand {
         Operand::Reg(reg) => out.push(0x50 + *reg),
         Operand::Mem(_) => {
-            put_form(out, wide, &[0xff], 6, operand);
+            put_form(out, wide, 0xff, 6, operand);
         }
         Operand::Imm(value) => {
             if !wide.number && is_signed_byte(*value) {
@@ -154,7 +149,7 @@ pub fn put_pop(out: &mut Bytes, wide: Wide, operand: &Operand)
     match operand {
         Operand::Reg(reg) => out.push(0x58 + *reg),
         _ => {
-            put_form(out, wide, &[0x8f], 0, operand);
+            put_form(out, wide, 0x8f, 0, operand);
         }
     }
 }
@@ -168,10 +163,10 @@ pub fn put_test(out: &mut Bytes, wide: Wide, width: Width, left: &Operand, right
 {
     match right {
         Operand::Reg(reg) => {
-            put_form(out, wide, &[0x84 + width_bit(width)], *reg, left);
+            put_form(out, wide, 0x84 + width_bit(width), *reg, left);
         }
         Operand::Imm(value) => {
-            put_form(out, wide, &[0xf6 + width_bit(width)], 0, left);
+            put_form(out, wide, 0xf6 + width_bit(width), 0, left);
             put_imm(out, width, *value);
         }
         Operand::Mem(_) => unreachable!(),
@@ -187,10 +182,10 @@ pub fn put_imul(out: &mut Bytes, wide: Wide, reg: u8, operand: &Operand, number:
     ensures { out.new.items ≡ out.old.items ++ op_bytes wide.number wide.place (Op.ImulImm reg operand.now number) }
 {
     if !wide.number && is_signed_byte(number) {
-        put_form(out, wide, &[0x6b], reg, operand);
+        put_form(out, wide, 0x6b, reg, operand);
         out.push((number % 256) as u8);
     } else {
-        put_form(out, wide, &[0x69], reg, operand);
+        put_form(out, wide, 0x69, reg, operand);
         put_long(out, number);
     }
 }
@@ -202,7 +197,7 @@ pub fn put_bit(out: &mut Bytes, wide: Wide, kind: BitOp, operand: &Operand, numb
     requires room { array_vec_len out.old ≤ 1 }
     ensures { out.new.items ≡ out.old.items ++ op_bytes wide.number wide.place (Op.Bit kind operand.now number) }
 {
-    put_form(out, wide, &[0x0f, 0xba], bit_number(kind), operand);
+    put_form_0f(out, wide, 0xba, bit_number(kind), operand);
     out.push(number);
 }
 

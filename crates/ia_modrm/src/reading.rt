@@ -3,7 +3,8 @@
 
 ghost use Rattle.std.specs.Prelude.{◌≡◌, ◌<◌, ◌%◌, ◌/◌, ℕ, List, length, Option};
 ghost use Rattle.ia_insn.specs.Operands.{Head, head_of};
-ghost use Rattle.ia_insn.specs.Reading.{Gives, byte_at, word_at, long_at, signed_at, disp_at, base_at, mem_at, operand_at};
+ghost use Rattle.ia_insn.specs.Reading.{Gives, byte_at, word_at, long_at, signed_at, disp_at, base_at, mem_at};
+ghost use Rattle.ia_insn.specs.Reading.{operand_at};
 ghost use Rattle.ia_modrm.specs.Heads.{head};
 
 use ia_insn::{DecodeFault, Mem, Operand};

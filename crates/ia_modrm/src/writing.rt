@@ -3,7 +3,8 @@
 ghost use Rattle.std.specs.Prelude.{◌≡◌, ◌<◌, ◌≤◌, ◌+◌, ◌++◌, IsTrue};
 ghost use Rattle.arrayvec.specs.ArrayVec.{array_vec_len};
 ghost use Rattle.ia_word.specs.Bytes.{long_bytes};
-ghost use Rattle.ia_insn.specs.Writing.{fits_mem, fits_operand, three, is_signed_byte, mode_for, disp_bytes, scale_bits, place_bytes, operand_bytes};
+ghost use Rattle.ia_insn.specs.Writing.{fits_mem, fits_operand, three, is_signed_byte, mode_for, disp_bytes};
+ghost use Rattle.ia_insn.specs.Writing.{scale_bits, place_bytes, operand_bytes};
 
 use arrayvec::ArrayVec;
 use ia_insn::{Mem, Operand, is_signed_byte};
