@@ -8,6 +8,7 @@ use ia_insn::Mem;
 use ia_regs::Regs;
 
 /// The address of an operand: base, scaled index and displacement, modulo 2^32 (SDM volume 1, "Specifying an Offset").
+#[inline(always)]
 #[tactic(auto, unfolding(crate::specs::Address::address_of))]
 pub fn address_of(place: &Mem, regs: &Regs) -> u32
     requires { IsTrue (fits_mem place.now) }
@@ -26,6 +27,7 @@ pub fn address_of(place: &Mem, regs: &Regs) -> u32
 }
 
 // What a base or an index gives.
+#[inline(always)]
 fn part(register: Option<u8>, regs: &Regs) -> u32
     requires { IsTrue (fits_base register) }
     ensures { result ≡ part_of register regs.now }

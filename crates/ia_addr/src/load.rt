@@ -9,7 +9,7 @@ use crate::Access;
 use crate::address::address_of;
 use ia_insn::{Insn, Op, Operand};
 use ia_regs::Regs;
-use ia_word::{EBP, ESP, Width};
+use ia_word::{BareOp, EBP, ESP, Width};
 
 /// What an instruction loads at these registers: nothing, or one byte or doubleword. The access may wrap past 2^32 - 1.
 #[tactic(auto, unfolding(crate::specs::Load::load_of))]
@@ -30,8 +30,7 @@ fn op_load(op: &Op, regs: &Regs) -> Option<Access>
         Op::Alu(_, width, to, from) => alu_load(*width, to, from, regs),
         Op::Mov(width, _, from) => read(*width, from, regs),
         Op::Xchg(width, operand, _) => read(*width, operand, regs),
-        Op::Inc(width, operand) => read(*width, operand, regs),
-        Op::Dec(width, operand) => read(*width, operand, regs),
+        Op::IncDec(_, width, operand) => read(*width, operand, regs),
         Op::Test(width, left, right) => test_load(*width, left, right, regs),
         Op::Unary(_, operand) => read(Width::D, operand, regs),
         Op::Imul(_, operand) => read(Width::D, operand, regs),
@@ -39,16 +38,14 @@ fn op_load(op: &Op, regs: &Regs) -> Option<Access>
         Op::Shift(_, operand, _) => read(Width::D, operand, regs),
         Op::Push(operand) => read(Width::D, operand, regs),
         Op::Pop(_) => popped(ESP, regs),
-        Op::Leave => popped(EBP, regs),
+        Op::Bare(BareOp::Leave) => popped(EBP, regs),
         Op::Ret => popped(ESP, regs),
         Op::RetPop(_) => popped(ESP, regs),
         Op::CallTo(operand) => read(Width::D, operand, regs),
         Op::JmpTo(operand) => read(Width::D, operand, regs),
         Op::Cmovcc(_, _, operand) => read(Width::D, operand, regs),
-        Op::Movzx(_, operand) => read(Width::B, operand, regs),
-        Op::Movsx(_, operand) => read(Width::B, operand, regs),
-        Op::Cmpxchg(operand, _) => read(Width::D, operand, regs),
-        Op::Xadd(operand, _) => read(Width::D, operand, regs),
+        Op::Extend(_, _, operand) => read(Width::B, operand, regs),
+        Op::Exchange(_, operand, _) => read(Width::D, operand, regs),
         Op::Bit(_, operand, _) => read(Width::D, operand, regs),
         _ => None,
     }

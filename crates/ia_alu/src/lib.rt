@@ -15,7 +15,7 @@ mod sums;
 
 pub use bits::bit;
 pub use divide::Divide;
-pub use ops::{IncDecOp, alu, incdec, neg};
+pub use ops::{alu, incdec, neg};
 pub use products::{div, idiv, imul, imul_low, mul};
 pub use shifts::shift;
 pub use sums::{add, sub};

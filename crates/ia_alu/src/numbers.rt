@@ -9,6 +9,7 @@ use ia_regs::Flags;
 use ia_word::{Width, parity_even};
 
 /// Half of the values of a width: from there on the top bit is 1.
+#[inline(always)]
 pub(crate) fn half(width: Width) -> u64
     ensures { result ≡ half_of width }
 {
@@ -19,6 +20,7 @@ pub(crate) fn half(width: Width) -> u64
 }
 
 /// The signed number that an operand stands for.
+#[inline(always)]
 #[tactic(auto, unfolding(crate::specs::Numbers::signed_value))]
 pub(crate) fn as_signed(width: Width, operand: u32) -> i64
     requires { operand < 2 ^ bits_of width }
@@ -45,6 +47,7 @@ pub(crate) fn as_signed(width: Width, operand: u32) -> i64
 }
 
 /// Whether a number is no signed number of this width.
+#[inline(always)]
 #[tactic(auto, unfolding(crate::specs::Numbers::overflows))]
 pub(crate) fn is_outside(width: Width, number: i64) -> bool
     ensures { result ≡ overflows width number }
@@ -56,6 +59,7 @@ pub(crate) fn is_outside(width: Width, number: i64) -> bool
 }
 
 /// What a signed number leaves in a doubleword.
+#[inline(always)]
 pub(crate) fn low_word(number: i64) -> u32
     ensures { result ≡ modulo (2 ^ 32) number }
 {
@@ -63,6 +67,7 @@ pub(crate) fn low_word(number: i64) -> u32
 }
 
 /// The flags of a result, with its carry, adjust and overflow.
+#[inline(always)]
 pub(crate) fn result_flags(
     width: Width,
     value: u32,

@@ -11,19 +11,11 @@ ghost use Rattle.ia_word.specs.declared.width.Width.TheVariants.{D};
 use crate::numbers::result_flags;
 use crate::sums::{add, sub};
 use ia_regs::Flags;
-use ia_word::{AluOp, Width};
-
-/// One more or one less (SDM volume 2, INC, DEC).
-#[derive(Clone, Copy, PartialEq, Eq, Debug)]
-pub enum IncDecOp {
-    /// Adds 1.
-    Inc,
-    /// Takes 1 away.
-    Dec,
-}
+use ia_word::{AluOp, IncDecOp, Width};
 
 /// The result of an operation on two operands, and the flags after it (SDM volume 2, ADD, OR, ADC, SBB, AND, SUB, XOR,
 /// CMP). CMP gives the difference, which the instruction does not store.
+#[inline(always)]
 #[tactic(auto, unfolding(crate::specs::Ops::alu_value, crate::specs::Ops::alu_flags))]
 pub fn alu(op: AluOp, width: Width, a: u32, b: u32, flags: Flags) -> (u32, Flags)
     requires left { a < 2 ^ bits_of width }
@@ -53,6 +45,7 @@ pub fn alu(op: AluOp, width: Width, a: u32, b: u32, flags: Flags) -> (u32, Flags
 }
 
 // A result of AND, OR or XOR with its flags.
+#[inline(always)]
 #[tactic(auto, unfolding(crate::specs::Ops::logic_flags))]
 fn logic(width: Width, value: u32, flags: Flags) -> (u32, Flags)
     ensures value { result.0 ≡ value }
@@ -73,6 +66,7 @@ fn logic(width: Width, value: u32, flags: Flags) -> (u32, Flags)
 }
 
 /// An operand with 1 added or taken away, modulo 2^8 or 2^32. The carry flag is kept (SDM volume 2, INC, DEC).
+#[inline(always)]
 #[tactic(auto, unfolding(crate::specs::Ops::inc_dec_value, crate::specs::Ops::inc_dec_flags))]
 pub fn incdec(op: IncDecOp, width: Width, a: u32, flags: Flags) -> (u32, Flags)
     requires { a < 2 ^ bits_of width }
@@ -95,6 +89,7 @@ pub fn incdec(op: IncDecOp, width: Width, a: u32, flags: Flags) -> (u32, Flags)
 }
 
 // A result with its flags, of which CF is as before.
+#[inline(always)]
 fn keep_carry(after: (u32, Flags), before: Flags) -> (u32, Flags)
     ensures value { result.0 ≡ after.0 }
     ensures flags { result.1 ≡ with_carry (has_carry before) after.1 }
@@ -110,6 +105,7 @@ fn keep_carry(after: (u32, Flags), before: Flags) -> (u32, Flags)
 }
 
 /// 0 minus a doubleword, modulo 2^32, and the flags of that difference (SDM volume 2, NEG).
+#[inline(always)]
 pub fn neg(a: u32) -> (u32, Flags)
     ensures value { result.0 ≡ difference_of D 0 a 0 }
     ensures flags { result.1 ≡ difference_flags D 0 a 0 }

@@ -12,6 +12,7 @@ use ia_regs::Flags;
 use ia_word::Width;
 
 /// The sum of two operands and a carry, modulo 2^8 or 2^32, and all six flags (SDM volume 2, ADD and ADC).
+#[inline(always)]
 #[tactic(auto, unfolding(crate::specs::Sums::sum_flags))]
 pub fn add(width: Width, a: u32, b: u32, carry: bool) -> (u32, Flags)
     requires left { a < 2 ^ bits_of width }
@@ -41,6 +42,7 @@ pub fn add(width: Width, a: u32, b: u32, carry: bool) -> (u32, Flags)
 }
 
 /// The first operand less the second and a borrow, modulo 2^8 or 2^32, and all six flags (SDM volume 2, SUB and SBB).
+#[inline(always)]
 #[tactic(auto, unfolding(crate::specs::Sums::difference_flags))]
 pub fn sub(width: Width, a: u32, b: u32, borrow: bool) -> (u32, Flags)
     requires left { a < 2 ^ bits_of width }

@@ -4,3 +4,4 @@ pub mod Moves
 pub mod Control
 pub mod Table
 pub mod Laws
+pub mod Finished

@@ -1,123 +1,129 @@
 //! Rows of the instructions that use the stack or jump.
 
-ghost use Rattle.std.specs.Prelude.{◌≡◌, ◌<◌, ◌^◌, ◌+◌, ◌%◌, IsTrue};
+ghost use Rattle.std.specs.Prelude.{◌≡◌, ◌+◌, ◌%◌, ◌^◌, IsTrue, Some};
 ghost use Rattle.ia_insn.specs.Writing.{fits_operand};
 ghost use Rattle.ia_insn.specs.Encoding.{encodable};
-ghost use Rattle.ia_exec.specs.Words.{at, without_store};
-ghost use Rattle.ia_exec.specs.Control.{with_esp_raised, lowered_esp, push_of, pop_of, leave_of, ret_of, jump_by, jump_if, ecx_less_one, loop_of};
+ghost use Rattle.ia_exec.specs.Words.{at, with_store, without_store};
+ghost use Rattle.ia_exec.specs.Control.{with_esp_raised, push_of, pop_of, ret_of, jump_by, jump_if, loop_of};
+ghost use Rattle.ia_exec.specs.Control.{loop_jump_of};
 ghost use Rattle.ia_exec.specs.Table.{control_of};
 
-use crate::done::Effect;
-use crate::operand::{put, store, value, with_register, without_store};
+use crate::done::Store;
+use crate::operand::{put, store, value};
 use ia_insn::{Op, Operand};
 use ia_regs::{Regs, cond};
-use ia_word::{EBP, ECX, ESP, Width};
+use ia_word::{ECX, ESP, LoopOp, Width};
 
-/// What an instruction does that uses the stack or jumps; NOP and the fences change nothing.
+/// What an instruction does that uses the stack or jumps; NOP changes nothing.
 #[tactic(auto, using(ia_addr::proofs::Fits::readable), unfolding(crate::specs::Table::control_of))]
-pub(crate) fn control_effect(op: &Op, regs: &Regs, loaded: u32) -> Effect
+pub(crate) fn control_row(op: &Op, regs: &mut Regs, loaded: u32) -> Option<Store>
     requires { IsTrue (encodable op.now) }
-    ensures { result ≡ control_of op.now regs.now loaded }
+    ensures { with_store regs.new result ≡ control_of op.now regs.old loaded }
 {
     match op {
-        Op::Push(from) => push_of(value(Width::D, from, regs, loaded), *regs),
-        Op::Pop(to) => pop_row(to, loaded, regs),
-        Op::Leave => leave_row(loaded, regs),
-        Op::Call(distance) => push_of(regs.eip, jump_by(*distance, regs)),
-        Op::CallTo(to) => push_of(regs.eip, at(value(Width::D, to, regs, loaded), regs)),
+        Op::Push(from) => {
+            let value = value(Width::D, from, regs, loaded);
+            return Some(push(value, regs));
+        }
+        Op::Pop(to) => return pop_row(to, loaded, regs),
+        Op::Call(distance) => {
+            let back = regs.eip;
+            jump_by(*distance, regs);
+            return Some(push(back, regs));
+        }
+        Op::CallTo(to) => {
+            let back = regs.eip;
+            regs.eip = value(Width::D, to, regs, loaded);
+            return Some(push(back, regs));
+        }
         Op::Ret => ret_row(0, loaded, regs),
         Op::RetPop(bytes) => ret_row(*bytes, loaded, regs),
-        Op::Jmp(distance) => without_store(jump_by(*distance, regs)),
-        Op::JmpShort(distance) => without_store(jump_by(*distance, regs)),
-        Op::JmpTo(to) => without_store(at(value(Width::D, to, regs, loaded), regs)),
+        Op::Jmp(distance) => jump_by(*distance, regs),
+        Op::JmpShort(distance) => jump_by(*distance, regs),
+        Op::JmpTo(to) => regs.eip = value(Width::D, to, regs, loaded),
         Op::Jcc(condition, distance) => jump_if(cond(*condition, regs.flags), *distance, regs),
         Op::JccShort(condition, distance) => {
-            jump_if(cond(*condition, regs.flags), *distance, regs)
+            jump_if(cond(*condition, regs.flags), *distance, regs);
         }
-        Op::Loop(distance) => loop_row(*distance, regs),
-        Op::Jecxz(distance) => jump_if(regs.get(ECX) == 0, *distance, regs),
-        _ => without_store(*regs),
+        Op::LoopJump(kind, distance) => loop_jump_row(*kind, *distance, regs),
+        _ => {}
     }
+    None
 }
 
 /// A sum modulo 2^32.
+#[inline(always)]
 pub(crate) fn sum(left: u32, right: u32) -> u32
     ensures { result ≡ (left + right) % 2 ^ 32 }
 {
     left.wrapping_add(right)
 }
 
-/// Registers with another EIP.
-pub(crate) fn at(eip: u32, regs: &Regs) -> Regs
-    ensures { result ≡ at eip regs.now }
-{
-    Regs { eip, ..*regs }
-}
-
 // EIP by a distance.
-fn jump_by(distance: u32, regs: &Regs) -> Regs
-    ensures { result ≡ jump_by distance regs.now }
+fn jump_by(distance: u32, regs: &mut Regs)
+    ensures { regs.new ≡ jump_by distance regs.old }
 {
-    at(sum(regs.eip, distance), regs)
+    regs.eip = sum(regs.eip, distance);
 }
 
 // A jump, or none.
-fn jump_if(taken: bool, distance: u32, regs: &Regs) -> Effect
-    ensures { result ≡ jump_if taken distance regs.now }
+fn jump_if(taken: bool, distance: u32, regs: &mut Regs)
+    ensures { without_store regs.new ≡ jump_if taken distance regs.old }
 {
     if taken {
-        without_store(jump_by(distance, regs))
-    } else {
-        without_store(*regs)
+        jump_by(distance, regs);
     }
 }
 
 // A doubleword stored below the stack's top.
-fn push_of(value: u32, regs: Regs) -> Effect
-    ensures { result ≡ push_of value regs }
+fn push(value: u32, regs: &mut Regs) -> Store
+    ensures { with_store regs.new (Some result) ≡ push_of value regs.old }
 {
     let top = sum(regs.get(ESP), 0xffff_fffc);
-    Effect {
-        regs: with_register(ESP, top, regs),
-        store: Some(store(Width::D, top, value)),
-    }
+    regs.set(ESP, top);
+    store(Width::D, top, value)
 }
 
 // The stack's top raised.
-fn with_esp_raised(bytes: u32, regs: &Regs) -> Regs
-    ensures { result ≡ with_esp_raised bytes regs.now }
+fn raise_esp(bytes: u32, regs: &mut Regs)
+    ensures { regs.new ≡ with_esp_raised bytes regs.old }
 {
-    with_register(ESP, sum(regs.get(ESP), bytes), *regs)
+    let top = sum(regs.get(ESP), bytes);
+    regs.set(ESP, top);
 }
 
 // POP: the operand's address is that of the raised ESP.
-fn pop_row(to: &Operand, loaded: u32, regs: &Regs) -> Effect
+fn pop_row(to: &Operand, loaded: u32, regs: &mut Regs) -> Option<Store>
     requires { IsTrue (fits_operand to.now) }
-    ensures { result ≡ pop_of to.now loaded regs.now }
+    ensures { with_store regs.new result ≡ pop_of to.now loaded regs.old }
 {
-    let after = with_esp_raised(4, regs);
-    put(Width::D, to, loaded, &after, after)
-}
-
-// LEAVE.
-fn leave_row(loaded: u32, regs: &Regs) -> Effect
-    ensures { result ≡ leave_of loaded regs.now }
-{
-    let after = with_register(ESP, sum(regs.get(EBP), 4), *regs);
-    without_store(with_register(EBP, loaded, after))
+    raise_esp(4, regs);
+    put(Width::D, to, loaded, regs)
 }
 
 // RET, which takes so many bytes more.
-fn ret_row(bytes: u16, loaded: u32, regs: &Regs) -> Effect
-    ensures { result ≡ ret_of bytes loaded regs.now }
+fn ret_row(bytes: u16, loaded: u32, regs: &mut Regs)
+    ensures { without_store regs.new ≡ ret_of bytes loaded regs.old }
 {
-    without_store(at(loaded, &with_esp_raised(4 + u32::from(bytes), regs)))
+    raise_esp(4 + u32::from(bytes), regs);
+    regs.eip = loaded;
 }
 
 // LOOP.
-fn loop_row(distance: u32, regs: &Regs) -> Effect
-    ensures { result ≡ loop_of distance regs.now }
+fn loop_row(distance: u32, regs: &mut Regs)
+    ensures { without_store regs.new ≡ loop_of distance regs.old }
 {
     let count = sum(regs.get(ECX), 0xffff_ffff);
-    jump_if(count != 0, distance, &with_register(ECX, count, *regs))
+    regs.set(ECX, count);
+    jump_if(count != 0, distance, regs);
+}
+
+// LOOP and JECXZ.
+fn loop_jump_row(kind: LoopOp, distance: u32, regs: &mut Regs)
+    ensures { without_store regs.new ≡ loop_jump_of kind distance regs.old }
+{
+    match kind {
+        LoopOp::Loop => loop_row(distance, regs),
+        LoopOp::Ecx => jump_if(regs.get(ECX) == 0, distance, regs),
+    }
 }

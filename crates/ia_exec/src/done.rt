@@ -1,7 +1,10 @@
 //! What an instruction comes to.
 
 ghost use Rattle.std.specs.Prelude.{◌≡◌};
-ghost use Rattle.ia_exec.specs.Table.{vector_of};
+ghost use Rattle.ia_regs.specs.declared.Regs.{Regs};
+ghost use Rattle.ia_exec.specs.Words.{with_store};
+ghost use Rattle.ia_exec.specs.Finished.{IsKept, done_with};
+ghost use Rattle.ia_exec.specs.Table.{vector_of, goes_on as going_on, by_depth as outside_or_inside};
 
 use ia_regs::Regs;
 use ia_word::Width;
@@ -16,15 +19,6 @@ pub struct Store {
     pub width: Width,
     /// What is stored, 0 to 255 for a byte.
     pub value: u32,
-}
-
-/// What an instruction that goes on changes: the registers, and at most one place in memory.
-#[derive(Clone, Copy, PartialEq, Eq, Debug)]
-pub struct Effect {
-    /// The registers after it.
-    pub regs: Regs,
-    /// What is stored.
-    pub store: Option<Store>,
 }
 
 /// An exception of the processor (SDM volume 3, "Protected-Mode Exceptions and Interrupts").
@@ -86,4 +80,49 @@ pub enum Done {
     End,
     /// The transaction aborts.
     Abort(AbortKind),
+}
+
+/// What an instruction comes to, whose registers are changed in place.
+#[derive(Clone, Copy, PartialEq, Eq, Debug)]
+pub enum Finished {
+    /// It goes on and stores nothing.
+    Goes,
+    /// It goes on, with this store.
+    Stores(Store),
+    /// An exception, outside of transactions.
+    Faults(Exception),
+    /// HLT, outside of transactions.
+    Halts,
+    /// An XBEGIN with this fallback.
+    Begins(u32),
+    /// An XEND inside a transaction.
+    Ends,
+    /// The transaction aborts.
+    Aborts(AbortKind),
+}
+
+/// The instruction goes on, with this store or none.
+#[inline(always)]
+pub(crate) fn goes_on(store: Option<Store>) -> Finished
+    ensures done { (regs : Regs) → done_with result regs ≡ going_on (with_store regs store) }
+    ensures kept { (before after : Regs) → IsKept result before after }
+{
+    match store {
+        None => Finished::Goes,
+        Some(store) => Finished::Stores(store),
+    }
+}
+
+/// What an instruction that changes no register comes to outside of transactions, or the abort inside.
+#[tactic(auto, using(crate::proofs::Kept::same_is_kept))]
+pub(crate) fn by_depth(depth: u8, outside: Finished, inside: AbortKind) -> Finished
+    ensures done { (regs : Regs) → done_with result regs ≡
+        outside_or_inside depth (done_with outside regs) (Done.Abort inside) }
+    ensures kept { (regs : Regs) → IsKept result regs regs }
+{
+    if depth == 0 {
+        outside
+    } else {
+        Finished::Aborts(inside)
+    }
 }

@@ -46,6 +46,7 @@ impl bitflags::Flags for Flags {
 
 impl Flags {
     /// The flags that are given as true, and no other.
+    #[inline(always)]
     pub fn of(
         carry: bool,
         parity: bool,
@@ -68,6 +69,7 @@ impl Flags {
     }
 
     /// These flags, with CF as given.
+    #[inline(always)]
     pub fn with_carry(self, carry: bool) -> Flags
         ensures { result ≡ with_carry carry self }
     {
@@ -82,6 +84,7 @@ impl Flags {
     }
 
     /// These flags, with OF as given.
+    #[inline(always)]
     pub fn with_overflow(self, overflow: bool) -> Flags
         ensures { result ≡ with_overflow overflow self }
     {
@@ -96,6 +99,7 @@ impl Flags {
     }
 
     /// CF: the unsigned result does not fit.
+    #[inline(always)]
     pub fn carry(self) -> bool
         ensures { result ≡ has_carry self }
     {
@@ -104,6 +108,7 @@ impl Flags {
     }
 
     /// PF: the low byte of the result has an even number of ones.
+    #[inline(always)]
     pub fn parity(self) -> bool
         ensures { result ≡ has_parity self }
     {
@@ -112,6 +117,7 @@ impl Flags {
     }
 
     /// AF: a carry or borrow out of bit 3.
+    #[inline(always)]
     pub fn adjust(self) -> bool
         ensures { result ≡ has_adjust self }
     {
@@ -120,6 +126,7 @@ impl Flags {
     }
 
     /// ZF: the result is 0.
+    #[inline(always)]
     pub fn zero(self) -> bool
         ensures { result ≡ has_zero self }
     {
@@ -128,6 +135,7 @@ impl Flags {
     }
 
     /// SF: the top bit of the result.
+    #[inline(always)]
     pub fn sign(self) -> bool
         ensures { result ≡ has_sign self }
     {
@@ -136,6 +144,7 @@ impl Flags {
     }
 
     /// OF: the signed result does not fit.
+    #[inline(always)]
     pub fn overflow(self) -> bool
         ensures { result ≡ has_overflow self }
     {
@@ -145,6 +154,7 @@ impl Flags {
 }
 
 /// Whether a condition holds of these flags.
+#[inline(always)]
 #[tactic(auto, unfolding(crate::specs::Flags::condition_holds))]
 pub fn cond(condition: Condition, flags: Flags) -> bool
     ensures { result ≡ condition_holds condition flags }

@@ -6,11 +6,9 @@ mod sums_table;
 
 use crate::numbers::Numbers;
 use bitflags::Flags as _;
-use ia_alu::{
-    Divide, IncDecOp, add, alu, bit, div, idiv, imul, imul_low, incdec, mul, neg, shift, sub,
-};
+use ia_alu::{Divide, add, alu, bit, div, idiv, imul, imul_low, incdec, mul, neg, shift, sub};
 use ia_regs::Flags;
-use ia_word::{AluOp, BitOp, ShiftOp, Width};
+use ia_word::{AluOp, BitOp, IncDecOp, ShiftOp, Width};
 use std::alloc::AllocError;
 
 // The operands and counts at the edges, in the order of the tables.

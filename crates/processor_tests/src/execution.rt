@@ -7,10 +7,10 @@ ghost use Rattle.ia_insn.specs.Encoding.{encodable};
 
 use crate::arithmetic::flags;
 use crate::numbers::Numbers;
-use ia_exec::{Done, finish};
+use ia_exec::{Finished, finish_in};
 use ia_insn::{Insn, Op, Operand};
 use ia_regs::Regs;
-use ia_word::{Condition, UnaryOp, Width};
+use ia_word::{BareOp, Condition, ExchangeOp, ExtendOp, LoopOp, UnaryOp, Width};
 use processor_table::{CMPXCHG, CONDITIONS, EXTENSIONS, LOOPS, TEST, XADD};
 
 const BEHIND: u32 = 0x1003;
@@ -38,19 +38,16 @@ const PLACES: [(u8, u16); 6] = [
     (32, 0x800),
 ];
 
-// The registers of an instruction that goes on and stores nothing.
-fn registers_of(done: Done) -> Option<Regs> {
-    match done {
-        Done::Go(regs, None) => Some(regs),
-        _ => None,
-    }
-}
-
-// What an operation of 3 bytes leaves in registers and flags, outside of transactions.
+// What an operation of 3 bytes leaves in registers and flags, outside of transactions, where it goes on and stores
+// nothing.
 fn run(op: Op, regs: &Regs) -> Option<Regs>
     requires { IsTrue (encodable op) }
 {
-    registers_of(finish(&Insn { lock: false, op }, 3, regs, 0, 0))
+    let mut after = *regs;
+    match finish_in(&Insn { lock: false, op }, 3, &mut after, 0, 0) {
+        Finished::Goes => Some(after),
+        _ => None,
+    }
 }
 
 // Registers with EAX, ECX, EDX and EBX as given, and the flags by their sum.
@@ -70,7 +67,7 @@ fn sum_of(regs: &Regs) -> u32 {
 // Destination, source and flags after XADD of two registers.
 fn xadd_of(to: u32, from: u32, before: u16) -> Option<(u32, u32, u32)> {
     let after = run(
-        Op::Xadd(Operand::Reg(2), 3),
+        Op::Exchange(ExchangeOp::Add, Operand::Reg(2), 3),
         &starting(0, 0, to, from, before),
     )?;
     Some((after.get(2), after.get(3), sum_of(&after)))
@@ -79,7 +76,7 @@ fn xadd_of(to: u32, from: u32, before: u16) -> Option<(u32, u32, u32)> {
 // EAX, destination and flags after CMPXCHG with a register.
 fn cmpxchg_of(eax: u32, to: u32, before: u16) -> Option<(u32, u32, u32)> {
     let after = run(
-        Op::Cmpxchg(Operand::Reg(2), 1),
+        Op::Exchange(ExchangeOp::Compare, Operand::Reg(2), 1),
         &starting(eax, 0x1234_5678, to, 0, before),
     )?;
     Some((after.get(0), after.get(2), sum_of(&after)))
@@ -157,10 +154,10 @@ fn extensions_agree(table: &str) -> bool {
         let start = starting(a, 5, 5, a, 0x8d5);
         let source = Operand::Reg(3);
         if rows.take() != left_in(3, Op::Unary(UnaryOp::Not, source), &start)
-            || rows.take() != left_in(1, Op::Movzx(1, source), &start)
-            || rows.take() != left_in(1, Op::Movsx(1, source), &start)
-            || rows.take() != left_in(2, Op::Cdq, &start)
-            || rows.take() != left_in(0, Op::Cwde, &start)
+            || rows.take() != left_in(1, Op::Extend(ExtendOp::Zero, 1, source), &start)
+            || rows.take() != left_in(1, Op::Extend(ExtendOp::Sign, 1, source), &start)
+            || rows.take() != left_in(2, Op::Bare(BareOp::Cdq), &start)
+            || rows.take() != left_in(0, Op::Bare(BareOp::Cwde), &start)
         {
             return false;
         }
@@ -183,9 +180,9 @@ fn loops_agree(table: &str) -> bool {
     let mut rows = Numbers::new(table);
     for ecx in EDGES {
         let start = starting(7, ecx, 7, 7, 0x8d5);
-        if rows.take() != left_in(1, Op::Loop(0xffff_fff0), &start)
-            || rows.take() != jumped(Op::Loop(0xffff_fff0), &start)
-            || rows.take() != jumped(Op::Jecxz(0xffff_fff0), &start)
+        if rows.take() != left_in(1, Op::LoopJump(LoopOp::Loop, 0xffff_fff0), &start)
+            || rows.take() != jumped(Op::LoopJump(LoopOp::Loop, 0xffff_fff0), &start)
+            || rows.take() != jumped(Op::LoopJump(LoopOp::Ecx, 0xffff_fff0), &start)
         {
             return false;
         }

@@ -5,7 +5,7 @@ ghost use Rattle.ia_insn.specs.Encoding.{is_encodable};
 
 use crate::execution::flags;
 use ia_decode::decode;
-use ia_exec::{AbortKind, Done, Exception, Store, fallback, finish};
+use ia_exec::{AbortKind, Exception, Finished, Store, fallback, finish_in};
 use ia_insn::{Insn, is_encodable};
 use ia_regs::Regs;
 use ia_text::{ToVec, write_insn};
@@ -18,6 +18,13 @@ struct Given {
     regs: Regs,
     loaded: u32,
     depth: u8,
+}
+
+// What an instruction is to come to, and the registers after it.
+#[derive(Clone, Copy, Debug)]
+struct Wanted {
+    finished: Finished,
+    regs: Regs,
 }
 
 // What a row goes on from.
@@ -139,7 +146,7 @@ fn store_of(name: &str, value: u32) -> Option<Store> {
 }
 
 // The registers and the store of an instruction that goes on.
-fn going_on(behind: Regs, words: &str) -> Option<Done> {
+fn going_on(behind: Regs, words: &str) -> Option<Wanted> {
     let mut regs = behind;
     let mut store = None;
     for word in words.split_whitespace() {
@@ -151,40 +158,47 @@ fn going_on(behind: Regs, words: &str) -> Option<Done> {
             regs = with_register(regs, name, value)?;
         }
     }
-    Some(Done::Go(regs, store))
+    let finished = match store {
+        None => Finished::Goes,
+        Some(store) => Finished::Stores(store),
+    };
+    Some(Wanted { finished, regs })
 }
 
-fn exception_of(name: &str) -> Option<Done> {
+fn exception_of(name: &str) -> Option<Finished> {
     match name {
-        "Divide" => Some(Done::Fault(Exception::Divide)),
-        "Breakpoint" => Some(Done::Fault(Exception::Breakpoint)),
-        "Undefined" => Some(Done::Fault(Exception::Undefined)),
-        "Protection" => Some(Done::Fault(Exception::Protection)),
+        "Divide" => Some(Finished::Faults(Exception::Divide)),
+        "Breakpoint" => Some(Finished::Faults(Exception::Breakpoint)),
+        "Undefined" => Some(Finished::Faults(Exception::Undefined)),
+        "Protection" => Some(Finished::Faults(Exception::Protection)),
         _ => None,
     }
 }
 
 // An abort by its name, or by the code of XABORT.
-fn abort_of(name: &str) -> Option<Done> {
+fn abort_of(name: &str) -> Option<Finished> {
     match name {
-        "Nest" => Some(Done::Abort(AbortKind::Nest)),
-        "Debug" => Some(Done::Abort(AbortKind::Debug)),
-        "Other" => Some(Done::Abort(AbortKind::Other)),
-        _ => Some(Done::Abort(AbortKind::Explicit(u8::from_str_radix(name, 16).ok()?))),
+        "Nest" => Some(Finished::Aborts(AbortKind::Nest)),
+        "Debug" => Some(Finished::Aborts(AbortKind::Debug)),
+        "Other" => Some(Finished::Aborts(AbortKind::Other)),
+        _ => Some(Finished::Aborts(AbortKind::Explicit(u8::from_str_radix(name, 16).ok()?))),
     }
 }
 
-fn outcome_of(behind: Regs, outcome: &str) -> Option<Done> {
+// What a row says: the registers stay where the instruction does not go on, but EIP, which stands behind a start and an
+// end of a transaction.
+fn outcome_of(before: Regs, behind: Regs, outcome: &str) -> Option<Wanted> {
     let (word, rest) = outcome.split_once(' ').unwrap_or((outcome, ""));
-    match word {
-        "goes" => going_on(behind, rest),
-        "fault" => exception_of(rest),
-        "abort" => abort_of(rest),
-        "begin" => Some(Done::Begin(number(rest)?)),
-        "end" => Some(Done::End),
-        "halt" => Some(Done::Halt),
-        _ => None,
-    }
+    let (finished, regs) = match word {
+        "goes" => return going_on(behind, rest),
+        "fault" => (exception_of(rest)?, before),
+        "abort" => (abort_of(rest)?, before),
+        "halt" => (Finished::Halts, before),
+        "begin" => (Finished::Begins(number(rest)?), behind),
+        "end" => (Finished::Ends, behind),
+        _ => return None,
+    };
+    Some(Wanted { finished, regs })
 }
 
 // Whether an instruction is printed like this at address 0.
@@ -204,14 +218,16 @@ fn instruction(alloc: Global, bytes: &[u8], text: &str) -> Option<(Insn, u8)> {
 }
 
 // Whether an instruction comes to this. The fallback of one that begins a transaction is the other call's too.
-fn comes_to(insn: &Insn, length: u8, given: Given, wanted: Done) -> bool
+fn comes_to(insn: &Insn, length: u8, given: Given, wanted: Wanted) -> bool
     requires { IsTrue (is_encodable insn.now) }
 {
-    let falls_back = match wanted {
-        Done::Begin(to) => fallback(insn, length, &given.regs) == to,
+    let falls_back = match wanted.finished {
+        Finished::Begins(to) => fallback(insn, length, &given.regs) == to,
         _ => true,
     };
-    falls_back && finish(insn, length, &given.regs, given.loaded, given.depth) == wanted
+    let mut regs = given.regs;
+    let finished = finish_in(insn, length, &mut regs, given.loaded, given.depth);
+    falls_back && finished == wanted.finished && regs == wanted.regs
 }
 
 // Whether the instruction of these bytes is that of the fields, and comes to what they say.
@@ -222,7 +238,7 @@ fn agrees(alloc: Global, bytes: &[u8], fields: Fields<'_>) -> Option<bool> {
         eip: given.regs.eip.wrapping_add(u32::from(length)),
         ..given.regs
     };
-    let wanted = outcome_of(behind, fields.outcome)?;
+    let wanted = outcome_of(given.regs, behind, fields.outcome)?;
     Some(is_encodable(&insn) && comes_to(&insn, length, given, wanted))
 }
 
