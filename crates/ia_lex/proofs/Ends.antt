@@ -1,11 +1,11 @@
 -- The ends of lines.
-use Rattle.std.proofs.Common.{◌≡◌, ℕ, zero, suc, ◌+◌, ◌-◌, ◌<◌, ◌≤◌, Bool, true, false, cond, List, [], ◌∷◌, ◌++◌, refl, sym, ◌∙◌, ap, take, drop, length, get_or, arith, rules, inl, inr}
+use Rattle.std.proofs.Common.{◌≡◌, ℕ, zero, suc, ◌+◌, ◌-◌, ◌<◌, Bool, true, false, cond, List, [], ◌∷◌, refl, sym, ◌∙◌, ap, take, drop, length, get_or, arith, inl, inr}
 use Rattle.std.proofs.lemmas.Bool.{cases_Bool}
 use Rattle.std.proofs.lemmas.List.{drop_all}
 use Rattle.std.specs.Prelude.{◌==◌, ◌&&◌}
 use Rattle.std.specs.List.{prefix_len}
 use Rattle.ia_lex.specs.Chars.{differs}
-use Rattle.ia_lex.specs.Lines.{onto, begins_with_lf, lines_of, without_cr}
+use Rattle.ia_lex.specs.Lines.{onto, lines_of, without_cr}
 
 pub ends_nowhere : (xs : List ℕ) → length xs ≡ 0 → xs ≡ without_cr xs
 ends_nowhere [] e = refl

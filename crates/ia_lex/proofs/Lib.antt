@@ -2,3 +2,5 @@ pub mod Fronts
 pub mod Skips
 pub mod TermLists
 pub mod Ends
+pub mod Lengths
+pub mod Rows

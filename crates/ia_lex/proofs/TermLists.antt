@@ -1,5 +1,5 @@
 -- Terms, one by one.
-use Rattle.std.proofs.Common.{◌≡◌, ℕ, zero, suc, ◌+◌, ◌-◌, ◌<◌, ◌≤◌, Bool, true, false, List, [], ◌∷◌, ◌++◌, Option, Some, None, refl, sym, ◌∙◌, ap, append_assoc, append-nil, arith}
+use Rattle.std.proofs.Common.{◌≡◌, ℕ, zero, suc, ◌+◌, ◌-◌, ◌<◌, Bool, false, List, [], ◌∷◌, ◌++◌, Option, Some, None, refl, sym, ◌∙◌, ap, append_assoc, append-nil, arith}
 use Rattle.ia_lex.specs.Tokens.{Lexeme}
 use Rattle.ia_lex.specs.Terms.{AtomContent, TermContent, atom_of, sign_of, before, by_atom, by_sign, terms_at, with_terms, expression_at}
 

@@ -1,5 +1,6 @@
 -- Terms, and reading them from tokens.
-use Rattle.std.specs.Prelude.{◌≡◌, ℕ, zero, suc, Bool, true, false, ◌==◌, ◌&&◌, ◌||◌, if◌then◌else◌, Option, Some, None, List, [], ◌∷◌, ◌++◌, map, length, nat_lt, option_map}
+use Rattle.std.specs.Prelude.{ℕ, zero, suc, Bool, true, false, ◌==◌, if◌then◌else◌, Option, Some, None}
+use Rattle.std.specs.Prelude.{List, [], ◌∷◌, ◌++◌, map}
 use Rattle.ia_lex.specs.Tokens.{Lexeme, Word, Number, Text, Mark, lexeme_of}
 use Rattle.ia_lex.specs.declared.token.Token.{Token}
 use Rattle.arrayvec.specs.ArrayVec.{ArrayVec}

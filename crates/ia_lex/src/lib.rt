@@ -1,11 +1,11 @@
 //! The lines of a source and their tokens, and the expressions that tokens write.
 //!
 //! The syntax is NASM's (NASM manual, chapter 3, "The NASM Language"): names, numbers with a prefix or a suffix,
-//! quoted characters, marks, and a comment behind `;`. An `Expression` is a sum or difference of at most 16 `Term`s, each a
-//! number or a symbol (`Atom`), whose value is a whole number.
+//! quoted characters, marks, and a comment behind `;`. An `Expression` is a sum or difference of at most 16 `Term`s,
+//! each a number or a symbol (`Atom`), whose value is a whole number.
 //!
-//! Promised: `first_line` gives the lines of a text one by one, `tokens` exactly the tokens of a line or that something in
-//! it is no token, and `expression`, `word_number` and `register_of` what their tokens and words say.
+//! Promised: `first_line` gives the lines of a text one by one, `tokens` exactly the tokens of a line or that something
+//! in it is no token, and `expression`, `word_number` and `register_of` what their tokens and words say.
 //!
 //! It stands on `ia_word` for the widths of registers.
 #![tactic(auto)]

@@ -96,8 +96,9 @@ pub fn number(word: &[u8]) -> Option<Option<u64>>
     }
 }
 
-/// The number that a word writes: decimal digits, `0x` and hex digits, hex digits with a decimal one in front and a final
-/// `h`, or binary digits and a final `b`. `None` where it writes none, or one above 2^64 - 1. A number begins with a digit.
+/// The number that a word writes: decimal digits, `0x` and hex digits, hex digits with a decimal one in front and a
+/// final `h`, or binary digits and a final `b`. `None` where it writes none, or one above 2^64 - 1. A number begins
+/// with a digit.
 pub fn word_number(word: &[u8]) -> Option<u64>
     ensures { result ≡ word_number word.now }
 {

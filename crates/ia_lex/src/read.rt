@@ -2,7 +2,8 @@
 
 ghost use Rattle.std.specs.Prelude.{◌≡◌, ◌≤◌, ◌-◌, length, Option, Some, None, IfSome, IfNone, map, option_map};
 ghost use Rattle.ia_lex.specs.Tokens.{lexeme_of};
-ghost use Rattle.ia_lex.specs.Terms.{term_content, atom_content, atom_of, sign_of, expression_and_rest, terms_at, with_terms, expression_at};
+ghost use Rattle.ia_lex.specs.Terms.{term_content, atom_content, atom_of, sign_of, expression_and_rest, terms_at};
+ghost use Rattle.ia_lex.specs.Terms.{with_terms, expression_at};
 
 use crate::terms::{Atom, Expression, Term};
 use crate::token::Token;
@@ -84,8 +85,8 @@ fn behind_sign<'a, 'b>(
     }
 }
 
-/// The sum or difference in front, of at most 16 numbers and symbols with a sign in front or none, and the tokens behind
-/// it.
+/// The sum or difference in front, of at most 16 numbers and symbols with a sign in front or none, and the tokens
+/// behind it.
 pub fn expression<'a, 'b>(tokens: &'b [Token<'a>]) -> Option<(Expression<'a>, &'b [Token<'a>])>
     ensures { option_map expression_and_rest result ≡ expression_at (map lexeme_of tokens.now) }
 {

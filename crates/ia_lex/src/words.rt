@@ -15,15 +15,23 @@ fn lower(byte: u8) -> u8
     }
 }
 
-/// Whether a word is this name, in any case. The name is in lower case.
-pub fn is_word(name: &[u8], word: &[u8]) -> bool
+fn has_letters(name: &[u8], word: &[u8]) -> bool
     ensures { result ≡ is_word name.now word.now }
 {
     match (name.split_first(), word.split_first()) {
         (None, None) => true,
-        (Some((a, name)), Some((b, word))) => *a == lower(*b) && is_word(name, word),
+        (Some((a, name)), Some((b, word))) => *a == lower(*b) && has_letters(name, word),
         _ => false,
     }
+}
+
+/// Whether a word is this name, in any case. The name is in lower case. Lengths are compared first, since most words
+/// that are compared are of another.
+#[tactic(auto, using(crate::proofs::Lengths::other_length))]
+pub fn is_word(name: &[u8], word: &[u8]) -> bool
+    ensures { result ≡ is_word name.now word.now }
+{
+    name.len() == word.len() && has_letters(name, word)
 }
 
 static REGISTERS: [(&str, (Width, u8)); 16] = [
@@ -46,19 +54,16 @@ static REGISTERS: [(&str, (Width, u8)); 16] = [
 ];
 
 /// What stands beside the first of these names that a word is, in any case. The names are in lower case.
+#[tactic(auto, using(crate::proofs::Rows::row_step, crate::proofs::Rows::row_stop, crate::proofs::Rows::row_end))]
 pub fn find_word<T: Copy>(rows: &[(&str, T)], word: &[u8]) -> Option<T>
     ensures { result ≡ find_word (map row rows.now) word.now }
 {
-    match rows.split_first() {
-        None => None,
-        Some((row, rest)) => {
-            if is_word(row.0.as_bytes(), word) {
-                Some(row.1)
-            } else {
-                find_word(rest, word)
-            }
+    for (i, row) in rows.iter().enumerate() {
+        if is_word(row.0.as_bytes(), word) {
+            return Some(row.1);
         }
     }
+    None
 }
 
 /// The width and the number of a register, by its name in any case.

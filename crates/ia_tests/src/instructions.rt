@@ -2,10 +2,11 @@
 
 use crate::rows::row_of;
 use ia_insn::{
-    DecodeFault, Insn, Mem, Op, Operand, is_encodable, is_lockable, is_signed_byte,
-    no_spelling_begins_another, one_instruction, rows_are_reached,
+    Argument, Arguments, DecodeFault, Insn, Mem, Op, Operand, Role, distances_count_from_the_end,
+    encodable_by_operands, is_encodable, is_lockable, is_signed_byte, no_spelling_begins_another,
+    one_instruction, rows_are_reached,
 };
-use ia_word::{AluOp, Width};
+use ia_word::{AluOp, BareOp, BitOp, Condition, ExchangeOp, Width};
 use std::alloc::Global;
 use std::test::Fail;
 
@@ -96,6 +97,85 @@ fn encodable(rt: HostRuntime) {
     assert!(rt; !is_encodable(&plain(Op::Lea(0, times_three))));
 }
 
+fn place(role: Role) -> Option<Argument> {
+    Some(Argument::Operand(role, Width::D, PLACE))
+}
+
+fn register(role: Role) -> Option<Argument> {
+    Some(Argument::Operand(role, Width::D, Operand::Reg(2)))
+}
+
+// By the tables "Instruction Operand Encoding" of the pages.
+#[test]
+fn operands(rt: HostRuntime) {
+    let source = Some(Argument::Source(Width::D, Operand::Imm(7)));
+    let seven = Some(Argument::Byte(7));
+    let near = Some(Argument::Near(6, 0x1000));
+    let short = Some(Argument::Short(0xffff_fff0));
+    let number = Operand::Imm(7);
+    let add = Op::Alu(AluOp::Add, Width::D, PLACE, number);
+    let cmp = Op::Alu(AluOp::Cmp, Width::D, PLACE, number);
+    let rows = [
+        (add, place(Role::Changed), source, None),
+        (cmp, place(Role::Read), source, None),
+        (
+            Op::Mov(Width::D, PLACE, number),
+            place(Role::Written),
+            source,
+            None,
+        ),
+        (
+            Op::ImulImm(2, PLACE, 7),
+            register(Role::Written),
+            place(Role::Read),
+            source,
+        ),
+        (Op::Bit(BitOp::Bt, PLACE, 7), place(Role::Read), seven, None),
+        (
+            Op::Bit(BitOp::Btc, PLACE, 7),
+            place(Role::Changed),
+            seven,
+            None,
+        ),
+        (
+            Op::Cmovcc(Condition::Less, 2, PLACE),
+            register(Role::Changed),
+            place(Role::Read),
+            None,
+        ),
+        (
+            Op::Exchange(ExchangeOp::Compare, PLACE, 2),
+            place(Role::Changed),
+            register(Role::Read),
+            None,
+        ),
+        (
+            Op::Exchange(ExchangeOp::Add, PLACE, 2),
+            place(Role::Changed),
+            register(Role::Changed),
+            None,
+        ),
+        (Op::Pop(PLACE), place(Role::Written), None, None),
+        (Op::NopOf(PLACE), place(Role::Named), None, None),
+        (Op::Jcc(Condition::Less, 0x1000), near, None, None),
+        (
+            Op::JccShort(Condition::Less, 0xffff_fff0),
+            short,
+            None,
+            None,
+        ),
+        (Op::Bare(BareOp::Cpuid), None, None, None),
+    ];
+    for (op, first, second, third) in rows {
+        let wanted = Arguments {
+            first,
+            second,
+            third,
+        };
+        assert_eq!(rt; op.operands(), wanted, "{op:?}");
+    }
+}
+
 #[test]
 fn signed_bytes(rt: HostRuntime) {
     let numbers = [
@@ -117,4 +197,6 @@ fn laws() {
     no_spelling_begins_another();
     one_instruction();
     rows_are_reached();
+    encodable_by_operands();
+    distances_count_from_the_end();
 }

@@ -2,6 +2,7 @@
 use Rattle.std.proofs.Common.{◌≡◌, true, false, Some, None, refl}
 use Rattle.std.specs.Prelude.{codes}
 use Rattle.ia_word.specs.declared.operation.AluOp.TheVariants as alu
+use Rattle.ia_word.specs.declared.operation.IncDecOp.TheVariants as inc_dec
 use Rattle.ia_word.specs.declared.width.Width.TheVariants.{B, D}
 use Rattle.ia_insn.specs.declared.op.Op.TheVariants as op
 use Rattle.ia_insn.specs.declared.operand.Operand.TheVariants as operand
@@ -19,6 +20,6 @@ absolute : insn_text (record { lock = false; op = op.Mov D (operand.Reg 0) (oper
 unfolding insn_text op_text mem_text
 absolute = refl
 
-zero_place : insn_text (record { lock = false; op = op.Inc B (operand.Mem (record { base = None; index = None; scale = 1; disp = 0 })) }) 0 ≡ codes "inc byte [0x0]"
+zero_place : insn_text (record { lock = false; op = op.IncDec inc_dec.Inc B (operand.Mem (record { base = None; index = None; scale = 1; disp = 0 })) }) 0 ≡ codes "inc byte [0x0]"
 unfolding insn_text op_text mem_text
 zero_place = refl

@@ -1,6 +1,7 @@
 -- The text of an instruction at an address: mnemonic and operands in the order of SDM volume 2, memory in brackets as
 -- NASM writes it, and numbers as unsigned.
-use Rattle.std.specs.Prelude.{ℕ, ◌==◌, Bool, ◌&&◌, ◌||◌, if◌then◌else◌, is_some, Option, Some, None, List, [], ◌++◌, codes}
+use Rattle.std.specs.Prelude.{ℕ, ◌==◌, Bool, ◌&&◌, ◌||◌, if◌then◌else◌, is_some, Option, Some, None, List, [], ◌++◌}
+use Rattle.std.specs.Prelude.{codes}
 use Rattle.ia_word.specs.declared.width.Width.TheVariants.{D}
 use Rattle.ia_insn.specs.declared.op.Insn.{Insn}
 use Rattle.ia_insn.specs.declared.op.Op.{Op}
@@ -8,7 +9,8 @@ use Rattle.ia_insn.specs.declared.operand.Mem.{Mem}
 use Rattle.ia_text.specs.declared.arg.Arg.{Arg}
 use Rattle.ia_text.specs.declared.arg.Arg.TheVariants as arg
 use Rattle.ia_text.specs.Number.{number}
-use Rattle.ia_text.specs.Names.{register_name, size_name, stem, condition}
+use Rattle.ia_insn.specs.Mnemonics.{mnemonic_of, name_of}
+use Rattle.ia_text.specs.Names.{register_name, size_name}
 use Rattle.ia_text.specs.Arguments.{first_arg, second_arg, third_arg}
 
 -- a + where something stands before
@@ -50,8 +52,8 @@ behind gap None = []
 behind gap (Some argument) = gap ++ arg_text argument
 
 unfoldable pub op_text : Op → ℕ → List ℕ
-op_text op at = stem op ++ condition op ++ behind (codes " ") (first_arg op at)
-    ++ behind (codes ", ") (second_arg op) ++ behind (codes ", ") (third_arg op)
+op_text op at = name_of (mnemonic_of op) ++ behind (codes " ") (first_arg op at)
+    ++ behind (codes ", ") (second_arg op at) ++ behind (codes ", ") (third_arg op at)
 
 unfoldable pub insn_text : Insn → ℕ → List ℕ
 insn_text insn at = (if insn.lock then codes "lock " else []) ++ op_text insn.op at

@@ -1,10 +1,11 @@
 //! The operands of an instruction at an address, as they are printed.
 
-ghost use Rattle.std.specs.Prelude.{◌≡◌, Some, None};
-ghost use Rattle.ia_text.specs.Arguments.{operand_arg, count_arg, target, first_arg, second_arg, third_arg};
+ghost use Rattle.std.specs.Prelude.{◌≡◌, option_map};
+ghost use Rattle.ia_text.specs.Arguments.{operand_arg, count_arg, target, says_short, short_target, shown_arg};
+ghost use Rattle.ia_text.specs.Arguments.{first_arg, second_arg, third_arg};
 
 use crate::arg::Arg;
-use ia_insn::{Count, Op, Operand};
+use ia_insn::{Argument, Count, Op, Operand};
 use ia_word::Width;
 
 fn operand(width: Width, operand: Operand) -> Arg
@@ -33,9 +34,53 @@ fn target(at: u32, long: u32, distance: u32) -> u32
     at.wrapping_add(long).wrapping_add(distance)
 }
 
-/// The operands of an operation in their order: none, one, two or three.
+/// Whether a short jump says so.
+fn says_short(op: &Op) -> bool
+    ensures { result ≡ says_short op.now }
+{
+    match op {
+        Op::LoopJump(_, _) => false,
+        _ => true,
+    }
+}
+
+fn short_target(says: bool, place: u32) -> Arg
+    ensures { result ≡ short_target says place }
+{
+    if says {
+        Arg::Short(place)
+    } else {
+        Arg::Number(place)
+    }
+}
+
+fn shown_arg(says: bool, at: u32, argument: Argument) -> Arg
+    ensures { result ≡ shown_arg says at argument }
+{
+    match argument {
+        Argument::Operand(_, width, place) => operand(width, place),
+        Argument::Source(width, from) => operand(width, from),
+        Argument::Address(place) => Arg::Address(place),
+        Argument::Count(number) => count(number),
+        Argument::Byte(number) => Arg::Number(u32::from(number)),
+        Argument::Half(number) => Arg::Number(u32::from(number)),
+        Argument::Near(long, distance) => Arg::Number(target(at, u32::from(long), distance)),
+        Argument::Short(distance) => short_target(says, target(at, 2, distance)),
+    }
+}
+
+fn shown_if_any(says: bool, at: u32, argument: Option<Argument>) -> Option<Arg>
+    ensures { result ≡ option_map (shown_arg says at) argument }
+{
+    match argument {
+        Some(argument) => Some(shown_arg(says, at, argument)),
+        None => None,
+    }
+}
+
+/// The operands of an operation as they are printed, in their order: none, one, two or three.
 #[derive(Clone, Copy, Debug, PartialEq, Eq)]
-pub struct Arguments {
+pub struct Printed {
     /// The destination, where there is one.
     pub first: Option<Arg>,
     /// The source.
@@ -44,94 +89,17 @@ pub struct Arguments {
     pub third: Option<Arg>,
 }
 
-fn none() -> Arguments
-    ensures { result ≡ record { first = None; second = None; third = None } }
-{
-    Arguments {
-        first: None,
-        second: None,
-        third: None,
-    }
-}
-
-fn one(first: Arg) -> Arguments
-    ensures { result ≡ record { first = Some first; second = None; third = None } }
-{
-    Arguments {
-        first: Some(first),
-        second: None,
-        third: None,
-    }
-}
-
-fn two(first: Arg, second: Arg) -> Arguments
-    ensures { result ≡ record { first = Some first; second = Some second; third = None } }
-{
-    Arguments {
-        first: Some(first),
-        second: Some(second),
-        third: None,
-    }
-}
-
-fn three(first: Arg, second: Arg, third: Arg) -> Arguments
-    ensures { result ≡ record { first = Some first; second = Some second; third = Some third } }
-{
-    Arguments {
-        first: Some(first),
-        second: Some(second),
-        third: Some(third),
-    }
-}
-
-fn register(number: u8) -> Arg
-    ensures { result ≡ Arg.Register Width.D number }
-{
-    Arg::Register(Width::D, number)
-}
-
 /// The operands of an operation at an address.
-pub fn arguments_of(op: &Op, at: u32) -> Arguments
+pub fn arguments_of(op: &Op, at: u32) -> Printed
     ensures first { result.first ≡ first_arg op.now at }
-    ensures second { result.second ≡ second_arg op.now }
-    ensures third { result.third ≡ third_arg op.now }
+    ensures second { result.second ≡ second_arg op.now at }
+    ensures third { result.third ≡ third_arg op.now at }
 {
-    match *op {
-        Op::Alu(_, width, to, from) => two(operand(width, to), operand(width, from)),
-        Op::Mov(width, to, from) => two(operand(width, to), operand(width, from)),
-        Op::Lea(to, place) => two(register(to), Arg::Address(place)),
-        Op::Xchg(width, place, with) => two(operand(width, place), Arg::Register(width, with)),
-        Op::Inc(width, place) => one(operand(width, place)),
-        Op::Dec(width, place) => one(operand(width, place)),
-        Op::Test(width, left, right) => two(operand(width, left), operand(width, right)),
-        Op::Unary(_, place) => one(operand(Width::D, place)),
-        Op::Imul(to, from) => two(register(to), operand(Width::D, from)),
-        Op::ImulImm(to, from, number) => {
-            three(register(to), operand(Width::D, from), Arg::Number(number))
-        }
-        Op::Shift(_, place, number) => two(operand(Width::D, place), count(number)),
-        Op::Push(from) => one(operand(Width::D, from)),
-        Op::Pop(to) => one(operand(Width::D, to)),
-        Op::Call(distance) => one(Arg::Number(target(at, 5, distance))),
-        Op::CallTo(place) => one(operand(Width::D, place)),
-        Op::RetPop(number) => one(Arg::Number(u32::from(number))),
-        Op::Jmp(distance) => one(Arg::Number(target(at, 5, distance))),
-        Op::JmpShort(distance) => one(Arg::Short(target(at, 2, distance))),
-        Op::JmpTo(place) => one(operand(Width::D, place)),
-        Op::Jcc(_, distance) => one(Arg::Number(target(at, 6, distance))),
-        Op::JccShort(_, distance) => one(Arg::Short(target(at, 2, distance))),
-        Op::Setcc(_, to) => one(operand(Width::B, to)),
-        Op::Cmovcc(_, to, from) => two(register(to), operand(Width::D, from)),
-        Op::Loop(distance) => one(Arg::Number(target(at, 2, distance))),
-        Op::Jecxz(distance) => one(Arg::Number(target(at, 2, distance))),
-        Op::Movzx(to, from) => two(register(to), operand(Width::B, from)),
-        Op::Movsx(to, from) => two(register(to), operand(Width::B, from)),
-        Op::Cmpxchg(place, from) => two(operand(Width::D, place), register(from)),
-        Op::Xadd(place, from) => two(operand(Width::D, place), register(from)),
-        Op::Bit(_, place, number) => two(operand(Width::D, place), Arg::Number(u32::from(number))),
-        Op::NopOf(place) => one(operand(Width::D, place)),
-        Op::Xbegin(distance) => one(Arg::Number(target(at, 6, distance))),
-        Op::Xabort(number) => one(Arg::Number(u32::from(number))),
-        _ => none(),
+    let says = says_short(op);
+    let operands = op.operands();
+    Printed {
+        first: shown_if_any(says, at, operands.first),
+        second: shown_if_any(says, at, operands.second),
+        third: shown_if_any(says, at, operands.third),
     }
 }

@@ -14,9 +14,9 @@ use arrayvec::ArrayVec;
 /// A page of text: up to 4096 bytes.
 pub type Page = ArrayVec<u8, 4096>;
 
-/// Adds bytes at the end.
-pub fn push(page: &mut Page, bytes: &[u8])
-    requires { array_vec_len page.old + length bytes.now ≤ 4096 }
+/// Adds bytes at the end of a page or of any row of bytes.
+pub fn push<const ROOM: usize>(page: &mut ArrayVec<u8, ROOM>, bytes: &[u8])
+    requires { array_vec_len page.old + length bytes.now ≤ ROOM }
     ensures text { page.new.items ≡ page.old.items ++ bytes.now }
     ensures len { array_vec_len page.new ≡ array_vec_len page.old + length bytes.now }
 {
@@ -65,9 +65,9 @@ pub fn push_number(page: &mut Page, n: u32)
 }
 
 /// Adds two hex digits for each of up to 32 bytes.
-pub fn push_bytes(page: &mut Page, bytes: &[u8])
+pub fn push_bytes<const ROOM: usize>(page: &mut ArrayVec<u8, ROOM>, bytes: &[u8])
     requires few { length bytes.now ≤ 32 }
-    requires room { array_vec_len page.old + 2 * length bytes.now ≤ 4096 }
+    requires room { array_vec_len page.old + 2 * length bytes.now ≤ ROOM }
     ensures text { page.new.items ≡ page.old.items ++ encode_lower bytes.now }
     ensures len { array_vec_len page.new ≡ array_vec_len page.old + 2 * length bytes.now }
 {
@@ -78,8 +78,8 @@ pub fn push_bytes(page: &mut Page, bytes: &[u8])
 }
 
 /// Adds eight hex digits.
-pub fn push_eight(page: &mut Page, n: u32)
-    requires { array_vec_len page.old + 8 ≤ 4096 }
+pub fn push_eight<const ROOM: usize>(page: &mut ArrayVec<u8, ROOM>, n: u32)
+    requires { array_vec_len page.old + 8 ≤ ROOM }
     ensures text { page.new.items ≡ page.old.items ++ eight_digits n }
     ensures len { array_vec_len page.new ≡ array_vec_len page.old + 8 }
 {

@@ -3,11 +3,12 @@
 ghost use Rattle.std.specs.Prelude.{◌≡◌, ◌+◌, ◌≤◌, ◌++◌, length};
 ghost use Rattle.arrayvec.specs.ArrayVec.{array_vec_len};
 ghost use Rattle.ia_text.specs.Writing.{Writes};
-ghost use Rattle.ia_text.specs.Text.{plus, base_text, scale_text, index_text, disp_text, mem_text, arg_text, behind, op_text, insn_text};
+ghost use Rattle.ia_text.specs.Text.{plus, base_text, scale_text, index_text, disp_text, mem_text, arg_text, behind};
+ghost use Rattle.ia_text.specs.Text.{op_text, insn_text};
 
 use crate::arg::Arg;
 use crate::arguments::arguments_of;
-use crate::names::{condition_part, mnemonic, register, size};
+use crate::names::{register, size};
 use crate::out::{Out, WriteFault};
 use crate::page::{Page, push, push_number};
 use ia_insn::{Insn, Mem, Op};
@@ -128,8 +129,9 @@ fn push_op(page: &mut Page, op: &Op, at: u32)
     ensures text { page.new.items ≡ page.old.items ++ op_text op.now at }
     ensures len { array_vec_len page.new ≤ array_vec_len page.old + 99 }
 {
-    push(page, mnemonic(op));
-    push(page, condition_part(op));
+    let mnemonic = op.mnemonic();
+    push(page, mnemonic.stem());
+    push(page, mnemonic.condition());
     let shown = arguments_of(op, at);
     push_behind(page, b" ", &shown.first);
     push_behind(page, b", ", &shown.second);

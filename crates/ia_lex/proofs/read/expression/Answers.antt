@@ -1,7 +1,6 @@
-use Rattle.std.proofs.Common.{◌≡◌, ℕ, ◌+◌, ◌-◌, ◌<◌, ◌++◌, List, [], ◌∷◌, Option, Some, None, true, false, length, map, ap, sym, ◌∙◌, arith}
-use Rattle.std.proofs.lemmas.Grind.{common_steps}
-use Rattle.ia_lex.specs.Tokens.{Lexeme, lexeme_of}
-use Rattle.ia_lex.specs.Terms.{TermContent, term_content, sign_of, by_sign, terms_at, with_terms, expression_at}
+use Rattle.std.proofs.Common.{◌-◌, List, Some, false, length, map, ap, sym, ◌∙◌}
+use Rattle.ia_lex.specs.Tokens.{lexeme_of}
+use Rattle.ia_lex.specs.Terms.{term_content, terms_at, with_terms, expression_at}
 use Rattle.ia_lex.proofs.TermLists.{with_none, expr_plain, expr_signed}
 use Rattle.ia_lex.proofs.read.expression.Goals as goal
 
