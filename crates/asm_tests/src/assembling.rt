@@ -1,15 +1,9 @@
 //! Sources by example: images, symbols and listings, and what is told.
 
+use crate::programs::{ELIDED, WORKED, refusal};
 use ia_asm::{AsmFault, assemble, assemble_image};
 use std::alloc::Global;
 use std::test::Fail;
-
-const WORKED: &[u8] = b"\
-org 0x100\n\
-start: xbegin fall\n       inc dword [count]\n       xend\n\
-fall:  hlt\n\
-section .data\n\
-count: dd 5\n";
 
 const WORKED_CODE: &[u8] = b"\xc7\xf8\x09\x00\x00\x00\xff\x05\x40\x01\x00\x00\x0f\x01\xd5\xf4";
 
@@ -19,16 +13,6 @@ const WORKED_LISTING: &[u8] = b"\
 0000010c  0f01d5                    xend\n\
 0000010f  f4                        hlt\n\
 00000140  05000000\n";
-
-const ELIDED: &[u8] = b"\
-start: mov esi, 1000\n\
-.next: xbegin .fall\n       cmp dword [mutex], 0\n       jne .busy\n       inc dword [count]\n       xend\n       jmp .done\n\
-.busy: xabort 0xff\n\
-.fall: mov eax, 1\n       xchg eax, [mutex]\n       test eax, eax\n       jnz .fall\n       inc dword [count]\n       mov dword [mutex], 0\n\
-.done: dec esi\n       jnz .next\n       hlt\n\
-section .data\n\
-mutex: dd 0\n       align 64\n\
-count: dd 0\n";
 
 const ELIDED_CODE: &[u8] =
     b"\xbe\xe8\x03\x00\x00\xc7\xf8\x1e\x00\x00\x00\x83\x3d\x80\x01\x00\x00\x00\
@@ -82,10 +66,7 @@ fn address(alloc: Global, source: &[u8], name: &[u8]) -> Option<u32> {
 
 /// What is told of a source.
 fn fault(alloc: Global, source: &[u8]) -> Option<AsmFault> {
-    match assemble(alloc, source) {
-        Err(fault) => Some(fault),
-        Ok(_) => None,
-    }
+    refusal(assemble(alloc, source))
 }
 
 #[test]

@@ -1,5 +1,5 @@
-//! Tests of the assembler and of the laws of printed text, by public calls: sources that are read, assembled and refused,
-//! and instructions that are printed and read back.
+//! Tests of the assembler and of the laws of printed text, by public calls: sources that are read, assembled and
+//! refused, and instructions that are printed and read back.
 //!
 //! It promises nothing; it stands on the crates that it tries. `tests-data/nasm_table` makes the lines that nasm has
 //! assembled too.
@@ -7,6 +7,8 @@
 
 #[cfg(test)]
 mod assembling;
+#[cfg(test)]
+mod programs;
 #[cfg(test)]
 mod round_trips;
 #[cfg(test)]

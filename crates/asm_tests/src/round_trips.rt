@@ -1,5 +1,5 @@
-//! Printed instructions read by `ia_source::entries` and assembled by `ia_asm::assemble`, by example; lines that nasm has
-//! assembled too. And each law once.
+//! Printed instructions read by `ia_source::entries` and assembled by `ia_asm::assemble`, by example; lines that nasm
+//! has assembled too. And each law once.
 
 mod nasm_table;
 

@@ -1,28 +1,12 @@
 //! Sources by example: what lines ask for, and what is wrong with them.
 
+use crate::programs::{ELIDED, WORKED, refusal};
 use ia_insn::{Count, Insn, Mem, Op, Operand};
 use ia_item::Item;
 use ia_source::{SourceFault, Why, entries};
-use ia_word::{AluOp, Condition, ShiftOp, UnaryOp, Width};
+use ia_word::{AluOp, Condition, ExtendOp, IncDecOp, ShiftOp, UnaryOp, Width};
 use std::alloc::Global;
 use std::test::Fail;
-
-const WORKED: &[u8] = b"\
-org 0x100\n\
-start: xbegin fall\n       inc dword [count]\n       xend\n\
-fall:  hlt\n\
-section .data\n\
-count: dd 5\n";
-
-const ELIDED: &[u8] = b"\
-start: mov esi, 1000\n\
-.next: xbegin .fall\n       cmp dword [mutex], 0\n       jne .busy\n       inc dword [count]\n       xend\n       jmp .done\n\
-.busy: xabort 0xff\n\
-.fall: mov eax, 1\n       xchg eax, [mutex]\n       test eax, eax\n       jnz .fall\n       inc dword [count]\n       mov dword [mutex], 0\n\
-.done: dec esi\n       jnz .next\n       hlt\n\
-section .data\n\
-mutex: dd 0\n       align 64\n\
-count: dd 0\n";
 
 /// How many entries a source has.
 fn count(alloc: Global, source: &[u8]) -> Result<usize, SourceFault> {
@@ -46,10 +30,7 @@ fn first_insn(alloc: Global, source: &[u8]) -> Option<Insn> {
 
 /// What is wrong with a source, and where.
 fn fault(alloc: Global, source: &[u8]) -> Option<SourceFault> {
-    match entries(alloc, source) {
-        Err(fault) => Some(fault),
-        Ok(_) => None,
-    }
+    refusal(entries(alloc, source))
 }
 
 fn wrong(line: u32, why: Why) -> Option<SourceFault> {
@@ -109,7 +90,7 @@ fn directives(rt: HostRuntime) -> Result<(), Fail> {
 #[test]
 fn operands(rt: HostRuntime) -> Result<(), Fail> {
     let alloc = rt.alloc();
-    let inc = |operand| plain(Op::Inc(Width::D, operand));
+    let inc = |operand| plain(Op::IncDec(IncDecOp::Inc, Width::D, operand));
     assert_eq!(rt; first_insn(alloc, b"inc EAX"), inc(Operand::Reg(0)));
     assert_eq!(rt;
         first_insn(alloc, b"inc dword [ebx]"),
@@ -165,7 +146,7 @@ fn forms(rt: HostRuntime) -> Result<(), Fail> {
     );
     assert_eq!(rt;
         first_insn(alloc, b"movzx eax, byte [ebx]"),
-        plain(Op::Movzx(0, place))
+        plain(Op::Extend(ExtendOp::Zero, 0, place))
     );
     Ok(())
 }

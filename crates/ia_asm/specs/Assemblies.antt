@@ -1,5 +1,6 @@
 -- What assembling gives.
-use Rattle.std.specs.Prelude.{◌≡◌, ℕ, ◌+◌, ◌-◌, ◌%◌, ◌^◌, Option, Some, None, Result, Ok, Err, List, ℤ, pos, negsuc, length, map, option_map}
+use Rattle.std.specs.Prelude.{◌≡◌, ℕ, ◌+◌, ◌-◌, ◌%◌, ◌^◌, Option, Some, None, Result, Ok, Err, List, ℤ, pos, negsuc}
+use Rattle.std.specs.Prelude.{length, map, option_map}
 use Rattle.std.specs.Str.{bytes_eq}
 use Rattle.std.specs.Map.{lookup}
 use Rattle.ia_item.specs.declared.name.Name.{Name}
@@ -13,7 +14,8 @@ use Rattle.ia_asm.specs.declared.assembly.Unit.{Unit as Assembly}
 use Rattle.ia_asm.specs.declared.assembly.ProgramImage.{ProgramImage}
 use Rattle.ia_asm.specs.Faults.{at_line}
 use Rattle.ia_asm.specs.ListingText.{listing_text}
-use Rattle.ia_layout.specs.Placement.{base_of, text_end, all_places, symbols, values, section_bytes, gap, code_and_data, first_fault}
+use Rattle.ia_layout.specs.Placement.{base_of, text_end, all_places, symbols, values, section_bytes, gap, code_and_data}
+use Rattle.ia_layout.specs.Placement.{first_fault}
 
 -- a symbol's value modulo 2^32; none is below -2^31
 abbrev pub value_modulo : ℤ → ℕ

@@ -1,6 +1,7 @@
--- The listing: a line for each instruction, each line of `db` or `dd`, each `resb` and each `align`, in the order of the
--- source (docs/FORMATS.md, "Listing").
-use Rattle.std.specs.Prelude.{ℕ, ◌%◌, ◌^◌, Bool, true, false, ◌==◌, ◌&&◌, if◌then◌else◌, Option, Some, None, List, [], ◌∷◌, ◌++◌, codes, take}
+-- The listing: a line for each instruction, each line of `db` or `dd`, each `resb` and each `align`, in the order of
+-- the source (docs/FORMATS.md, "Listing").
+use Rattle.std.specs.Prelude.{ℕ, ◌%◌, ◌^◌, Bool, true, false, ◌==◌, ◌&&◌, if◌then◌else◌, Option, Some, None, List, []}
+use Rattle.std.specs.Prelude.{◌∷◌, ◌++◌, codes, take}
 use Rattle.hex.specs.Hex.{encode_lower}
 use Rattle.ia_text.specs.Number.{eight_digits}
 use Rattle.ia_text.specs.Listing.{listing_line}

@@ -1,6 +1,7 @@
 //! What a source gives: the image of its entries, and with it the listing.
 
-ghost use Rattle.std.specs.Prelude.{◌≡◌, ◌≤◌, ◌+◌, ◌-◌, ◌^◌, [], ◌∷◌, map, flat_map, length, IfOk, OnOk, All, ℤ, negsuc, ◌≤ℤ◌};
+ghost use Rattle.std.specs.Prelude.{◌≡◌, ◌≤◌, ◌+◌, ◌-◌, ◌^◌, [], ◌∷◌, map, flat_map, length, IfOk, OnOk, All, ℤ};
+ghost use Rattle.std.specs.Prelude.{negsuc, ◌≤ℤ◌};
 ghost use Rattle.indexmap.specs.IndexMap.{insert_all};
 ghost use Rattle.ia_item.specs.Names.{same_name};
 ghost use Rattle.ia_item.specs.Fits.{AllFit};
@@ -211,8 +212,8 @@ fn image_of<'a>(
     })
 }
 
-/// Places entries, as docs/FORMATS.md says under "Source", without a listing: an image that each item fits into with the
-/// values of the symbols, or the first line that cannot be placed.
+/// Places entries, as docs/FORMATS.md says under "Source", without a listing: an image that each item fits into with
+/// the values of the symbols, or the first line that cannot be placed.
 pub fn place_image<'a>(alloc: Global, entries: &[Entry<'a>]) -> Result<ProgramImage<'a>, AsmFault>
     requires { AllFit entries.now }
     ensures { PlacesImage entries.now result }
@@ -222,8 +223,8 @@ pub fn place_image<'a>(alloc: Global, entries: &[Entry<'a>]) -> Result<ProgramIm
     Ok(program)
 }
 
-/// Places entries, as docs/FORMATS.md says under "Source": an image that each item fits into with the values of the symbols,
-/// and its listing, or the first line that cannot be placed.
+/// Places entries, as docs/FORMATS.md says under "Source": an image that each item fits into with the values of the
+/// symbols, and its listing, or the first line that cannot be placed.
 pub fn place_all<'a>(alloc: Global, entries: &[Entry<'a>]) -> Result<Unit<'a>, AsmFault>
     requires { AllFit entries.now }
     ensures { PlacesAll entries.now result }

@@ -2,9 +2,9 @@
 //!
 //! The syntax is NASM's (NASM manual, chapter 3, "The NASM Language"), the bytes are those of SDM volume 2.
 //!
-//! Promised by `assemble`: the lines of the source ask for entries, and image, base, code length, symbols and listing are
-//! theirs; or the source is refused for the first line that is at fault, and the first thing that is wrong with it; or
-//! memory was refused. `assemble_image` promises the same without the listing, which it does not make.
+//! Promised by `assemble`: the lines of the source ask for entries, and image, base, code length, symbols and listing
+//! are theirs; or the source is refused for the first line that is at fault, and the first thing that is wrong with it;
+//! or memory was refused. `assemble_image` promises the same without the listing, which it does not make.
 //!
 //! It stands on `ia_source` for the entries, `ia_layout` for their places and bytes, and `ia_text` for the listing.
 #![tactic(auto)]

@@ -1,6 +1,7 @@
 //! The listing.
 
-ghost use Rattle.std.specs.Prelude.{◌≡◌, ◌≤◌, ◌+◌, ◌%◌, ◌^◌, ◌++◌, ◌∷◌, [], false, IsTrue, List, map, length, IfOk, OnOk, All};
+ghost use Rattle.std.specs.Prelude.{◌≡◌, ◌≤◌, ◌+◌, ◌%◌, ◌^◌, ◌++◌, ◌∷◌, [], false, IsTrue, List, map, length, IfOk};
+ghost use Rattle.std.specs.Prelude.{OnOk, All};
 ghost use Rattle.ia_text.specs.Listing.{listing_line};
 ghost use Rattle.ia_resolve.specs.Symbols.{known};
 ghost use Rattle.ia_layout.specs.Placement.{item_bytes, EntryPlace};

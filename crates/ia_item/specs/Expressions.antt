@@ -1,5 +1,6 @@
 -- Sums of numbers and symbols, in whole numbers.
-use Rattle.std.specs.Prelude.{Bool, true, false, not, ◌||◌, is_some, Option, Some, None, List, [], ◌∷◌, ℤ, pos, ◌+ℤ◌, ◌-ℤ◌, if◌then◌else◌}
+use Rattle.std.specs.Prelude.{Bool, true, false, not, ◌||◌, is_some, Option, Some, None, List, [], ◌∷◌, ℤ, pos, ◌+ℤ◌}
+use Rattle.std.specs.Prelude.{◌-ℤ◌, if◌then◌else◌}
 use Rattle.ia_item.specs.declared.name.Name.{Name}
 use Rattle.ia_item.specs.declared.expression.ScopedAtom.{ScopedAtom}
 use Rattle.ia_item.specs.declared.expression.ScopedAtom.TheVariants.{Number, Symbol}

@@ -1,34 +1,38 @@
 -- What an instruction's number and displacement go into.
 use Rattle.std.specs.Prelude.{ℕ, ◌+◌, ◌-◌, ◌%◌, ◌^◌, ◌<◌, Bool, ◌&&◌, if◌then◌else◌, IsTrue, ℤ, pos, negsuc, int_le}
+use Rattle.std.specs.Prelude.{Option, Some, None}
 use Rattle.ia_word.specs.declared.width.Width.TheVariants.{B}
 use Rattle.ia_insn.specs.declared.kinds.Count.TheVariants as count
 use Rattle.ia_insn.specs.declared.op.Op.{Op}
 use Rattle.ia_insn.specs.declared.op.Op.TheVariants as op
+use Rattle.ia_insn.specs.declared.argument.Argument.{Argument}
+use Rattle.ia_insn.specs.declared.argument.Argument.TheVariants as argument
 use Rattle.ia_insn.specs.declared.operand.Mem.{Mem}
 use Rattle.ia_insn.specs.declared.operand.Operand.{Operand}
 use Rattle.ia_insn.specs.declared.operand.Operand.TheVariants as operand
+use Rattle.ia_insn.specs.Arguments.{operands_of}
 use Rattle.ia_insn.specs.Encoding.{fits_short}
 use Rattle.ia_item.specs.declared.item.Field.{Field}
 use Rattle.ia_item.specs.declared.item.Field.TheVariants as field
 
--- what the number of an instruction goes into; a jump's distance counts from behind the jump
+-- what goes into an operand that is a number; a jump's distance counts from behind the jump
+abbrev pub field_in : Argument → Field
+field_in (argument.Source B operand) = field.Byte
+field_in (argument.Count amount) = field.Byte
+field_in (argument.Byte n) = field.Byte
+field_in (argument.Half n) = field.Half
+field_in (argument.Near long d) = field.Near long
+field_in (argument.Short d) = field.Short 2
+field_in _ = field.Long
+
+abbrev pub field_or : Option Argument → Field → Field
+field_or None f = f
+field_or (Some x) f = field_in x
+
+-- what the number of an instruction goes into, which is its last operand
 abbrev pub field_of : Op → Field
-field_of (op.Alu k B m s) = field.Byte
-field_of (op.Mov B m s) = field.Byte
-field_of (op.Test B m s) = field.Byte
-field_of (op.Shift k m n) = field.Byte
-field_of (op.Bit k m n) = field.Byte
-field_of (op.Xabort n) = field.Byte
-field_of (op.RetPop n) = field.Half
-field_of (op.Call d) = field.Near 5
-field_of (op.Jmp d) = field.Near 5
-field_of (op.Jcc c d) = field.Near 6
-field_of (op.Xbegin d) = field.Near 6
-field_of (op.JmpShort d) = field.Short 2
-field_of (op.JccShort c d) = field.Short 2
-field_of (op.Loop d) = field.Short 2
-field_of (op.Jecxz d) = field.Short 2
-field_of _ = field.Long
+field_of o = field_or (operands_of o).third (field_or (operands_of o).second
+    (field_or (operands_of o).first field.Long))
 
 abbrev pub number_in : Operand → ℕ → Operand
 number_in (operand.Imm x) n = operand.Imm n
@@ -48,8 +52,7 @@ with_number (op.Jmp d) n = op.Jmp n
 with_number (op.JmpShort d) n = op.JmpShort n
 with_number (op.Jcc c d) n = op.Jcc c n
 with_number (op.JccShort c d) n = op.JccShort c n
-with_number (op.Loop d) n = op.Loop n
-with_number (op.Jecxz d) n = op.Jecxz n
+with_number (op.LoopJump k d) n = op.LoopJump k n
 with_number (op.Bit k m x) n = op.Bit k m n
 with_number (op.Xbegin d) n = op.Xbegin n
 with_number (op.Xabort d) n = op.Xabort n
@@ -68,8 +71,7 @@ with_displacement (op.Alu k w m s) d = op.Alu k w (displacement_in m d) (displac
 with_displacement (op.Mov w m s) d = op.Mov w (displacement_in m d) (displacement_in s d)
 with_displacement (op.Lea r m) d = op.Lea r (with_disp m d)
 with_displacement (op.Xchg w m r) d = op.Xchg w (displacement_in m d) r
-with_displacement (op.Inc w m) d = op.Inc w (displacement_in m d)
-with_displacement (op.Dec w m) d = op.Dec w (displacement_in m d)
+with_displacement (op.IncDec k w m) d = op.IncDec k w (displacement_in m d)
 with_displacement (op.Test w m s) d = op.Test w (displacement_in m d) (displacement_in s d)
 with_displacement (op.Unary k m) d = op.Unary k (displacement_in m d)
 with_displacement (op.Imul r m) d = op.Imul r (displacement_in m d)
@@ -81,10 +83,8 @@ with_displacement (op.CallTo m) d = op.CallTo (displacement_in m d)
 with_displacement (op.JmpTo m) d = op.JmpTo (displacement_in m d)
 with_displacement (op.Setcc c m) d = op.Setcc c (displacement_in m d)
 with_displacement (op.Cmovcc c r m) d = op.Cmovcc c r (displacement_in m d)
-with_displacement (op.Movzx r m) d = op.Movzx r (displacement_in m d)
-with_displacement (op.Movsx r m) d = op.Movsx r (displacement_in m d)
-with_displacement (op.Cmpxchg m r) d = op.Cmpxchg (displacement_in m d) r
-with_displacement (op.Xadd m r) d = op.Xadd (displacement_in m d) r
+with_displacement (op.Extend k r m) d = op.Extend k r (displacement_in m d)
+with_displacement (op.Exchange k m r) d = op.Exchange k (displacement_in m d) r
 with_displacement (op.Bit k m n) d = op.Bit k (displacement_in m d) n
 with_displacement (op.NopOf m) d = op.NopOf (displacement_in m d)
 with_displacement o d = o

@@ -15,12 +15,13 @@ pub enum Field {
     Long,
     /// A jump's target, which goes as a distance of 32 bits, counted from so many bytes behind the jump's address.
     Near(u8),
-    /// A jump's target, which goes as a distance of one signed byte, counted from so many bytes behind the jump's address.
+    /// A jump's target, which goes as a distance of one signed byte, counted from so many bytes behind the jump's
+    /// address.
     Short(u8),
 }
 
-/// An instruction, and the expressions that its number and its displacement are written as. In `insn` both stand as 0, or as
-/// what makes the instruction encodable.
+/// An instruction, and the expressions that its number and its displacement are written as. In `insn` both stand as 0,
+/// or as what makes the instruction encodable.
 #[derive(Debug, Drop)]
 pub struct Template<'a> {
     /// The instruction.

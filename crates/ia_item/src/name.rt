@@ -76,7 +76,8 @@ impl Eq for Name<'_> {
 impl Hash for Name<'_> {
     ghost hash_input = { λ n. fed.u64 (name_digest (whole_name n)) };
 
-    ghost respects_eq = { λ x y e. ap (λ t. fed.u64 (name_digest t)) ((bytes_decides (whole_name x) (whole_name y)).0 e) };
+    ghost respects_eq = { λ x y e. ap (λ t. fed.u64 (name_digest t))
+        ((bytes_decides (whole_name x) (whole_name y)).0 e) };
 
     fn hash<H: Hasher>(&self, state: &mut H) {
         let whole = digest(digest(0xcbf2_9ce4_8422_2325, self.scope), self.own);

@@ -2,7 +2,8 @@
 --
 -- NASM manual, chapter 3 ("Pseudo-Instructions", "Critical Expressions") and chapter 7 (ORG, SECTION); docs/FORMATS.md,
 -- "Source".
-use Rattle.std.specs.Prelude.{ℕ, ◌+◌, ◌-◌, ◌%◌, ◌^◌, Bool, true, false, ◌||◌, ◌==◌, nat_lt, if◌then◌else◌, Option, Some, None, List, [], ◌∷◌, ◌++◌, ℤ, pos, length, replicate, flat_map, option_map}
+use Rattle.std.specs.Prelude.{ℕ, ◌+◌, ◌-◌, ◌%◌, ◌^◌, Bool, true, false, ◌||◌, ◌==◌, nat_lt, if◌then◌else◌, Option, Some}
+use Rattle.std.specs.Prelude.{None, List, [], ◌∷◌, ◌++◌, ℤ, pos, length, replicate, flat_map, option_map}
 use Rattle.indexmap.specs.IndexMap.{insert_entry, insert_all}
 use Rattle.ia_word.specs.Bytes.{long_bytes}
 use Rattle.ia_item.specs.declared.name.Name.{Name}

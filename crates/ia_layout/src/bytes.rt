@@ -5,7 +5,8 @@ ghost use Rattle.ia_word.specs.Bytes.{long_bytes};
 ghost use Rattle.ia_item.specs.Fits.{Fits, FitsEntry};
 ghost use Rattle.ia_resolve.specs.Symbols.{known};
 ghost use Rattle.ia_resolve.specs.Items.{code_bytes};
-ghost use Rattle.ia_layout.specs.Placement.{pad, bytes_at, item_bytes, in_section, part_of, section_bytes, code_and_data};
+ghost use Rattle.ia_layout.specs.Placement.{pad, bytes_at, item_bytes, in_section, part_of, section_bytes};
+ghost use Rattle.ia_layout.specs.Placement.{code_and_data};
 ghost use Rattle.ia_layout.specs.Contents.{entry_place, IsBounded};
 
 use crate::layout::{PlacedEntry, gap};

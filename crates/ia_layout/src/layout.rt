@@ -3,7 +3,8 @@
 ghost use Rattle.std.specs.Prelude.{◌≡◌, ◌≤◌, ◌<◌, ◌+◌, ◌-◌, ◌^◌, ℕ, ℤ, pos, negsuc, ◌≤ℤ◌, IfOk, OnOk, length};
 ghost use Rattle.ia_item.specs.Fits.{Fits, FitsItem, FitsEntry};
 ghost use Rattle.ia_resolve.specs.Items.{code_bytes};
-ghost use Rattle.ia_layout.specs.Placement.{nowhere, critical_value, critical_fault, gap, size_of, at_in, place_at, above_next, text_next, tail_next, next, start};
+ghost use Rattle.ia_layout.specs.Placement.{nowhere, critical_value, critical_fault, gap, size_of, at_in, place_at};
+ghost use Rattle.ia_layout.specs.Placement.{above_next, text_next, tail_next, next, start};
 ghost use Rattle.ia_layout.specs.Contents.{entry_place, layout_state, IsBounded};
 
 use ia_encode::encode_with;

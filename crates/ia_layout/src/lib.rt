@@ -1,8 +1,8 @@
 //! Where the items of a source stand, and the bytes of each.
 //!
-//! A walk over the entries gives each its address, in the code or in the data (NASM manual, chapter 7, ORG and SECTION), and
-//! the symbols their values; what `equ` and `resb` take is known from the `equ` symbols above (chapter 3, "Critical
-//! Expressions"). A second walk writes the bytes.
+//! A walk over the entries gives each its address, in the code or in the data (NASM manual, chapter 7, ORG and
+//! SECTION), and the symbols their values; what `equ` and `resb` take is known from the `equ` symbols above (chapter 3,
+//! "Critical Expressions"). A second walk writes the bytes.
 //!
 //! Promised: addresses, symbols and bytes are those of `specs/Placement`, exact however far an item lies.
 //!

@@ -4,7 +4,8 @@ ghost use Rattle.std.specs.Prelude.{◌≡◌, ℕ, ◌≤◌, ◌<◌, ◌+◌,
 ghost use Rattle.indexmap.specs.IndexMap.{insert_all};
 ghost use Rattle.ia_item.specs.Names.{same_name};
 ghost use Rattle.ia_item.specs.Fits.{AllFit};
-ghost use Rattle.ia_layout.specs.Placement.{org_value, base_or, base_of, start, after, places, text_end, tail_base, item_definition, definition, symbols};
+ghost use Rattle.ia_layout.specs.Placement.{org_value, base_or, base_of, start, after, places, text_end, tail_base};
+ghost use Rattle.ia_layout.specs.Placement.{item_definition, definition, symbols};
 ghost use Rattle.ia_layout.specs.Contents.{entry_place, layout_state, IsBounded, or_base};
 
 use crate::layout::{Layout, PlacedEntry, gap};

@@ -11,7 +11,8 @@ use Rattle.ia_insn.specs.declared.operand.Mem.{Mem}
 use Rattle.ia_insn.specs.declared.operand.Operand.{Operand}
 use Rattle.ia_insn.specs.declared.operand.Operand.TheVariants.{Reg, Imm, Mem as Memory}
 use Rattle.ia_insn.specs.Writing.{is_signed_byte, operand_bytes, place_bytes, three}
-use Rattle.ia_insn.specs.Encoding.{alu_number, shift_number, bit_number, unary_number, imm_bytes, by_size, alu_bytes, mov_bytes, test_bytes, inc_dec_bytes, shift_bytes, push_bytes, pop_bytes, op_bytes}
+use Rattle.ia_insn.specs.Encoding.{imm_bytes, by_size, alu_bytes, mov_bytes, test_bytes, inc_dec_bytes, shift_bytes, push_bytes, pop_bytes, op_bytes}
+use Rattle.ia_insn.specs.Operations.{alu_number, shift_number, bit_number, unary_number, inc_dec_number}
 use Rattle.ia_item.specs.declared.item.Field.TheVariants as field
 use Rattle.ia_item.specs.declared.item.Template.{Template}
 use Rattle.ia_item.specs.declared.expression.ScopedTerm.{ScopedTerm}
@@ -113,8 +114,7 @@ number_length p (op.Xbegin x) n = ap (λ n. suc (suc n)) (long_same n x)
 number_length p (op.RetPop x) n = refl
 number_length p (op.JmpShort x) n = refl
 number_length p (op.JccShort c x) n = refl
-number_length p (op.Loop x) n = refl
-number_length p (op.Jecxz x) n = refl
+number_length p (op.LoopJump k x) n = refl
 number_length p (op.Bit k m x) n = ap (λ n. suc (suc n)) (back (operand_bytes p (bit_number k) m) (n ∷ []) (x ∷ []) refl)
 number_length p (op.Xabort x) n = refl
 number_length p _ n = refl
@@ -153,14 +153,14 @@ test_place_length w m (Reg r) d = ap suc (operand_length r m d)
 test_place_length w m (Memory p) d = refl
 test_place_length w m (Imm x) d = ap suc (front (operand_bytes true 0 (displacement_in m d)) (operand_bytes true 0 m) (imm_bytes w x) (operand_length 0 m d))
 
-inc_dec_place_length : (w : Width) (b n : ℕ) (m : Operand) (d : ℕ) → length (inc_dec_bytes true w b n (displacement_in m d)) ≡ length (inc_dec_bytes true w b n m)
+inc_dec_place_length : (k : _) (w : Width) (m : Operand) (d : ℕ) → length (inc_dec_bytes true k w (displacement_in m d)) ≡ length (inc_dec_bytes true k w m)
 unfolding inc_dec_bytes
-inc_dec_place_length D b n (Reg r) d = refl
-inc_dec_place_length D b n (Memory m) d = ap suc (mem_length n m d)
-inc_dec_place_length D b n (Imm m) d = refl
-inc_dec_place_length B b n (Reg r) d = refl
-inc_dec_place_length B b n (Memory m) d = ap suc (mem_length n m d)
-inc_dec_place_length B b n (Imm m) d = refl
+inc_dec_place_length k D (Reg r) d = refl
+inc_dec_place_length k D (Memory m) d = ap suc (mem_length (inc_dec_number k) m d)
+inc_dec_place_length k D (Imm m) d = refl
+inc_dec_place_length k B (Reg r) d = refl
+inc_dec_place_length k B (Memory m) d = ap suc (mem_length (inc_dec_number k) m d)
+inc_dec_place_length k B (Imm m) d = refl
 
 shift_place_length : (q : Bool) (k : _) (m : Operand) (c : _) (d : ℕ) → length (shift_bytes q true k (displacement_in m d) c) ≡ length (shift_bytes q true k m c)
 unfolding shift_bytes
@@ -192,8 +192,7 @@ displacement_length q (op.Alu k w m s) d = alu_place_length q k w m s d
 displacement_length q (op.Mov w m s) d = mov_place_length w m s d
 displacement_length q (op.Lea r m) d = ap suc (mem_length r m d)
 displacement_length q (op.Xchg w m r) d = ap suc (operand_length r m d)
-displacement_length q (op.Inc w m) d = inc_dec_place_length w 0x40 0 m d
-displacement_length q (op.Dec w m) d = inc_dec_place_length w 0x48 1 m d
+displacement_length q (op.IncDec k w m) d = inc_dec_place_length k w m d
 displacement_length q (op.Test w m s) d = test_place_length w m s d
 displacement_length q (op.Unary k m) d = ap suc (operand_length (unary_number k) m d)
 displacement_length q (op.Imul r m) d = twice (operand_length r m d)
@@ -206,10 +205,8 @@ displacement_length q (op.CallTo m) d = ap suc (operand_length 2 m d)
 displacement_length q (op.JmpTo m) d = ap suc (operand_length 4 m d)
 displacement_length q (op.Setcc c m) d = twice (operand_length 0 m d)
 displacement_length q (op.Cmovcc c r m) d = twice (operand_length r m d)
-displacement_length q (op.Movzx r m) d = twice (operand_length r m d)
-displacement_length q (op.Movsx r m) d = twice (operand_length r m d)
-displacement_length q (op.Cmpxchg m r) d = twice (operand_length r m d)
-displacement_length q (op.Xadd m r) d = twice (operand_length r m d)
+displacement_length q (op.Extend k r m) d = twice (operand_length r m d)
+displacement_length q (op.Exchange k m r) d = twice (operand_length r m d)
 displacement_length q (op.Bit k m n) d = twice (front (operand_bytes true (bit_number k) (displacement_in m d)) (operand_bytes true (bit_number k) m) (n ∷ []) (operand_length (bit_number k) m d))
 displacement_length q (op.NopOf m) d = twice (operand_length 0 m d)
 displacement_length q _ d = refl

@@ -8,7 +8,8 @@ use Rattle.ia_item.specs.declared.item.Field.TheVariants as field
 use Rattle.ia_item.specs.declared.item.Template.{Template}
 use Rattle.ia_item.specs.declared.expression.ScopedExpression.{ScopedExpression}
 use Rattle.ia_item.specs.Expressions.{Env, is_wide}
-use Rattle.ia_item.specs.Fields.{field_of, low_of, high_of, modulo_long, distance, stored_number, with_number, with_displacement}
+use Rattle.ia_item.specs.Fields.{field_of, low_of, high_of, modulo_long, distance, stored_number, with_number}
+use Rattle.ia_item.specs.Fields.{with_displacement}
 use Rattle.ia_resolve.specs.declared.place_fault.PlaceFault.{PlaceFault}
 use Rattle.ia_resolve.specs.declared.place_fault.PlaceFault.TheVariants.{ShortJumpTooFar}
 use Rattle.ia_resolve.specs.PlaceFaults.{first_of}

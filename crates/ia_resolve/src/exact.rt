@@ -1,6 +1,7 @@
 //! Sums that are exact however far their values lie.
 
-ghost use Rattle.std.specs.Prelude.{◌≡◌, ◌-◌, ◌^◌, None, pos, negsuc, ◌≤ℤ◌, ◌-ℤ◌, ◌+ℤ◌, if◌then◌else◌, IsTrue, IfSome, true, false};
+ghost use Rattle.std.specs.Prelude.{◌≡◌, ◌-◌, ◌^◌, None, pos, negsuc, ◌≤ℤ◌, ◌-ℤ◌, ◌+ℤ◌, if◌then◌else◌, IsTrue, IfSome};
+ghost use Rattle.std.specs.Prelude.{true, false};
 ghost use Rattle.ia_item.specs.Fields.{within};
 ghost use Rattle.ia_resolve.specs.Exactness.{exact_value, IsNear};
 

@@ -1,7 +1,8 @@
 //! The values of expressions.
 
 ghost use Rattle.std.specs.Prelude.{◌≡◌, ◌≤◌, ◌-◌, ◌*◌, ◌^◌, pos, neg_ℤ, ◌≤ℤ◌, length};
-ghost use Rattle.ia_item.specs.Expressions.{is_unknown, is_huge, value_in, any_unknown, any_huge, any_symbol, is_symbol, sum_from};
+ghost use Rattle.ia_item.specs.Expressions.{is_unknown, is_huge, value_in, any_unknown, any_huge, any_symbol};
+ghost use Rattle.ia_item.specs.Expressions.{is_symbol, sum_from};
 ghost use Rattle.ia_resolve.specs.Values.{sum_fault, value_or_zero, total};
 ghost use Rattle.ia_resolve.specs.Items.{wide};
 ghost use Rattle.ia_resolve.specs.Exactness.{exact_value, IsNear};

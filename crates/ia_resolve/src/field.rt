@@ -2,35 +2,46 @@
 
 ghost use Rattle.std.specs.Prelude.{◌≡◌, ◌+◌, ◌-◌, ◌≤◌, ◌<◌, ◌^◌, ℤ, pos, negsuc, ◌≤ℤ◌, IsTrue};
 ghost use Rattle.ia_insn.specs.Encoding.{fits_short};
-ghost use Rattle.ia_item.specs.Fields.{field_of, low_of, high_of, modulo_long, modulo_byte, distance, stored_number, Holds};
+ghost use Rattle.ia_item.specs.Fields.{field_in, field_or, field_of, low_of, high_of, modulo_long, modulo_byte};
+ghost use Rattle.ia_item.specs.Fields.{distance, stored_number};
+ghost use Rattle.ia_item.specs.Fields.{Holds};
 ghost use Rattle.ia_resolve.specs.Items.{far_fault};
 
 use crate::place_fault::PlaceFault;
-use ia_insn::{Op, is_signed_byte};
+use ia_insn::{Argument, Op, is_signed_byte};
 use ia_item::Field;
 use ia_word::Width;
 
+fn field_in(argument: Argument) -> Field
+    ensures { result ≡ field_in argument }
+{
+    match argument {
+        Argument::Source(Width::B, _) => Field::Byte,
+        Argument::Count(_) => Field::Byte,
+        Argument::Byte(_) => Field::Byte,
+        Argument::Half(_) => Field::Half,
+        Argument::Near(long, _) => Field::Near(long),
+        Argument::Short(_) => Field::Short(2),
+        _ => Field::Long,
+    }
+}
+
+fn field_or(argument: Option<Argument>, other: Field) -> Field
+    ensures { result ≡ field_or argument other }
+{
+    match argument {
+        Some(argument) => field_in(argument),
+        None => other,
+    }
+}
+
+/// What the number of an instruction goes into, which is its last operand.
 pub fn field_of(op: &Op) -> Field
     ensures { result ≡ field_of op.now }
 {
-    match op {
-        Op::Alu(_, Width::B, _, _) => Field::Byte,
-        Op::Mov(Width::B, _, _) => Field::Byte,
-        Op::Test(Width::B, _, _) => Field::Byte,
-        Op::Shift(_, _, _) => Field::Byte,
-        Op::Bit(_, _, _) => Field::Byte,
-        Op::Xabort(_) => Field::Byte,
-        Op::RetPop(_) => Field::Half,
-        Op::Call(_) => Field::Near(5),
-        Op::Jmp(_) => Field::Near(5),
-        Op::Jcc(_, _) => Field::Near(6),
-        Op::Xbegin(_) => Field::Near(6),
-        Op::JmpShort(_) => Field::Short(2),
-        Op::JccShort(_, _) => Field::Short(2),
-        Op::Loop(_) => Field::Short(2),
-        Op::Jecxz(_) => Field::Short(2),
-        _ => Field::Long,
-    }
+    let operands = op.operands();
+    let first = field_or(operands.first, Field::Long);
+    field_or(operands.third, field_or(operands.second, first))
 }
 
 /// The least value that a field takes.

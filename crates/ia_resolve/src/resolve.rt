@@ -3,9 +3,11 @@
 ghost use Rattle.std.specs.Prelude.{◌≡◌, ◌+◌, ◌≤◌, ◌<◌, ◌^◌, IsTrue};
 ghost use Rattle.ia_insn.specs.Encoding.{encodable, is_encodable};
 ghost use Rattle.ia_insn.specs.Spelling.{lockable};
-ghost use Rattle.ia_item.specs.Fields.{field_of, number_in, displacement_in, with_disp, with_number, with_displacement, Holds};
+ghost use Rattle.ia_item.specs.Fields.{field_of, number_in, displacement_in, with_disp, with_number, with_displacement};
+ghost use Rattle.ia_item.specs.Fields.{Holds};
 ghost use Rattle.ia_item.specs.Fits.{Fits, FitsAnyExpression, FitsExpression};
-ghost use Rattle.ia_resolve.specs.Items.{field_value, field_fault, op_with_number, op_with_displacement, resolved_insn, any_fault, template_fault};
+ghost use Rattle.ia_resolve.specs.Items.{field_value, field_fault, op_with_number, op_with_displacement, resolved_insn};
+ghost use Rattle.ia_resolve.specs.Items.{any_fault, template_fault};
 
 use crate::expression::expression_value;
 use crate::field::{far_fault, field_of, high_of, low_of, stored_number};
@@ -41,8 +43,7 @@ fn with_number(op: &Op, number: u32) -> Op
         Op::JmpShort(_) => Op::JmpShort(number),
         Op::Jcc(condition, _) => Op::Jcc(condition, number),
         Op::JccShort(condition, _) => Op::JccShort(condition, number),
-        Op::Loop(_) => Op::Loop(number),
-        Op::Jecxz(_) => Op::Jecxz(number),
+        Op::LoopJump(kind, _) => Op::LoopJump(kind, number),
         Op::Bit(kind, to, _) => Op::Bit(kind, to, number as u8),
         Op::Xbegin(_) => Op::Xbegin(number),
         Op::Xabort(_) => Op::Xabort(number as u8),
@@ -88,8 +89,7 @@ fn with_displacement(op: &Op, disp: u32) -> Op
         ),
         Op::Lea(reg, memory) => Op::Lea(reg, with_disp(memory, disp)),
         Op::Xchg(width, to, reg) => Op::Xchg(width, displacement_in(to, disp), reg),
-        Op::Inc(width, to) => Op::Inc(width, displacement_in(to, disp)),
-        Op::Dec(width, to) => Op::Dec(width, displacement_in(to, disp)),
+        Op::IncDec(kind, width, to) => Op::IncDec(kind, width, displacement_in(to, disp)),
         Op::Test(width, to, from) => Op::Test(
             width,
             displacement_in(to, disp),
@@ -105,10 +105,8 @@ fn with_displacement(op: &Op, disp: u32) -> Op
         Op::JmpTo(to) => Op::JmpTo(displacement_in(to, disp)),
         Op::Setcc(condition, to) => Op::Setcc(condition, displacement_in(to, disp)),
         Op::Cmovcc(condition, reg, from) => Op::Cmovcc(condition, reg, displacement_in(from, disp)),
-        Op::Movzx(reg, from) => Op::Movzx(reg, displacement_in(from, disp)),
-        Op::Movsx(reg, from) => Op::Movsx(reg, displacement_in(from, disp)),
-        Op::Cmpxchg(to, reg) => Op::Cmpxchg(displacement_in(to, disp), reg),
-        Op::Xadd(to, reg) => Op::Xadd(displacement_in(to, disp), reg),
+        Op::Extend(kind, reg, from) => Op::Extend(kind, reg, displacement_in(from, disp)),
+        Op::Exchange(kind, to, reg) => Op::Exchange(kind, displacement_in(to, disp), reg),
         Op::Bit(kind, to, number) => Op::Bit(kind, displacement_in(to, disp), number),
         Op::NopOf(to) => Op::NopOf(displacement_in(to, disp)),
         _ => *op,

@@ -1,6 +1,6 @@
 -- Printed operands are read as the instruction that they were printed for.
-use Rattle.std.proofs.Common.{◌≡◌, ℕ, ◌^◌, true, false, [], ◌∷◌, Some, refl}
-use Rattle.std.specs.Prelude.{◌&&◌, nat_lt, option_map, IsTrue}
+use Rattle.std.proofs.Common.{◌≡◌, ℕ, ◌^◌, Bool, true, false, List, [], ◌∷◌, ◌++◌, Option, Some, None, refl, sym, ◌∙◌}
+use Rattle.std.specs.Prelude.{◌&&◌, nat_lt, option_map, option_to_list}
 use Rattle.std.specs.List.{AllByRecursion}
 use Rattle.ia_word.specs.declared.operation.UnaryOp.{UnaryOp}
 use Rattle.ia_word.specs.declared.operation.UnaryOp.TheVariants as unary
@@ -9,19 +9,26 @@ use Rattle.ia_word.specs.declared.width.Width.TheVariants.{B, D}
 use Rattle.ia_insn.specs.declared.kinds.Count.TheVariants as count
 use Rattle.ia_insn.specs.declared.op.Op.{Op}
 use Rattle.ia_insn.specs.declared.op.Op.TheVariants as op
+use Rattle.ia_insn.specs.declared.operand.Mem.{Mem}
 use Rattle.ia_insn.specs.declared.operand.Operand.{Operand}
 use Rattle.ia_insn.specs.declared.operand.Operand.TheVariants.{Reg, Imm, Mem as Memory}
 use Rattle.ia_insn.specs.Writing.{fits_mem, fits_operand}
-use Rattle.ia_insn.specs.Encoding.{encodable, fits_pair, fits_test}
+use Rattle.ia_insn.specs.declared.argument.Argument.{Argument}
+use Rattle.ia_insn.specs.declared.argument.Argument.TheVariants as argument
+use Rattle.ia_insn.specs.declared.argument.Arguments.{Arguments}
+use Rattle.ia_insn.specs.Arguments.{operands_of, fits_argument, fits_where_there, all_fit, may_meet}
+use Rattle.ia_insn.specs.Encoding.{encodable}
+use Rattle.ia_insn.proofs.ByOperands.{by_operands}
+use Rattle.ia_insn.specs.Mnemonics.{unary_mnemonic, mnemonic_of}
 use Rattle.ia_item.specs.Fields.{with_number, with_displacement, with_disp}
-use Rattle.ia_text.specs.Arguments.{operand_arg, target as jump_target}
+use Rattle.ia_text.specs.declared.arg.Arg.{Arg}
+use Rattle.ia_text.specs.Arguments.{operand_arg, says_short, shown_arg, target as jump_target}
 use Rattle.ia_source.specs.declared.shape.OperandShape.{OperandShape}
 use Rattle.ia_source.specs.declared.shape.OperandShape.TheVariants as shape
 use Rattle.ia_source.specs.declared.shape.OperandShapes.TheVariants.{One}
 use Rattle.ia_source.specs.Forms.{op_of, target}
 use Rattle.ia_source.specs.Operands.{Operands, empty_operands}
 use Rattle.ia_round_trip.specs.Operands.{FitsArg, operands_for, args_of}
-use Rattle.ia_round_trip.specs.Mnemonics.{unary_mnemonic, mnemonic_for}
 use Rattle.ia_round_trip.specs.Resolution.{op_with_number, op_with_displacement, by_op}
 use Rattle.ia_round_trip.specs.Forms.{expression_of}
 use Rattle.ia_round_trip.proofs.MemoryOperands.{two}
@@ -34,66 +41,42 @@ operand_fits w (Reg r) e = e
 operand_fits w (Memory m) e = e
 operand_fits w (Imm n) e = tt
 
-pair_fits : (w : Width) (m s : Operand) → fits_pair w m s ≡ true → AllByRecursion FitsArg (operand_arg w m ∷ operand_arg w s ∷ [])
-pair_fits w m (Reg s) e = (operand_fits w m (two (fits_operand m) (nat_lt s 8) e).0, ((two (fits_operand m) (nat_lt s 8) e).1, tt))
-pair_fits w (Reg r) (Memory m) e = ((two (nat_lt r 8) (fits_mem m) e).0, ((two (nat_lt r 8) (fits_mem m) e).1, tt))
-pair_fits w (Memory m) (Memory n) e = absurd cc
-pair_fits w (Imm m) (Memory n) e = absurd cc
-pair_fits B m (Imm n) e = (operand_fits B m (two (fits_operand m) (nat_lt n 256) e).0, (tt, tt))
-pair_fits D m (Imm n) e = (operand_fits D m (two (fits_operand m) (nat_lt n (2 ^ 32)) e).0, (tt, tt))
+arg_fits : (says : Bool) (at : ℕ) (x : Argument) → fits_argument x ≡ true → FitsArg (shown_arg says at x)
+arg_fits says at (argument.Operand role w m) e = operand_fits w m e
+arg_fits says at (argument.Source w (Reg r)) e = e
+arg_fits says at (argument.Source w (Memory m)) e = e
+arg_fits says at (argument.Source w (Imm n)) e = tt
+arg_fits says at (argument.Address m) e = e
+arg_fits says at (argument.Count (count.Imm n)) e = tt
+arg_fits says at (argument.Count count.Cl) e = tt
+arg_fits says at (argument.Byte n) e = tt
+arg_fits says at (argument.Half n) e = tt
+arg_fits says at (argument.Near long d) e = tt
+arg_fits true at (argument.Short d) e = tt
+arg_fits false at (argument.Short d) e = tt
 
-test_fits : (w : Width) (m s : Operand) → fits_test w m s ≡ true → AllByRecursion FitsArg (operand_arg w m ∷ operand_arg w s ∷ [])
-test_fits w m (Reg s) e = pair_fits w m (Reg s) e
-test_fits w m (Memory n) e = absurd cc
-test_fits w m (Imm n) e = pair_fits w m (Imm n) e
+abbrev shown : Bool → ℕ → Option Argument → List Arg
+shown says at x = option_to_list (option_map (shown_arg says at) x)
 
--- an operand and a register, and the other way around
-front_fits : (w v : Width) (m : Operand) (r : ℕ) → (fits_operand m && nat_lt r 8) ≡ true → FitsArg (operand_arg w m) × (IsTrue (nat_lt r 8) × Unit {0})
-front_fits w v m r e = (operand_fits w m (two (fits_operand m) (nat_lt r 8) e).0, ((two (fits_operand m) (nat_lt r 8) e).1, tt))
+one_fits : (says : Bool) (at : ℕ) (x : Option Argument) → fits_where_there x ≡ true → AllByRecursion FitsArg (shown says at x)
+one_fits says at None e = tt
+one_fits says at (Some x) e = (arg_fits says at x e, tt)
 
-back_fits : (w : Width) (r : ℕ) (m : Operand) → (nat_lt r 8 && fits_operand m) ≡ true → IsTrue (nat_lt r 8) × (FitsArg (operand_arg w m) × Unit {0})
-back_fits w r m e = ((two (nat_lt r 8) (fits_operand m) e).0, (operand_fits w m (two (nat_lt r 8) (fits_operand m) e).1, tt))
+both_fit : (xs ys : List Arg) → AllByRecursion FitsArg xs → AllByRecursion FitsArg ys → AllByRecursion FitsArg (xs ++ ys)
+both_fit [] ys f g = g
+both_fit (x ∷ xs) ys f g = (f.0, both_fit xs ys f.1 g)
 
+-- since each operand of an encodable operation fits
 pub args_fit : (o : Op) (at : ℕ) → encodable o ≡ true → AllByRecursion FitsArg (args_of o at)
-args_fit (op.Alu k w m s) at e = pair_fits w m s e
-args_fit (op.Mov w m s) at e = pair_fits w m s e
-args_fit (op.Test w m s) at e = test_fits w m s e
-args_fit (op.Lea r m) at e = ((two (nat_lt r 8) (fits_mem m) e).0, ((two (nat_lt r 8) (fits_mem m) e).1, tt))
-args_fit (op.Xchg w m r) at e = front_fits w w m r e
-args_fit (op.Inc w m) at e = (operand_fits w m e, tt)
-args_fit (op.Dec w m) at e = (operand_fits w m e, tt)
-args_fit (op.Unary k m) at e = (operand_fits D m e, tt)
-args_fit (op.Imul r m) at e = back_fits D r m e
-args_fit (op.ImulImm r m n) at e =
-    let h = two (nat_lt r 8) (fits_operand m) (two (nat_lt r 8 && fits_operand m) (nat_lt n (2 ^ 32)) e).0 in
-    (h.0, (operand_fits D m h.1, (tt, tt)))
-args_fit (op.Shift k m (count.Imm n)) at e = (operand_fits D m (two (fits_operand m) (nat_lt n 256) e).0, (tt, tt))
-args_fit (op.Shift k m count.Cl) at e = (operand_fits D m (two (fits_operand m) true e).0, (tt, tt))
-args_fit (op.Push (Reg r)) at e = (e, tt)
-args_fit (op.Push (Memory m)) at e = (e, tt)
-args_fit (op.Push (Imm n)) at e = (tt, tt)
-args_fit (op.Pop m) at e = (operand_fits D m e, tt)
-args_fit (op.CallTo m) at e = (operand_fits D m e, tt)
-args_fit (op.JmpTo m) at e = (operand_fits D m e, tt)
-args_fit (op.NopOf m) at e = (operand_fits D m e, tt)
-args_fit (op.Setcc c m) at e = (operand_fits B m e, tt)
-args_fit (op.Cmovcc c r m) at e = back_fits D r m e
-args_fit (op.Movzx r m) at e = back_fits B r m e
-args_fit (op.Movsx r m) at e = back_fits B r m e
-args_fit (op.Cmpxchg m r) at e = front_fits D D m r e
-args_fit (op.Xadd m r) at e = front_fits D D m r e
-args_fit (op.Bit k m n) at e = (operand_fits D m (two (fits_operand m) (nat_lt n 256) e).0, (tt, tt))
-args_fit (op.Call d) at e = (tt, tt)
-args_fit (op.RetPop d) at e = (tt, tt)
-args_fit (op.Jmp d) at e = (tt, tt)
-args_fit (op.JmpShort d) at e = (tt, tt)
-args_fit (op.Jcc c d) at e = (tt, tt)
-args_fit (op.JccShort c d) at e = (tt, tt)
-args_fit (op.Loop d) at e = (tt, tt)
-args_fit (op.Jecxz d) at e = (tt, tt)
-args_fit (op.Xbegin d) at e = (tt, tt)
-args_fit (op.Xabort d) at e = (tt, tt)
-args_fit _ at e = tt
+args_fit o at e =
+    let says : Bool = says_short o in
+    let x : Arguments = operands_of o in
+    let fit = (two (all_fit x) (may_meet o) (sym (by_operands o) ∙ e)).0 in
+    let front = two (fits_where_there x.first && fits_where_there x.second) (fits_where_there x.third) fit in
+    let ends = two (fits_where_there x.first) (fits_where_there x.second) front.0 in
+    both_fit (shown says at x.first ++ shown says at x.second) (shown says at x.third)
+    (both_fit (shown says at x.first) (shown says at x.second) (one_fits says at x.first ends.0) (one_fits says at x.second ends.1))
+    (one_fits says at x.third front.1)
 
 -- ---- forms
 
@@ -103,17 +86,20 @@ bare o = with_displacement (with_number o 0) 0
 
 -- the operands that are printed for an operation write it, up to its number and its displacement, which their expressions give again
 abbrev pub Again : Op → ℕ → Type 0
-Again o at = (os : Operands) × (operands_for empty_operands (args_of o at) ≡ Some os) × (op_of (mnemonic_for o) os.shapes ≡ Some (bare o))
+Again o at = (os : Operands) × (operands_for empty_operands (args_of o at) ≡ Some os) × (op_of (mnemonic_of o) os.shapes ≡ Some (bare o))
     × (by_op (op_with_number at (expression_of os.number) (bare o)) (op_with_displacement at (expression_of os.displacement)) ≡ Some o)
 
 unary_op : (k : UnaryOp) (s : OperandShape) → op_of (unary_mnemonic k) (One s) ≡ option_map (λ o. op.Unary k o) (target D s)
 unfolding op_of
-unary_op unary.Not s = refl
-unary_op unary.Neg s = refl
-unary_op unary.Mul s = refl
 unary_op unary.Imul s = refl
-unary_op unary.Div s = refl
-unary_op unary.Idiv s = refl
+unary_op _ s = refl
+
+-- a register or a place
+by_operand : (at : ℕ) (f : Operand → Op) (m : Operand) → fits_operand m ≡ true
+    → ((s : ℕ) → Again (f (Reg s)) at) → ((p : Mem) → fits_mem p ≡ true → Again (f (Memory p)) at) → Again (f m) at
+by_operand at f (Reg s) e g h = g s
+by_operand at f (Memory p) e g h = h p e
+by_operand at f (Imm n) e g h = absurd cc
 
 pub again : (o : Op) (at : ℕ) → encodable o ≡ true → Again o at
 unfolding op_of
@@ -162,42 +148,27 @@ again (op.Xchg D (Reg s) r) at e = (_, refl, refl, refl)
 again (op.Xchg B (Memory m) r) at e = (_, refl, refl, place_again at (λ p. op.Xchg B (Memory p) r) m (λ n d. refl) (two (fits_mem m) (nat_lt r 8) e).0)
 again (op.Xchg D (Memory m) r) at e = (_, refl, refl, place_again at (λ p. op.Xchg D (Memory p) r) m (λ n d. refl) (two (fits_mem m) (nat_lt r 8) e).0)
 again (op.Xchg w (Imm x) r) at e = absurd cc
-again (op.Inc w (Reg r)) at e = (_, refl, refl, refl)
-again (op.Inc w (Memory m)) at e = (_, refl, refl, place_again at (λ p. op.Inc w (Memory p)) m (λ n d. refl) e)
-again (op.Inc w (Imm x)) at e = absurd cc
-again (op.Dec w (Reg r)) at e = (_, refl, refl, refl)
-again (op.Dec w (Memory m)) at e = (_, refl, refl, place_again at (λ p. op.Dec w (Memory p)) m (λ n d. refl) e)
-again (op.Dec w (Imm x)) at e = absurd cc
-again (op.Pop (Reg r)) at e = (_, refl, refl, refl)
-again (op.Pop (Memory m)) at e = (_, refl, refl, place_again at (λ p. op.Pop (Memory p)) m (λ n d. refl) e)
-again (op.Pop (Imm x)) at e = absurd cc
-again (op.CallTo (Reg r)) at e = (_, refl, refl, refl)
-again (op.CallTo (Memory m)) at e = (_, refl, refl, place_again at (λ p. op.CallTo (Memory p)) m (λ n d. refl) e)
-again (op.CallTo (Imm x)) at e = absurd cc
-again (op.JmpTo (Reg r)) at e = (_, refl, refl, refl)
-again (op.JmpTo (Memory m)) at e = (_, refl, refl, place_again at (λ p. op.JmpTo (Memory p)) m (λ n d. refl) e)
-again (op.JmpTo (Imm x)) at e = absurd cc
-again (op.NopOf (Reg r)) at e = (_, refl, refl, refl)
-again (op.NopOf (Memory m)) at e = (_, refl, refl, place_again at (λ p. op.NopOf (Memory p)) m (λ n d. refl) e)
-again (op.NopOf (Imm x)) at e = absurd cc
-again (op.Setcc c (Reg r)) at e = (_, refl, refl, refl)
-again (op.Setcc c (Memory m)) at e = (_, refl, refl, place_again at (λ p. op.Setcc c (Memory p)) m (λ n d. refl) e)
-again (op.Setcc c (Imm x)) at e = absurd cc
-again (op.Unary k (Reg r)) at e = (_, refl, unary_op k (shape.Register D r), refl)
-again (op.Unary k (Memory m)) at e = (_, refl, unary_op k (shape.Memory (Some D) (with_disp m 0)), place_again at (λ p. op.Unary k (Memory p)) m (λ n d. refl) e)
-again (op.Unary k (Imm x)) at e = absurd cc
-again (op.Imul r (Reg s)) at e = (_, refl, refl, refl)
-again (op.Imul r (Memory m)) at e = (_, refl, refl, place_again at (λ p. op.Imul r (Memory p)) m (λ n d. refl) (two (nat_lt r 8) (fits_mem m) e).1)
-again (op.Imul r (Imm x)) at e = let h : false ≡ true = (two (nat_lt r 8) false e).1 in absurd cc
-again (op.Cmovcc c r (Reg s)) at e = (_, refl, refl, refl)
-again (op.Cmovcc c r (Memory m)) at e = (_, refl, refl, place_again at (λ p. op.Cmovcc c r (Memory p)) m (λ n d. refl) (two (nat_lt r 8) (fits_mem m) e).1)
-again (op.Cmovcc c r (Imm x)) at e = let h : false ≡ true = (two (nat_lt r 8) false e).1 in absurd cc
-again (op.Movzx r (Reg s)) at e = (_, refl, refl, refl)
-again (op.Movzx r (Memory m)) at e = (_, refl, refl, place_again at (λ p. op.Movzx r (Memory p)) m (λ n d. refl) (two (nat_lt r 8) (fits_mem m) e).1)
-again (op.Movzx r (Imm x)) at e = let h : false ≡ true = (two (nat_lt r 8) false e).1 in absurd cc
-again (op.Movsx r (Reg s)) at e = (_, refl, refl, refl)
-again (op.Movsx r (Memory m)) at e = (_, refl, refl, place_again at (λ p. op.Movsx r (Memory p)) m (λ n d. refl) (two (nat_lt r 8) (fits_mem m) e).1)
-again (op.Movsx r (Imm x)) at e = let h : false ≡ true = (two (nat_lt r 8) false e).1 in absurd cc
+again (op.IncDec k w m) at e = by_operand at (op.IncDec k w) m e
+    (λ s. (_, refl, refl, refl)) (λ p h. (_, refl, refl, place_again at (λ q. op.IncDec k w (Memory q)) p (λ n d. refl) h))
+again (op.Pop m) at e = by_operand at op.Pop m e
+    (λ s. (_, refl, refl, refl)) (λ p h. (_, refl, refl, place_again at (λ q. op.Pop (Memory q)) p (λ n d. refl) h))
+again (op.CallTo m) at e = by_operand at op.CallTo m e
+    (λ s. (_, refl, refl, refl)) (λ p h. (_, refl, refl, place_again at (λ q. op.CallTo (Memory q)) p (λ n d. refl) h))
+again (op.JmpTo m) at e = by_operand at op.JmpTo m e
+    (λ s. (_, refl, refl, refl)) (λ p h. (_, refl, refl, place_again at (λ q. op.JmpTo (Memory q)) p (λ n d. refl) h))
+again (op.NopOf m) at e = by_operand at op.NopOf m e
+    (λ s. (_, refl, refl, refl)) (λ p h. (_, refl, refl, place_again at (λ q. op.NopOf (Memory q)) p (λ n d. refl) h))
+again (op.Setcc c m) at e = by_operand at (op.Setcc c) m e
+    (λ s. (_, refl, refl, refl)) (λ p h. (_, refl, refl, place_again at (λ q. op.Setcc c (Memory q)) p (λ n d. refl) h))
+again (op.Unary k m) at e = by_operand at (op.Unary k) m e
+    (λ s. (_, refl, unary_op k (shape.Register D s), refl))
+    (λ p h. (_, refl, unary_op k (shape.Memory (Some D) (with_disp p 0)), place_again at (λ q. op.Unary k (Memory q)) p (λ n d. refl) h))
+again (op.Imul r m) at e = by_operand at (op.Imul r) m (two (nat_lt r 8) (fits_operand m) e).1
+    (λ s. (_, refl, refl, refl)) (λ p h. (_, refl, refl, place_again at (λ q. op.Imul r (Memory q)) p (λ n d. refl) h))
+again (op.Cmovcc c r m) at e = by_operand at (op.Cmovcc c r) m (two (nat_lt r 8) (fits_operand m) e).1
+    (λ s. (_, refl, refl, refl)) (λ p h. (_, refl, refl, place_again at (λ q. op.Cmovcc c r (Memory q)) p (λ n d. refl) h))
+again (op.Extend k r m) at e = by_operand at (op.Extend k r) m (two (nat_lt r 8) (fits_operand m) e).1
+    (λ s. (_, refl, refl, refl)) (λ p h. (_, refl, refl, place_again at (λ q. op.Extend k r (Memory q)) p (λ n d. refl) h))
 again (op.ImulImm r (Reg s) x) at e = (_, refl, refl, number_again at (λ n. op.ImulImm r (Reg s) n) x x refl (long_number at x (two (nat_lt r 8 && nat_lt s 8) (nat_lt x (2 ^ 32)) e).1))
 again (op.ImulImm r (Memory m) x) at e = (_, refl, refl, both_again at (λ p n. op.ImulImm r (Memory p) n) m x x refl (λ n d. refl) (two (nat_lt r 8) (fits_mem m) (two (nat_lt r 8 && fits_mem m) (nat_lt x (2 ^ 32)) e).0).1 (long_number at x (two (nat_lt r 8 && fits_mem m) (nat_lt x (2 ^ 32)) e).1))
 again (op.ImulImm r (Imm x) y) at e = let h : false ≡ true = (two (nat_lt r 8) false (two (nat_lt r 8 && false) (nat_lt y (2 ^ 32)) e).0).1 in absurd cc
@@ -210,12 +181,8 @@ again (op.Shift k (Imm x) count.Cl) at e = absurd cc
 again (op.Push (Reg r)) at e = (_, refl, refl, refl)
 again (op.Push (Memory m)) at e = (_, refl, refl, place_again at (λ p. op.Push (Memory p)) m (λ n d. refl) e)
 again (op.Push (Imm x)) at e = (_, refl, refl, number_again at (λ n. op.Push (Imm n)) x x refl (long_number at x e))
-again (op.Cmpxchg (Reg s) r) at e = (_, refl, refl, refl)
-again (op.Cmpxchg (Memory m) r) at e = (_, refl, refl, place_again at (λ p. op.Cmpxchg (Memory p) r) m (λ n d. refl) (two (fits_mem m) (nat_lt r 8) e).0)
-again (op.Cmpxchg (Imm x) r) at e = absurd cc
-again (op.Xadd (Reg s) r) at e = (_, refl, refl, refl)
-again (op.Xadd (Memory m) r) at e = (_, refl, refl, place_again at (λ p. op.Xadd (Memory p) r) m (λ n d. refl) (two (fits_mem m) (nat_lt r 8) e).0)
-again (op.Xadd (Imm x) r) at e = absurd cc
+again (op.Exchange k m r) at e = by_operand at (λ m. op.Exchange k m r) m (two (fits_operand m) (nat_lt r 8) e).0
+    (λ s. (_, refl, refl, refl)) (λ p h. (_, refl, refl, place_again at (λ q. op.Exchange k (Memory q) r) p (λ n d. refl) h))
 again (op.Bit k (Reg r) x) at e = (_, refl, refl, number_again at (λ n. op.Bit k (Reg r) n) x x refl (byte_number at x (two (nat_lt r 8) (nat_lt x 256) e).1))
 again (op.Bit k (Memory m) x) at e = (_, refl, refl, both_again at (λ p n. op.Bit k (Memory p) n) m x x refl (λ n d. refl) (two (fits_mem m) (nat_lt x 256) e).0 (byte_number at x (two (fits_mem m) (nat_lt x 256) e).1))
 again (op.Bit k (Imm x) y) at e = absurd cc
@@ -225,8 +192,7 @@ again (op.Jcc c d) at e = (_, refl, refl, number_again at (λ n. op.Jcc c n) (ju
 again (op.Xbegin d) at e = (_, refl, refl, number_again at (λ n. op.Xbegin n) (jump_target at 6 d) d refl (near_number at 6 d e))
 again (op.JmpShort d) at e = (_, refl, refl, number_again at (λ n. op.JmpShort n) (jump_target at 2 d) d refl (short_number at 2 d e))
 again (op.JccShort c d) at e = (_, refl, refl, number_again at (λ n. op.JccShort c n) (jump_target at 2 d) d refl (short_number at 2 d e))
-again (op.Loop d) at e = (_, refl, refl, number_again at (λ n. op.Loop n) (jump_target at 2 d) d refl (short_number at 2 d e))
-again (op.Jecxz d) at e = (_, refl, refl, number_again at (λ n. op.Jecxz n) (jump_target at 2 d) d refl (short_number at 2 d e))
+again (op.LoopJump k d) at e = (_, refl, refl, number_again at (λ n. op.LoopJump k n) (jump_target at 2 d) d refl (short_number at 2 d e))
 again (op.RetPop x) at e = (_, refl, refl, number_again at (λ n. op.RetPop n) x x refl (half_number at x e))
 again (op.Xabort x) at e = (_, refl, refl, number_again at (λ n. op.Xabort n) x x refl (byte_number at x e))
 again _ at e = (_, refl, refl, refl)

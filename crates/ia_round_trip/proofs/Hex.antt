@@ -1,15 +1,15 @@
 -- Printed numbers are read again.
 use Rattle.std.proofs.Common.{◌≡◌, ℕ, zero, suc, ◌<◌, Bool, true, false, cond, List, [], ◌∷◌, Some, refl, ◌∙◌, ap, length, map, arith, rules}
 use Rattle.std.specs.Prelude.{◌==◌, codes, nat_lt, ◌&&◌}
-use Rattle.std.proofs.lemmas.List.{length-map}
-use Rattle.std.proofs.lemmas.Int.Digits.{all_below_base_digits_of, number_digits_of, digits_value_is, length-digits_of_step}
+use Rattle.std.proofs.lemmas.Int.Digits.{all_below_base_digits_of}
 use Rattle.std.specs.List.{list_all, AllByRecursion}
 use Rattle.std.specs.Char.{digit_char, digit_value}
-use Rattle.std.specs.Int.Digits.{digits_of, number_from_digits}
+use Rattle.std.specs.Int.Digits.{digits_of}
 use Rattle.std.specs.Str.Parse.{digits_value}
 use Rattle.ia_lex.specs.Chars.{is_name}
 use Rattle.ia_lex.specs.Numbers.{number_of, small, all_digits, suffixed}
 use Rattle.ia_text.specs.Number.{hex_digits, number}
+use Rattle.ia_text.proofs.Digits.{digits, some_digits, hex_all, value_again}
 use Rattle.ia_lex.specs.Tokens.{Number}
 use Rattle.ia_round_trip.proofs.TokenLemmas.{all_by, Open, open_number}
 
@@ -32,55 +32,9 @@ glyph_name (suc (suc (suc (suc (suc (suc (suc (suc (suc (suc (suc (suc (suc (suc
 glyph_name (suc (suc (suc (suc (suc (suc (suc (suc (suc (suc (suc (suc (suc (suc (suc zero))))))))))))))) h = refl
 glyph_name (suc (suc (suc (suc (suc (suc (suc (suc (suc (suc (suc (suc (suc (suc (suc (suc n)))))))))))))))) h = absurd (omega arith)
 
-glyph_value : (d : ℕ) → d < 16 → digit_value (digit_char d) ≡ d
-glyph_value zero h = refl
-glyph_value (suc zero) h = refl
-glyph_value (suc (suc zero)) h = refl
-glyph_value (suc (suc (suc zero))) h = refl
-glyph_value (suc (suc (suc (suc zero)))) h = refl
-glyph_value (suc (suc (suc (suc (suc zero))))) h = refl
-glyph_value (suc (suc (suc (suc (suc (suc zero)))))) h = refl
-glyph_value (suc (suc (suc (suc (suc (suc (suc zero))))))) h = refl
-glyph_value (suc (suc (suc (suc (suc (suc (suc (suc zero)))))))) h = refl
-glyph_value (suc (suc (suc (suc (suc (suc (suc (suc (suc zero))))))))) h = refl
-glyph_value (suc (suc (suc (suc (suc (suc (suc (suc (suc (suc zero)))))))))) h = refl
-glyph_value (suc (suc (suc (suc (suc (suc (suc (suc (suc (suc (suc zero))))))))))) h = refl
-glyph_value (suc (suc (suc (suc (suc (suc (suc (suc (suc (suc (suc (suc zero)))))))))))) h = refl
-glyph_value (suc (suc (suc (suc (suc (suc (suc (suc (suc (suc (suc (suc (suc zero))))))))))))) h = refl
-glyph_value (suc (suc (suc (suc (suc (suc (suc (suc (suc (suc (suc (suc (suc (suc zero)))))))))))))) h = refl
-glyph_value (suc (suc (suc (suc (suc (suc (suc (suc (suc (suc (suc (suc (suc (suc (suc zero))))))))))))))) h = refl
-glyph_value (suc (suc (suc (suc (suc (suc (suc (suc (suc (suc (suc (suc (suc (suc (suc (suc n)))))))))))))))) h = absurd (omega arith)
-
-below : ℕ → Bool
-below b = nat_lt (digit_value b) 16
-
-abbrev Below : List ℕ → Type 0
-Below ds = AllByRecursion (λ d. d < 16) ds
-
-names : (ds : List ℕ) → Below ds → all_by is_name (map digit_char ds) ≡ true
+names : (ds : List ℕ) → AllByRecursion (λ d. d < 16) ds → all_by is_name (map digit_char ds) ≡ true
 names [] h = refl
 names (d ∷ ds) h = ap (λ v. cond v (all_by is_name (map digit_char ds)) false) (glyph_name d h.0) ∙ names ds h.1
-
-values : (ds : List ℕ) → Below ds → map digit_value (map digit_char ds) ≡ ds
-values [] h = refl
-values (d ∷ ds) h = ap (λ v. v ∷ map digit_value (map digit_char ds)) (glyph_value d h.0) ∙ ap (λ v. d ∷ v) (values ds h.1)
-
-small_test : (d : ℕ) → d < 16 → nat_lt (digit_value (digit_char d)) 16 ≡ true
-small_test d h = ap (λ v. nat_lt v 16) (glyph_value d h) ∙ search rules
-
-digits_all : (ds : List ℕ) → Below ds → list_all (λ b. nat_lt (digit_value b) 16) (map digit_char ds) ≡ true
-digits_all [] h = refl
-digits_all (d ∷ ds) h = rw (small_test d h.0) (digits_all ds h.1)
-
--- digits of a number that is not 0
-abbrev digits : ℕ → List ℕ
-digits n = map digit_char (digits_of 16 n)
-
-some_digits : (n : ℕ) → 0 < n → 0 < length (digits n)
-some_digits n h =
-    let l = length-map (digits_of 16 n) digit_char in
-    let s = length-digits_of_step 16 n (omega arith) h in
-    omega arith
 
 both : Bool → Bool → Bool → Bool
 both x y z = ((x && true) && true) && (y && z)
@@ -96,17 +50,13 @@ prefixed ds v h a e =
     ∙ ap (λ b. both true true b) a in
     ap (λ b. cond b (Some (small (digits_value 16 ds))) (cond (all_digits 10 (48 ∷ 120 ∷ ds)) (Some (small (digits_value 10 (48 ∷ 120 ∷ ds)))) (suffixed (48 ∷ 120 ∷ ds)))) t ∙ ap (λ n. Some (small n)) e
 
-value_again : (n : ℕ) → digits_value 16 (digits n) ≡ n
-value_again n =
-    digits_value_is 16 (digits n) ∙ ap (number_from_digits 16) (values (digits_of 16 n) (all_below_base_digits_of 16 n (omega arith))) ∙ number_digits_of 16 n (omega arith)
-
 hex_again : (n : ℕ) → number_of (48 ∷ 120 ∷ hex_digits n) ≡ Some (small n)
 unfolding number_of
 hex_again zero = refl
 hex_again (suc k) =
     let not0 : (suc k == 0) ≡ false = search rules in
     ap (λ b. number_of (48 ∷ 120 ∷ cond b (codes "0") (digits (suc k)))) not0
-    ∙ prefixed (digits (suc k)) (suc k) (some_digits (suc k) (omega arith)) (digits_all (digits_of 16 (suc k)) (all_below_base_digits_of 16 (suc k) (omega arith))) (value_again (suc k))
+    ∙ prefixed (digits (suc k)) (suc k) (some_digits (suc k) (omega arith)) (hex_all (suc k)) (value_again (suc k))
 
 pub hex_names : (n : ℕ) → all_by is_name (48 ∷ 120 ∷ hex_digits n) ≡ true
 hex_names zero = refl

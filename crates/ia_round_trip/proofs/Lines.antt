@@ -13,7 +13,8 @@ use Rattle.ia_lex.specs.Lines.{lines_of, onto, begins_with_lf}
 use Rattle.ia_text.specs.declared.arg.Arg.{Arg}
 use Rattle.ia_text.specs.declared.arg.Arg.TheVariants as arg
 use Rattle.ia_text.specs.Number.{number}
-use Rattle.ia_text.specs.Names.{register_name, size_name, stem, condition}
+use Rattle.ia_insn.specs.Mnemonics.{mnemonic_of, name_of}
+use Rattle.ia_text.specs.Names.{register_name, size_name}
 use Rattle.ia_text.specs.Arguments.{first_arg, second_arg, third_arg}
 use Rattle.ia_text.specs.Text.{plus, base_text, scale_text, index_text, disp_text, mem_text, arg_text, behind, op_text, insn_text}
 use Rattle.ia_round_trip.specs.PrintedTokens.{args_tokens}
@@ -142,15 +143,15 @@ behind_shown gap (Some a) h = shown_append gap (arg_text a) h (arg_shown a)
 op_shown : (o : Op) (at : ℕ) → Shown (op_text o at)
 unfolding op_text
 op_shown o at =
-    let name : List ℕ = stem o ++ condition o in
+    let name : List ℕ = name_of (mnemonic_of o) in
     let a : List ℕ = behind (codes " ") (first_arg o at) in
-    let b : List ℕ = behind (codes ", ") (second_arg o) in
-    let c : List ℕ = behind (codes ", ") (third_arg o) in
+    let b : List ℕ = behind (codes ", ") (second_arg o at) in
+    let c : List ℕ = behind (codes ", ") (third_arg o at) in
     shown_append (name ++ a ++ b) c
     (shown_append (name ++ a) b
-    (shown_append name a (name_shown name (name_all name (mnemonic_test o))) (behind_shown (codes " ") (first_arg o at) refl))
-    (behind_shown (codes ", ") (second_arg o) refl))
-    (behind_shown (codes ", ") (third_arg o) refl)
+    (shown_append name a (name_shown name (name_all name (mnemonic_test (mnemonic_of o)))) (behind_shown (codes " ") (first_arg o at) refl))
+    (behind_shown (codes ", ") (second_arg o at) refl))
+    (behind_shown (codes ", ") (third_arg o at) refl)
 
 lock_shown : (l : Bool) (bs : List ℕ) → Shown bs → Shown (cond l (codes "lock ") [] ++ bs)
 lock_shown true bs h = shown_append (codes "lock ") bs refl h
@@ -171,6 +172,6 @@ all_of (b ∷ bs) lock l t ts e h = line_end b bs h
 
 pub text_is_one_line : TextIsOneLine
 text_is_one_line i at = (
-  all_of (insn_text i at) i.lock (Word (codes "lock")) (Word (stem i.op ++ condition i.op)) (args_tokens i.op at) (text_has_its_tokens i at) (insn_shown i at),
+  all_of (insn_text i at) i.lock (Word (codes "lock")) (Word (name_of (mnemonic_of i.op))) (args_tokens i.op at) (text_has_its_tokens i at) (insn_shown i at),
   λ rest. line_more (insn_text i at) rest (insn_shown i at),
 )

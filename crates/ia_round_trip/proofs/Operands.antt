@@ -127,7 +127,7 @@ InOrder _ _ _ = ⊥
 abbrev listing_with : Option Arg → Option Arg → Option Arg → List Arg
 listing_with a b c = option_to_list a ++ option_to_list b ++ option_to_list c
 
-in_order : (o : Op) (at : ℕ) → InOrder (first_arg o at) (second_arg o) (third_arg o)
+in_order : (o : Op) (at : ℕ) → InOrder (first_arg o at) (second_arg o at) (third_arg o at)
 in_order (op.Alu k w m s) at = tt
 in_order _ at = tt
 
@@ -150,4 +150,4 @@ listed_again None (Some b) c k h = absurd k
 listed_again (Some a) None (Some c) k h = absurd k
 
 pub operands_read_back : OperandsReadBack
-operands_read_back o at h = listed_again (first_arg o at) (second_arg o) (third_arg o) (in_order o at) h
+operands_read_back o at h = listed_again (first_arg o at) (second_arg o at) (third_arg o at) (in_order o at) h

@@ -1,27 +1,29 @@
 -- The text of an instruction has the tokens that it is made of.
 use Rattle.std.proofs.Common.{◌≡◌, ℕ, zero, suc, Bool, true, false, cond, List, [], ◌∷◌, ◌++◌, Option, Some, None, refl, sym, ◌∙◌, ap, append-nil, is_some}
 use Rattle.std.specs.Prelude.{◌==◌, ◌||◌, codes}
-use Rattle.ia_word.specs.declared.operation.AluOp.{AluOp}
 use Rattle.ia_word.specs.declared.operation.AluOp.TheVariants as alu
-use Rattle.ia_word.specs.declared.operation.ShiftOp.{ShiftOp}
 use Rattle.ia_word.specs.declared.operation.ShiftOp.TheVariants as shift
-use Rattle.ia_word.specs.declared.operation.BitOp.{BitOp}
 use Rattle.ia_word.specs.declared.operation.BitOp.TheVariants as bit
-use Rattle.ia_word.specs.declared.operation.UnaryOp.{UnaryOp}
 use Rattle.ia_word.specs.declared.operation.UnaryOp.TheVariants as unary
-use Rattle.ia_word.specs.declared.condition.Condition.{Condition}
+use Rattle.ia_word.specs.declared.operation.IncDecOp.TheVariants as inc_dec
+use Rattle.ia_word.specs.declared.operation.ExtendOp.TheVariants as extend
+use Rattle.ia_word.specs.declared.operation.ExchangeOp.TheVariants as exchange
+use Rattle.ia_word.specs.declared.operation.LoopOp.TheVariants as loop
+use Rattle.ia_word.specs.declared.operation.BareOp.TheVariants as bare
 use Rattle.ia_word.specs.declared.condition.Condition.TheVariants as is
 use Rattle.ia_word.specs.declared.width.Width.{Width}
 use Rattle.ia_word.specs.declared.width.Width.TheVariants.{B, D}
 use Rattle.ia_insn.specs.declared.op.Op.{Op}
-use Rattle.ia_insn.specs.declared.op.Op.TheVariants as op
 use Rattle.ia_insn.specs.declared.operand.Mem.{Mem}
 use Rattle.ia_lex.specs.Chars.{is_blank, is_digit, is_name}
 use Rattle.ia_lex.specs.Numbers.{small, number_of}
 use Rattle.ia_lex.specs.Tokens.{Lexeme, Word, Number, Mark, tokens_from, tokens_of, with_front}
 use Rattle.ia_text.specs.declared.arg.Arg.{Arg}
 use Rattle.ia_text.specs.declared.arg.Arg.TheVariants as arg
-use Rattle.ia_text.specs.Names.{register_name, size_name, stem, condition, condition_name, alu_name, shift_name, bit_name, unary_name}
+use Rattle.ia_insn.specs.declared.mnemonic.Mnemonic.{Mnemonic}
+use Rattle.ia_insn.specs.declared.mnemonic.Mnemonic.TheVariants as name
+use Rattle.ia_insn.specs.Mnemonics.{mnemonic_of, name_of}
+use Rattle.ia_text.specs.Names.{register_name, size_name}
 use Rattle.ia_text.specs.Arguments.{first_arg, second_arg, third_arg}
 use Rattle.ia_text.specs.Number.{number}
 use Rattle.ia_text.specs.Text.{base_text, scale_text, index_text, disp_text, mem_text, arg_text, behind, op_text, insn_text}
@@ -85,64 +87,19 @@ pub size_test : (w : Width) → name_test (size_name w) ≡ true
 size_test D = refl
 size_test B = refl
 
-condition_test : (c : Condition) → all_by is_name (condition_name c) ≡ true
-condition_test is.Overflow = refl
-condition_test is.NotOverflow = refl
-condition_test is.Below = refl
-condition_test is.AboveOrEqual = refl
-condition_test is.Equal = refl
-condition_test is.NotEqual = refl
-condition_test is.BelowOrEqual = refl
-condition_test is.Above = refl
-condition_test is.Sign = refl
-condition_test is.NotSign = refl
-condition_test is.ParityEven = refl
-condition_test is.ParityOdd = refl
-condition_test is.Less = refl
-condition_test is.GreaterOrEqual = refl
-condition_test is.LessOrEqual = refl
-condition_test is.Greater = refl
-
-alu_test : (k : AluOp) → name_test (alu_name k ++ []) ≡ true
-alu_test alu.Add = refl
-alu_test alu.Or = refl
-alu_test alu.Adc = refl
-alu_test alu.Sbb = refl
-alu_test alu.And = refl
-alu_test alu.Sub = refl
-alu_test alu.Xor = refl
-alu_test alu.Cmp = refl
-
-shift_test : (k : ShiftOp) → name_test (shift_name k ++ []) ≡ true
-shift_test shift.Rol = refl
-shift_test shift.Ror = refl
-shift_test shift.Shl = refl
-shift_test shift.Shr = refl
-shift_test shift.Sar = refl
-
-bit_test : (k : BitOp) → name_test (bit_name k ++ []) ≡ true
-bit_test bit.Bt = refl
-bit_test bit.Bts = refl
-bit_test bit.Btr = refl
-bit_test bit.Btc = refl
-
-unary_test : (k : UnaryOp) → name_test (unary_name k ++ []) ≡ true
-unary_test unary.Not = refl
-unary_test unary.Neg = refl
-unary_test unary.Mul = refl
-unary_test unary.Imul = refl
-unary_test unary.Div = refl
-unary_test unary.Idiv = refl
-
-pub mnemonic_test : (o : Op) → name_test (stem o ++ condition o) ≡ true
-mnemonic_test (op.Alu k w m s) = alu_test k
-mnemonic_test (op.Shift k m n) = shift_test k
-mnemonic_test (op.Bit k m n) = bit_test k
-mnemonic_test (op.Unary k m) = unary_test k
-mnemonic_test (op.Jcc c d) = condition_test c
-mnemonic_test (op.JccShort c d) = condition_test c
-mnemonic_test (op.Setcc c m) = condition_test c
-mnemonic_test (op.Cmovcc c r m) = condition_test c
+pub mnemonic_test : (m : Mnemonic) → name_test (name_of m) ≡ true
+mnemonic_test (name.Alu alu.Add) = refl
+mnemonic_test (name.IncDec inc_dec.Inc) = refl
+mnemonic_test (name.Unary unary.Not) = refl
+mnemonic_test (name.Shift shift.Rol) = refl
+mnemonic_test (name.Jcc is.Overflow) = refl
+mnemonic_test (name.Setcc is.Overflow) = refl
+mnemonic_test (name.Cmovcc is.Overflow) = refl
+mnemonic_test (name.LoopJump loop.Loop) = refl
+mnemonic_test (name.Extend extend.Zero) = refl
+mnemonic_test (name.Exchange exchange.Compare) = refl
+mnemonic_test (name.Bit bit.Bt) = refl
+mnemonic_test (name.Bare bare.Leave) = refl
 mnemonic_test _ = refl
 
 -- ---- places in memory
@@ -245,11 +202,11 @@ behind_open a g ts gs (Some y) k s o =
 op_open : (o : Op) (at : ℕ) → Open (op_text o at) (op_tokens o at)
 unfolding op_text
 op_open o at =
-    let name : List ℕ = stem o ++ condition o in
-    let word : List Lexeme = Word (stem o ++ condition o) ∷ [] in
-    behind_open (name ++ behind (codes " ") (first_arg o at) ++ behind (codes ", ") (second_arg o)) (codes ", ") (word ++ behind_tokens [] (first_arg o at) ++ behind_tokens (Mark 44 ∷ []) (second_arg o)) (Mark 44 ∷ []) (third_arg o) (λ more rest. refl) shut_comma
-    (behind_open (name ++ behind (codes " ") (first_arg o at)) (codes ", ") (word ++ behind_tokens [] (first_arg o at)) (Mark 44 ∷ []) (second_arg o) (λ more rest. refl) shut_comma
-    (behind_open name (codes " ") word [] (first_arg o at) (λ more rest. refl) shut_blank (open_name name (mnemonic_test o))))
+    let name : List ℕ = name_of (mnemonic_of o) in
+    let word : List Lexeme = Word (name_of (mnemonic_of o)) ∷ [] in
+    behind_open (name ++ behind (codes " ") (first_arg o at) ++ behind (codes ", ") (second_arg o at)) (codes ", ") (word ++ behind_tokens [] (first_arg o at) ++ behind_tokens (Mark 44 ∷ []) (second_arg o at)) (Mark 44 ∷ []) (third_arg o at) (λ more rest. refl) shut_comma
+    (behind_open (name ++ behind (codes " ") (first_arg o at)) (codes ", ") (word ++ behind_tokens [] (first_arg o at)) (Mark 44 ∷ []) (second_arg o at) (λ more rest. refl) shut_comma
+    (behind_open name (codes " ") word [] (first_arg o at) (λ more rest. refl) shut_blank (open_name name (mnemonic_test (mnemonic_of o)))))
 
 lock_open : (l : Bool) (a : List ℕ) (ts : List Lexeme) → Open a ts → Open (cond l (codes "lock ") [] ++ a) (cond l (Word (codes "lock") ∷ []) [] ++ ts)
 lock_open true a ts o = shut_open (codes "lock ") a (Word (codes "lock") ∷ []) ts shut_lock o

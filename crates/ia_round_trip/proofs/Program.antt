@@ -8,7 +8,8 @@ use Rattle.ia_lex.specs.Tokens.{Word, Number, tokens_from, tokens_of, with_front
 use Rattle.ia_text.specs.Number.{number}
 use Rattle.ia_text.specs.Text.{insn_text}
 use Rattle.ia_source.specs.Contents.{Org}
-use Rattle.ia_source.specs.Keywords.{keyword_of, mnemonic_of, arithmetic_of, shift_or_jump_of, other_of, conditional, condition_of, order_of}
+use Rattle.ia_insn.specs.Operations.{arithmetic, moves, jumps, bare_names, conditions, other_names, other_conditions}
+use Rattle.ia_source.specs.Keywords.{keyword_of, mnemonic_named, unconditional, conditional, condition_of, order_of}
 use Rattle.ia_source.specs.Statements.{directive_onto}
 use Rattle.ia_source.specs.Source.{SourceContent, first_content, by_line, head_onto, tokens_onto, line_onto, lines_onto}
 use Rattle.ia_source.specs.Heads.{head_of}
@@ -34,7 +35,8 @@ based n = record {
 }
 
 org_head : (n : Option ℕ) → head_onto first_content (head_of (Word (codes "org") ∷ Number n ∷ [])) ≡ Ok (based n)
-unfolding keyword_of mnemonic_of arithmetic_of shift_or_jump_of other_of conditional condition_of order_of directive_onto
+unfolding keyword_of mnemonic_named unconditional conditional condition_of order_of directive_onto
+    arithmetic moves jumps bare_names conditions other_names other_conditions
 org_head n = refl
 
 org_line : (at : ℕ) → at < 2 ^ 32 → line_onto first_content (codes "org " ++ number at) ≡ Ok (based (Some at))

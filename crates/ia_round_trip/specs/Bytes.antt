@@ -20,8 +20,8 @@ abbrev pub IsAsked : Insn → Option (List TermContent) → Option (List TermCon
 IsAsked i number place t = (t.insn ≡ i) × (option_map expression_content t.number
     ≡ number) × (option_map expression_content t.displacement ≡ place)
 
--- wherever it stands in a source, the text of an encodable instruction for an address is read as one instruction; placed at
--- that address, that has the bytes of the printed one and no sum at fault, whatever symbols there are
+-- wherever it stands in a source, the text of an encodable instruction for an address is read as one instruction;
+-- placed at that address, that has the bytes of the printed one and no sum at fault, whatever symbols there are
 abbrev pub LineAssemblesToItsBytes : Type 0
 LineAssemblesToItsBytes = (i : Insn) (at : ℕ) → IsTrue (is_encodable i)
     → (o : Insn) × (number place : Option (List TermContent)) × IsReadAs (insn_text i at) o number place
@@ -33,8 +33,8 @@ abbrev pub Gives : ℕ → List ℕ → Result Assembly AsmFault → Type 0
 Gives base bytes (Ok u) = (u.base ≡ base) × (u.image.items ≡ bytes) × (u.code_len ≡ length bytes)
 Gives base bytes (Err f) = f ≡ NoMemory
 
--- whatever is answered for a source that puts the text of an encodable instruction at an address, from which it ends at or
--- below 2^32
+-- whatever is answered for a source that puts the text of an encodable instruction at an address, from which it ends at
+-- or below 2^32
 abbrev pub SourceAssemblesToItsBytes : Type 0
 SourceAssemblesToItsBytes = (i : Insn) (at : ℕ) → IsTrue (is_encodable i) → at + length (insn_bytes i) ≤ 2 ^ 32
     → (answer : Result Assembly AsmFault) → Assembles (source_at i at) answer → Gives at (insn_bytes i) answer

@@ -1,5 +1,6 @@
 -- The operands that printed ones are read as.
-use Rattle.std.specs.Prelude.{◌≡◌, ℕ, Bool, false, IsTrue, ◌==◌, ◌&&◌, ◌||◌, nat_lt, if◌then◌else◌, is_some, option_to_list, Option, Some, None, List, [], ◌∷◌, ◌++◌}
+use Rattle.std.specs.Prelude.{◌≡◌, ℕ, Bool, false, IsTrue, ◌==◌, ◌&&◌, ◌||◌, nat_lt, if◌then◌else◌, is_some}
+use Rattle.std.specs.Prelude.{option_to_list, Option, Some, None, List, [], ◌∷◌, ◌++◌}
 use Rattle.std.specs.List.{AllByRecursion}
 use Rattle.ia_word.specs.declared.width.Width.TheVariants.{B}
 use Rattle.ia_insn.specs.declared.op.Op.{Op}
@@ -12,7 +13,8 @@ use Rattle.ia_text.specs.declared.arg.Arg.{Arg}
 use Rattle.ia_text.specs.declared.arg.Arg.TheVariants as arg
 use Rattle.ia_text.specs.Arguments.{first_arg, second_arg, third_arg}
 use Rattle.ia_source.specs.declared.shape.OperandShape.TheVariants as shape
-use Rattle.ia_source.specs.Operands.{Operand, Operands, operand_of, operands_of, with_operand, by_operands, empty_operands}
+use Rattle.ia_source.specs.Operands.{Operand, Operands, operand_of, operands_of, with_operand, by_operands}
+use Rattle.ia_source.specs.Operands.{empty_operands}
 use Rattle.ia_round_trip.specs.PrintedTokens.{arg_tokens, args_tokens}
 
 -- a number that is added
@@ -48,7 +50,7 @@ operands_for os (a ∷ rest) = by_operands (with_operand os (operand_for a)) (λ
 
 -- the operands that are printed
 abbrev pub args_of : Op → ℕ → List Arg
-args_of o at = option_to_list (first_arg o at) ++ option_to_list (second_arg o) ++ option_to_list (third_arg o)
+args_of o at = option_to_list (first_arg o at) ++ option_to_list (second_arg o at) ++ option_to_list (third_arg o at)
 
 -- the tokens of an operand are read as it
 abbrev pub OperandReadsBack : Type 0

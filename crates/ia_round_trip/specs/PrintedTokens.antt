@@ -1,5 +1,6 @@
 -- The tokens of what is printed.
-use Rattle.std.specs.Prelude.{◌≡◌, ℕ, Bool, ◌==◌, ◌&&◌, ◌||◌, if◌then◌else◌, is_some, Option, Some, None, List, [], ◌∷◌, ◌++◌, codes}
+use Rattle.std.specs.Prelude.{◌≡◌, ℕ, Bool, ◌==◌, ◌&&◌, ◌||◌, if◌then◌else◌, is_some, Option, Some, None, List, [], ◌∷◌}
+use Rattle.std.specs.Prelude.{◌++◌, codes}
 use Rattle.ia_word.specs.declared.width.Width.TheVariants.{D}
 use Rattle.ia_insn.specs.declared.op.Op.{Op}
 use Rattle.ia_insn.specs.declared.op.Insn.{Insn}
@@ -8,7 +9,8 @@ use Rattle.ia_lex.specs.Numbers.{small}
 use Rattle.ia_lex.specs.Tokens.{Lexeme, Word, Number, Mark, tokens_of}
 use Rattle.ia_text.specs.declared.arg.Arg.{Arg}
 use Rattle.ia_text.specs.declared.arg.Arg.TheVariants as arg
-use Rattle.ia_text.specs.Names.{register_name, size_name, stem, condition}
+use Rattle.ia_insn.specs.Mnemonics.{mnemonic_of, name_of}
+use Rattle.ia_text.specs.Names.{register_name, size_name}
 use Rattle.ia_text.specs.Arguments.{first_arg, second_arg, third_arg}
 use Rattle.ia_text.specs.Text.{insn_text}
 
@@ -47,11 +49,11 @@ behind_tokens gap None = []
 behind_tokens gap (Some a) = gap ++ arg_tokens a
 
 abbrev pub args_tokens : Op → ℕ → List Lexeme
-args_tokens o at = behind_tokens [] (first_arg o at) ++ behind_tokens (Mark 44 ∷ []) (second_arg o) ++ behind_tokens
-    (Mark 44 ∷ []) (third_arg o)
+args_tokens o at = behind_tokens [] (first_arg o at) ++ behind_tokens (Mark 44 ∷ []) (second_arg o at) ++ behind_tokens
+    (Mark 44 ∷ []) (third_arg o at)
 
 abbrev pub op_tokens : Op → ℕ → List Lexeme
-op_tokens o at = Word (stem o ++ condition o) ∷ args_tokens o at
+op_tokens o at = Word (name_of (mnemonic_of o)) ∷ args_tokens o at
 
 abbrev pub insn_tokens : Insn → ℕ → List Lexeme
 insn_tokens i at = (if i.lock then Word (codes "lock") ∷ [] else []) ++ op_tokens i.op at

@@ -1,11 +1,13 @@
 -- An instruction whose expressions have no symbol, with their values filled in at an address.
-use Rattle.std.specs.Prelude.{ℕ, Bool, ◌&&◌, if◌then◌else◌, Option, Some, None, option_map, List, [], ◌∷◌, ℤ, pos, ◌+ℤ◌, ◌-ℤ◌}
+use Rattle.std.specs.Prelude.{ℕ, Bool, ◌&&◌, if◌then◌else◌, Option, Some, None, option_map, List, [], ◌∷◌, ℤ, pos, ◌+ℤ◌}
+use Rattle.std.specs.Prelude.{◌-ℤ◌}
 use Rattle.ia_insn.specs.declared.op.Op.{Op}
 use Rattle.ia_insn.specs.declared.op.Insn.{Insn}
 use Rattle.ia_insn.specs.Encoding.{fits_short}
 use Rattle.ia_item.specs.declared.item.Field.{Field}
 use Rattle.ia_item.specs.declared.item.Field.TheVariants as field
-use Rattle.ia_item.specs.Fields.{field_of, with_number, with_displacement, within, low_of, high_of, modulo_long, distance, stored_number}
+use Rattle.ia_item.specs.Fields.{field_of, with_number, with_displacement, within, low_of, high_of, modulo_long}
+use Rattle.ia_item.specs.Fields.{distance, stored_number}
 use Rattle.ia_lex.specs.Terms.{AtomContent, NumberAtom, SymbolAtom, TermContent}
 
 -- ---- values
@@ -55,7 +57,8 @@ abbrev pub by_op : Option Op → (Op → Option Op) → Option Op
 by_op None next = None
 by_op (Some o) next = next o
 
--- the instruction at an address with the values of its number's sum and of its displacement's; none where one does not fit
+-- the instruction at an address with the values of its number's sum and of its displacement's; none where one does not
+-- fit
 unfoldable pub resolved_insn : ℕ → Insn → Option (List TermContent) → Option (List TermContent) → Option Insn
 resolved_insn at i number place = option_map (λ o. record { lock = i.lock; op = o }) (by_op
     (op_with_number at number i.op) (op_with_displacement at place))

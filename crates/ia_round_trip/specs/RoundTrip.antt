@@ -19,8 +19,8 @@ IsReadAs line i number place = (s : SourceContent) → line_onto s line
           (Code i number place);
     })
 
--- the text of an encodable instruction at an address is read as an instruction that is the same one, with its expressions filled in
--- at that address
+-- the text of an encodable instruction at an address is read as an instruction that is the same one, with its
+-- expressions filled in at that address
 abbrev pub InstructionReadsBack : Type 0
 InstructionReadsBack = (i : Insn) (at : ℕ) → IsTrue (is_encodable i)
     → (t : Insn) × (number place : Option (List TermContent)) × IsReadAs (insn_text i at) t number place

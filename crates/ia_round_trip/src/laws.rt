@@ -35,15 +35,15 @@ pub fn head_reads_back()
     ensures { HeadReadsBack }
 {}
 
-/// The mnemonic of an encodable instruction and the operands that are printed for it at an address fit a form: it is the
-/// instruction, once the values of its expressions at that address stand in their fields.
+/// The mnemonic of an encodable instruction and the operands that are printed for it at an address fit a form: it is
+/// the instruction, once the values of its expressions at that address stand in their fields.
 pub fn form_reads_back()
     ensures { FormReadsBack }
 {}
 
-/// The text of an encodable instruction at an address, which is what `ia_text::write_insn` writes, is read as a line of a
-/// source wherever it stands, as one instruction and nothing else. With the values of its expressions at that address it is the
-/// instruction that was printed.
+/// The text of an encodable instruction at an address, which is what `ia_text::write_insn` writes, is read as a line of
+/// a source wherever it stands, as one instruction and nothing else. With the values of its expressions at that address
+/// it is the instruction that was printed.
 pub fn instruction_reads_back()
     ensures { InstructionReadsBack }
 {}
@@ -54,15 +54,15 @@ pub fn source_reads_back()
     ensures { SourceReadsBack }
 {}
 
-/// An expression without symbols has the same value where its text is read and where its item is placed, whatever symbols there
-/// are: it has no fault of its own there, and leaves its field as short as it is.
+/// An expression without symbols has the same value where its text is read and where its item is placed, whatever
+/// symbols there are: it has no fault of its own there, and leaves its field as short as it is.
 pub fn expressions_agree()
     ensures { ExpressionsAgree }
 {}
 
-/// The text of an encodable instruction at an address is read as one instruction wherever it stands in a source, and placed
-/// at that address it has exactly the bytes that `ia_encode::encode` gives for the printed one, and no fault but that it
-/// may end too far from the base or past 2^32. No symbol of the source changes that.
+/// The text of an encodable instruction at an address is read as one instruction wherever it stands in a source, and
+/// placed at that address it has exactly the bytes that `ia_encode::encode` gives for the printed one, and no fault but
+/// that it may end too far from the base or past 2^32. No symbol of the source changes that.
 pub fn line_assembles_to_its_bytes()
     ensures { LineAssemblesToItsBytes }
 {}

@@ -7,3 +7,4 @@ pub mod Powers
 pub mod Names
 pub mod FormsFit
 pub mod SourceFits
+pub mod Named

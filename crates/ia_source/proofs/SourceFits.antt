@@ -13,9 +13,9 @@ use Rattle.ia_item.specs.Fits.{FitsExpression, FitsAnyExpression, FitsItem, AllF
 use Rattle.ia_lex.specs.Tokens.{Lexeme, Word, Number, Text as Quoted, Mark, tokens_of}
 use Rattle.ia_lex.specs.Terms.{TermContent}
 use Rattle.ia_lex.specs.Lines.{lines_of}
-use Rattle.ia_source.specs.declared.mnemonic.Mnemonic.{Mnemonic}
-use Rattle.ia_source.specs.declared.mnemonic.Directive.{Directive}
-use Rattle.ia_source.specs.declared.mnemonic.Directive.TheVariants as directive
+use Rattle.ia_insn.specs.declared.mnemonic.Mnemonic.{Mnemonic}
+use Rattle.ia_source.specs.declared.directive.Directive.{Directive}
+use Rattle.ia_source.specs.declared.directive.Directive.TheVariants as directive
 use Rattle.ia_source.specs.declared.head.Statement.{Statement}
 use Rattle.ia_source.specs.declared.head.Statement.TheVariants as statement
 use Rattle.ia_source.specs.declared.fault.Why.{Why}

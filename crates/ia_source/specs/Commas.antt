@@ -1,5 +1,6 @@
 -- What stands between commas.
-use Rattle.std.specs.Prelude.{ℕ, ◌<◌, nat_le, Bool, false, not, ◌==◌, if◌then◌else◌, Option, Some, None, List, [], ◌∷◌, map, length, drop}
+use Rattle.std.specs.Prelude.{ℕ, ◌<◌, nat_le, Bool, false, not, ◌==◌, if◌then◌else◌, Option, Some, None, List, [], ◌∷◌}
+use Rattle.std.specs.Prelude.{map, length, drop}
 use denote.Bor.{Bor}
 use Rattle.ia_lex.specs.declared.token.Token.{Token}
 use Rattle.ia_lex.specs.Tokens.{Lexeme, Mark, lexeme_of}

@@ -1,6 +1,7 @@
 -- The forms of instructions: which operands a mnemonic takes (SDM volume 2, the page of each instruction). Numbers and
 -- displacements stand as 0.
 use Rattle.std.specs.Prelude.{ℕ, Bool, true, false, Option, Some, None, option_map, ◌==◌, if◌then◌else◌}
+use Rattle.ia_word.specs.declared.operation.BareOp.{BareOp}
 use Rattle.ia_word.specs.declared.operation.ShiftOp.{ShiftOp}
 use Rattle.ia_word.specs.declared.operation.UnaryOp.TheVariants as unary
 use Rattle.ia_word.specs.declared.condition.Condition.{Condition}
@@ -13,10 +14,8 @@ use Rattle.ia_insn.specs.declared.op.Insn.{Insn}
 use Rattle.ia_insn.specs.declared.operand.Operand.{Operand}
 use Rattle.ia_insn.specs.declared.operand.Operand.TheVariants.{Reg, Imm, Mem as Memory}
 use Rattle.ia_insn.specs.Encoding.{is_encodable}
-use Rattle.ia_source.specs.declared.mnemonic.Mnemonic.{Mnemonic}
-use Rattle.ia_source.specs.declared.mnemonic.Mnemonic.TheVariants as name
-use Rattle.ia_source.specs.declared.mnemonic.Bare.{Bare}
-use Rattle.ia_source.specs.declared.mnemonic.Bare.TheVariants as bare
+use Rattle.ia_insn.specs.declared.mnemonic.Mnemonic.{Mnemonic}
+use Rattle.ia_insn.specs.declared.mnemonic.Mnemonic.TheVariants as name
 use Rattle.ia_source.specs.declared.shape.OperandShape.{OperandShape}
 use Rattle.ia_source.specs.declared.shape.OperandShape.TheVariants.{Register, Memory as InMemory, Number, Near, Short}
 use Rattle.ia_source.specs.declared.shape.OperandShapes.{OperandShapes}
@@ -133,28 +132,10 @@ abbrev pub with_number : Op → OperandShapes → Option Op
 with_number o (One Number) = Some o
 with_number o _ = None
 
-abbrev pub bare_op : Bare → Op
-bare_op bare.Leave = op.Leave
-bare_op bare.Cdq = op.Cdq
-bare_op bare.Cwde = op.Cwde
-bare_op bare.Clc = op.Clc
-bare_op bare.Stc = op.Stc
-bare_op bare.Cmc = op.Cmc
-bare_op bare.Pause = op.Pause
-bare_op bare.Hlt = op.Hlt
-bare_op bare.Int3 = op.Int3
-bare_op bare.Ud2 = op.Ud2
-bare_op bare.Cpuid = op.Cpuid
-bare_op bare.Lfence = op.Lfence
-bare_op bare.Mfence = op.Mfence
-bare_op bare.Sfence = op.Sfence
-bare_op bare.Xend = op.Xend
-bare_op bare.Xtest = op.Xtest
-
 -- an operation without operands
-abbrev pub no_operands : Bare → OperandShapes → Option Op
-no_operands b Nothing = Some (bare_op b)
-no_operands b _ = None
+abbrev pub no_operands : BareOp → OperandShapes → Option Op
+no_operands k Nothing = Some (op.Bare k)
+no_operands k _ = None
 
 -- the operation that a mnemonic and operands of these shapes write
 unfoldable pub op_of : Mnemonic → OperandShapes → Option Op
@@ -162,8 +143,7 @@ op_of (name.Alu k) s = option_map (λ p. op.Alu k p.0 p.1 p.2) (pair s)
 op_of name.Mov s = option_map (λ p. op.Mov p.0 p.1 p.2) (pair s)
 op_of name.Lea s = lea_form s
 op_of name.Xchg s = option_map (λ p. op.Xchg p.0 p.1 p.2) (xchg_form s)
-op_of name.Inc s = option_map (λ p. op.Inc p.0 p.1) (sized_operand s)
-op_of name.Dec s = option_map (λ p. op.Dec p.0 p.1) (sized_operand s)
+op_of (name.IncDec k) s = option_map (λ p. op.IncDec k p.0 p.1) (sized_operand s)
 op_of name.Test s = option_map (λ p. op.Test p.0 p.1 p.2) (test_form s)
 op_of (name.Unary k) s = option_map (λ o. op.Unary k o) (one_operand D s)
 op_of name.Imul s = imul_form s
@@ -176,17 +156,14 @@ op_of name.Jmp s = jmp_form s
 op_of (name.Jcc c) s = jcc_form c s
 op_of (name.Setcc c) s = option_map (λ o. op.Setcc c o) (one_operand B s)
 op_of (name.Cmovcc c) s = option_map (λ p. op.Cmovcc c p.0 p.1) (load_form D s)
-op_of name.Loop s = with_number (op.Loop 0) s
-op_of name.Jecxz s = with_number (op.Jecxz 0) s
-op_of name.Movzx s = option_map (λ p. op.Movzx p.0 p.1) (load_form B s)
-op_of name.Movsx s = option_map (λ p. op.Movsx p.0 p.1) (load_form B s)
-op_of name.Cmpxchg s = option_map (λ p. op.Cmpxchg p.0 p.1) (store_form s)
-op_of name.Xadd s = option_map (λ p. op.Xadd p.0 p.1) (store_form s)
+op_of (name.LoopJump k) s = with_number (op.LoopJump k 0) s
+op_of (name.Extend k) s = option_map (λ p. op.Extend k p.0 p.1) (load_form B s)
+op_of (name.Exchange k) s = option_map (λ p. op.Exchange k p.0 p.1) (store_form s)
 op_of (name.Bit k) s = option_map (λ o. op.Bit k o 0) (number_form s)
 op_of name.Nop s = nop_form s
 op_of name.Xbegin s = with_number (op.Xbegin 0) s
 op_of name.Xabort s = with_number (op.Xabort 0) s
-op_of (name.Bare b) s = no_operands b s
+op_of (name.Bare k) s = no_operands k s
 
 -- where some bytes spell it; LOCK stands only where it may
 abbrev pub if_encodable : Insn → Option Insn

@@ -1,12 +1,13 @@
--- What stands in front of a line (NASM manual, "Layout of a NASM Source Line"): a label, with a colon or without, and the name
--- of an instruction or a directive.
-use Rattle.std.specs.Prelude.{ℕ, Bool, true, false, not, ◌&&◌, if◌then◌else◌, is_some, Option, Some, None, option_map, List, [], ◌∷◌, map, drop}
+-- What stands in front of a line (NASM manual, "Layout of a NASM Source Line"): a label, with a colon or without, and
+-- the name of an instruction or a directive.
+use Rattle.std.specs.Prelude.{ℕ, Bool, true, false, not, ◌&&◌, if◌then◌else◌, is_some, Option, Some, None, option_map}
+use Rattle.std.specs.Prelude.{List, [], ◌∷◌, map, drop}
 use denote.Bor.{Bor}
 use Rattle.ia_lex.specs.Words.{register_of}
 use Rattle.ia_lex.specs.Tokens.{Lexeme, Word, lexeme_of}
 use Rattle.ia_lex.specs.declared.token.Token.{Token}
-use Rattle.ia_source.specs.declared.mnemonic.Keyword.{Keyword}
-use Rattle.ia_source.specs.declared.mnemonic.Keyword.TheVariants as keyword
+use Rattle.ia_source.specs.declared.directive.Keyword.{Keyword}
+use Rattle.ia_source.specs.declared.directive.Keyword.TheVariants as keyword
 use Rattle.ia_source.specs.declared.head.Statement.{Statement}
 use Rattle.ia_source.specs.declared.head.Statement.TheVariants.{Nothing, Code, Directive, Unfit}
 use Rattle.ia_source.specs.declared.head.Head.{Head as CodeHead}

@@ -1,6 +1,7 @@
--- Places in memory: registers, a register times a scale, numbers and symbols, joined by + and -, in brackets (SDM volume 1,
--- "Specifying an Offset"; NASM manual, "Effective Addresses").
-use Rattle.std.specs.Prelude.{ℕ, zero, suc, ◌-◌, Bool, true, false, not, ◌==◌, ◌||◌, nat_lt, if◌then◌else◌, Option, Some, None, option_map, List, [], ◌∷◌, ◌++◌, map, length}
+-- Places in memory: registers, a register times a scale, numbers and symbols, joined by + and -, in brackets (SDM
+-- volume 1, "Specifying an Offset"; NASM manual, "Effective Addresses").
+use Rattle.std.specs.Prelude.{ℕ, zero, suc, ◌-◌, Bool, true, false, not, ◌==◌, ◌||◌, nat_lt, if◌then◌else◌, Option}
+use Rattle.std.specs.Prelude.{Some, None, option_map, List, [], ◌∷◌, ◌++◌, map, length}
 use Rattle.arrayvec.specs.ArrayVec.{ArrayVec}
 use Rattle.ia_word.specs.declared.width.Width.{Width}
 use Rattle.ia_word.specs.declared.width.Width.TheVariants.{D}
@@ -138,8 +139,8 @@ abbrev pub memory_end : Mem → List TermContent → List Lexeme → Option Memo
 memory_end m ps [] = Some (record { mem = m; terms = ps })
 memory_end m ps (t ∷ ts) = None
 
--- A place, so far, and the tokens behind it. skip: so many of them belong to the piece before. Then: behind a sign, which
--- may take away and may be one that no register stands behind; or behind a piece.
+-- A place, so far, and the tokens behind it. skip: so many of them belong to the piece before. Then: behind a sign,
+-- which may take away and may be one that no register stands behind; or behind a piece.
 abbrev pub memory_from : ℕ → Mem → List TermContent → Option (Bool × Bool) → List Lexeme → Option MemoryOperand
 memory_from skip m ps j [] = None
 memory_from (suc skip) m ps j (t ∷ ts) = memory_from skip m ps j ts

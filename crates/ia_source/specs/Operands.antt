@@ -1,5 +1,5 @@
--- Operands (NASM manual, "Layout of a NASM Source Line"): a register; a place in brackets, behind a size word or none; an expression,
--- behind `near`, `short` or neither.
+-- Operands (NASM manual, "Layout of a NASM Source Line"): a register; a place in brackets, behind a size word or none;
+-- an expression, behind `near`, `short` or neither.
 use Rattle.std.specs.Prelude.{ℕ, ◌==◌, if◌then◌else◌, Option, Some, None, option_map, List, [], ◌∷◌, codes}
 use Rattle.ia_word.specs.declared.width.Width.{Width}
 use Rattle.ia_word.specs.declared.width.Width.TheVariants.{B, D}

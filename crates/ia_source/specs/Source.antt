@@ -1,5 +1,6 @@
 -- What a source asks for, line by line, or the first line that is wrong.
-use Rattle.std.specs.Prelude.{◌≡◌, ℕ, Bool, true, false, if◌then◌else◌, Option, Some, None, List, [], ◌∷◌, ◌++◌, map, Result, Ok, Err}
+use Rattle.std.specs.Prelude.{◌≡◌, ℕ, Bool, true, false, if◌then◌else◌, Option, Some, None, List, [], ◌∷◌, ◌++◌, map}
+use Rattle.std.specs.Prelude.{Result, Ok, Err}
 use Rattle.std.specs.List.{list_any}
 use Rattle.std.specs.Str.{bytes_eq}
 use Rattle.indexmap.specs.IndexSet.{IndexSet}
@@ -8,7 +9,7 @@ use Rattle.ia_item.specs.declared.name.Name.{Name}
 use Rattle.ia_item.specs.Names.{whole_name}
 use Rattle.ia_lex.specs.Tokens.{Lexeme, tokens_of}
 use Rattle.ia_lex.specs.Lines.{lines_of}
-use Rattle.ia_source.specs.declared.mnemonic.Directive.TheVariants as directive
+use Rattle.ia_source.specs.declared.directive.Directive.TheVariants as directive
 use Rattle.ia_source.specs.declared.head.Statement.{Statement}
 use Rattle.ia_source.specs.declared.head.Statement.TheVariants as statement
 use Rattle.ia_source.specs.declared.state.SourceState.{SourceState}
@@ -19,7 +20,8 @@ use Rattle.ia_source.specs.declared.fault.SourceFault.TheVariants as fault
 use Rattle.ia_source.specs.Contents.{EntryContent, Label, entry_content}
 use Rattle.ia_source.specs.Symbols.{whole_of}
 use Rattle.ia_source.specs.Heads.{Head, head_of}
-use Rattle.ia_source.specs.Statements.{StateContent, first_state, add, statement_onto, with_label, behind, state_content}
+use Rattle.ia_source.specs.Statements.{StateContent, first_state, add, statement_onto, with_label, behind}
+use Rattle.ia_source.specs.Statements.{state_content}
 
 -- what the lines so far have made: the whole names of the symbols that they define, and their entries
 pub record SourceContent : Type 0 where
@@ -67,8 +69,8 @@ abbrev pub tokens_onto : SourceContent → Option (List Lexeme) → Result Sourc
 tokens_onto s None = Err (s.at.line, BadToken)
 tokens_onto s (Some ts) = head_onto s (head_of ts)
 
--- one more line, or what is wrong with it: the first of a character or number that is no token, a name in a mnemonic's place, a
--- symbol that is defined above, operands that fit no form
+-- one more line, or what is wrong with it: the first of a character or number that is no token, a name in a mnemonic's
+-- place, a symbol that is defined above, operands that fit no form
 unfoldable pub line_onto : SourceContent → List ℕ → Result SourceContent (ℕ × Why)
 line_onto s bytes = tokens_onto s (tokens_of bytes)
 

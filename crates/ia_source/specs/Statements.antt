@@ -1,15 +1,16 @@
--- What lines ask for (NASM manual, chapters 3 and 7): instructions, data and directives, with what they have to know of the
--- lines above.
-use Rattle.std.specs.Prelude.{◌≡◌, ℕ, ◌+◌, ◌-◌, ◌^◌, Bool, true, false, not, ◌==◌, ◌||◌, nat_lt, if◌then◌else◌, is_some, Option, Some, None, option_map, unwrap_or, List, [], ◌∷◌, ◌++◌, codes, map}
+-- What lines ask for (NASM manual, chapters 3 and 7): instructions, data and directives, with what they have to know of
+-- the lines above.
+use Rattle.std.specs.Prelude.{◌≡◌, ℕ, ◌+◌, ◌-◌, ◌^◌, Bool, true, false, not, ◌==◌, ◌||◌, nat_lt, if◌then◌else◌, is_some}
+use Rattle.std.specs.Prelude.{Option, Some, None, option_map, unwrap_or, List, [], ◌∷◌, ◌++◌, codes, map}
 use Rattle.std.specs.Str.{bytes_eq}
 use Rattle.ia_item.specs.declared.item.Section.{Section}
 use Rattle.ia_item.specs.declared.item.Section.TheVariants as section
 use Rattle.ia_lex.specs.Words.{register_of}
 use Rattle.ia_lex.specs.Tokens.{Lexeme, Word, Number, Text as Quoted}
 use Rattle.ia_lex.specs.Terms.{TermContent}
-use Rattle.ia_source.specs.declared.mnemonic.Mnemonic.{Mnemonic}
-use Rattle.ia_source.specs.declared.mnemonic.Directive.{Directive}
-use Rattle.ia_source.specs.declared.mnemonic.Directive.TheVariants as directive
+use Rattle.ia_insn.specs.declared.mnemonic.Mnemonic.{Mnemonic}
+use Rattle.ia_source.specs.declared.directive.Directive.{Directive}
+use Rattle.ia_source.specs.declared.directive.Directive.TheVariants as directive
 use Rattle.ia_source.specs.declared.head.Statement.{Statement}
 use Rattle.ia_source.specs.declared.head.Statement.TheVariants as statement
 use Rattle.ia_source.specs.declared.state.SourceState.{SourceState}
@@ -22,7 +23,8 @@ use Rattle.ia_source.specs.Commas.{between_commas}
 use Rattle.ia_source.specs.Forms.{instruction_of}
 use Rattle.ia_source.specs.Operands.{Operands, operands_of, expression_of}
 
--- a line's number, the last label that is not local, the section in force, and whether `org` or anything placed stood above
+-- a line's number, the last label that is not local, the section in force, and whether `org` or anything placed stood
+-- above
 pub record StateContent : Type 0 where
   pub line : ℕ
   pub scope : List ℕ

@@ -1,12 +1,14 @@
 //! The forms of instructions: which operands a mnemonic takes.
 
 ghost use Rattle.std.specs.Prelude.{◌≡◌};
-ghost use Rattle.ia_source.specs.Forms.{same_width, target, one_operand, sized_operand, pair, test_form, xchg_form, load_form, store_form, number_form, shift_form, lea_form, imul_form, push_form, call_form, ret_form, jmp_form, jcc_form, nop_form, with_number, bare_op, no_operands, op_of, instruction_of};
+ghost use Rattle.ia_source.specs.Forms.{same_width, target, one_operand, sized_operand, pair, test_form, xchg_form};
+ghost use Rattle.ia_source.specs.Forms.{load_form, store_form, number_form, shift_form, lea_form, imul_form, push_form};
+ghost use Rattle.ia_source.specs.Forms.{call_form, ret_form, jmp_form, jcc_form, nop_form, with_number, no_operands};
+ghost use Rattle.ia_source.specs.Forms.{op_of, instruction_of};
 
-use crate::mnemonic::{Bare, Mnemonic};
 use crate::shape::{OperandShape, OperandShapes};
-use ia_insn::{Count, Insn, Op, Operand, is_encodable};
-use ia_word::{Condition, ShiftOp, UnaryOp, Width};
+use ia_insn::{Count, Insn, Mnemonic, Op, Operand, is_encodable};
+use ia_word::{BareOp, Condition, ShiftOp, UnaryOp, Width};
 
 fn is_same(first: Width, second: Width) -> bool
     ensures { result ≡ same_width first second }
@@ -301,35 +303,12 @@ fn with_number(op: Op, shapes: OperandShapes) -> Option<Op>
     }
 }
 
-fn bare_op(name: Bare) -> Op
-    ensures { result ≡ bare_op name }
-{
-    match name {
-        Bare::Leave => Op::Leave,
-        Bare::Cdq => Op::Cdq,
-        Bare::Cwde => Op::Cwde,
-        Bare::Clc => Op::Clc,
-        Bare::Stc => Op::Stc,
-        Bare::Cmc => Op::Cmc,
-        Bare::Pause => Op::Pause,
-        Bare::Hlt => Op::Hlt,
-        Bare::Int3 => Op::Int3,
-        Bare::Ud2 => Op::Ud2,
-        Bare::Cpuid => Op::Cpuid,
-        Bare::Lfence => Op::Lfence,
-        Bare::Mfence => Op::Mfence,
-        Bare::Sfence => Op::Sfence,
-        Bare::Xend => Op::Xend,
-        Bare::Xtest => Op::Xtest,
-    }
-}
-
 /// An operation without operands.
-fn no_operands(name: Bare, shapes: OperandShapes) -> Option<Op>
-    ensures { result ≡ no_operands name shapes }
+fn no_operands(kind: BareOp, shapes: OperandShapes) -> Option<Op>
+    ensures { result ≡ no_operands kind shapes }
 {
     match shapes {
-        OperandShapes::Nothing => Some(bare_op(name)),
+        OperandShapes::Nothing => Some(Op::Bare(kind)),
         _ => None,
     }
 }
@@ -353,13 +332,9 @@ fn op(mnemonic: Mnemonic, shapes: OperandShapes) -> Option<Op>
             let (width, operand, register) = xchg_form(shapes)?;
             Some(Op::Xchg(width, operand, register))
         }
-        Mnemonic::Inc => {
+        Mnemonic::IncDec(kind) => {
             let (width, operand) = sized_operand(shapes)?;
-            Some(Op::Inc(width, operand))
-        }
-        Mnemonic::Dec => {
-            let (width, operand) = sized_operand(shapes)?;
-            Some(Op::Dec(width, operand))
+            Some(Op::IncDec(kind, width, operand))
         }
         Mnemonic::Test => {
             let (width, left, right) = test_form(shapes)?;
@@ -388,23 +363,14 @@ fn op(mnemonic: Mnemonic, shapes: OperandShapes) -> Option<Op>
             let (register, from) = load_form(Width::D, shapes)?;
             Some(Op::Cmovcc(condition, register, from))
         }
-        Mnemonic::Loop => with_number(Op::Loop(0), shapes),
-        Mnemonic::Jecxz => with_number(Op::Jecxz(0), shapes),
-        Mnemonic::Movzx => {
+        Mnemonic::LoopJump(kind) => with_number(Op::LoopJump(kind, 0), shapes),
+        Mnemonic::Extend(kind) => {
             let (register, from) = load_form(Width::B, shapes)?;
-            Some(Op::Movzx(register, from))
+            Some(Op::Extend(kind, register, from))
         }
-        Mnemonic::Movsx => {
-            let (register, from) = load_form(Width::B, shapes)?;
-            Some(Op::Movsx(register, from))
-        }
-        Mnemonic::Cmpxchg => {
+        Mnemonic::Exchange(kind) => {
             let (to, register) = store_form(shapes)?;
-            Some(Op::Cmpxchg(to, register))
-        }
-        Mnemonic::Xadd => {
-            let (to, register) = store_form(shapes)?;
-            Some(Op::Xadd(to, register))
+            Some(Op::Exchange(kind, to, register))
         }
         Mnemonic::Bit(kind) => {
             let operand = number_form(shapes)?;
@@ -413,7 +379,7 @@ fn op(mnemonic: Mnemonic, shapes: OperandShapes) -> Option<Op>
         Mnemonic::Nop => nop_form(shapes),
         Mnemonic::Xbegin => with_number(Op::Xbegin(0), shapes),
         Mnemonic::Xabort => with_number(Op::Xabort(0), shapes),
-        Mnemonic::Bare(name) => no_operands(name, shapes),
+        Mnemonic::Bare(kind) => no_operands(kind, shapes),
     }
 }
 

@@ -2,11 +2,13 @@
 
 ghost use Rattle.std.specs.Prelude.{◌≡◌, map, option_map};
 ghost use Rattle.ia_lex.specs.Tokens.{lexeme_of};
-ghost use Rattle.ia_source.specs.Heads.{is_label, begins_with_colon, behind_colon, behind_lock, statement_at, with_label, head_of, statement_content, head_content};
+ghost use Rattle.ia_source.specs.Heads.{begins_with_colon, behind_colon, behind_lock, by_keyword, statement_at};
+ghost use Rattle.ia_source.specs.Heads.{with_label, head_of, statement_content, head_content};
 
 use crate::comma::is_mark;
+use crate::directive::{Directive, Keyword};
 use crate::keyword::keyword;
-use crate::mnemonic::{Directive, Keyword, Mnemonic};
+use ia_insn::Mnemonic;
 use ia_lex::{Token, register_of};
 
 /// What a line asks for.
@@ -31,13 +33,6 @@ pub struct Head<'a, 'b> {
     pub statement: Statement,
     /// Its operands.
     pub rest: &'b [Token<'a>],
-}
-
-/// Whether a word in front is a label.
-fn is_label(word: &[u8]) -> bool
-    ensures { result ≡ is_label word.now }
-{
-    keyword(word).is_none() && register_of(word).is_none()
 }
 
 fn begins_with_colon(tokens: &[Token]) -> bool
@@ -80,27 +75,40 @@ fn behind_lock<'a, 'b>(tokens: &'b [Token<'a>]) -> Option<(Statement, &'b [Token
     }
 }
 
+/// What a line asks for that begins with a word, by what the word is there, and what stands behind it.
+fn by_keyword<'a, 'b>(
+    found: Option<Keyword>,
+    rest: &'b [Token<'a>],
+) -> Option<(Statement, &'b [Token<'a>])>
+    ensures { option_map statement_content result ≡ by_keyword found (map lexeme_of rest.now) }
+{
+    match found {
+        None => None,
+        Some(Keyword::Lock) => behind_lock(rest),
+        Some(Keyword::Mnemonic(mnemonic)) => Some((Statement::Code(false, mnemonic), rest)),
+        Some(Keyword::Directive(directive)) => Some((Statement::Directive(directive), rest)),
+    }
+}
+
 /// What a line without a label asks for.
 fn read_statement<'a, 'b>(tokens: &'b [Token<'a>]) -> Option<(Statement, &'b [Token<'a>])>
     ensures { option_map statement_content result ≡ statement_at (map lexeme_of tokens.now) }
 {
     match tokens.split_first() {
         None => Some((Statement::Nothing, tokens)),
-        Some((Token::Word(word), rest)) => match keyword(word) {
-            None => None,
-            Some(Keyword::Lock) => behind_lock(rest),
-            Some(Keyword::Mnemonic(mnemonic)) => Some((Statement::Code(false, mnemonic), rest)),
-            Some(Keyword::Directive(directive)) => Some((Statement::Directive(directive), rest)),
-        },
+        Some((Token::Word(word), rest)) => by_keyword(keyword(word), rest),
         Some(_) => None,
     }
 }
 
-fn with_label<'a, 'b>(label: Option<&'a [u8]>, tokens: &'b [Token<'a>]) -> Option<Head<'a, 'b>>
+fn with_label<'a, 'b>(
+    label: Option<&'a [u8]>,
+    asked: Option<(Statement, &'b [Token<'a>])>,
+) -> Option<Head<'a, 'b>>
     ensures { option_map head_content result
-        ≡ with_label (option_map (λ l. l.now) label.entry) (statement_at (map lexeme_of tokens.now)) }
+        ≡ with_label (option_map (λ l. l.now) label.entry) (option_map statement_content asked.entry) }
 {
-    match read_statement(tokens) {
+    match asked {
         Some((statement, rest)) => Some(Head {
             label,
             statement,
@@ -115,12 +123,13 @@ pub fn read_head<'a, 'b>(tokens: &'b [Token<'a>]) -> Option<Head<'a, 'b>>
     ensures { option_map head_content result ≡ head_of (map lexeme_of tokens.now) }
 {
     match tokens.split_first() {
-        None => with_label(None, tokens),
+        None => with_label(None, read_statement(tokens)),
         Some((Token::Word(word), rest)) => {
-            if is_label(word) {
-                with_label(Some(word), behind_colon(rest))
+            let found = keyword(word);
+            if found.is_none() && register_of(word).is_none() {
+                with_label(Some(word), read_statement(behind_colon(rest)))
             } else {
-                with_label(None, tokens)
+                with_label(None, by_keyword(found, rest))
             }
         }
         Some(_) => None,

@@ -1,116 +1,15 @@
 //! The words that may stand where an instruction's name does.
 
 ghost use Rattle.std.specs.Prelude.{◌≡◌};
-ghost use Rattle.ia_source.specs.Keywords.{condition_of, condition_behind, conditional, arithmetic_of, shift_or_jump_of, other_of, mnemonic_of, order_of, keyword_of};
+ghost use Rattle.ia_insn.specs.Mnemonics.{stem};
+ghost use Rattle.ia_insn.specs.Operations.{condition_name};
+ghost use Rattle.ia_source.specs.Keywords.{find_named, condition_of, condition_behind, conditional, unconditional};
+ghost use Rattle.ia_source.specs.Keywords.{mnemonic_named, order_of, keyword_of};
 
-use crate::mnemonic::{Bare, Directive, Keyword, Mnemonic};
+use crate::directive::{Directive, Keyword};
+use ia_insn::{Mnemonic, condition_name, conditions, other_conditions};
 use ia_lex::{find_word, is_word};
-use ia_word::{AluOp, BitOp, Condition, ShiftOp, UnaryOp};
-
-static ARITHMETIC: [(&str, Mnemonic); 20] = [
-    ("mov", Mnemonic::Mov),
-    ("add", Mnemonic::Alu(AluOp::Add)),
-    ("sub", Mnemonic::Alu(AluOp::Sub)),
-    ("cmp", Mnemonic::Alu(AluOp::Cmp)),
-    ("inc", Mnemonic::Inc),
-    ("dec", Mnemonic::Dec),
-    ("and", Mnemonic::Alu(AluOp::And)),
-    ("or", Mnemonic::Alu(AluOp::Or)),
-    ("xor", Mnemonic::Alu(AluOp::Xor)),
-    ("test", Mnemonic::Test),
-    ("lea", Mnemonic::Lea),
-    ("xchg", Mnemonic::Xchg),
-    ("adc", Mnemonic::Alu(AluOp::Adc)),
-    ("sbb", Mnemonic::Alu(AluOp::Sbb)),
-    ("not", Mnemonic::Unary(UnaryOp::Not)),
-    ("neg", Mnemonic::Unary(UnaryOp::Neg)),
-    ("mul", Mnemonic::Unary(UnaryOp::Mul)),
-    ("imul", Mnemonic::Imul),
-    ("div", Mnemonic::Unary(UnaryOp::Div)),
-    ("idiv", Mnemonic::Unary(UnaryOp::Idiv)),
-];
-
-static SHIFTS_AND_JUMPS: [(&str, Mnemonic); 20] = [
-    ("rol", Mnemonic::Shift(ShiftOp::Rol)),
-    ("ror", Mnemonic::Shift(ShiftOp::Ror)),
-    ("shl", Mnemonic::Shift(ShiftOp::Shl)),
-    ("sal", Mnemonic::Shift(ShiftOp::Shl)),
-    ("shr", Mnemonic::Shift(ShiftOp::Shr)),
-    ("sar", Mnemonic::Shift(ShiftOp::Sar)),
-    ("push", Mnemonic::Push),
-    ("pop", Mnemonic::Pop),
-    ("call", Mnemonic::Call),
-    ("ret", Mnemonic::Ret),
-    ("jmp", Mnemonic::Jmp),
-    ("loop", Mnemonic::Loop),
-    ("jecxz", Mnemonic::Jecxz),
-    ("movzx", Mnemonic::Movzx),
-    ("movsx", Mnemonic::Movsx),
-    ("cmpxchg", Mnemonic::Cmpxchg),
-    ("xadd", Mnemonic::Xadd),
-    ("bt", Mnemonic::Bit(BitOp::Bt)),
-    ("bts", Mnemonic::Bit(BitOp::Bts)),
-    ("btr", Mnemonic::Bit(BitOp::Btr)),
-];
-
-static OTHERS: [(&str, Mnemonic); 20] = [
-    ("btc", Mnemonic::Bit(BitOp::Btc)),
-    ("nop", Mnemonic::Nop),
-    ("xbegin", Mnemonic::Xbegin),
-    ("xabort", Mnemonic::Xabort),
-    ("leave", Mnemonic::Bare(Bare::Leave)),
-    ("cdq", Mnemonic::Bare(Bare::Cdq)),
-    ("cwde", Mnemonic::Bare(Bare::Cwde)),
-    ("clc", Mnemonic::Bare(Bare::Clc)),
-    ("stc", Mnemonic::Bare(Bare::Stc)),
-    ("cmc", Mnemonic::Bare(Bare::Cmc)),
-    ("pause", Mnemonic::Bare(Bare::Pause)),
-    ("hlt", Mnemonic::Bare(Bare::Hlt)),
-    ("int3", Mnemonic::Bare(Bare::Int3)),
-    ("ud2", Mnemonic::Bare(Bare::Ud2)),
-    ("cpuid", Mnemonic::Bare(Bare::Cpuid)),
-    ("lfence", Mnemonic::Bare(Bare::Lfence)),
-    ("mfence", Mnemonic::Bare(Bare::Mfence)),
-    ("sfence", Mnemonic::Bare(Bare::Sfence)),
-    ("xend", Mnemonic::Bare(Bare::Xend)),
-    ("xtest", Mnemonic::Bare(Bare::Xtest)),
-];
-
-static LOW_CONDITIONS: [(&str, Condition); 16] = [
-    ("o", Condition::Overflow),
-    ("no", Condition::NotOverflow),
-    ("b", Condition::Below),
-    ("c", Condition::Below),
-    ("nae", Condition::Below),
-    ("ae", Condition::AboveOrEqual),
-    ("nb", Condition::AboveOrEqual),
-    ("nc", Condition::AboveOrEqual),
-    ("e", Condition::Equal),
-    ("z", Condition::Equal),
-    ("ne", Condition::NotEqual),
-    ("nz", Condition::NotEqual),
-    ("be", Condition::BelowOrEqual),
-    ("na", Condition::BelowOrEqual),
-    ("a", Condition::Above),
-    ("nbe", Condition::Above),
-];
-
-static HIGH_CONDITIONS: [(&str, Condition); 14] = [
-    ("s", Condition::Sign),
-    ("ns", Condition::NotSign),
-    ("p", Condition::ParityEven),
-    ("pe", Condition::ParityEven),
-    ("np", Condition::ParityOdd),
-    ("po", Condition::ParityOdd),
-    ("l", Condition::Less),
-    ("nge", Condition::Less),
-    ("ge", Condition::GreaterOrEqual),
-    ("nl", Condition::GreaterOrEqual),
-    ("le", Condition::LessOrEqual),
-    ("ng", Condition::LessOrEqual),
-    ("g", Condition::Greater),
-    ("nle", Condition::Greater),
-];
+use ia_word::Condition;
 
 static ORDERS: [(&str, Keyword); 10] = [
     ("lock", Keyword::Lock),
@@ -125,13 +24,26 @@ static ORDERS: [(&str, Keyword); 10] = [
     ("equ", Keyword::Directive(Directive::Equ)),
 ];
 
+/// The condition among these whose printed name a word is.
+#[tactic(auto, using(crate::proofs::Named::named_step, crate::proofs::Named::named_stop, crate::proofs::Named::named_end))]
+fn find_condition(conditions: &[Condition], word: &[u8]) -> Option<Condition>
+    ensures { result ≡ find_named condition_name conditions.now word.now }
+{
+    for (i, condition) in conditions.iter().enumerate() {
+        if is_word(condition_name(*condition), word) {
+            return Some(*condition);
+        }
+    }
+    None
+}
+
 #[tactic(auto, unfolding(crate::specs::Keywords::condition_of))]
 fn condition(word: &[u8]) -> Option<Condition>
     ensures { result ≡ condition_of word.now }
 {
-    match find_word(&LOW_CONDITIONS, word) {
+    match find_condition(conditions(), word) {
         Some(condition) => Some(condition),
-        None => find_word(&HIGH_CONDITIONS, word),
+        None => find_word(other_conditions(), word),
     }
 }
 
@@ -163,42 +75,47 @@ fn conditional(word: &[u8]) -> Option<Mnemonic>
     Some(Mnemonic::Cmovcc(condition))
 }
 
-#[tactic(auto, unfolding(crate::specs::Keywords::arithmetic_of))]
-fn arithmetic(word: &[u8]) -> Option<Mnemonic>
-    ensures { result ≡ arithmetic_of word.now }
+/// The mnemonic among these, which have no condition, whose printed name a word is.
+#[tactic(auto, using(crate::proofs::Named::named_step, crate::proofs::Named::named_stop, crate::proofs::Named::named_end))]
+fn find_mnemonic(mnemonics: &[Mnemonic], word: &[u8]) -> Option<Mnemonic>
+    ensures { result ≡ find_named stem mnemonics.now word.now }
 {
-    find_word(&ARITHMETIC, word)
+    for (i, mnemonic) in mnemonics.iter().enumerate() {
+        if is_word(mnemonic.stem(), word) {
+            return Some(*mnemonic);
+        }
+    }
+    None
 }
 
-#[tactic(auto, unfolding(crate::specs::Keywords::shift_or_jump_of))]
-fn shift_or_jump(word: &[u8]) -> Option<Mnemonic>
-    ensures { result ≡ shift_or_jump_of word.now }
+#[tactic(auto, unfolding(crate::specs::Keywords::unconditional))]
+fn unconditional(word: &[u8]) -> Option<Mnemonic>
+    ensures { result ≡ unconditional word.now }
 {
-    find_word(&SHIFTS_AND_JUMPS, word)
-}
-
-#[tactic(auto, unfolding(crate::specs::Keywords::other_of))]
-fn other(word: &[u8]) -> Option<Mnemonic>
-    ensures { result ≡ other_of word.now }
-{
-    find_word(&OTHERS, word)
+    if let Some(mnemonic) = find_mnemonic(Mnemonic::moves(), word) {
+        return Some(mnemonic);
+    }
+    if let Some(mnemonic) = find_mnemonic(Mnemonic::arithmetic(), word) {
+        return Some(mnemonic);
+    }
+    if let Some(mnemonic) = find_mnemonic(Mnemonic::jumps(), word) {
+        return Some(mnemonic);
+    }
+    find_mnemonic(Mnemonic::bare_names(), word)
 }
 
 /// The instruction that a word names.
-#[tactic(auto, unfolding(crate::specs::Keywords::mnemonic_of))]
+#[tactic(auto, unfolding(crate::specs::Keywords::mnemonic_named))]
 fn mnemonic(word: &[u8]) -> Option<Mnemonic>
-    ensures { result ≡ mnemonic_of word.now }
+    ensures { result ≡ mnemonic_named word.now }
 {
-    if let Some(name) = arithmetic(word) {
-        return Some(name);
+    if let Some(mnemonic) = unconditional(word) {
+        return Some(mnemonic);
     }
-    if let Some(name) = shift_or_jump(word) {
-        return Some(name);
+    if let Some(mnemonic) = conditional(word) {
+        return Some(mnemonic);
     }
-    if let Some(name) = other(word) {
-        return Some(name);
-    }
-    conditional(word)
+    find_word(Mnemonic::other_names(), word)
 }
 
 #[tactic(auto, unfolding(crate::specs::Keywords::order_of))]

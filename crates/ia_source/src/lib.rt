@@ -2,20 +2,20 @@
 //!
 //! The syntax is NASM's (NASM manual, chapter 3, "The NASM Language"), as far as the subset goes.
 //!
-//! Promised by `entries`: exactly the entries that the lines of the source ask for, in their order, each of which can be
-//! placed; or the first line that is wrong and the first thing that is wrong with it; or that no memory was left.
+//! Promised by `entries`: exactly the entries that the lines of the source ask for, in their order, each of which can
+//! be placed; or the first line that is wrong and the first thing that is wrong with it; or that no memory was left.
 //!
 //! It stands on `ia_lex` for lines, tokens and expressions, and on `ia_item` for what it gives.
 #![tactic(auto)]
 
 mod comma;
+mod directive;
 mod expression;
 mod fault;
 mod form;
 mod head;
 mod keyword;
 mod memory;
-mod mnemonic;
 mod operand;
 mod shape;
 mod source;

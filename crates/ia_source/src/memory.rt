@@ -3,7 +3,10 @@
 ghost use Rattle.std.specs.Prelude.{◌≡◌, ◌≤◌, ◌<◌, length, map, option_map, IfSome, Some, None, false, not};
 ghost use Rattle.ia_lex.specs.Tokens.{lexeme_of};
 ghost use Rattle.ia_lex.specs.Terms.{term_content, atom_content};
-ghost use Rattle.ia_source.specs.MemoryOperands.{long_register, scale_of, both, with_register, with_scaled, with_term, plain, product, factor_of, piece_at, with_piece, memory_from, memory_of, terms_content, piece_content, piece_and_length, with_piece_content, memory_content};
+ghost use Rattle.ia_source.specs.MemoryOperands.{long_register, scale_of, both, with_register, with_scaled, with_term};
+ghost use Rattle.ia_source.specs.MemoryOperands.{plain, product, factor_of, piece_at, with_piece, memory_from};
+ghost use Rattle.ia_source.specs.MemoryOperands.{memory_of, terms_content, piece_content, piece_and_length};
+ghost use Rattle.ia_source.specs.MemoryOperands.{with_piece_content, memory_content};
 
 use crate::comma::is_mark;
 use ia_insn::Mem;

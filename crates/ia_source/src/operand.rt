@@ -4,7 +4,9 @@ ghost use Rattle.std.specs.Prelude.{◌≡◌, length, map, option_map};
 ghost use Rattle.ia_lex.specs.Tokens.{lexeme_of};
 ghost use Rattle.ia_source.specs.Commas.{between_commas};
 ghost use Rattle.ia_source.specs.MemoryOperands.{terms_content};
-ghost use Rattle.ia_source.specs.Operands.{expression_of, expression_operand, memory_operand, sized_memory, register_operand, prefix_of, by_prefix, operand_of, with_shape, with_operand, operands_from, operands_of, operand_content, operands_content};
+ghost use Rattle.ia_source.specs.Operands.{expression_of, expression_operand, memory_operand, sized_memory};
+ghost use Rattle.ia_source.specs.Operands.{register_operand, prefix_of, by_prefix, operand_of, with_shape};
+ghost use Rattle.ia_source.specs.Operands.{with_operand, operands_from, operands_of, operand_content, operands_content};
 
 use crate::comma::{first_piece, is_mark};
 use crate::memory::read_memory;

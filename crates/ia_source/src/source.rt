@@ -4,12 +4,13 @@ ghost use Rattle.std.specs.Prelude.{◌≡◌, Ok, Some, false, map, option_map,
 ghost use Rattle.ia_item.specs.Fits.{AllFit};
 ghost use Rattle.ia_source.specs.Contents.{entry_content};
 ghost use Rattle.ia_source.specs.Statements.{state_content};
-ghost use Rattle.ia_source.specs.Source.{is_twice, with_name, add_label, label_onto, line_onto, entries_of, names_content, source_content, Tells, IsTwice};
+ghost use Rattle.ia_source.specs.Source.{is_twice, with_name, add_label, label_onto, line_onto, entries_of};
+ghost use Rattle.ia_source.specs.Source.{names_content, source_content, Tells, IsTwice};
 
+use crate::directive::Directive;
 use crate::expression::name_in;
 use crate::fault::{SourceFault, Why};
 use crate::head::{Statement, read_head};
-use crate::mnemonic::Directive;
 use crate::state::{SourceState, behind, start, with_label};
 use crate::statement::push_statement;
 use ia_item::{Entry, Item, Name};
@@ -123,8 +124,8 @@ fn push_line<'a>(
 
 /// The entries of a source in the order of its lines, or the first line that is wrong and what is wrong with it.
 ///
-/// Each entry can be placed: an instruction is encodable, an alignment is a power of two up to 4096, and an expression has 1 to
-/// 16 terms. `NoMemory` where no memory was left.
+/// Each entry can be placed: an instruction is encodable, an alignment is a power of two up to 4096, and an expression
+/// has 1 to 16 terms. `NoMemory` where no memory was left.
 pub fn entries<'a>(alloc: Global, source: &'a [u8]) -> Result<Vec<Entry<'a>>, SourceFault>
     ensures exact { MatchResult result (λ es. entries_of source.now
         ≡ Ok (map entry_content es.items)) (Tells (entries_of source.now)) }

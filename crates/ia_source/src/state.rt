@@ -2,11 +2,12 @@
 
 ghost use Rattle.std.specs.Prelude.{◌≡◌, option_map, map};
 ghost use Rattle.ia_lex.specs.Tokens.{lexeme_of};
-ghost use Rattle.ia_source.specs.Statements.{first_state, next_line, named_section, only_number, with_label, in_section, with_flags, behind_statement, behind, state_content};
+ghost use Rattle.ia_source.specs.Statements.{first_state, next_line, named_section, only_number, with_label};
+ghost use Rattle.ia_source.specs.Statements.{in_section, with_flags, behind_statement, behind, state_content};
 
+use crate::directive::Directive;
 use crate::expression::is_local;
 use crate::head::Statement;
-use crate::mnemonic::Directive;
 use ia_item::Section;
 use ia_lex::Token;
 
