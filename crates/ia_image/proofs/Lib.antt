@@ -1,4 +1,5 @@
 mod Sound
+mod MoreRows
 pub mod Opening
 mod Fronts
 mod Lending

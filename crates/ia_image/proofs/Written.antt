@@ -1,51 +1,19 @@
 -- Written numbers are read again.
-use Rattle.std.proofs.Common.{◌≡◌, ℕ, zero, suc, ◌^◌, ◌<◌, ◌≤◌, Bool, true, false, List, [], ◌∷◌, ◌++◌, Some, refl, sym, ◌∙◌, ap, subst, length, map, arith, rules}
+use Rattle.std.proofs.Common.{◌≡◌, ℕ, zero, suc, ◌^◌, ◌<◌, ◌≤◌, Bool, true, false, List, [], ◌∷◌, ◌++◌, Some, refl, sym, ◌∙◌, ap, subst, length, arith, rules}
 use Rattle.std.specs.Prelude.{◌==◌, cond, nat_lt, nat_le, codes}
 use Rattle.std.proofs.Math.Seq.{take-append_seam}
-use Rattle.std.proofs.lemmas.List.{length-map}
-use Rattle.std.proofs.lemmas.Int.Digits.{all_below_base_digits_of, number_digits_of, digits_value_is, length-digits_of_step, length-digits_of-le}
-use Rattle.std.specs.List.{list_all, prefix_len, AllByRecursion}
-use Rattle.std.specs.Char.{digit_char, digit_value}
-use Rattle.std.specs.Int.Digits.{digits_of, number_from_digits}
+use Rattle.std.specs.List.{list_all, prefix_len}
 use Rattle.std.specs.Str.Parse.{digits_value}
 use Rattle.ia_text.specs.Number.{hex_digits}
-use Rattle.ia_text.proofs.Digits.{glyph_value}
+use Rattle.ia_text.proofs.Digits.{digits, hex_map_length, hex_short, some_digits, hex_all, value_again}
 use Rattle.ia_image.specs.ImageText.{is_hex, number_in_front}
 use Rattle.ia_image.proofs.Fronts.{both}
 
-abbrev Below : List ℕ → Type 0
-Below ds = AllByRecursion (λ d. d < 16) ds
-
-values : (ds : List ℕ) → Below ds → map digit_value (map digit_char ds) ≡ ds
-values [] h = refl
-values (d ∷ ds) h = ap (λ v. v ∷ map digit_value (map digit_char ds)) (glyph_value d h.0) ∙ ap (λ v. d ∷ v) (values ds h.1)
-
-small_test : (d : ℕ) → d < 16 → is_hex (digit_char d) ≡ true
-small_test d h = ap (λ v. nat_lt v 16) (glyph_value d h) ∙ search rules
-
-digits_all : (ds : List ℕ) → Below ds → list_all is_hex (map digit_char ds) ≡ true
-digits_all [] h = refl
-digits_all (d ∷ ds) h = rw (small_test d h.0) (digits_all ds h.1)
-
--- digits of a number that is not 0
-abbrev digits : ℕ → List ℕ
-digits n = map digit_char (digits_of 16 n)
-
-some_digits : (n : ℕ) → 0 < n → 0 < length (digits n)
-some_digits n h =
-    let l = length-map (digits_of 16 n) digit_char in
-    let s = length-digits_of_step 16 n (omega arith) h in
-    omega arith
-
 few_digits : (n : ℕ) → n < 2 ^ 32 → length (digits n) ≤ 8
 few_digits n h =
-    let l = length-map (digits_of 16 n) digit_char in
-    let s = length-digits_of-le 16 8 n (omega arith) (omega arith) in
+    let l = hex_map_length n in
+    let s = hex_short n h in
     omega arith
-
-value_again : (n : ℕ) → digits_value 16 (digits n) ≡ n
-value_again n =
-    digits_value_is 16 (digits n) ∙ ap (number_from_digits 16) (values (digits_of 16 n) (all_below_base_digits_of 16 n (omega arith))) ∙ number_digits_of 16 n (omega arith)
 
 -- what the digits of a number are
 pub record IsWritten (n : ℕ) (ds : List ℕ) : Type 0 where
@@ -60,7 +28,7 @@ hex_written (suc k) h =
     let not0 : (suc k == 0) ≡ false = search rules in
     let P : Bool → Type 0 = λ b. IsWritten (suc k) (cond b (codes "0") (digits (suc k))) in
     subst P (sym not0) (record {
-      hex = digits_all (digits_of 16 (suc k)) (all_below_base_digits_of 16 (suc k) (omega arith));
+      hex = hex_all (suc k);
       some = some_digits (suc k) (omega arith);
       few = few_digits (suc k) h;
       value = value_again (suc k);

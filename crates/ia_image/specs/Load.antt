@@ -1,5 +1,6 @@
 -- The tests of the loader.
-use Rattle.std.specs.Prelude.{◌≡◌, Result, Err, MatchResult, ℕ, ◌+◌, ◌*◌, ◌%◌, Bool, not, ◌||◌, ◌==◌, nat_lt, nat_le, if◌then◌else◌, List, Option, Some, None, length}
+use Rattle.std.specs.Prelude.{◌≡◌, Result, Err, MatchResult, ℕ, ◌+◌, ◌*◌, ◌%◌, Bool, not, ◌||◌, ◌==◌, nat_lt, nat_le}
+use Rattle.std.specs.Prelude.{if◌then◌else◌, List, Option, Some, None, length}
 use Rattle.std.specs.List.{list_any}
 use Rattle.ia_image.specs.declared.fault.LoadFault.{LoadFault}
 use Rattle.ia_image.specs.declared.fault.LoadFault.TheVariants as fault

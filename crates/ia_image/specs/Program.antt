@@ -1,6 +1,10 @@
 -- What a program is, and the state that a machine starts it in. The limits and the state are choices of this machine,
 -- not statements about hardware.
-use Rattle.std.specs.Prelude.{◌≡◌, ℕ, ◌+◌, ◌-◌, ◌*◌, ◌%◌, ◌<◌, ◌≤◌, List, [], ◌∷◌, ◌++◌, All, length, replicate, slice_index, take}
+use Rattle.std.specs.Prelude.{◌≡◌, ℕ, ◌+◌, ◌-◌, ◌*◌, ◌%◌, ◌<◌, ◌≤◌, List, [], ◌∷◌, ◌++◌, All, Result, length, min}
+use Rattle.std.specs.Prelude.{replicate, slice_index, take}
+use Rattle.ia_decode.specs.Offsets.{AreDecoded}
+use Rattle.ia_insn.specs.declared.fault.DecodeFault.{DecodeFault}
+use Rattle.ia_insn.specs.declared.op.Insn.{Insn}
 use Rattle.ia_regs.specs.declared.Regs.{Regs}
 
 -- a program as its contracts see it: the bytes of the image, the address of the first, how many of them are code, the
@@ -31,6 +35,16 @@ pub record IsSound (program : ProgramValue) : Type 0 where
   pub fits : program.base + length program.bytes ≤ program.mem_size
   pub code_fits : program.code_len ≤ length program.bytes
   pub entries_in_code : All (IsInCode program) program.entries
+
+-- the offsets of the code from which it is decoded once, when the program is loaded
+abbrev pub decoded_once : List ℕ → ℕ
+decoded_once code = min (length code) 65536
+
+-- a program, with what decoding gives from each of these offsets
+pub record IsProgram (program : ProgramValue) (rows : List (Result (Insn × ℕ) DecodeFault)) : Type 0 where
+  pub sound : IsSound program
+  pub count : length rows ≡ decoded_once (code_of program)
+  pub decoded : AreDecoded (code_of program) rows
 
 -- memory at the start: the image at its base, and zeros
 unfoldable pub opening_memory : ProgramValue → List ℕ

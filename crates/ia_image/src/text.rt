@@ -5,7 +5,8 @@ ghost use Rattle.std.specs.Prelude.{◌≡◌, ◌<◌, ◌≤◌, IfSome, Match
 ghost use Rattle.std.specs.Char.{digit_value};
 ghost use Rattle.std.specs.List.{list_all, prefix_len};
 ghost use Rattle.std.specs.Str.Parse.{digits_value};
-ghost use Rattle.ia_image.specs.ImageText.{Adds, Tells, bytes_of_line, bytes_of_lines, header_of, image_read, is_hex, number_in_front};
+ghost use Rattle.ia_image.specs.ImageText.{Adds, Tells, bytes_of_line, bytes_of_lines, header_of, image_read, is_hex};
+ghost use Rattle.ia_image.specs.ImageText.{number_in_front};
 ghost use Rattle.ia_lex.specs.Lines.{lines_of};
 ghost use Rattle.hex.specs.Hex.{decode_of};
 
