@@ -8,7 +8,7 @@ use Rattle.std.specs.Int.{bit_at}
 use Rattle.std.specs.List.{range_with_len}
 use Rattle.std.specs.Option.{unwrap_or, option_and_then, is_some}
 use Rattle.std.specs.FinMap as bytes_map
-use Rattle.tm_buffer.specs.Held.{place_of, drained, Fits}
+use Rattle.tm_buffer.specs.Buffer.{place_of, memory_with, Fits}
 use Rattle.tm_buffer.specs.Slots.{found, slot_byte, bytes_of, AtItsPlace}
 use Rattle.tm_buffer.proofs.Places.{place_in, StandsAt}
 use Rattle.tm_buffer.proofs.Entries.{get_bytes}
@@ -65,17 +65,17 @@ laid_set line mask bytes old m n a v bit small is value below h q = ⊎_elim
     (λ (e : q ≡ a → ⊥). get_or-set_other m a q v 0 e ∙ h q ∙ laid_same line mask bytes old n q (λ i _. e (i ∙ sym is)))
     (cases_eq q a)
 
-abbrev pub drained_at : ℕ → (ℕ → Option ℕ) → ℕ → Option ℕ → ℕ
-drained_at n f old None = old
-drained_at n f old (Some k) = cond (ltb k n) (unwrap_or (f k) old) old
+abbrev pub memory_with_at : ℕ → (ℕ → Option ℕ) → ℕ → Option ℕ → ℕ
+memory_with_at n f old None = old
+memory_with_at n f old (Some k) = cond (ltb k n) (unwrap_or (f k) old) old
 
 -- a byte of memory, after the slots below n were written to it
-abbrev pub drained_below : List ℕ → List ℕ → List ℕ → List ℕ → ℕ → ℕ → ℕ
-drained_below lines masks bytes old n q = drained_at n (slot_byte masks bytes (q % 64)) (get_or old q 0) (place_of lines (q / 64))
+abbrev pub memory_with_below : List ℕ → List ℕ → List ℕ → List ℕ → ℕ → ℕ → ℕ
+memory_with_below lines masks bytes old n q = memory_with_at n (slot_byte masks bytes (q % 64)) (get_or old q 0) (place_of lines (q / 64))
 
-pub drain_none : (lines masks bytes old : List ℕ) (q : ℕ) → get_or old q 0 ≡ drained_below lines masks bytes old 0 q
+pub drain_none : (lines masks bytes old : List ℕ) (q : ℕ) → get_or old q 0 ≡ memory_with_below lines masks bytes old 0 q
 drain_none lines masks bytes old q =
-    elim (place_of lines (q / 64)) as (λ o. get_or old q 0 ≡ drained_at 0 (slot_byte masks bytes (q % 64)) (get_or old q 0) o) [
+    elim (place_of lines (q / 64)) as (λ o. get_or old q 0 ≡ memory_with_at 0 (slot_byte masks bytes (q % 64)) (get_or old q 0) o) [
       | None ↦ refl
       | Some k ↦ sym (ap (λ t. cond t (unwrap_or (slot_byte masks bytes (q % 64) k) (get_or old q 0)) (get_or old q 0)) (le-ltb k 0 (omega arith)))
     ]
@@ -83,23 +83,23 @@ drain_none lines masks bytes old q =
 pub drain_next : (lines masks bytes old part m after : List ℕ) (n line mask : ℕ) → AtItsPlace lines → n < length lines
     → line ≡ get_or lines n 0 → mask ≡ get_or masks n 0
     → ((i : ℕ) → i < 64 → get_or part i 0 ≡ get_or bytes (n * 64 + i) 0)
-    → ((q : ℕ) → get_or m q 0 ≡ drained_below lines masks bytes old n q)
+    → ((q : ℕ) → get_or m q 0 ≡ memory_with_below lines masks bytes old n q)
     → ((q : ℕ) → get_or after q 0 ≡ cond (eqb (q / 64) line && eqb (bit_at mask (q % 64)) 1) (get_or part (q % 64) 0) (get_or m q 0))
-    → (q : ℕ) → get_or after q 0 ≡ drained_below lines masks bytes old (n + 1) q
+    → (q : ℕ) → get_or after q 0 ≡ memory_with_below lines masks bytes old (n + 1) q
 drain_next lines masks bytes old part m after n line mask places below line_is mask_is cut before next q = next q ∙ ⊎_elim
     (λ (here : q / 64 ≡ line).
     let place : place_of lines (q / 64) ≡ Some n = ap (place_of lines) (here ∙ line_is) ∙ places n below in
-    let unchanged : get_or m q 0 ≡ x = before q ∙ ap (drained_at n f x) place ∙ ap (λ t. cond t (unwrap_or (f n) x) x) (le-ltb n n (omega arith)) in
+    let unchanged : get_or m q 0 ≡ x = before q ∙ ap (memory_with_at n f x) place ∙ ap (λ t. cond t (unwrap_or (f n) x) x) (le-ltb n n (omega arith)) in
     ap (λ t. cond (t && eqb (bit_at mask (q % 64)) 1) (get_or part (q % 64) 0) (get_or m q 0)) (eq-eqb (q / 64) line here)
     ∙ ap (λ k. cond (eqb (bit_at k (q % 64)) 1) (get_or part (q % 64) 0) (get_or m q 0)) mask_is
     ∙ ap (λ y. cond bit y (get_or m q 0)) (cut (q % 64) (omega arith))
     ∙ ap (λ y. cond bit (get_or bytes (n * 64 + q % 64) 0) y) unchanged
     ∙ stored bit (get_or bytes (n * 64 + q % 64) 0)
-    ∙ sym (ap (drained_at (n + 1) f x) place ∙ ap (λ t. cond t (unwrap_or (f n) x) x) (lt-ltb n (n + 1) (omega arith))))
+    ∙ sym (ap (memory_with_at (n + 1) f x) place ∙ ap (λ t. cond t (unwrap_or (f n) x) x) (lt-ltb n (n + 1) (omega arith))))
     (λ (other : q / 64 ≡ line → ⊥).
     ap (λ t. cond (t && eqb (bit_at mask (q % 64)) 1) (get_or part (q % 64) 0) (get_or m q 0)) (ne_eqb (q / 64) line other)
     ∙ before q
-    ∙ elim (place_of lines (q / 64)) as (λ o. place_of lines (q / 64) ≡ o → drained_at n f x o ≡ drained_at (n + 1) f x o) [
+    ∙ elim (place_of lines (q / 64)) as (λ o. place_of lines (q / 64) ≡ o → memory_with_at n f x o ≡ memory_with_at (n + 1) f x o) [
       | None ↦ λ _. refl
       | Some k ↦ λ is.
           let s : StandsAt lines (q / 64) k = place_in lines (q / 64) k is in
@@ -127,14 +127,14 @@ drain_next lines masks bytes old part m after n line mask places below line_is m
         (λ (l : i ≤ k). le-ltb k i l ∙ sym (le-ltb k (i + 1) (omega arith)))
         (cases_lt k i)
 
-pub drain_all : (lines masks bytes old m : List ℕ) → length m ≡ length old → ((q : ℕ) → get_or m q 0 ≡ drained_below lines masks bytes old (length lines) q) → m ≡ drained (bytes_of lines masks bytes) old
+pub drain_all : (lines masks bytes old m : List ℕ) → length m ≡ length old → ((q : ℕ) → get_or m q 0 ≡ memory_with_below lines masks bytes old (length lines) q) → m ≡ memory_with (bytes_of lines masks bytes) old
 drain_all lines masks bytes old m l h =
     let g : ℕ → ℕ = λ a. unwrap_or (bytes_map.get (bytes_of lines masks bytes) a) (get_or old a 0) in
     ext_get_or 0 m (map g (range_with_len 0 (length old))) (l ∙ sym (length-map-range_with_len g 0 (length old)))
     (λ i below. h i ∙ whole i ∙ ap (λ o. unwrap_or o (get_or old i 0)) (sym (get_bytes lines masks bytes i)) ∙ sym (get_or-map-range_with_len g 0 (length old) i i 0 (omega arith) (omega arith)))
   where
-    whole : (i : ℕ) → drained_below lines masks bytes old (length lines) i ≡ unwrap_or (found lines masks bytes i) (get_or old i 0)
-    whole i = elim (place_of lines (i / 64)) as (λ o. place_of lines (i / 64) ≡ o → drained_at (length lines) (slot_byte masks bytes (i % 64)) (get_or old i 0) o ≡ unwrap_or (option_and_then (slot_byte masks bytes (i % 64)) o) (get_or old i 0)) [
+    whole : (i : ℕ) → memory_with_below lines masks bytes old (length lines) i ≡ unwrap_or (found lines masks bytes i) (get_or old i 0)
+    whole i = elim (place_of lines (i / 64)) as (λ o. place_of lines (i / 64) ≡ o → memory_with_at (length lines) (slot_byte masks bytes (i % 64)) (get_or old i 0) o ≡ unwrap_or (option_and_then (slot_byte masks bytes (i % 64)) o) (get_or old i 0)) [
       | None ↦ λ _. refl
       | Some k ↦ λ is. ap (λ t. cond t (unwrap_or (slot_byte masks bytes (i % 64) k) (get_or old i 0)) (get_or old i 0)) (lt-ltb k (length lines) (place_in lines (i / 64) k is).below)
     ] refl

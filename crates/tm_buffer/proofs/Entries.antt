@@ -6,7 +6,7 @@ use Rattle.std.specs.Option.{option_and_then, option_map}
 use Rattle.std.specs.Ordering.{nat_cmp}
 use Rattle.std.specs.Cmp.{nat_cmp_total, unsigned_tied}
 use Rattle.std.specs.FinMap as bytes_map
-use Rattle.tm_buffer.specs.Held.{Bytes, place_of}
+use Rattle.tm_buffer.specs.Buffer.{Bytes, place_of}
 use Rattle.tm_buffer.specs.Slots.{found, slot_byte, entries_of, entry_at, addresses, bytes_of}
 
 pub get_insert : (m : Bytes) (a v q : ℕ) → bytes_map.get (bytes_map.insert m a v) q ≡ cond (eqb q a) (Some v) (bytes_map.get m q)

@@ -7,7 +7,7 @@ use Rattle.std.specs.Result.{OnOk, OnErr}
 use Rattle.std.specs.Ordering.{nat_cmp}
 use Rattle.std.specs.FinMap as bytes_map
 use Rattle.ia_word.specs.Operand.{placed_bytes}
-use Rattle.tm_buffer.specs.Held.{Bytes, Held, Fits, with_bytes}
+use Rattle.tm_buffer.specs.Buffer.{Bytes, BufferValue, Fits, with_bytes}
 use Rattle.tm_buffer.proofs.Entries.{get_insert}
 
 pub fits_empty : (size : ℕ) → Fits bytes_map.empty size
@@ -28,7 +28,7 @@ fits_placed m size a [] end h = h
 fits_placed m size a (b ∷ bs) end h = fits_insert (with_bytes m (placed_bytes (a + 1) bs)) size a b (omega arith) (fits_placed m size (a + 1) bs (omega arith) h)
 
 -- a `put`, taken or not
-pub fits_put : {A E : Type 0} (r : Result A E) (old new : Held) (size a : ℕ) (bytes : List ℕ)
+pub fits_put : {A E : Type 0} (r : Result A E) (old new : BufferValue) (size a : ℕ) (bytes : List ℕ)
     → OnOk r (new.bytes ≡ with_bytes old.bytes (placed_bytes a bytes)) → OnErr r (new ≡ old) → a + length bytes ≤ size → Fits old.bytes size → Fits new.bytes size
 fits_put (Ok x) old new size a bytes done refused end h = subst (λ m. Fits m size) (sym done) (fits_placed old.bytes size a bytes end h)
 fits_put (Err e) old new size a bytes done refused end h = subst (λ b. Fits b.bytes size) (sym refused) h

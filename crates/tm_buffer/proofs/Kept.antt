@@ -7,7 +7,7 @@ use Rattle.std.specs.Int.{bit_at, w64}
 use Rattle.std.specs.Int.RustNames.{bit_or}
 use Rattle.std.specs.Option.{option_and_then}
 use Rattle.std.specs.FinMap as bytes_map
-use Rattle.tm_buffer.specs.Held.{place_of}
+use Rattle.tm_buffer.specs.Buffer.{place_of}
 use Rattle.tm_buffer.specs.Slots.{found, slot_byte, bytes_of}
 use Rattle.tm_buffer.proofs.Places.{place_push, or_at, place_in, StandsAt}
 use Rattle.tm_buffer.proofs.Entries.{get_bytes, get_insert, same_bytes}

@@ -6,7 +6,7 @@ use Rattle.std.specs.Option.{option_map, is_some}
 use Rattle.std.specs.Ordering.{nat_cmp, eq_by_cmp}
 use Rattle.std.specs.Cmp.{nat_cmp_total, unsigned_tied}
 use Rattle.std.specs.FinSet as set
-use Rattle.tm_buffer.specs.Held.{place_of, holds, with_line, with_lines, lines_of}
+use Rattle.tm_buffer.specs.Buffer.{place_of, holds, with_line, with_lines, lines_of}
 use Rattle.tm_buffer.proofs.Places.{place_push, or_at}
 
 is_some_or_at : (b : Bool) (n : ℕ) (o : Option ℕ) → is_some (or_at b n o) ≡ (is_some o || b)

@@ -7,7 +7,7 @@ use Rattle.std.specs.List.{list_any}
 use Rattle.std.specs.Ordering.{nat_cmp, eq_by_cmp}
 use Rattle.std.specs.Cmp.{nat_cmp_total, unsigned_tied}
 use Rattle.std.specs.FinSet as set
-use Rattle.tm_buffer.specs.Held.{place_of, with_line, lines_of}
+use Rattle.tm_buffer.specs.Buffer.{place_of, with_line, lines_of}
 use Rattle.tm_buffer.specs.Slots.{AtItsPlace}
 
 pub place_none : (xs : List ℕ) (l : ℕ) → ((i : ℕ) → i < length xs → get_or xs i 0 ≡ l → ⊥) → place_of xs l ≡ None

@@ -1,9 +1,10 @@
 -- How the bytes are kept: slot k has the line at k of the order, a mask, and the 64 bytes from 64 * k on.
-use Rattle.std.specs.Prelude.{ℕ, ◌≡◌, ◌+◌, ◌*◌, ◌/◌, ◌%◌, ◌<◌, ◌≤◌, ◌==◌, List, [], ◌∷◌, ◌++◌, length, Option, Some, None, option_and_then, if◌then◌else◌, slice_index}
+use Rattle.std.specs.Prelude.{ℕ, ◌≡◌, ◌+◌, ◌*◌, ◌/◌, ◌%◌, ◌<◌, ◌≤◌, ◌==◌, List, [], ◌∷◌, ◌++◌, length, Option}
+use Rattle.std.specs.Prelude.{Some, None, option_and_then, if◌then◌else◌, slice_index}
 use Rattle.std.specs.List.{range_with_len}
 use Rattle.std.specs.Int.{bit_at}
 use Rattle.std.specs.FinMap as bytes_map
-use Rattle.tm_buffer.specs.Held.{Bytes, place_of}
+use Rattle.tm_buffer.specs.Buffer.{Bytes, place_of}
 
 -- the byte at an offset of a slot
 abbrev pub slot_byte : List ℕ → List ℕ → ℕ → ℕ → Option ℕ

@@ -1,8 +1,9 @@
 //! Slots of lines, as plain rows.
 
-ghost use Rattle.std.specs.Prelude.{◌≡◌, ◌==◌, ◌+◌, ◌*◌, ◌/◌, ◌%◌, ◌^◌, ◌<◌, ◌≤◌, ℕ, ◌&&◌, if◌then◌else◌, length, slice_index};
+ghost use Rattle.std.specs.Prelude.{◌≡◌, ◌==◌, ◌+◌, ◌*◌, ◌/◌, ◌%◌, ◌^◌, ◌<◌, ◌≤◌, ℕ, ◌&&◌, if◌then◌else◌, length};
+ghost use Rattle.std.specs.Prelude.{slice_index};
 ghost use Rattle.std.specs.Int.{bit_at};
-ghost use Rattle.tm_buffer.specs.Held.{Fits, drained, place_of};
+ghost use Rattle.tm_buffer.specs.Buffer.{Fits, memory_with, place_of};
 ghost use Rattle.tm_buffer.specs.Slots.{AtItsPlace, bytes_of, slot_byte};
 
 /// The slot of a line. The slot `recent` is looked at first, where there is one of this number.
@@ -47,7 +48,8 @@ pub fn byte_in(masks: &[u64], bytes: &[u8], slot: usize, offset: usize) -> Optio
 fn drain_slot(line: u32, mask: u64, bytes: &[u8], memory: &mut [u8])
     requires bytes { length bytes.now ≡ 64 }
     requires below { (k : ℕ) → k < 64 → bit_at mask k ≡ 1 → line * 64 + k < length memory.old }
-    ensures { (q : ℕ) → slice_index memory.new q ≡ (if q / 64 == line && bit_at mask (q % 64) == 1 then slice_index bytes.now (q % 64) else slice_index memory.old q) }
+    ensures { (q : ℕ) → slice_index memory.new q ≡ (if q / 64 == line && bit_at mask (q % 64) == 1
+        then slice_index bytes.now (q % 64) else slice_index memory.old q) }
 {
     let start = line as usize * 64;
     for offset in 0..64 {
@@ -63,7 +65,7 @@ pub fn drain(lines: &[u32], masks: &[u64], bytes: &[u8], memory: &mut [u8])
     requires masks { length lines.now ≤ length masks.now }
     requires bytes { length bytes.now ≡ length masks.now * 64 }
     requires fits { Fits (bytes_of lines.now masks.now bytes.now) (length memory.old) }
-    ensures { memory.new ≡ drained (bytes_of lines.now masks.now bytes.now) memory.old }
+    ensures { memory.new ≡ memory_with (bytes_of lines.now masks.now bytes.now) memory.old }
 {
     for (slot, line) in lines.iter().enumerate() {
         let start = slot * 64;

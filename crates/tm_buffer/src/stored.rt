@@ -1,12 +1,14 @@
 //! The buffer.
 
-ghost use Rattle.std.specs.Prelude.{◌≡◌, ◌+◌, ◌/◌, ◌^◌, ◌<◌, ◌≤◌, [], ◌∷◌, ◌++◌, length, slice_index, nat_lt, is_err, if◌then◌else◌, IfOk, OnOk, OnErr, IsSome, IsNone, IsTrue, unwrap_or};
+ghost use Rattle.std.specs.Prelude.{◌≡◌, ◌+◌, ◌/◌, ◌^◌, ◌<◌, ◌≤◌, [], ◌∷◌, ◌++◌, length, slice_index, nat_lt};
+ghost use Rattle.std.specs.Prelude.{is_err, if◌then◌else◌, IfOk, OnOk, OnErr, IsSome, IsNone, IsTrue, unwrap_or};
 ghost use Rattle.std.specs.FinMap as bytes_map;
 ghost use Rattle.std.specs.FinSet as set;
 ghost use Rattle.ia_word.specs.Width.{bits_of, bytes_of};
 ghost use Rattle.ia_word.specs.Line.{line, last_line, lines};
 ghost use Rattle.ia_word.specs.Operand.{operand_bytes, operand_of, placed_bytes};
-ghost use Rattle.tm_buffer.specs.Held.{Fits, with_bytes, laid_over, drained, lines_of, holds, place_of, with_line, with_lines};
+ghost use Rattle.tm_buffer.specs.Buffer.{Fits, with_bytes, laid_over, memory_with, lines_of, holds, place_of, with_line};
+ghost use Rattle.tm_buffer.specs.Buffer.{with_lines};
 
 use crate::fault::{Full, NoMemory};
 use crate::slots::{byte_in, drain, slot_of};
@@ -32,16 +34,21 @@ pub struct Buffer {
 impl Model for Buffer {
     ghost use Rattle.std.specs.Prelude.{◌≤◌};
     ghost use Rattle.std.specs.Prelude.{vec_capacity};
-    ghost use Rattle.tm_buffer.specs.Held.{Held, held_code};
+    ghost use Rattle.tm_buffer.specs.Buffer.{BufferValue, buffer_code};
     ghost use Rattle.tm_buffer.specs.Slots.{AreSlots, bytes_of};
 
-    ghost Value = { Held };
+    ghost Value = { BufferValue };
 
-    ghost coded = { held_code };
+    ghost coded = { buffer_code };
 
-    ghost view = { λ a. record { bytes = bytes_of a.lines.items a.masks.items a.bytes.items; order = a.lines.items; room = a.room } };
+    ghost view = { λ a. record {
+      bytes = bytes_of a.lines.items a.masks.items a.bytes.items;
+      order = a.lines.items;
+      room = a.room;
+    } };
 
-    ghost invariant = { λ a. AreSlots a.lines.items a.masks.items a.bytes.items a.room × (a.room ≤ vec_capacity a.lines) × (a.room ≤ 4096) };
+    ghost invariant = { λ a. AreSlots a.lines.items a.masks.items a.bytes.items a.room
+        × (a.room ≤ vec_capacity a.lines) × (a.room ≤ 4096) };
 }
 
 impl Buffer {
@@ -91,7 +98,8 @@ impl Buffer {
         requires ends { address + bytes_of width ≤ 2 ^ 32 }
         requires fits { value < 2 ^ bits_of width }
         ensures full { is_err result ≡ nat_lt self.old.room (length (with_lines self.old.order (lines address width))) }
-        ensures bytes { OnOk result (self.new.bytes ≡ with_bytes self.old.bytes (placed_bytes address (operand_bytes width value))) }
+        ensures bytes { OnOk result (self.new.bytes
+            ≡ with_bytes self.old.bytes (placed_bytes address (operand_bytes width value))) }
         ensures order { OnOk result (self.new.order ≡ with_lines self.old.order (lines address width)) }
         ensures lines { OnOk result (lines_of self.new.order ≡ lines_of (lines address width ++ self.old.order)) }
         ensures room { self.new.room ≡ self.old.room }
@@ -134,7 +142,7 @@ impl Buffer {
     /// addresses.
     pub fn drain_into(&mut self, memory: &mut [u8])
         requires { Fits self.old.bytes (length memory.old) }
-        ensures memory { memory.new ≡ drained self.old.bytes memory.old }
+        ensures memory { memory.new ≡ memory_with self.old.bytes memory.old }
         ensures bytes { self.new.bytes ≡ bytes_map.empty }
         ensures order { self.new.order ≡ [] }
         ensures room { self.new.room ≡ self.old.room }
@@ -213,7 +221,8 @@ impl Buffer {
     /// The slots of the lines of four bytes.
     fn slots(&self, address: u32) -> [Option<usize>; 4]
         requires { address + 4 ≤ 2 ^ 32 }
-        ensures { result ≡ place_of self.now.order (line address) ∷ place_of self.now.order (line (address + 1)) ∷ place_of self.now.order (line (address + 2)) ∷ place_of self.now.order (line (address + 3)) ∷ [] }
+        ensures { result ≡ place_of self.now.order (line address) ∷ place_of self.now.order (line (address + 1))
+            ∷ place_of self.now.order (line (address + 2)) ∷ place_of self.now.order (line (address + 3)) ∷ [] }
     {
         let low = self.slot(line_of(address));
         if line_of(address + 3) == line_of(address) {

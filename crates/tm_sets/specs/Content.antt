@@ -1,7 +1,9 @@
 -- The read sets and write sets of all cores, as one value (SDM volume 1, chapter "Programming with Intel Transactional
 -- Synchronization Extensions").
-use Rattle.std.specs.Prelude.{ℕ, ◌≡◌, ◌<◌, Bool, true, false, ◌&&◌, ◌||◌, not, nat_eq, nat_le, if◌then◌else◌}
+use Rattle.std.specs.Prelude.{ℕ, ◌≡◌, ◌+◌, ◌<◌, Bool, true, false, ◌&&◌, ◌||◌, not, nat_eq, nat_le, if◌then◌else◌}
+use Rattle.std.specs.Prelude.{Option, Some, is_some}
 use Rattle.tm_sets.specs.LineSet.{Lines}
+use Rattle.tm_sets.specs.Count.{count_below}
 use Rattle.std.specs.Int.{bit_at}
 use Rattle.std.specs.FinSet as set
 use Rattle.tm_sets.specs.declared.interface.Kind.{Kind}
@@ -81,3 +83,19 @@ bit mask k = nat_eq (bit_at mask k) 1
 -- of so many bits of the mask, those are set that are wanted
 abbrev pub IsMaskOf : ℕ → ℕ → (ℕ → Bool) → Type 0
 IsMaskOf mask count wanted = (k : ℕ) → k < count → bit mask k ≡ wanted k
+
+-- how many triples have the line
+abbrev pub triples_on : Content → ℕ → ℕ
+triples_on content line =
+    count_below (λ core. set.contains (content.lines core Read) line) content.fixed.cores
+    + count_below (λ core. set.contains (content.lines core Write) line) content.fixed.cores
+
+-- the slots of the lines that cores have written: one for each of them, and for no other line, below the core's room,
+-- and another one for each line of a core
+pub record AreSlots (content : Content) (slots : ℕ → ℕ → Option ℕ) : Type 0 where
+  pub there : (core line : ℕ) → core < content.fixed.cores
+      → is_some (slots core line) ≡ set.contains (content.lines core Write) line
+  pub below : (core line slot : ℕ) → core < content.fixed.cores → slots core line ≡ Some slot
+      → slot < content.fixed.room Write
+  pub apart : (core line other slot : ℕ) → core < content.fixed.cores → slots core line ≡ Some slot
+      → slots core other ≡ Some slot → line ≡ other

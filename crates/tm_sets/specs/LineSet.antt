@@ -1,7 +1,7 @@
 -- A bounded set of lines as its callers see it.
-use Rattle.std.specs.Prelude.{ℕ, List, refl}
+use Rattle.std.specs.Prelude.{ℕ, List, [], ◌∷◌, ◌+◌, refl, Option, Some, None, nat_eq, option_map, if◌then◌else◌}
 use Rattle.std.specs.Ordering.{nat_cmp}
-use Rattle.std.specs.Coded.{Coded, code_by, coded×, coded_ℕ}
+use Rattle.std.specs.Coded.{Coded, code_by, coded×, coded_ℕ, coded_list}
 use Rattle.std.specs.FinSet as set
 
 abbrev pub Lines : Type 0
@@ -11,15 +11,24 @@ Lines = set.FinSet nat_cmp
 abbrev pub lines_of : List ℕ → Lines
 lines_of xs = set.from_list xs
 
+-- where a line stands in a list of lines
+abbrev pub place_of : List ℕ → ℕ → Option ℕ
+place_of [] line = None
+place_of (x ∷ xs) line = if nat_eq x line then Some 0 else option_map (λ k. k + 1) (place_of xs line)
+
+-- the lines in the order in which they came, and how many there is room for
 pub record BoundedLines : Type 0 where
-  pub lines : Lines
+  pub order : List ℕ
   pub room : ℕ
 
 abbrev pub bounded_lines_code : Coded BoundedLines
 bounded_lines_code =
-    code_by (Lines × ℕ) (coded× (set.code coded_ℕ) coded_ℕ)
-    (λ h. (h.lines, h.room)) (λ p. record { lines = p.0; room = p.1 }) (λ _. refl)
+    code_by (List ℕ × ℕ) (coded× (coded_list coded_ℕ) coded_ℕ)
+    (λ h. (h.order, h.room)) (λ p. record { order = p.0; room = p.1 }) (λ _. refl)
+
+abbrev pub lines_in_set : BoundedLines → Lines
+lines_in_set lines = lines_of lines.order
 
 -- a set for nothing
 abbrev pub no_line_set : BoundedLines
-no_line_set = record { lines = set.empty; room = 0 }
+no_line_set = record { order = []; room = 0 }

@@ -1,10 +1,11 @@
 //! What every representation of the sets answers.
 
-ghost use Rattle.std.specs.Prelude.{◌≡◌, ◌<◌, ◌≤◌, ◌^◌, ℕ, Bool, ◌&&◌, not, nat_eq, is_err, IfOk, OnOk, OnErr};
+ghost use Rattle.std.specs.Prelude.{◌≡◌, ◌<◌, ◌≤◌, ◌^◌, ℕ, Bool, ◌&&◌, not, nat_eq, is_err, Option, IsSome, IfOk};
+ghost use Rattle.std.specs.Prelude.{OnOk, OnErr};
 ghost use Rattle.std.specs.FinSet as set;
 ghost use Rattle.std.specs.List.Sorted.{IsStrictlyIncreasing};
 ghost use Rattle.tm_sets.specs.Content.{Content, with_line, without_core, is_full};
-ghost use Rattle.tm_sets.specs.Content.{IsMaskOf, other_on_line, other_writes_line};
+ghost use Rattle.tm_sets.specs.Content.{IsMaskOf, other_on_line, other_writes_line, AreSlots};
 
 use crate::fault::{Full, NoMemory};
 use std::alloc::Global;
@@ -25,6 +26,9 @@ pub trait Sets {
     /// What it contains, however it is kept.
     ghost content: { Self → Content };
 
+    /// The slot of each line that a core has written.
+    ghost slots: { Self → ℕ → ℕ → Option ℕ };
+
     /// The number of entries visited so far by `has`, `others_on` and `writers_on`.
     ghost visited: { Self → ℕ };
 
@@ -36,6 +40,8 @@ pub trait Sets {
         ensures full { is_err result ≡ is_full (content self.old) core kind line }
         ensures ok { OnOk result (content self.new ≡ with_line (content self.old) core kind line) }
         ensures err { OnErr result (content self.new ≡ content self.old) }
+        ensures slots { (other written : ℕ) → IsSome (slots self.old other written)
+            → slots self.new other written ≡ slots self.old other written }
         ensures visits { visited self.new ≡ visited self.old };
 
     /// Whether the line is in this set of the core.
@@ -44,6 +50,7 @@ pub trait Sets {
         requires line { line < (content self.old).fixed.line_count }
         ensures value { result ≡ set.contains ((content self.old).lines core kind) line }
         ensures same { content self.new ≡ content self.old }
+        ensures slots { slots self.new ≡ slots self.old }
         ensures visits { visited self.old ≤ visited self.new };
 
     /// The other cores that have the line in either set: bit k for core k.
@@ -53,6 +60,7 @@ pub trait Sets {
         ensures mask { IsMaskOf result (content self.old).fixed.cores (other_on_line (content self.old) line core) }
         ensures below { result < 2 ^ (content self.old).fixed.cores }
         ensures same { content self.new ≡ content self.old }
+        ensures slots { slots self.new ≡ slots self.old }
         ensures visits { visited self.old ≤ visited self.new };
 
     /// The other cores that have the line in their write set: bit k for core k.
@@ -62,6 +70,7 @@ pub trait Sets {
         ensures mask { IsMaskOf result (content self.old).fixed.cores (other_writes_line (content self.old) line core) }
         ensures below { result < 2 ^ (content self.old).fixed.cores }
         ensures same { content self.new ≡ content self.old }
+        ensures slots { slots self.new ≡ slots self.old }
         ensures visits { visited self.old ≤ visited self.new };
 
     /// How many lines this set of the core has.
@@ -69,10 +78,19 @@ pub trait Sets {
         requires { core < (content self.now).fixed.cores }
         ensures { result ≡ set.len ((content self.now).lines core kind) };
 
+    /// The slot of a line that the core has written, and nothing for any other line: a number below the core's room for
+    /// written lines, and for each of them another one. It stays the line's slot until `clear` of the core.
+    fn slot(&self, core: u8, line: u32) -> Option<u32>
+        requires core { core < (content self.now).fixed.cores }
+        requires line { line < (content self.now).fixed.line_count }
+        ensures value { result ≡ slots self.now core line }
+        ensures all { AreSlots (content self.now) (slots self.now) };
+
     /// Takes away the lines of a core, of both kinds, and no others.
     fn clear(&mut self, core: u8)
         requires { core < (content self.old).fixed.cores }
         ensures content { content self.new ≡ without_core (content self.old) core }
+        ensures slots { (other line : ℕ) → (other ≡ core → ⊥) → slots self.new other line ≡ slots self.old other line }
         ensures visits { visited self.new ≡ visited self.old };
 
     /// The lines of this set of the core, ascending. `NoMemory` (32) where there is no memory for the list.

@@ -3,7 +3,8 @@
 //! A line is 64 bytes of memory. What is kept is a set of triples of a core, a line and a kind, of which each core has
 //! room for so many of each kind (SDM volume 1, chapter "Programming with Intel Transactional Synchronization
 //! Extensions": read set and write set). `Sets` is what every representation answers, for up to 64 cores and 4,194,304
-//! lines, and `PlainSets` is one: lists that are searched.
+//! lines. `Directory` is one: entries in one row, each on the list of its core and on the list of its line. `PlainSets`
+//! is the other: lists that are searched.
 //!
 //! Promised: `add` refuses a line exactly where its set has no room; `has`, `others_on`, `writers_on`, `count` and
 //! `listing` tell what the set of triples has, and change none; `clear` takes away one core's triples alone.
@@ -15,10 +16,13 @@ mod fault;
 mod interface;
 mod line_set;
 mod plain;
+mod row;
+mod threaded;
 
 pub use fault::{Full, NoMemory};
 pub use interface::{Kind, Sets};
 pub use plain::PlainSets;
+pub use threaded::Directory;
 
 #[cfg(test)]
 mod tests;

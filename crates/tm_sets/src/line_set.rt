@@ -1,10 +1,11 @@
 //! A bounded set of lines, kept as a plain list.
 
-ghost use Rattle.std.specs.Prelude.{◌≡◌, ◌<◌, ◌≤◌, ◌&&◌, not, nat_le, length, is_err, is_some, IfOk, IfSome, OnOk};
+ghost use Rattle.std.specs.Prelude.{◌≡◌, ◌<◌, ◌≤◌, ◌&&◌, not, nat_le, length, is_err, is_some, IsSome, ℕ, [], IfOk};
+ghost use Rattle.std.specs.Prelude.{IfSome, OnOk};
 ghost use Rattle.std.specs.Prelude.{OnErr};
 ghost use Rattle.std.specs.FinSet as set;
 ghost use Rattle.std.specs.List.Sorted.{IsStrictlyIncreasing};
-ghost use Rattle.tm_sets.specs.LineSet.{lines_of};
+ghost use Rattle.tm_sets.specs.LineSet.{lines_of, place_of};
 
 use crate::fault::{Full, NoMemory};
 use std::alloc::Global;
@@ -27,7 +28,7 @@ impl Model for LineSet {
 
     ghost coded = { bounded_lines_code };
 
-    ghost view = { λ a. record { lines = lines_of a.lines.items; room = a.room } };
+    ghost view = { λ a. record { order = a.lines.items; room = a.room } };
 
     ghost invariant = { λ a. (set.len (lines_of a.lines.items) ≡ length a.lines.items)
         × (length a.lines.items ≤ a.room)
@@ -39,7 +40,7 @@ impl LineSet {
     /// An empty set with room for so many lines, which is reserved here.
     pub fn with_room(alloc: Global, room: u32) -> Result<LineSet, NoMemory>
         requires { room ≤ 4096 }
-        ensures lines { IfOk result (λ made. made.lines ≡ set.empty) }
+        ensures lines { IfOk result (λ made. made.order ≡ []) }
         ensures room { IfOk result (λ made. made.room ≡ room) }
     {
         let room = room as usize;
@@ -49,14 +50,15 @@ impl LineSet {
 
     /// How many lines it has.
     pub fn count(&self) -> u32
-        ensures { result ≡ set.len self.now.lines }
+        ensures { result ≡ set.len (lines_of self.now.order) }
     {
         self.lines.as_slice().len() as u32
     }
 
     /// The place of a line in the list.
     pub fn place(&self, line: u32) -> Option<usize>
-        ensures found { is_some result ≡ set.contains self.now.lines line }
+        ensures place { result ≡ place_of self.now.order line }
+        ensures found { is_some result ≡ set.contains (lines_of self.now.order) line }
         ensures below { IfSome result (λ place. place < 4096) }
     {
         place_in(&self.lines, line)
@@ -64,9 +66,12 @@ impl LineSet {
 
     /// Adds a line; `Full`, and nothing changed, exactly where it is new and there is no room for it.
     pub fn add(&mut self, line: u32) -> Result<(), Full>
-        ensures full { is_err result ≡ (not (set.contains self.old.lines line)
-            && nat_le self.old.room (set.len self.old.lines)) }
-        ensures ok { OnOk result (self.new.lines ≡ set.insert self.old.lines line) }
+        ensures full { is_err result ≡ (not (set.contains (lines_of self.old.order) line)
+            && nat_le self.old.room (set.len (lines_of self.old.order))) }
+        ensures ok { OnOk result (lines_of self.new.order ≡ set.insert (lines_of self.old.order) line) }
+        ensures order { (other : ℕ) → IsSome (place_of self.old.order other)
+            → place_of self.new.order other ≡ place_of self.old.order other }
+        ensures within { length self.new.order ≤ self.new.room }
         ensures room { self.new.room ≡ self.old.room }
         ensures err { OnErr result (self.new ≡ self.old) }
     {
@@ -82,7 +87,7 @@ impl LineSet {
 
     /// Takes all lines away.
     pub fn clear(&mut self)
-        ensures lines { self.new.lines ≡ set.empty }
+        ensures lines { self.new.order ≡ [] }
         ensures room { self.new.room ≡ self.old.room }
     {
         self.lines.clear();
@@ -91,7 +96,7 @@ impl LineSet {
     /// The lines, ascending.
     pub fn listing(&self, alloc: Global) -> Result<Vec<u32>, NoMemory>
         ensures ascending { IfOk result (λ lines. IsStrictlyIncreasing lines.items) }
-        ensures same { IfOk result (λ lines. set.from_list lines.items ≡ self.now.lines) }
+        ensures same { IfOk result (λ lines. set.from_list lines.items ≡ lines_of self.now.order) }
     {
         let mut lines = Vec::from_slice(alloc, &self.lines)?;
         lines.sort_unstable();
@@ -101,6 +106,7 @@ impl LineSet {
 
 /// The place of a line in a list of lines.
 fn place_in(lines: &[u32], line: u32) -> Option<usize>
+    ensures place { result ≡ place_of lines.now line }
     ensures found { is_some result ≡ set.contains (lines_of lines.now) line }
     ensures below { IfSome result (λ place. place < length lines.now) }
 {

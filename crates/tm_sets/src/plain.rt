@@ -1,9 +1,12 @@
 //! The sets as plain lists of lines, one a core and kind.
 
-ghost use Rattle.std.specs.Prelude.{◌≡◌, ◌<◌, ◌≤◌, ◌^◌, ℕ, Bool, ◌&&◌, ◌||◌, not, nat_eq, length, is_err, IfOk, IfSome};
+ghost use Rattle.std.specs.Prelude.{◌≡◌, ◌<◌, ◌≤◌, ◌^◌, ℕ, Bool, ◌&&◌, ◌||◌, not, nat_eq, length, [], is_err, IfOk};
+ghost use Rattle.std.specs.Prelude.{IfSome};
 ghost use Rattle.std.specs.Prelude.{OnOk, OnErr};
 ghost use Rattle.std.specs.FinSet as set;
-ghost use Rattle.tm_sets.specs.Plain.{plain_content, HaveRoom, is_other, is_writer, line_set_at};
+ghost use Rattle.tm_sets.specs.Plain.{plain_content, plain_slots, HaveRoom, AreWithin, is_other, is_writer};
+ghost use Rattle.tm_sets.specs.Plain.{line_set_at};
+ghost use Rattle.tm_sets.specs.LineSet.{lines_in_set};
 ghost use Rattle.tm_sets.specs.Content.{IsMaskOf};
 
 use crate::fault::{Full, NoMemory};
@@ -24,6 +27,7 @@ pub struct PlainSets {
     ghost few: { length reads.items ≤ 64 },
     ghost read_room: { HaveRoom reads.items read_lines },
     ghost write_room: { HaveRoom writes.items write_lines },
+    ghost write_within: { AreWithin writes.items write_lines },
 }
 
 impl PlainSets {
@@ -65,7 +69,7 @@ impl PlainSets {
 fn empty_sets(alloc: Global, cores: u8, room: u32) -> Result<Vec<LineSet>, NoMemory>
     requires { room ≤ 4096 }
     ensures count { IfOk result (λ sets. length sets.items ≡ cores) }
-    ensures empty { IfOk result (λ sets. (core : ℕ) → (line_set_at sets.items core).lines ≡ set.empty) }
+    ensures empty { IfOk result (λ sets. (core : ℕ) → (line_set_at sets.items core).order ≡ []) }
     ensures room { IfOk result (λ sets. HaveRoom sets.items room) }
 {
     let mut sets = Vec::with_capacity(alloc, usize::from(cores))?;
@@ -78,7 +82,7 @@ fn empty_sets(alloc: Global, cores: u8, room: u32) -> Result<Vec<LineSet>, NoMem
 /// Whether a set has a line. The count of entries visited rises by those that were read for it, and stops at
 /// `u64::MAX`.
 fn search(lines: &LineSet, line: u32, visits: &mut u64) -> bool
-    ensures value { result ≡ set.contains lines.now.lines line }
+    ensures value { result ≡ set.contains (lines_in_set lines.now) line }
     ensures visits { visits.old ≤ visits.new }
 {
     let place = lines.place(line);
@@ -100,7 +104,7 @@ fn is_other(
     visits: &mut u64,
 ) -> bool
     ensures value { result ≡ (not (nat_eq other core)
-        && (set.contains reads.now.lines line || set.contains writes.now.lines line)) }
+        && (set.contains (lines_in_set reads.now) line || set.contains (lines_in_set writes.now) line)) }
     ensures visits { visits.old ≤ visits.new }
 {
     other != core && (search(reads, line, visits) || search(writes, line, visits))
@@ -132,7 +136,7 @@ fn others(reads: &[LineSet], writes: &[LineSet], line: u32, core: u8, visits: &m
 
 /// Whether a core that is not `core` has a line among those that it has written.
 fn is_writer(other: u8, core: u8, writes: &LineSet, line: u32, visits: &mut u64) -> bool
-    ensures value { result ≡ (not (nat_eq other core) && set.contains writes.now.lines line) }
+    ensures value { result ≡ (not (nat_eq other core) && set.contains (lines_in_set writes.now) line) }
     ensures visits { visits.old ≤ visits.new }
 {
     other != core && search(writes, line, visits)
@@ -156,6 +160,8 @@ fn writers(writes: &[LineSet], line: u32, core: u8, visits: &mut u64) -> u64
 
 impl Sets for PlainSets {
     ghost content = { λ s. plain_content s.reads.items s.writes.items s.line_count s.read_lines s.write_lines };
+
+    ghost slots = { λ s. plain_slots s.writes.items };
 
     ghost visited = { λ s. s.visits };
 
@@ -185,6 +191,13 @@ impl Sets for PlainSets {
         match kind {
             Kind::Read => self.reads[usize::from(core)].count(),
             Kind::Write => self.writes[usize::from(core)].count(),
+        }
+    }
+
+    fn slot(&self, core: u8, line: u32) -> Option<u32> {
+        match self.writes[usize::from(core)].place(line) {
+            Some(place) => Some(place as u32),
+            None => None,
         }
     }
 

@@ -1,6 +1,6 @@
 //! Each call once, on sets worked out by hand.
 
-use crate::{Full, Kind, NoMemory, PlainSets, Sets};
+use crate::{Directory, Full, Kind, NoMemory, PlainSets, Sets};
 
 #[test]
 fn two_cores_on_one_line(rt: HostRuntime) {
@@ -51,4 +51,78 @@ fn room_for_two_lines(rt: HostRuntime) {
 fn numbers_of_the_faults(rt: HostRuntime) {
     assert_eq!(rt; Full.code(), 31);
     assert_eq!(rt; NoMemory.code(), 32);
+}
+
+#[test]
+fn a_directory_counts_its_visits(rt: HostRuntime) {
+    let mut sets = Directory::new(rt.alloc(), 2, 0x400, 4, 4).expect(&rt, "memory");
+    assert!(rt; sets.add(0, 0x40, Kind::Read).is_ok());
+    assert!(rt; sets.add(1, 0x40, Kind::Read).is_ok());
+    assert!(rt; sets.add(0, 0x40, Kind::Write).is_ok());
+    assert_eq!(rt; sets.visits(), 0);
+    assert_eq!(rt; sets.others_on(0x40, 0), 0b10);
+    assert_eq!(rt; sets.visits(), 3);
+    assert_eq!(rt; sets.writers_on(0x40, 1), 0b01);
+    assert_eq!(rt; sets.visits(), 6);
+    sets.clear(0);
+    assert_eq!(rt; sets.others_on(0x40, 1), 0);
+    assert_eq!(rt; sets.visits(), 7);
+    assert!(rt; sets.has(1, 0x40, Kind::Read));
+    assert!(rt; !sets.has(1, 0x40, Kind::Write));
+}
+
+#[test]
+fn a_directory_has_room_for_two_lines(rt: HostRuntime) {
+    let mut sets = Directory::new(rt.alloc(), 1, 0x400, 2, 1).expect(&rt, "memory");
+    assert!(rt; sets.add(0, 0x3ff, Kind::Read).is_ok());
+    assert!(rt; sets.add(0, 7, Kind::Read).is_ok());
+    assert_eq!(rt; sets.add(0, 8, Kind::Read), Err(Full));
+    assert!(rt; sets.add(0, 7, Kind::Read).is_ok());
+    assert_eq!(rt; sets.count(0, Kind::Read), 2);
+    let lines = sets
+        .listing(rt.alloc(), 0, Kind::Read)
+        .expect(&rt, "memory");
+    assert_eq!(rt; lines.as_slice(), [7, 0x3ff].as_slice());
+    sets.clear(0);
+    assert_eq!(rt; sets.count(0, Kind::Read), 0);
+    assert!(rt; sets.add(0, 8, Kind::Read).is_ok());
+    assert!(rt; sets.add(0, 9, Kind::Read).is_ok());
+    assert_eq!(rt; sets.add(0, 7, Kind::Read), Err(Full));
+}
+
+#[test]
+fn a_directory_for_64_cores(rt: HostRuntime) {
+    let mut sets = Directory::new(rt.alloc(), 64, 0x40_0000, 1, 1).expect(&rt, "memory");
+    assert!(rt; sets.add(63, 0x3f_ffff, Kind::Write).is_ok());
+    assert!(rt; sets.add(62, 0x3f_ffff, Kind::Read).is_ok());
+    assert_eq!(rt; sets.writers_on(0x3f_ffff, 0), 1 << 63);
+    assert_eq!(rt; sets.others_on(0x3f_ffff, 0), 3 << 62);
+}
+
+#[test]
+fn a_slot_for_each_written_line(rt: HostRuntime) {
+    let mut sets = Directory::new(rt.alloc(), 2, 0x400, 4, 4).expect(&rt, "memory");
+    assert!(rt; sets.add(0, 7, Kind::Read).is_ok());
+    assert!(rt; sets.add(0, 8, Kind::Write).is_ok());
+    assert!(rt; sets.add(0, 9, Kind::Write).is_ok());
+    assert!(rt; sets.add(1, 8, Kind::Write).is_ok());
+    assert_eq!(rt; sets.slot(0, 7), None);
+    assert_eq!(rt; sets.slot(0, 8), Some(0));
+    assert_eq!(rt; sets.slot(0, 9), Some(1));
+    sets.clear(0);
+    assert_eq!(rt; sets.slot(0, 8), None);
+    assert_eq!(rt; sets.slot(1, 8), Some(0));
+}
+
+#[test]
+fn a_place_for_each_written_line(rt: HostRuntime) {
+    let mut sets = PlainSets::new(rt.alloc(), 2, 0x400, 4, 4).expect(&rt, "memory");
+    assert!(rt; sets.add(0, 8, Kind::Write).is_ok());
+    assert!(rt; sets.add(0, 9, Kind::Write).is_ok());
+    assert!(rt; sets.add(1, 8, Kind::Write).is_ok());
+    assert_eq!(rt; sets.slot(0, 7), None);
+    assert_eq!(rt; sets.slot(0, 9), Some(1));
+    sets.clear(0);
+    assert_eq!(rt; sets.slot(0, 8), None);
+    assert_eq!(rt; sets.slot(1, 8), Some(0));
 }

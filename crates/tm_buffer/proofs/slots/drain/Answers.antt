@@ -1,6 +1,6 @@
 use Rattle.std.proofs.Common.{◌≡◌, ◌<◌, ◌+◌, ◌*◌, length, get_or, refl, ap, ◌∙◌, arith}
 use Rattle.std.proofs.lemmas.Grind.{common_steps}
-use Rattle.tm_buffer.proofs.Drain.{drain_next, drain_all, slot_fits, drained_below}
+use Rattle.tm_buffer.proofs.Drain.{drain_next, drain_all, slot_fits, memory_with_below}
 use Rattle.tm_buffer.proofs.slots.drain.Goals as goal
 
 pub drain_slot-requires-clause-below : goal.drain_slot-requires-clause-below
@@ -18,4 +18,4 @@ pub returns : goal.returns
 returns c =
     let end : c.loop-slot.slot ≡ length c.args.lines.now = omega arith in
     drain_all c.args.lines.now c.args.masks.now c.args.bytes.now c.args.memory.now c.loop-slot.memory c.loop-slot.auto.memory
-    (λ q. c.loop-slot.invariant q ∙ ap (λ n. drained_below c.args.lines.now c.args.masks.now c.args.bytes.now c.args.memory.now n q) end)
+    (λ q. c.loop-slot.invariant q ∙ ap (λ n. memory_with_below c.args.lines.now c.args.masks.now c.args.bytes.now c.args.memory.now n q) end)

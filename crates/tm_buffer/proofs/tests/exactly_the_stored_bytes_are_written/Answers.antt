@@ -3,7 +3,7 @@ use Rattle.std.specs.Result.{IfOk}
 use Rattle.std.specs.FinMap as bytes_map
 use Rattle.ia_word.specs.declared.width.Width.TheVariants.{B, D}
 use Rattle.ia_word.specs.Operand.{operand_bytes}
-use Rattle.tm_buffer.specs.Held.{Fits}
+use Rattle.tm_buffer.specs.Buffer.{Fits}
 use Rattle.tm_buffer.proofs.Fits.{fits_empty, fits_put}
 use Rattle.tm_buffer.proofs.tests.exactly_the_stored_bytes_are_written.Goals as goal
 

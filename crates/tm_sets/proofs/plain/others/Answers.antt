@@ -2,7 +2,7 @@ use Rattle.std.proofs.Common.{◌≡◌, ◌<◌, ◌^◌, ◌+◌, ◌&&◌, �
 use Rattle.tm_sets.specs.Content.{bit}
 use Rattle.std.proofs.lemmas.List.{get_or_read}
 use Rattle.std.specs.FinSet as set
-use Rattle.tm_sets.specs.LineSet.{no_line_set}
+use Rattle.tm_sets.specs.LineSet.{no_line_set, lines_in_set}
 use Rattle.tm_sets.specs.Plain.{is_other, line_set_at}
 use Rattle.tm_sets.proofs.Masks.{bits_set, bits_unset, mask_below, mask_set_below}
 use Rattle.tm_sets.proofs.plain.others.Goals as goal
@@ -18,8 +18,8 @@ loop-other-preserved c =
     let writes : c.index-writes-other.result ≡ line_set_at c.args.writes.now k = get_or_read c.args.writes.now k c.index-writes-other.result (omega arith) c.index-writes-other.is no_line_set in
     let value : c.is_other.result ≡ wanted k =
     c.is_other.ensures.value
-    ∙ ap (λ row. not (nat_eq k c.args.core) && (set.contains row.lines c.args.line || set.contains c.index-writes-other.result.lines c.args.line)) reads
-    ∙ ap (λ row. not (nat_eq k c.args.core) && (set.contains (line_set_at c.args.reads.now k).lines c.args.line || set.contains row.lines c.args.line)) writes in
+    ∙ ap (λ row. not (nat_eq k c.args.core) && (set.contains (lines_in_set row) c.args.line || set.contains (lines_in_set c.index-writes-other.result) c.args.line)) reads
+    ∙ ap (λ row. not (nat_eq k c.args.core) && (set.contains (lines_in_set (line_set_at c.args.reads.now k)) c.args.line || set.contains (lines_in_set row) c.args.line)) writes in
     record {
       mask = elim c.if-is_other.branch [
         | then-is_other w ↦ λ k below. ap (λ m. bit m k) w.others-is ∙ bits_set c.loop-other.others c.loop-other.other wanted few i.mask (sym value ∙ w.if-is_other.true) k below

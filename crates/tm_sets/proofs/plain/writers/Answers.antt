@@ -2,7 +2,7 @@ use Rattle.std.proofs.Common.{◌≡◌, ◌<◌, ◌^◌, ◌+◌, ◌&&◌, no
 use Rattle.tm_sets.specs.Content.{bit}
 use Rattle.std.proofs.lemmas.List.{get_or_read}
 use Rattle.std.specs.FinSet as set
-use Rattle.tm_sets.specs.LineSet.{no_line_set}
+use Rattle.tm_sets.specs.LineSet.{no_line_set, lines_in_set}
 use Rattle.tm_sets.specs.Plain.{is_writer, line_set_at}
 use Rattle.tm_sets.proofs.Masks.{bits_set, bits_unset, mask_below, mask_set_below}
 use Rattle.tm_sets.proofs.plain.writers.Goals as goal
@@ -17,7 +17,7 @@ loop-other-preserved c =
     let writes : c.index-writes-other.result ≡ line_set_at c.args.writes.now k = get_or_read c.args.writes.now k c.index-writes-other.result c.loop-other-test.true c.index-writes-other.is no_line_set in
     let value : c.is_writer.result ≡ wanted k =
     c.is_writer.ensures.value
-    ∙ ap (λ lines. not (nat_eq k c.args.core) && set.contains lines.lines c.args.line) writes in
+    ∙ ap (λ lines. not (nat_eq k c.args.core) && set.contains (lines_in_set lines) c.args.line) writes in
     record {
       mask = elim c.if-is_writer.branch [
         | then-is_writer w ↦ λ k below. ap (λ m. bit m k) w.writers-is ∙ bits_set c.loop-other.writers c.loop-other.other wanted few i.mask (sym value ∙ w.if-is_writer.true) k below

@@ -1,7 +1,7 @@
 use Rattle.std.proofs.Common.{◌≡◌, ◌/◌, ◌%◌, ℕ, List, length, sym, ap, ◌∙◌, arith, Option, Some, None}
 use Rattle.std.specs.Option.{unwrap_or, option_and_then}
 use Rattle.std.specs.FinMap as bytes_map
-use Rattle.tm_buffer.specs.Held.{place_of, Bytes}
+use Rattle.tm_buffer.specs.Buffer.{place_of, Bytes}
 use Rattle.tm_buffer.specs.Slots.{bytes_of, slot_byte}
 use Rattle.tm_buffer.proofs.Places.{below_room}
 use Rattle.tm_buffer.proofs.Entries.{get_bytes}

@@ -1,5 +1,5 @@
 use Rattle.std.proofs.Common.{◌≡◌, length, vec_len, sym, ap, ◌∙◌, rules}
-use Rattle.tm_buffer.specs.Held.{lines_of}
+use Rattle.tm_buffer.specs.Buffer.{lines_of}
 use Rattle.tm_buffer.proofs.Places.{len_lines}
 use Rattle.tm_buffer.proofs.stored.Buffer.lines.Goals as goal
 

@@ -3,7 +3,7 @@ use Rattle.std.proofs.Math.ListN.{length-set, set}
 use Rattle.std.proofs.lemmas.List.{length_push}
 use Rattle.std.specs.Option.{is_some}
 use Rattle.std.specs.Result.{is_ok}
-use Rattle.tm_buffer.specs.Held.{place_of, with_line}
+use Rattle.tm_buffer.specs.Buffer.{place_of, with_line}
 use Rattle.tm_buffer.specs.Slots.{bytes_of, AtItsPlace}
 use Rattle.tm_buffer.proofs.Places.{at_place_push, none_of, with_new_line}
 use Rattle.tm_buffer.proofs.Kept.{bytes_taken}

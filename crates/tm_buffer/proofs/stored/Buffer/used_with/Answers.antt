@@ -1,6 +1,6 @@
 use Rattle.std.proofs.Common.{◌≡◌, ◌+◌, ℕ, List, length, cond, eqb, ◌||◌, ap, arith}
 use Rattle.std.proofs.lemmas.Bool.{eq-eqb, ne_eqb}
-use Rattle.tm_buffer.specs.Held.{holds, with_line}
+use Rattle.tm_buffer.specs.Buffer.{holds, with_line}
 use Rattle.tm_buffer.proofs.Orders.{length_two}
 use Rattle.tm_buffer.proofs.stored.Buffer.used_with.Goals as goal
 

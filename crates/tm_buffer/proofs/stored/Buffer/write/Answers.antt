@@ -1,7 +1,7 @@
 use Rattle.std.proofs.Common.{◌≡◌, ◌<◌, ◌+◌, ◌*◌, ◌/◌, ◌%◌, ℕ, List, length, get_or, vec_len, sym, ap, ◌∙◌, arith, rules, Option, Some}
 use Rattle.std.proofs.lemmas.List.{get_or_read}
 use Rattle.std.specs.FinMap as bytes_map
-use Rattle.tm_buffer.specs.Held.{place_of}
+use Rattle.tm_buffer.specs.Buffer.{place_of}
 use Rattle.tm_buffer.specs.Slots.{bytes_of}
 use Rattle.tm_buffer.proofs.Places.{below_room}
 use Rattle.tm_buffer.proofs.Kept.{bytes_written, marked}

@@ -1,5 +1,6 @@
 -- A buffer as its callers see it: a map from addresses to bytes, and the lines of these bytes.
-use Rattle.std.specs.Prelude.{ℕ, ◌+◌, ◌<◌, Bool, List, [], ◌∷◌, ◌++◌, map, length, refl, Option, Some, None, IsSome, is_some, if◌then◌else◌, nat_eq, option_map, unwrap_or, slice_index}
+use Rattle.std.specs.Prelude.{ℕ, ◌+◌, ◌<◌, Bool, List, [], ◌∷◌, ◌++◌, map, length, refl, Option, Some, None, IsSome}
+use Rattle.std.specs.Prelude.{is_some, if◌then◌else◌, nat_eq, option_map, unwrap_or, slice_index}
 use Rattle.std.specs.List.{range_with_len}
 use Rattle.std.specs.Ordering.{nat_cmp}
 use Rattle.std.specs.Coded.{Coded, code_by, coded×, coded_ℕ, coded_list}
@@ -13,14 +14,15 @@ Bytes = bytes_map.FinMap nat_cmp ℕ
 abbrev pub Lines : Type 0
 Lines = set.FinSet nat_cmp
 
--- the stored bytes, the lines that they are on in the order of each line's first store, and how many lines there is room for
-pub record Held : Type 0 where
+-- the stored bytes, the lines that they are on in the order of each line's first store, and how many lines there is
+-- room for
+pub record BufferValue : Type 0 where
   pub bytes : Bytes
   pub order : List ℕ
   pub room : ℕ
 
-abbrev pub held_code : Coded Held
-held_code =
+abbrev pub buffer_code : Coded BufferValue
+buffer_code =
     code_by (Bytes × (List ℕ × ℕ)) (coded× (bytes_map.code coded_ℕ coded_ℕ) (coded× (coded_list coded_ℕ) coded_ℕ))
     (λ h. (h.bytes, (h.order, h.room))) (λ p. record { bytes = p.0; order = p.1.0; room = p.1.1 }) (λ _. refl)
 
@@ -35,8 +37,10 @@ laid_over m address [] = []
 laid_over m address (b ∷ bs) = unwrap_or (bytes_map.get m address) b ∷ laid_over m (address + 1) bs
 
 -- memory with the stored bytes written to it
-abbrev pub drained : Bytes → List ℕ → List ℕ
-drained m memory = map (λ address. unwrap_or (bytes_map.get m address) (slice_index memory address)) (range_with_len 0 (length memory))
+abbrev pub memory_with : Bytes → List ℕ → List ℕ
+memory_with m memory =
+    map (λ address. unwrap_or (bytes_map.get m address) (slice_index memory address))
+    (range_with_len 0 (length memory))
 
 -- each stored byte is below the end of memory
 abbrev pub Fits : Bytes → ℕ → Type 0

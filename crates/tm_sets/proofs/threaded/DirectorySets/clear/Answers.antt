@@ -1,0 +1,34 @@
+use Rattle.std.proofs.Common.{◌≡◌, ◌<◌, ℕ, cond, get_or, length, sym, ap, ◌∙◌, ⊎_elim, subst, arith}
+use Rattle.std.proofs.lemmas.Bool.{cases_eq, eq-eqb, ne_eqb}
+use Rattle.std.proofs.lemmas.List.{get_or_read}
+use Rattle.std.specs.FinSet as lines
+use Rattle.tm_sets.specs.Content.{Fixed, by_kind, without_core}
+use Rattle.tm_sets.specs.Row.{lines_in}
+use Rattle.tm_sets.specs.Threaded.{threaded_content}
+use Rattle.tm_sets.specs.DirectoryRows.{rows_of}
+use Rattle.tm_sets.proofs.Adding.{same_content}
+use Rattle.tm_sets.proofs.Clearing.{none_left}
+use Rattle.tm_sets.proofs.threaded.DirectorySets.clear.Goals as goal
+
+same_fixed : (a a' b b' x x' y y' : ℕ) → a ≡ a' → b ≡ b' → x ≡ x' → y ≡ y'
+    → (let f : Fixed = record { room = by_kind a b; cores = x; line_count = y } in let g : Fixed = record { room = by_kind a' b'; cores = x'; line_count = y' } in f ≡ g)
+same_fixed a a' b b' x x' y y' p q s t =
+    let F : ℕ → ℕ → ℕ → ℕ → Fixed = λ u v w z. record { room = by_kind u v; cores = w; line_count = z } in
+    ap (λ n. F n b x y) p ∙ ap (λ n. F a' n x y) q ∙ ap (λ n. F a' b' n y) s ∙ ap (λ n. F a' b' x' n) t
+
+pub returns-clause-content : goal.returns-clause-content
+returns-clause-content c =
+    let old = c.args.self.now in
+    let new = c.loop-self.self in
+    let i = c.loop-self.invariant in
+    let below : c.args.core < length new.core_heads.items = omega (arith, c.requires, i.cores) in
+    let head : get_or new.core_heads.items c.args.core 0 ≡ 0 = sym (get_or_read new.core_heads.items c.args.core c.index.result.now below (subst (λ k. c.index.result.now ≡ get_or new.core_heads.items k c.index.result.now) c.from.ensures c.index.ensures) 0) ∙ c.loop-self-test.false in
+    same_content (threaded_content (rows_of new)) (without_core (threaded_content (rows_of old)) c.args.core)
+    (λ other kind. ⊎_elim
+    (λ (e : other ≡ c.args.core).
+    ap (λ k. lines_in new.entries.items k kind) e ∙ none_left (rows_of new) new.threaded c.args.core below head kind
+    ∙ sym (ap (λ t. cond t lines.empty (lines_in old.entries.items other kind)) (eq-eqb other c.args.core e)))
+    (λ (e : other ≡ c.args.core → ⊥).
+    i.lines other kind e ∙ sym (ap (λ t. cond t lines.empty (lines_in old.entries.items other kind)) (ne_eqb other c.args.core e)))
+    (cases_eq other c.args.core))
+    (same_fixed new.read_lines old.read_lines new.write_lines old.write_lines (length new.core_heads.items) (length old.core_heads.items) new.line_count old.line_count i.read_lines i.write_lines i.cores i.line_count)
