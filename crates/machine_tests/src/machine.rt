@@ -8,6 +8,7 @@ use ia_image::{Program, load};
 use std::alloc::Global;
 use std::process::Abort;
 use tm_core::{Limits, Machine, Outcome};
+use tm_sets::Sets;
 
 const LIMITS: Limits = Limits {
     read_lines: 512,
@@ -51,7 +52,13 @@ fn beside(rt: &impl Abort, alloc: Global, other: &[u8]) -> Machine {
 }
 
 /// Steps of these cores, which have these outcomes.
-fn steps(rt: &impl Abort, alloc: Global, machine: &mut Machine, cores: &[u8], want: &[Outcome]) {
+fn steps<S: Sets>(
+    rt: &impl Abort,
+    alloc: Global,
+    machine: &mut Machine<S>,
+    cores: &[u8],
+    want: &[Outcome],
+) {
     let seen = machine.run(alloc, cores).expect(rt, "runs");
     assert_eq!(rt; seen.as_slice(), want);
 }

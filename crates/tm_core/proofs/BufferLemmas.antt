@@ -1,4 +1,4 @@
-use Rattle.tm_buffer.specs.Held.{with_bytes, drained}
+use Rattle.tm_buffer.specs.Buffer.{with_bytes, memory_with}
 use Rattle.ia_word.specs.Line.{line}
 use Rattle.std.proofs.Common.{◌≡◌, ℕ, ◌<◌, Bool, true, false, cond, eqb, ◌||◌, List, [], ◌∷◌, ◌++◌, map, length, get_or, set, Some, refl, sym, ap, ◌∙◌, subst, ⊎_elim, arith}
 use Rattle.std.specs.Prelude.{unwrap_or}
@@ -51,8 +51,8 @@ with_bytes-buffer_of xs [] = refl
 with_bytes-buffer_of xs (w ∷ ws) = ap (λ b. map_of.insert b w.0 w.1) (with_bytes-buffer_of xs ws)
 
 -- a commit writes exactly the stored bytes
-pub drained-memory_after : (m : List ℕ) (ws : Stores) → InRange (length m) ws → drained (buffer_of ws) m ≡ memory_after m ws
-drained-memory_after m ws h =
+pub memory_with-memory_after : (m : List ℕ) (ws : Stores) → InRange (length m) ws → memory_with (buffer_of ws) m ≡ memory_after m ws
+memory_with-memory_after m ws h =
     let f : ℕ → ℕ = seen (buffer_of ws) m in
     ext_get_or 0 (map f (range_with_len 0 (length m))) (memory_after m ws)
     (length-map-range_with_len f 0 (length m) ∙ sym (length-memory_after m ws))

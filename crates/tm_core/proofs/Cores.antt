@@ -3,7 +3,10 @@ use Rattle.std.proofs.lemmas.List.{get_or-set_same, get_or-set_other}
 use Rattle.std.proofs.lemmas.Bool.{eqb-true, eqb-false, eq-eqb, or_left, or_right, true≢false}
 use Rattle.std.specs.List.{list_any}
 use Rattle.std.specs.FinSet as finset
-use Rattle.tm_buffer.specs.Held.{drained}
+use Rattle.std.specs.Prelude.{Result}
+use Rattle.ia_insn.specs.declared.fault.DecodeFault.{DecodeFault}
+use Rattle.ia_insn.specs.declared.op.Insn.{Insn}
+use Rattle.tm_buffer.specs.Buffer.{memory_with}
 use Rattle.tm_sets.specs.Content.{Content}
 use Rattle.tm_model.specs.Setting.{Setting}
 use Rattle.tm_model.specs.Shown.{View, view_outside}
@@ -12,7 +15,9 @@ use Rattle.tm_core.specs.Representation.{cpu_at, cpu_view, cpu_views, is_open, k
 use Rattle.tm_core.specs.Representation.{no_cpu}
 use Rattle.tm_core.specs.StepRefinement.{StepResult, Touched, condemn_view, finished, lines_hit, lines_touched}
 use Rattle.tm_core.specs.StepRefinement.{stepped, view_after_hit, views_after}
-use Rattle.tm_core.specs.Types.{AtStop, Committed, Condemned, CoreState, Mid, Open, Outcome, Read, Running, Write}
+use Rattle.tm_core.specs.Types.{AtStop, Committed, Condemned, CoreState, Mid, Open, Outcome, Read, Regs, Running}
+use Rattle.tm_core.specs.Types.{Write}
+use Rattle.tm_rule.specs.Rule.{StandsAt}
 use Rattle.tm_core.proofs.BufferLemmas.{items_any}
 use Rattle.tm_core.proofs.Held.{held_of, held_plain, ordered_as, ordered_of}
 use Rattle.tm_core.proofs.Hits.{hit_kept_view, lines_hit_same}
@@ -100,13 +105,13 @@ module _ (k : Setting) (m : List ℕ) (a b b2 b3 : Content) (cpus cpus3 : List C
       ∙ hit_items room (kept_of b c x) (cpu_views a cpus j) held
 
   pub commit_step : (m2 : List ℕ) → (cpu_at cpus c).state ≡ Open depth → stepped k m (cpu_views a cpus c) (Open depth) ≡ finished m (cpu_view b c x) →
-      m2 ≡ drained (cpu_at cpus3 c).buffer.bytes m → cpu_view b3 c y ≡ view_outside Running (cpu_at cpus3 c).regs →
+      m2 ≡ memory_with (cpu_at cpus3 c).buffer.bytes m → cpu_view b3 c y ≡ view_outside Running (cpu_at cpus3 c).regs →
       IsStep k m (cpu_views a cpus) (length cpus) c Committed m2 (cpu_views b3 (set cpus3 c y))
   commit_step m2 state is memory shows =
       let whole : stepped k m (cpu_views a cpus c) (cpu_views a cpus c).mode ≡ finished m (cpu_view b c x) = ap (stepped k m (cpu_views a cpus c)) state ∙ is in
       record {
         outcome_is = ap (λ (r : StepResult). r.outcome) (sym whole);
-        new_memory = memory ∙ ap (λ (z : KeptCore). drained z.view.buffer m) own_kept ∙ ap (λ (r : StepResult). r.memory) (sym whole);
+        new_memory = memory ∙ ap (λ (z : KeptCore). memory_with z.view.buffer m) own_kept ∙ ap (λ (r : StepResult). r.memory) (sym whole);
         each = λ j h.
             subst (λ (r : StepResult). cpu_views b3 (set cpus3 c y) j ≡ views_after (cpu_views a cpus) c r j) (sym whole)
             ((elim (eqb j c) as (λ t. eqb j c ≡ t → cpu_views b3 (set cpus3 c y) j ≡ cond t (view_outside Running x.regs) (view_after_hit (lines_touched Write (finset.items (b.lines c Write))) (cpu_views a cpus j))) [
@@ -168,3 +173,7 @@ quiet_kept a cpus c x touched closed j h =
       | true ↦ λ e. refl
       | false ↦ λ e. sym (closed_kept touched y (ap (λ (z : Cpu). is_open z.state) (cpu_other cpus c j x (eqb-false j c e)) ∙ closed j h))
     ]) refl
+
+-- what stands at the EIP of a core that is in no transaction
+pub row_of_base : (code : List ℕ) (base : ℕ) (row : Result (Insn × ℕ) DecodeFault) (x y : Cpu) → x ≡ y → y.regs ≡ y.base → StandsAt code base y.regs.eip row → StandsAt code base x.base.eip row
+row_of_base code base row x y same regs h = subst (λ (z : Cpu). StandsAt code base z.base.eip row) (sym same) (subst (λ (r : Regs). StandsAt code base r.eip row) regs h)

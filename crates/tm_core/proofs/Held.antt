@@ -10,7 +10,7 @@ use Rattle.ia_word.specs.declared.width.Width.{Width}
 use Rattle.ia_word.specs.Line.{line, last_line, lines as access_row}
 use Rattle.ia_word.specs.declared.width.Width.TheVariants.{B, D}
 use Rattle.ia_word.specs.Operand.{placed_bytes, operand_bytes}
-use Rattle.tm_buffer.specs.Held.{place_of, with_line, with_lines}
+use Rattle.tm_buffer.specs.Buffer.{place_of, with_line, with_lines}
 use Rattle.tm_model.specs.Access.{addresses_of, stored_addresses, stores_of}
 use Rattle.tm_core.specs.Representation.{IsHeld, KeptCore}
 use Rattle.tm_core.specs.StepRefinement.{add_all, store_addresses}

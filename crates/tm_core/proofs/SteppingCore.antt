@@ -21,7 +21,7 @@ use Rattle.tm_core.specs.StepRefinement.{ran_inside, stayed, stepped}
 use Rattle.tm_core.specs.Types.{Aborted, AtStop, Begins, Capacity, Committed, Condemned, Conflict, Ends, Fails, Goes}
 use Rattle.tm_core.specs.Types.{GoesOn, Inside, InsideResult, Loaded, Nests, Open, Outcome, OutsideResult, Plain}
 use Rattle.tm_core.specs.Types.{Regs, Running, Stop, Stops, Store}
-use Rattle.tm_core.proofs.BufferLemmas.{InRange-append, add_all-lines, both_hit, drained-memory_after, hits}
+use Rattle.tm_core.proofs.BufferLemmas.{InRange-append, add_all-lines, both_hit, memory_with-memory_after, hits}
 use Rattle.tm_core.proofs.BufferLemmas.{items_hit, loads_alone_hit, map_seen, with_bytes-buffer_of}
 use Rattle.tm_core.proofs.Frame.{longer_body-next_body}
 use Rattle.tm_core.proofs.OtherCores.{view_inside_at, view_inside_is}
@@ -198,7 +198,7 @@ module _ (k : Setting) (sound : Sound k) (m : List ℕ) (size : length m ≡ k.s
     next = Closed b2.regs;
     stores = b2.stores;
     moves = ap (option_and_then (after_commit m)) (is_next_body b2 e) ∙ ap (λ t. cond t (Some (memory_after m b2.stores, Closed b2.regs)) None) over;
-    memory = drained-memory_after m b2.stores (ranged b2 e);
+    memory = memory_with-memory_after m b2.stores (ranged b2 e);
     shows = refl;
     wrote = sym (ap addresses_stored_inside (is_next_body b2 e));
     loads = [];

@@ -1,9 +1,13 @@
 -- How a machine's parts are seen as one value, and what holds of them between steps.
-use Rattle.std.specs.Prelude.{◌≡◌, ℕ, ◌+◌, ◌*◌, ◌<◌, ◌≤◌, ◌^◌, Bool, ◌||◌, false, nat_lt, List, [], ◌∷◌, length, refl}
+use Rattle.std.specs.Prelude.{◌≡◌, ℕ, ◌+◌, ◌*◌, ◌<◌, ◌≤◌, ◌^◌, Bool, ◌||◌, false, nat_lt, List, [], ◌∷◌, Result}
+use Rattle.std.specs.Prelude.{length, refl}
 use Rattle.std.specs.Coded.{Coded, code_by, coded×, coded_ℕ, coded_list}
 use Rattle.std.specs.FinSet as set
 use Rattle.std.specs.FinMap as map_of
+use Rattle.ia_decode.specs.Offsets.{AreDecoded}
 use Rattle.ia_image.specs.Program.{ProgramValue as Program, start_regs}
+use Rattle.ia_insn.specs.declared.fault.DecodeFault.{DecodeFault}
+use Rattle.ia_insn.specs.declared.op.Insn.{Insn}
 use Rattle.tm_sets.specs.Content.{Content}
 use Rattle.tm_core.specs.declared.cpu.Cpu.{Cpu}
 use Rattle.tm_core.specs.declared.limits.Limits.{Limits}
@@ -69,8 +73,8 @@ shown_by content code base memory cpus = record {
 }
 
 -- what holds of a machine between steps; where it is not busy, no core is open
-pub record IsMachine (content : Content) (code : List ℕ) (base : ℕ) (memory : List ℕ) (cpus : List Cpu) (busy : Bool)
-    : Type 0 where
+pub record IsMachine (content : Content) (code : List ℕ) (base : ℕ) (rows : List (Result (Insn × ℕ) DecodeFault))
+    (memory : List ℕ) (cpus : List Cpu) (busy : Bool) : Type 0 where
   pub some : 1 ≤ length cpus
   pub few : length cpus ≤ 64
   pub small : length memory < 2 ^ 32
@@ -78,6 +82,7 @@ pub record IsMachine (content : Content) (code : List ℕ) (base : ℕ) (memory 
   pub quiet : busy ≡ false → AreClosed cpus
   pub known : length cpus ≤ content.fixed.cores
   pub within : length memory ≤ content.fixed.line_count * 64
+  pub decoded : AreDecoded code rows
 
 -- ---- before the first step
 

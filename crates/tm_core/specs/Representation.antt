@@ -6,7 +6,7 @@ use Rattle.std.specs.List.{list_any}
 use Rattle.std.specs.FinSet as set
 use Rattle.std.specs.FinMap as map_of
 use Rattle.ia_word.specs.Width.{bytes_of}
-use Rattle.tm_buffer.specs.Held.{Fits}
+use Rattle.tm_buffer.specs.Buffer.{Fits}
 use Rattle.tm_sets.specs.Content.{Content}
 use Rattle.tm_core.specs.declared.cpu.Cpu.{Cpu}
 use Rattle.tm_core.specs.declared.transaction.InsideStep.{InsideStep}

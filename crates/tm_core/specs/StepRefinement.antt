@@ -7,7 +7,7 @@ use Rattle.std.specs.FinSet as set
 use Rattle.std.specs.FinMap as map_of
 use Rattle.std.specs.List.{list_any}
 use Rattle.ia_word.specs.Line.{line}
-use Rattle.tm_buffer.specs.Held.{with_bytes, drained}
+use Rattle.tm_buffer.specs.Buffer.{with_bytes, memory_with}
 use Rattle.tm_model.specs.Access.{Stores, addresses_of, memory_after, stored_addresses, stores_of}
 use Rattle.tm_model.specs.Owed.{have_room, status_at}
 use Rattle.tm_model.specs.Setting.{Setting, outside_at, value_at}
@@ -136,7 +136,7 @@ stayed memory loads view =
 abbrev pub finished : List ℕ → View → StepResult
 finished memory view = record {
   outcome = Committed;
-  memory = drained view.buffer memory;
+  memory = memory_with view.buffer memory;
   view = view_outside Running view.regs;
   touched = lines_touched Write (set.items view.writes);
 }

@@ -2,6 +2,7 @@
 
 ghost use Rattle.std.specs.Prelude.{◌≡◌, ◌<◌, ◌≤◌, ◌*◌, ◌↔◌, ℕ, None, Err, true, length, IfOk};
 ghost use Rattle.std.specs.FinSet as set;
+ghost use Rattle.ia_decode.specs.Offsets.{AreDecoded};
 ghost use Rattle.ia_image.specs.Program.{opening_memory as memory_of, code_of};
 ghost use Rattle.tm_sets.specs.declared.interface.Kind as AnyKind;
 ghost use Rattle.tm_model.specs.Setting.{program_setting};
@@ -19,7 +20,8 @@ use ia_image::Program;
 use std::alloc::{AllocError, Global};
 use tm_buffer::Buffer;
 use tm_model::CoreState;
-use tm_sets::{Kind, PlainSets, Sets};
+use tm_rule::Decoded;
+use tm_sets::{Directory, Kind, Sets};
 
 // A core before its first step.
 fn start_cpu(
@@ -60,25 +62,33 @@ fn start_cpus(alloc: Global, program: &Program, write_lines: u32) -> Result<Vec<
     Ok(cpus)
 }
 
-// The code, memory and cores of a machine before its first step.
+// The code, with what decoding gives from each of its first offsets.
+fn start_code(alloc: Global, program: &Program) -> Result<(Vec<u8>, Vec<Decoded>), AllocError>
+    ensures code { IfOk result (λ parts. parts.0.items ≡ code_of program.now) }
+    ensures rows { IfOk result (λ parts. AreDecoded (code_of program.now) parts.1.items) }
+{
+    let rows = Vec::from_slice(alloc, program.rows())?;
+    let code = Vec::from_slice(alloc, program.code())?;
+    Ok((code, rows))
+}
+
+// Memory and cores of a machine before its first step.
 fn start_parts(
     alloc: Global,
     program: &Program,
     write_lines: u32,
-) -> Result<(Vec<u8>, Vec<u8>, Vec<Cpu>), AllocError>
+) -> Result<(Vec<u8>, Vec<Cpu>), AllocError>
     requires some { 1 ≤ write_lines }
     requires most { write_lines ≤ 4096 }
-    ensures code { IfOk result (λ parts. parts.0.items ≡ code_of program.now) }
-    ensures memory { IfOk result (λ parts. parts.1.items ≡ memory_of program.now) }
-    ensures size { IfOk result (λ parts. length parts.1.items ≡ program.now.mem_size) }
-    ensures cores { IfOk result (λ parts. length parts.2.items ≡ length program.now.entries) }
+    ensures memory { IfOk result (λ parts. parts.0.items ≡ memory_of program.now) }
+    ensures size { IfOk result (λ parts. length parts.0.items ≡ program.now.mem_size) }
+    ensures cores { IfOk result (λ parts. length parts.1.items ≡ length program.now.entries) }
     ensures starts { IfOk result (λ parts. (i : ℕ) → i < length program.now.entries →
-        IsStart program.now write_lines i (cpu_at parts.2.items i)) }
+        IsStart program.now write_lines i (cpu_at parts.1.items i)) }
 {
-    let code = Vec::from_slice(alloc, program.code())?;
     let memory = opening_memory(alloc, program)?;
     let cpus = start_cpus(alloc, program, write_lines)?;
-    Ok((code, memory, cpus))
+    Ok((memory, cpus))
 }
 
 impl<S: Sets + Drop> Machine<S> {
@@ -104,10 +114,14 @@ impl<S: Sets + Drop> Machine<S> {
         if limits.are_bad() {
             return Err(MachineFault::BadLimits);
         }
+        let Ok((code, rows)) = start_code(alloc, program) else {
+            return Err(MachineFault::NoMemory);
+        };
         match start_parts(alloc, program, limits.write_lines) {
-            Ok((code, memory, cpus)) => Ok(Machine {
+            Ok((memory, cpus)) => Ok(Machine {
                 code,
                 base: program.base(),
+                rows,
                 memory,
                 cpus,
                 sets,
@@ -118,13 +132,13 @@ impl<S: Sets + Drop> Machine<S> {
     }
 }
 
-impl Machine<PlainSets> {
+impl Machine<Directory> {
     /// A machine before its first step. `BadLimits` (40) where a limit is not 1 to 4096, or else `NoMemory` (41).
     pub fn new(
         alloc: Global,
         program: &Program,
         limits: Limits,
-    ) -> Result<Machine<PlainSets>, MachineFault>
+    ) -> Result<Machine<Directory>, MachineFault>
         ensures limits { result ≡ Err MachineFault.BadLimits ↔ (bad_limits limits ≡ true) }
         ensures opening { IfOk result (λ machine. StandsFor machine (opening_state program.now) (λ _. None)) }
         ensures rules { IfOk result (λ machine. machine_setting machine
@@ -135,7 +149,7 @@ impl Machine<PlainSets> {
             return Err(MachineFault::BadLimits);
         }
         let lines = program.mem_size() / 64;
-        match PlainSets::new(
+        match Directory::new(
             alloc,
             program.cores(),
             lines,

@@ -4,8 +4,8 @@ ghost use Rattle.std.specs.Prelude.{◌≡◌, ◌+◌, ◌-◌, ◌*◌, ◌/�
 ghost use Rattle.std.specs.Prelude.{false, length, map, nat_lt, not, slice_set, IfSome};
 ghost use Rattle.std.specs.FinSet as set;
 ghost use Rattle.ia_word.specs.Width.{bytes_of, bits_of};
-ghost use Rattle.tm_buffer.specs.Held.{drained, Fits};
-ghost use Rattle.tm_rule.specs.Rule.{load_at as load_by, fallback_of};
+ghost use Rattle.tm_buffer.specs.Buffer.{memory_with, Fits};
+ghost use Rattle.tm_rule.specs.Rule.{StandsAt, load_at as load_by, fallback_of};
 ghost use Rattle.tm_sets.specs.Content.{Content, with_line};
 ghost use Rattle.tm_sets.specs.declared.interface.Kind as AnyKind;
 ghost use Rattle.tm_model.specs.Access.{addresses_of, loaded_addresses, loaded_value, stores_of};
@@ -22,11 +22,12 @@ use ia_exec::Store;
 use ia_regs::Regs;
 use ia_word::{Width, line_of};
 use tm_model::{CoreState, Outcome};
-use tm_rule::{Code, InsideResult, fallback, fetch, inside, load_at};
+use tm_rule::{Code, Decoded, Inside, fallback, inside_in, load_at};
 use tm_sets::{Kind, Sets};
 use tm_status::{Cause, status};
 
 /// Aborts the transaction of a core, which resumes at the fallback of its outermost XBEGIN with this status in EAX.
+#[inline(never)]
 pub fn abort<S: Sets>(
     code: &Code,
     cpu: &mut Cpu,
@@ -49,7 +50,7 @@ pub fn abort<S: Sets>(
 {
     let status = status(cause, depth > 1);
     let mut regs = cpu.base;
-    regs.eip = fallback(&fetch(code, regs.eip), &regs);
+    regs.eip = fallback(code, &regs);
     regs.set(0, status);
     cpu.base = regs;
     cpu.regs = regs;
@@ -64,7 +65,7 @@ pub fn commit<S: Sets>(memory: &mut [u8], cpu: &mut Cpu, sets: &mut S, c: u8)
     requires core { c < (S.content sets.old).fixed.cores }
     requires fits { Fits cpu.old.buffer.bytes (length memory.old) }
     ensures view { cpu_view (S.content sets.new) c cpu.new ≡ view_outside CoreState.Running cpu.old.regs }
-    ensures memory { memory.new ≡ drained cpu.old.buffer.bytes memory.old }
+    ensures memory { memory.new ≡ memory_with cpu.old.buffer.bytes memory.old }
     ensures elsewhere { Elsewhere (S.content sets.old) (S.content sets.new) c }
     ensures order { cpu.new.buffer.order ≡ [] }
     ensures room { cpu.new.buffer.room ≡ cpu.old.buffer.room }
@@ -152,14 +153,14 @@ fn touch<S: Sets>(sets: &mut S, c: u8, access: Option<Access>, store: Option<Sto
     read && write
 }
 
-// One more instruction of a body, or an answer that its lines have no room.
+// One more instruction of a body, after which the registers are those of the core, or an answer that its lines have no
+// room.
 fn grow<S: Sets>(
     cpu: &mut Cpu,
     sets: &mut S,
     c: u8,
     access: Option<Access>,
     store: Option<Store>,
-    next: Regs,
     depth: u8,
 ) -> bool
     requires core { c < (S.content sets.old).fixed.cores }
@@ -172,10 +173,12 @@ fn grow<S: Sets>(
     requires writes { set.len ((S.content sets.old).lines c Kind.Write) ≤ (S.content sets.old).fixed.room Kind.Write }
     requires held { IsHeld ((S.content sets.old).fixed.room Kind.Write) (kept_of (S.content sets.old) c cpu.old) }
     ensures told { (code : List ℕ) (base size : ℕ) → let new =
-        grows (cpu_view (S.content sets.old) c cpu.old) depth next (loaded_addresses access) (stores_of store) in
+        grows (cpu_view (S.content sets.old) c cpu.old) depth cpu.old.regs (loaded_addresses access)
+        (stores_of store) in
         result ≡ have_room (parts_setting code base size (S.content sets.old)) new.reads new.writes }
     ensures grown { result ≡ true → cpu_view (S.content sets.new) c cpu.new
-        ≡ grows (cpu_view (S.content sets.old) c cpu.old) depth next (loaded_addresses access) (stores_of store) }
+        ≡ grows (cpu_view (S.content sets.old) c cpu.old) depth cpu.old.regs (loaded_addresses access)
+        (stores_of store) }
     ensures held { result ≡ true → IsHeld ((S.content sets.old).fixed.room Kind.Write)
         (kept_of (S.content sets.new) c cpu.new) }
     ensures base { cpu.new.base ≡ cpu.old.base }
@@ -185,7 +188,6 @@ fn grow<S: Sets>(
 {
     let room = touch(sets, c, access, store);
     if room {
-        cpu.regs = next;
         cpu.state = CoreState::Open(depth);
         if let Some(w) = store {
             match cpu.buffer.put(w.addr, w.width, w.value) {
@@ -210,6 +212,7 @@ pub enum InsideStep {
 
 /// A step of an open core, but for what it does to other cores, and what a commit does to memory.
 pub fn step_inside<S: Sets>(
+    row: &Decoded,
     code: &Code,
     memory: &[u8],
     cpu: &mut Cpu,
@@ -218,6 +221,7 @@ pub fn step_inside<S: Sets>(
     size: u32,
     depth: u8,
 ) -> InsideStep
+    requires row { StandsAt code.now.bytes.now code.now.base cpu.old.regs.eip row.now }
     requires core { c < (S.content sets.old).fixed.cores }
     requires lines { size ≤ (S.content sets.old).fixed.line_count * 64 }
     requires size { size ≡ length memory.now }
@@ -236,28 +240,26 @@ pub fn step_inside<S: Sets>(
     ensures buffer { result ≡ InsideStep.Commits → cpu.new.buffer.bytes ≡ cpu.old.buffer.bytes }
     ensures order { result ≡ InsideStep.Commits → cpu.new.buffer.order ≡ cpu.old.buffer.order }
 {
-    let regs = cpu.regs;
-    let fetched = fetch(code, regs.eip);
-    let access = load_at(&fetched, &regs, size);
+    let access = load_at(row, &cpu.regs, size);
     let loaded = load(memory, cpu, access);
-    match inside(&fetched, code, size, &regs, loaded, depth) {
-        InsideResult::Fails(cause) => InsideStep::Aborts(abort(code, cpu, sets, c, cause, depth)),
-        InsideResult::GoesOn(next, store) => {
-            if grow(cpu, sets, c, access, store, next, depth) {
+    match inside_in(row, code, size, &mut cpu.regs, loaded, depth) {
+        Inside::Fails(cause) => InsideStep::Aborts(abort(code, cpu, sets, c, cause, depth)),
+        Inside::GoesOn(store) => {
+            if grow(cpu, sets, c, access, store, depth) {
                 InsideStep::GoesInside(access)
             } else {
                 InsideStep::Aborts(abort(code, cpu, sets, c, Cause::Capacity, depth))
             }
         }
-        InsideResult::Nests(next) => {
-            if grow(cpu, sets, c, access, None, next, depth + 1) {
+        Inside::Nests => {
+            if grow(cpu, sets, c, access, None, depth + 1) {
                 InsideStep::GoesInside(access)
             } else {
                 InsideStep::Aborts(abort(code, cpu, sets, c, Cause::Capacity, depth))
             }
         }
-        InsideResult::Ends(next) => {
-            if !grow(cpu, sets, c, access, None, next, depth - 1) {
+        Inside::Ends => {
+            if !grow(cpu, sets, c, access, None, depth - 1) {
                 InsideStep::Aborts(abort(code, cpu, sets, c, Cause::Capacity, depth))
             } else if depth == 1 {
                 InsideStep::Commits

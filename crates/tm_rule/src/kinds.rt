@@ -1,7 +1,9 @@
 //! What the tests speak of.
 
+ghost use Rattle.ia_decode.specs.Offsets.{AreDecoded};
+
+use ia_decode::Decoded;
 use ia_exec::Store;
-use ia_insn::Insn;
 use ia_regs::Regs;
 use tm_status::Cause;
 
@@ -28,26 +30,16 @@ pub enum Stop {
     NotInSubset,
 }
 
-/// The code: its bytes, and the address of the first.
+/// The code: its bytes, the address of the first, and what decoding gives from each of its first offsets.
 #[derive(Clone, Copy, Debug)]
 pub struct Code<'a> {
     /// The bytes.
     pub bytes: &'a [u8],
     /// The address of the first byte.
     pub base: u32,
-}
-
-/// What stands at EIP.
-#[derive(Clone, Copy, PartialEq, Eq, Debug)]
-pub enum Fetched {
-    /// An instruction, and how many bytes it takes.
-    Found(Insn, u8),
-    /// EIP lies outside the code, or the code ends within the instruction.
-    Missing,
-    /// No instruction of the subset.
-    Unknown,
-    /// LOCK where it is not allowed.
-    Undefined,
+    /// What decoding gives from each of the first offsets. What stands further back is decoded at each call.
+    pub rows: &'a [Decoded],
+    ghost decoded: { AreDecoded bytes.now rows.now },
 }
 
 /// What one instruction comes to outside of transactions.
@@ -61,6 +53,17 @@ pub enum OutsideResult {
     Stops(Stop),
 }
 
+/// What one instruction comes to outside of transactions, whose registers are changed in place.
+#[derive(Clone, Copy, PartialEq, Eq, Debug)]
+pub enum Outside {
+    /// It goes on, with at most one store.
+    Goes(Option<Store>),
+    /// It opens a transaction.
+    Begins,
+    /// It stops the core.
+    Stops(Stop),
+}
+
 /// What one instruction comes to inside a transaction.
 #[derive(Clone, Copy, PartialEq, Eq, Debug)]
 pub enum InsideResult {
@@ -70,6 +73,19 @@ pub enum InsideResult {
     Nests(Regs),
     /// It is an XEND that lowers the depth, with these registers.
     Ends(Regs),
+    /// The transaction aborts.
+    Fails(Cause),
+}
+
+/// What one instruction comes to inside a transaction, whose registers are changed in place.
+#[derive(Clone, Copy, PartialEq, Eq, Debug)]
+pub enum Inside {
+    /// It goes on, with at most one store.
+    GoesOn(Option<Store>),
+    /// It is an XBEGIN that raises the depth.
+    Nests,
+    /// It is an XEND that lowers the depth.
+    Ends,
     /// The transaction aborts.
     Fails(Cause),
 }

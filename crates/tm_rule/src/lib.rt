@@ -1,14 +1,17 @@
 //! The tests of one instruction, from the code range to a store into code, in the order of docs/MACHINE.md, "One step".
 //!
-//! `fetch` reads the instruction at EIP. `load_at` says what it loads, and with these bytes `outside` and `inside` say
-//! what it comes to outside of transactions and inside: their contracts are the table of `specs/Rule.antt`. Takes no
-//! memory. Stands on `ia_decode` (spellings), `ia_exec` (results and flags), `ia_addr` (addresses) and `tm_status`.
+//! `row` finds the instruction at EIP where it was decoded before, and `fetch` decodes it. `load_at` says what it
+//! loads, and with these bytes `outside` and `inside` say what it comes to outside of transactions and inside, and
+//! `outside_in` and `inside_in` the same with the registers in place: their contracts are the table of
+//! `specs/Rule.antt`. Takes no memory. Stands on `ia_decode` (spellings), `ia_exec` (results and flags), `ia_addr`
+//! (addresses) and `tm_status`.
 #![tactic(auto)]
 
 mod kinds;
 mod rule;
 
 pub use ia_addr::Access;
+pub use ia_decode::Decoded;
 pub use ia_exec::Store;
-pub use kinds::{Code, Fetched, InsideResult, OutsideResult, Stop};
-pub use rule::{fallback, fetch, inside, load_at, outside};
+pub use kinds::{Code, Inside, InsideResult, Outside, OutsideResult, Stop};
+pub use rule::{fallback, fetch, inside, inside_in, load_at, outside, outside_in, row};

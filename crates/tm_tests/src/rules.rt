@@ -23,13 +23,21 @@ fn registers() -> Regs {
 }
 
 fn alone(bytes: &[u8], loaded: u32) -> OutsideResult {
-    let code = Code { bytes, base: BASE };
+    let code = Code {
+        bytes,
+        base: BASE,
+        rows: &[],
+    };
     let regs = registers();
     outside(&fetch(&code, regs.eip), &code, SIZE, &regs, loaded)
 }
 
 fn within(bytes: &[u8], loaded: u32, depth: u8) -> InsideResult {
-    let code = Code { bytes, base: BASE };
+    let code = Code {
+        bytes,
+        base: BASE,
+        rows: &[],
+    };
     let regs = registers();
     inside(&fetch(&code, regs.eip), &code, SIZE, &regs, loaded, depth)
 }
@@ -145,6 +153,7 @@ fn loads_and_fallbacks(rt: HostRuntime) {
     let code = Code {
         bytes: &[0xa1, 0xfc, 0xff, 0, 0, 0xa1, 0xfd, 0xff, 0, 0],
         base: BASE,
+        rows: &[],
     };
     let first = fetch(&code, 0x100);
     let access = Access {
@@ -158,11 +167,13 @@ fn loads_and_fallbacks(rt: HostRuntime) {
     let ahead = Code {
         bytes: &[0xc7, 0xf8, 0x0f, 0, 0, 0],
         base: BASE,
+        rows: &[],
     };
-    assert_eq!(rt; fallback(&fetch(&ahead, BASE), &registers()), 0x115);
+    assert_eq!(rt; fallback(&ahead, &registers()), 0x115);
     let back = Code {
         bytes: &[0xc7, 0xf8, 0xfa, 0xff, 0xff, 0xff],
         base: BASE,
+        rows: &[],
     };
-    assert_eq!(rt; fallback(&fetch(&back, BASE), &registers()), 0x100);
+    assert_eq!(rt; fallback(&back, &registers()), 0x100);
 }

@@ -7,10 +7,10 @@ use std::alloc::Global;
 use std::process::Abort;
 use tm_core::Outcome::{Aborted, Begun, Inside};
 use tm_core::{Machine, transactions_are_as_they_went};
-use tm_sets::{Kind, PlainSets};
+use tm_sets::{Kind, PlainSets, Sets};
 
 /// The lines that core 0 has read, and those that it has written.
-fn lines(rt: &impl Abort, alloc: Global, machine: &Machine) -> (Vec<u32>, Vec<u32>) {
+fn lines<S: Sets>(rt: &impl Abort, alloc: Global, machine: &Machine<S>) -> (Vec<u32>, Vec<u32>) {
     (
         machine.sets(alloc, 0, Kind::Read).expect(rt, "lines"),
         machine.sets(alloc, 0, Kind::Write).expect(rt, "lines"),
@@ -18,7 +18,7 @@ fn lines(rt: &impl Abort, alloc: Global, machine: &Machine) -> (Vec<u32>, Vec<u3
 }
 
 /// A machine over sets that the caller made.
-fn over_own_sets(rt: &impl Abort, alloc: Global, program: &Program) -> Machine {
+fn over_own_sets(rt: &impl Abort, alloc: Global, program: &Program) -> Machine<PlainSets> {
     let lines = program.mem_size() / 64;
     match PlainSets::new(alloc, program.cores(), lines, 512, 512) {
         Ok(sets) => Machine::with_sets(alloc, program, LIMITS, sets).expect(rt, "makes"),

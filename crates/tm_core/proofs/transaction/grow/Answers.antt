@@ -2,7 +2,7 @@ use Rattle.std.proofs.Common.{◌≡◌, ◌≤◌, [], ltb, true, false, length
 use Rattle.std.proofs.lemmas.Bool.{true≢false}
 use Rattle.std.specs.FinSet as finset
 use Rattle.ia_word.specs.Line.{lines as access_row}
-use Rattle.tm_buffer.specs.Held.{with_lines}
+use Rattle.tm_buffer.specs.Buffer.{with_lines}
 use Rattle.tm_sets.specs.Content.{Content}
 use Rattle.tm_sets.specs.LineSet.{Lines}
 use Rattle.tm_model.specs.Access.{addresses_of, loaded_addresses}

@@ -1,4 +1,5 @@
 use Rattle.std.proofs.Common.{◌≡◌, ◌<◌, ◌≤◌, ◌*◌, ◌^◌, ℕ, length, sym, ◌∙◌, subst, arith}
+use Rattle.ia_decode.specs.Offsets.{AreDecoded}
 use Rattle.ia_image.specs.Program.{ProgramValue as Program}
 use Rattle.tm_sets.specs.Content.{Content}
 use Rattle.tm_core.specs.Machine.{IsStart}
@@ -11,20 +12,20 @@ pub invariant_of-result : goal.invariant_of-result
 invariant_of-result g c =
     let p : Program = c.args.program.now in
     let a : Content = g.S.Sets.content c.args.sets in
-    let start : (i : ℕ) → i < length p.entries → IsStart p (a.fixed.room Write) i (cpu_at c.in-Ok.cpus.items i) = λ i h. subst (λ n. IsStart p n i (cpu_at c.in-Ok.cpus.items i)) (sym c.requires.write_lines) (c.in-Ok.ensures.starts i h) in
-    let size : length c.in-Ok.memory.items ≡ p.mem_size = c.in-Ok.ensures.size in
+    let start : (i : ℕ) → i < length p.entries → IsStart p (a.fixed.room Write) i (cpu_at c.in-Ok-start_parts.cpus.items i) = λ i h. subst (λ n. IsStart p n i (cpu_at c.in-Ok-start_parts.cpus.items i)) (sym c.requires.write_lines) (c.in-Ok-start_parts.ensures.starts i h) in
+    let size : length c.in-Ok-start_parts.memory.items ≡ p.mem_size = c.in-Ok-start_parts.ensures.size in
     let large : p.mem_size ≤ 268435456 = c.base.ensures.sound.not_large in
-    let small : length c.in-Ok.memory.items < 2 ^ 32 = omega arith in
+    let small : length c.in-Ok-start_parts.memory.items < 2 ^ 32 = omega arith in
     let lines : p.mem_size ≤ a.fixed.line_count * 64 = c.requires.lines in
-    opening_machine p a c.in-Ok.code.items c.base.result c.in-Ok.memory.items c.in-Ok.cpus.items c.requires.empty c.in-Ok.ensures.memory c.in-Ok.ensures.cores start
-    c.base.ensures.sound.some_core c.base.ensures.sound.few_cores small c.requires.cores (omega arith)
+    opening_machine p a c.in-Ok.code.items c.base.result c.in-Ok-start_parts.memory.items c.in-Ok-start_parts.cpus.items c.requires.empty c.in-Ok-start_parts.ensures.memory c.in-Ok-start_parts.ensures.cores start
+    c.in-Ok.rows.items (subst (λ code. AreDecoded code c.in-Ok.rows.items) (sym c.in-Ok.ensures.code) c.in-Ok.ensures.rows) c.base.ensures.sound.some_core c.base.ensures.sound.few_cores small c.requires.cores (omega arith)
 
-pub returns-in-Ok-clause-opening : goal.returns-in-Ok-clause-opening
-returns-in-Ok-clause-opening g c =
+pub returns-in-Ok-start_parts-clause-opening : goal.returns-in-Ok-start_parts-clause-opening
+returns-in-Ok-start_parts-clause-opening g c =
     let p : Program = c.args.program.now in
     let a : Content = g.S.Sets.content c.args.sets in
-    let start : (i : ℕ) → i < length p.entries → IsStart p (a.fixed.room Write) i (cpu_at c.in-Ok.cpus.items i) = λ i h. subst (λ n. IsStart p n i (cpu_at c.in-Ok.cpus.items i)) (sym c.requires.write_lines) (c.in-Ok.ensures.starts i h) in
-    opening_stands p a c.in-Ok.code.items c.base.result c.in-Ok.memory.items c.in-Ok.cpus.items c.requires.empty c.in-Ok.ensures.memory c.in-Ok.ensures.cores start
+    let start : (i : ℕ) → i < length p.entries → IsStart p (a.fixed.room Write) i (cpu_at c.in-Ok-start_parts.cpus.items i) = λ i h. subst (λ n. IsStart p n i (cpu_at c.in-Ok-start_parts.cpus.items i)) (sym c.requires.write_lines) (c.in-Ok-start_parts.ensures.starts i h) in
+    opening_stands p a c.in-Ok.code.items c.base.result c.in-Ok-start_parts.memory.items c.in-Ok-start_parts.cpus.items c.requires.empty c.in-Ok-start_parts.ensures.memory c.in-Ok-start_parts.ensures.cores start
 
-pub returns-in-Ok-clause-cores : goal.returns-in-Ok-clause-cores
-returns-in-Ok-clause-cores g c = length-views_list (g.S.Sets.content c.args.sets) 0 c.in-Ok.cpus.items ∙ c.in-Ok.ensures.cores
+pub returns-in-Ok-start_parts-clause-cores : goal.returns-in-Ok-start_parts-clause-cores
+returns-in-Ok-start_parts-clause-cores g c = length-views_list (g.S.Sets.content c.args.sets) 0 c.in-Ok-start_parts.cpus.items ∙ c.in-Ok-start_parts.ensures.cores

@@ -2,7 +2,7 @@ use Rattle.std.proofs.Common.{◌≡◌, ◌<◌, ℕ, List, length, set, get_or
 use Rattle.std.proofs.lemmas.List.{get_or_default}
 use Rattle.tm_sets.specs.Content.{Content}
 use Rattle.tm_core.specs.declared.cpu.Cpu.{Cpu}
-use Rattle.tm_buffer.specs.Held.{drained}
+use Rattle.tm_buffer.specs.Buffer.{memory_with}
 use Rattle.tm_model.specs.Setting.{Setting}
 use Rattle.tm_model.specs.Shown.{View, view_outside}
 use Rattle.tm_core.specs.Representation.{IsHeld, Sane, cpu_at, cpu_view, cpu_views, kept_at, kept_of, left_outside}
@@ -10,9 +10,9 @@ use Rattle.tm_core.specs.Representation.{no_cpu, parts_setting}
 use Rattle.tm_core.specs.StepRefinement.{StepResult, finished, stepped}
 use Rattle.tm_core.specs.Types.{Open, Running, Write}
 use Rattle.tm_core.proofs.Cores.{commit_step, cpu_same, held_after, held_as, hit_held_by, hit_is_step, lines_below}
-use Rattle.tm_core.proofs.Cores.{nothing_else, quiet_kept}
+use Rattle.tm_core.proofs.Cores.{nothing_else, quiet_kept, row_of_base}
 use Rattle.tm_core.proofs.Held.{held_plain}
-use Rattle.tm_core.proofs.step.step_parts.Goals as goal
+use Rattle.tm_core.proofs.step.step_row.Goals as goal
 use Rattle.tm_core.specs.StepRefinement.{stayed}
 use Rattle.tm_core.specs.Types.{Inside}
 use Rattle.tm_model.specs.Access.{loaded_addresses}
@@ -43,6 +43,26 @@ returns-in-Condemned-clause-held g c =
     let here : get_or cpus c.args.c c.index-cpus-c.result ≡ cpu_at cpus c.args.c = get_or_default cpus c.args.c c.index-cpus-c.result no_cpu c.requires.exists in
     held_after (a.fixed.room Write) a (g.S.Sets.content c.abort.new.sets) cpus c.args.c c.abort.new.cpu c.requires.exists c.abort.ensures.elsewhere c.requires.sound.held
     (held_plain (a.fixed.room Write) _ (c.abort.ensures.room ∙ ap (λ (z : Cpu). z.buffer.room) here ∙ (c.requires.sound.held c.args.c c.requires.exists).same_room) c.abort.ensures.order (ap (λ (w : View). w.writes) c.abort.ensures.view))
+
+pub step_outside-step-requires-clause-row : goal.step_outside-step-requires-clause-row
+step_outside-step-requires-clause-row g c =
+    let a : Content = g.S.Sets.content c.args.sets.now in
+    let cpus : List Cpu = c.args.cpus.now in
+    let k : Setting = parts_setting c.args.code.now.bytes.now c.args.code.now.base (length c.args.memory.now) a in
+    let here : get_or cpus c.args.c c.index-cpus-c-in-Running.result ≡ cpu_at cpus c.args.c = get_or_default cpus c.args.c c.index-cpus-c-in-Running.result no_cpu c.requires.exists in
+    let state : (cpu_at cpus c.args.c).state ≡ Running = ap (λ (z : Cpu). z.state) (sym (get_or_default cpus c.args.c _ no_cpu c.requires.exists)) ∙ c.in-Running.is in
+    let sane : Sane k (cpu_views a cpus c.args.c) Running = subst (Sane k (cpu_views a cpus c.args.c)) state (c.requires.sound.sane c.args.c c.requires.exists) in
+    row_of_base c.args.code.now.bytes.now c.args.code.now.base c.args.row.now _ (cpu_at cpus c.args.c) here (ap (λ (v : View). v.regs) sane) c.requires.row
+
+pub finish_step-step-requires-clause-row : goal.finish_step-step-requires-clause-row
+finish_step-step-requires-clause-row g c =
+    let a : Content = g.S.Sets.content c.args.sets.now in
+    let cpus : List Cpu = c.args.cpus.now in
+    let k : Setting = parts_setting c.args.code.now.bytes.now c.args.code.now.base (length c.args.memory.now) a in
+    let here : get_or cpus c.args.c c.index-cpus-c-in-Mid.result ≡ cpu_at cpus c.args.c = get_or_default cpus c.args.c c.index-cpus-c-in-Mid.result no_cpu c.requires.exists in
+    let state : (cpu_at cpus c.args.c).state ≡ Mid = ap (λ (z : Cpu). z.state) (sym (get_or_default cpus c.args.c _ no_cpu c.requires.exists)) ∙ c.in-Mid.is in
+    let sane : Sane k (cpu_views a cpus c.args.c) Mid = subst (Sane k (cpu_views a cpus c.args.c)) state (c.requires.sound.sane c.args.c c.requires.exists) in
+    row_of_base c.args.code.now.bytes.now c.args.code.now.base c.args.row.now _ (cpu_at cpus c.args.c) here (ap (λ (v : View). v.regs) sane.0) c.requires.row
 
 pub returns-then-busy-clause-step : goal.returns-then-busy-clause-step
 returns-then-busy-clause-step g c =
@@ -159,7 +179,7 @@ returns-in-Commits-clause-step g c =
     commit_step k m a b (g.S.Sets.content c.hit_written.new.sets) (g.S.Sets.content c.commit.new.sets) cpus cpus3 c.args.c x c.commit.new.cpu (a.fixed.room Write) c.in-Open.depth
     c.requires.exists cores c.step_inside.ensures.elsewhere c.commit.ensures.elsewhere c.step_inside.ensures.held
     (λ j h. c.hit_written.ensures.kept j (subst (λ n. j < n) (sym (length-set cpus c.args.c x)) h)) c.commit.new.memory state is
-    (c.commit.ensures.memory ∙ ap (λ (z : Cpu). drained z.buffer.bytes m) here3) (c.commit.ensures.view ∙ ap (λ (z : Cpu). view_outside Running z.regs) here3)
+    (c.commit.ensures.memory ∙ ap (λ (z : Cpu). memory_with z.buffer.bytes m) here3) (c.commit.ensures.view ∙ ap (λ (z : Cpu). view_outside Running z.regs) here3)
 
 pub returns-in-Commits-clause-held : goal.returns-in-Commits-clause-held
 returns-in-Commits-clause-held g c j h =
