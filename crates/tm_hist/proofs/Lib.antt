@@ -3,6 +3,7 @@ pub mod Cuts
 pub mod Counts
 pub mod WordsBack
 pub mod NumbersBack
+mod ShortWords
 pub mod RunsOf
 pub mod RunsBack
 pub mod RunsWritten
@@ -10,4 +11,5 @@ pub mod Bodies
 pub mod Runs
 pub mod Limits
 pub mod Stops
+pub mod Idles
 pub mod Boards

@@ -31,12 +31,12 @@ digit_yes a h = grind (arith, nat_tests)
 small_yes : (n : ℕ) → n < 256 → small n ≡ Some n
 small_yes n h = rw (lt-ltb n 256 h)
 
-three : (a b c n : ℕ) → a < 10 → b < 10 → c < 10 → a * 100 + b * 10 + c ≡ n → n < 256 → three_digits (48 + a) (48 + b) (48 + c) ≡ Some n
+pub three : (a b c n : ℕ) → a < 10 → b < 10 → c < 10 → a * 100 + b * 10 + c ≡ n → n < 256 → three_digits (48 + a) (48 + b) (48 + c) ≡ Some n
 three a b c n ha hb hc e h =
     let v : (48 + a - 48) * 100 + (48 + b - 48) * 10 + (48 + c - 48) ≡ n = omega arith in
     rw (digit_yes a ha, digit_yes b hb, digit_yes c hc) (ap small v ∙ small_yes n h)
 
-abbrev one : Option ℕ → Option (List ℕ)
+abbrev pub one : Option ℕ → Option (List ℕ)
 one None = None
 one (Some n) = Some (n ∷ [])
 

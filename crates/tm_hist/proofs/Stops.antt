@@ -23,7 +23,7 @@ use Rattle.tm_model.specs.declared.outcome.CoreState.{CoreState}
 use Rattle.tm_model.specs.declared.outcome.CoreState.TheVariants.{Running, Mid, Open, Condemned, Stopped as AtStop}
 
 -- a core that shows a stop is halted, and not doomed
-record IsHalted (x : Core) (dx : Option ℕ) (why : Stop) : Type 0 where
+pub record IsHalted (x : Core) (dx : Option ℕ) (why : Stop) : Type 0 where
   pub regs : Regs
   pub core : x ≡ Halted regs why
   pub doom : dx ≡ None
@@ -44,7 +44,7 @@ module _ (k : Setting) (m : List ℕ) (why : Stop) where
   no_midway s value (Begins t) v e stop = cc
   no_midway s value (Stops x) v e stop = cc
 
-  is_halted : (x : Core) (dx : Option ℕ) (v : View) → view_of k m x dx ≡ Some v → stop_shown v.mode ≡ Some why → IsHalted x dx why
+  pub is_halted : (x : Core) (dx : Option ℕ) (v : View) → view_of k m x dx ≡ Some v → stop_shown v.mode ≡ Some why → IsHalted x dx why
   is_halted (Closed s) None v e stop = absurd (no_stop Running s v refl (same_Some (view_outside Running s) v e) stop)
   is_halted (Closed s) (Some depth) v e stop = cc
   is_halted (Midway s value) None v e stop = absurd (no_midway s value (k.outside s value) v e stop)
@@ -117,7 +117,7 @@ shows_stop k m x dx v why h e =
     ap (λ (u : View). stop_shown u.mode) (sym (same_Some (view_outside (AtStop why) h.regs) v e2))
 
 -- a core that shows a stop is there
-is_there : (machine : Machine) (j : ℕ) (why : Stop) → stop_shown (view_at machine j).mode ≡ Some why → j < length machine.views
+pub is_there : (machine : Machine) (j : ℕ) (why : Stop) → stop_shown (view_at machine j).mode ≡ Some why → j < length machine.views
 is_there machine j why stop =
     elim (ltb j (length machine.views)) as (λ t. ltb j (length machine.views) ≡ t → j < length machine.views) [
       | true ↦ λ e. ltb-true j (length machine.views) e

@@ -1,5 +1,6 @@
 -- The first form of a schedule's text: core numbers (docs/FORMATS.md, "Schedules").
-use Rattle.std.specs.Prelude.{ℕ, ◌+◌, ◌-◌, ◌*◌, ◌==◌, ◌&&◌, List, [], ◌∷◌, length, Option, Some, None, option_map, nat_lt, if◌then◌else◌}
+use Rattle.std.specs.Prelude.{◌≡◌, ℕ, ◌+◌, ◌-◌, ◌*◌, ◌<◌, ◌==◌, ◌&&◌, Bool, List, [], ◌∷◌, length, Option, Some, None}
+use Rattle.std.specs.Prelude.{option_map, nat_lt, if◌then◌else◌}
 use Rattle.std.specs.Char.{is_ascii_digit}
 
 abbrev pub small : ℕ → Option ℕ
@@ -8,7 +9,9 @@ small n = if nat_lt n 256 then Some n else None
 -- the number of three decimal digits, at most 255
 abbrev pub three_digits : ℕ → ℕ → ℕ → Option ℕ
 three_digits a b c =
-    if is_ascii_digit a && is_ascii_digit b && is_ascii_digit c then small ((a - 48) * 100 + (b - 48) * 10 + (c - 48)) else None
+    if is_ascii_digit a && is_ascii_digit b && is_ascii_digit c
+    then small ((a - 48) * 100 + (b - 48) * 10 + (c - 48))
+    else None
 
 -- a core's number: one to three decimal digits
 unfoldable pub core_number : List ℕ → Option ℕ
@@ -20,3 +23,8 @@ core_number _ = None
 -- the step that a word says, or nothing where it says none; the empty word says no step
 unfoldable pub number_steps : List ℕ → Option (List ℕ)
 number_steps word = if length word == 0 then Some [] else option_map (λ core. core ∷ []) (core_number word)
+
+-- a text begins with the one digit of a core and a line end or a space
+abbrev pub BeginsWithDigit : List ℕ → ℕ → Bool → List ℕ → Type 0
+BeginsWithDigit text core ends rest =
+    (core < 10) × (text ≡ (48 + core) ∷ (if ends then 10 else 32) ∷ rest)

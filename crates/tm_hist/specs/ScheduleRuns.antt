@@ -1,6 +1,7 @@
 -- The second form of a schedule's text: words `c`, one step of the core c, and `c*n`, n steps of it (docs/FORMATS.md,
 -- "Schedules").
-use Rattle.std.specs.Prelude.{◌≡◌, ℕ, Bool, false, ◌+◌, ◌==◌, ◌&&◌, List, [], ◌∷◌, ◌++◌, map, take, drop, replicate, length, Option, Some, None, option_map, not, nat_lt, nat_le, if◌then◌else◌}
+use Rattle.std.specs.Prelude.{◌≡◌, ℕ, Bool, false, ◌+◌, ◌==◌, ◌&&◌, List, [], ◌∷◌, ◌++◌, map, take, drop, replicate}
+use Rattle.std.specs.Prelude.{length, Option, Some, None, option_map, not, nat_lt, nat_le, if◌then◌else◌}
 use Rattle.std.specs.Char.{digit_char, is_ascii_digit}
 use Rattle.std.specs.Int.Digits.{digits_of}
 use Rattle.std.specs.List.{list_all, position}
@@ -60,7 +61,8 @@ goes_on run (core ∷ cores) = (core == run.core) && nat_lt run.count most_steps
 abbrev pub runs_behind : Run → List ℕ → List Run
 runs_behind run [] = run ∷ []
 runs_behind run (core ∷ cores) =
-    if (core == run.core) && nat_lt run.count most_steps then runs_behind (record { core = run.core; count = run.count + 1 }) cores
+    if (core == run.core) && nat_lt run.count most_steps
+    then runs_behind (record { core = run.core; count = run.count + 1 }) cores
     else run ∷ runs_behind (once core) cores
 
 abbrev pub runs_of : List ℕ → List Run

@@ -1,5 +1,6 @@
 -- Lines of words that say steps: how they are read and written (docs/FORMATS.md, "Schedules").
-use Rattle.std.specs.Prelude.{ℕ, ◌+◌, ◌%◌, ◌==◌, Bool, false, List, [], ◌∷◌, ◌++◌, map, length, Option, Some, None, unwrap_or, Result, Ok, Err, nat_lt, if◌then◌else◌}
+use Rattle.std.specs.Prelude.{ℕ, ◌+◌, ◌%◌, ◌==◌, Bool, false, List, [], ◌∷◌, ◌++◌, map, length, Option, Some, None}
+use Rattle.std.specs.Prelude.{unwrap_or, Result, Ok, Err, nat_lt, if◌then◌else◌}
 use Rattle.std.specs.List.{flat_map, slice_split}
 use Rattle.tm_hist.specs.declared.schedule.ScheduleFault.{ScheduleFault}
 use Rattle.tm_hist.specs.declared.schedule.ScheduleFault.TheVariants.{BadSchedule, TooManySteps}
@@ -22,7 +23,8 @@ abbrev pub words_from : ℕ → List (List ℕ) → List Word
 words_from n [] = []
 words_from n (line ∷ below) = on_line n (words_of line) ++ words_from (n + 1) below
 
--- ---- reading: `says` gives the steps that a word says, or nothing where it says none; `most` is the limit on steps, if any
+-- ---- reading: `says` gives the steps that a word says, or nothing where it says none; `most` is the limit on
+-- steps, if any
 
 abbrev pub is_above : Option ℕ → ℕ → Bool
 is_above None steps = false
@@ -45,7 +47,8 @@ first_of (Some fault) later = Some fault
 abbrev pub first_fault : (List ℕ → Option (List ℕ)) → Option ℕ → ℕ → List Word → Option ScheduleFault
 first_fault says most before [] = None
 first_fault says most before (word ∷ words) =
-    first_of (steps_fault most before word.line (says word.text)) (first_fault says most (before + length (steps_said says word)) words)
+    first_of (steps_fault most before word.line (says word.text))
+    (first_fault says most (before + length (steps_said says word)) words)
 
 -- words are the steps of each, one after another, unless one of them has a fault
 abbrev pub unless : Option ScheduleFault → List ℕ → Result (List ℕ) ScheduleFault
@@ -65,4 +68,5 @@ behind_word size column (word ∷ words) = if column + 1 == size then line_end e
 -- words, so many a line, of which some stand on the first line already
 abbrev pub words_text : ℕ → ℕ → List (List ℕ) → List ℕ
 words_text size column [] = []
-words_text size column (word ∷ words) = word ++ behind_word size column words ++ words_text size ((column + 1) % size) words
+words_text size column (word ∷ words) =
+    word ++ behind_word size column words ++ words_text size ((column + 1) % size) words

@@ -177,6 +177,7 @@ impl Board {
         ensures same { SameBoard self.old self.new }
         ensures ok { IfOk result (λ outcome. self.new.history ≡ self.old.history ++ (core, outcome) ∷ []) }
         ensures stops { (k : ℕ) → IsStopped self.old k → IsStopped self.new k }
+        ensures idle { IfOk result (λ outcome. (outcome ≡ Outcome.Idle) ↔ IsStopped self.old core) }
         ensures err { OnErr result (self.new ≡ self.old) }
     {
         if core >= self.machine.cores() {

@@ -7,8 +7,9 @@ ghost use Rattle.tm_hist.specs.Lines.{core_line, core_text, dump_line, dump_line
 ghost use Rattle.tm_hist.specs.Lines.{outcome_line, register_text, regs_text, state_text, state_word, stop_word};
 ghost use Rattle.tm_hist.specs.Machine.{core_count};
 
-use crate::text_line::{TextLine, push, push_hex, push_long, push_number};
+use crate::text_line::{TextLine, push_number};
 use ia_regs::{Flags, Regs};
+use ia_text::page::{push, push_bytes, push_eight};
 use ia_text::{Out, WriteFault};
 use tm_core::{CoreState, Machine, Outcome};
 use tm_rule::Stop;
@@ -87,7 +88,7 @@ fn push_register(row: &mut TextLine, name: &[u8], value: u32)
     ensures len { array_vec_len row.new ≡ array_vec_len row.old + 13 }
 {
     push(row, name);
-    push_long(row, value);
+    push_eight(row, value);
 }
 
 #[tactic(auto, unfolding(crate::specs::Lines::regs_text))]
@@ -169,7 +170,7 @@ fn push_outcome(row: &mut TextLine, core: u8, outcome: &Outcome)
         Outcome::Committed => push(row, b"committed"),
         Outcome::Aborted(status) => {
             push(row, b"aborted ");
-            push_long(row, *status);
+            push_eight(row, *status);
         }
     }
     push(row, b"\n");
@@ -199,10 +200,10 @@ fn push_dump_line(row: &mut TextLine, bytes: &[u8], at: u32, index: usize)
     requires within { 16 * index < length bytes.now }
     ensures { row.new.items ≡ row.old.items ++ dump_line bytes.now at index }
 {
-    push_long(row, line_address(at, index));
+    push_eight(row, line_address(at, index));
     push(row, b" ");
     let rest = &bytes[16 * index..];
-    push_hex(row, &rest[..rest.len().min(16)]);
+    push_bytes(row, &rest[..rest.len().min(16)]);
     push(row, b"\n");
 }
 

@@ -92,6 +92,7 @@ pub fn serial(alloc: Global, program: &Program, history: History<'_>) -> Result<
     let code = Code {
         bytes: program.code(),
         base: program.base(),
+        rows: program.rows(),
     };
     let mut memory = first_memory(alloc, program)?;
     let mut cores = first_cores(alloc, program)?;

@@ -49,15 +49,15 @@ impl ScheduleFault {
 
 /// The core numbers of a schedule, in one of two forms.
 ///
-/// The first form is `schedule 1` alone on the first line, and below it core numbers in decimal digits, one to three and
-/// at most 255, between spaces and line ends. The second is `schedule 2` alone on the first line, and below it words `c`
-/// and `c*n`, the second of which stands for n times the core c: n has one to eight decimal digits, and is 1 to
+/// The first form is `schedule 1` alone on the first line, and below it core numbers in decimal digits, one to three
+/// and at most 255, between spaces and line ends. The second is `schedule 2` alone on the first line, and below it words
+/// `c` and `c*n`, the second of which stands for n times the core c: n has one to eight decimal digits, and is 1 to
 /// 16,777,216. A line ends at a line feed, and a carriage return before it is no part of it.
 ///
-/// [`ScheduleFault::BadSchedule`] names the first line that breaks the form; [`ScheduleFault::TooManySteps`], the line of
-/// the word with which a schedule of the second form has more than 16,777,216 steps, before memory for them is taken. Of
-/// these two the one that stands first in the text is told. [`ScheduleFault::NoMemory`], where the list of cores found no
-/// memory.
+/// [`ScheduleFault::BadSchedule`] names the first line that breaks the form; [`ScheduleFault::TooManySteps`], the line
+/// of the word with which a schedule of the second form has more than 16,777,216 steps, before memory for them is taken.
+/// Of these two the one that stands first in the text is told. [`ScheduleFault::NoMemory`], where the list of cores
+/// found no memory.
 pub fn read_schedule(alloc: Global, text: &[u8]) -> Result<Vec<u8>, ScheduleFault>
     ensures ok { IfOk result (λ cores. schedule_of text.now ≡ Ok cores.items) }
     ensures err { IfErr result (λ fault. (fault ≡ ScheduleFault.NoMemory) ⊎ (schedule_of text.now ≡ Err fault)) }
@@ -73,10 +73,11 @@ pub fn read_schedule(alloc: Global, text: &[u8]) -> Result<Vec<u8>, ScheduleFaul
 fn read_below(alloc: Global, title: &[u8], below: &[u8]) -> Result<Vec<u8>, ScheduleFault>
     requires { 2 + length below.now < 2 ^ 64 }
     ensures ok { IfOk result (λ cores. below_title title.now (lines_of below.now) ≡ Ok cores.items) }
-    ensures err { IfErr result (λ fault. (fault ≡ ScheduleFault.NoMemory) ⊎ (below_title title.now (lines_of below.now) ≡ Err fault)) }
+    ensures err { IfErr result (λ fault. (fault ≡ ScheduleFault.NoMemory)
+        ⊎ (below_title title.now (lines_of below.now) ≡ Err fault)) }
 {
     if title == b"schedule 1".as_slice() {
-        return read_numbers(alloc, Unread::below(1, below));
+        return read_numbers(alloc, 1, below);
     }
     if title == b"schedule 2".as_slice() {
         return read_runs(alloc, Unread::below(1, below));
@@ -91,5 +92,5 @@ pub fn read_steps(alloc: Global, text: &[u8]) -> Result<Vec<u8>, ScheduleFault>
     ensures ok { IfOk result (λ cores. steps_of text.now ≡ Ok cores.items) }
     ensures err { IfErr result (λ fault. (fault ≡ ScheduleFault.NoMemory) ⊎ (steps_of text.now ≡ Err fault)) }
 {
-    read_numbers(alloc, Unread::below(0, text))
+    read_numbers(alloc, 0, text)
 }

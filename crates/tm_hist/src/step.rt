@@ -5,27 +5,34 @@ ghost use Rattle.std.specs.Prelude.{if◌then◌else◌};
 ghost use Rattle.std.specs.List.{AllByRecursion};
 ghost use Rattle.tm_model.specs.Setting.{outside_at, setting_of, value_at};
 ghost use Rattle.tm_model.specs.State.{Closed, Halted, Midway, Opened};
-ghost use Rattle.tm_rule.specs.Rule.{outside_of};
+ghost use Rattle.tm_rule.specs.Rule.{StandsAt, outside_of};
 ghost use Rattle.tm_model.specs.Steps.{after_load, after_begin, after_plain, after_step_of, after_stop};
 ghost use Rattle.tm_model.specs.Steps.{registers_after_abort};
 ghost use Rattle.tm_model.specs.Steps.{stop_number};
 ghost use Rattle.tm_hist.specs.Serial.{core_of, list_step, steps_of};
 
-use crate::flat::{is_in_two_steps, outside_on, outside_with, run_body, value_on};
+use crate::flat::{outside_on, outside_with, run_body, value_on};
 use crate::serial_core::SerialCore;
 use ia_regs::Regs;
-use tm_core::Outcome;
 use tm_core::memory::write;
-use tm_rule::{Code, OutsideResult, Stop, fallback, fetch};
+use tm_core::{Outcome, takes_two_steps};
+use tm_rule::{Code, Decoded, OutsideResult, Stop, fallback, fetch, row};
 
 // One instruction outside of transactions that goes on.
-fn plain_step(code: &Code<'_>, size: u32, memory: &mut [u8], regs: &Regs) -> Option<SerialCore>
-    requires { length memory.old ≡ size }
+fn plain_step(
+    row: &Decoded,
+    code: &Code<'_>,
+    size: u32,
+    memory: &mut [u8],
+    regs: &Regs,
+) -> Option<SerialCore>
+    requires row { StandsAt code.now.bytes.now code.now.base regs.now.eip row.now }
+    requires size { length memory.old ≡ size }
     ensures step { after_plain memory.old (outside_at (setting_of code.now.bytes.now code.now.base size 0 0) regs.now
         memory.old) ≡ option_map (λ c. (memory.new, core_of c)) result }
     ensures growth { IfSome result (λ c. steps_of c ≤ 1) }
 {
-    match outside_on(code, size, memory, regs) {
+    match outside_on(row, code, size, memory, regs) {
         OutsideResult::Goes(next, store) => {
             write(memory, store);
             Some(SerialCore::Closed(next))
@@ -35,17 +42,24 @@ fn plain_step(code: &Code<'_>, size: u32, memory: &mut [u8], regs: &Regs) -> Opt
 }
 
 // The first step of an instruction that takes two.
-fn load_step(code: &Code<'_>, size: u32, memory: &[u8], regs: &Regs) -> Option<SerialCore>
-    requires { length memory.now ≡ size }
+fn load_step(
+    row: &Decoded,
+    code: &Code<'_>,
+    size: u32,
+    memory: &[u8],
+    regs: &Regs,
+) -> Option<SerialCore>
+    requires row { StandsAt code.now.bytes.now code.now.base regs.now.eip row.now }
+    requires size { length memory.now ≡ size }
     ensures step { after_load memory.now regs.now
         (value_at (setting_of code.now.bytes.now code.now.base size 0 0) regs.now memory.now)
         (outside_at (setting_of code.now.bytes.now code.now.base size 0 0) regs.now memory.now)
         ≡ option_map (λ c. (memory.now, core_of c)) result }
     ensures growth { IfSome result (λ c. steps_of c ≤ 1) }
 {
-    match outside_on(code, size, memory, regs) {
+    match outside_on(row, code, size, memory, regs) {
         OutsideResult::Goes(_, _) => {
-            let value = value_on(code, size, memory, regs);
+            let value = value_on(row, size, memory, regs);
             Some(SerialCore::Midway(*regs, value))
         }
         OutsideResult::Begins(_) | OutsideResult::Stops(_) => None,
@@ -54,6 +68,30 @@ fn load_step(code: &Code<'_>, size: u32, memory: &[u8], regs: &Regs) -> Option<S
 
 // The second step of an instruction that takes two, which has loaded this value.
 fn store_step(
+    row: &Decoded,
+    code: &Code<'_>,
+    size: u32,
+    memory: &mut [u8],
+    regs: &Regs,
+    value: u32,
+) -> Option<SerialCore>
+    requires row { StandsAt code.now.bytes.now code.now.base regs.now.eip row.now }
+    requires size { length memory.old ≡ size }
+    ensures step { after_plain memory.old (outside_of code.now.bytes.now code.now.base size regs.now value)
+        ≡ option_map (λ c. (memory.new, core_of c)) result }
+    ensures growth { IfSome result (λ c. steps_of c ≤ 1) }
+{
+    match outside_with(row, code, size, regs, value) {
+        OutsideResult::Goes(next, store) => {
+            write(memory, store);
+            Some(SerialCore::Closed(next))
+        }
+        OutsideResult::Begins(_) | OutsideResult::Stops(_) => None,
+    }
+}
+
+// The same, of what stands at its EIP.
+fn finish_step(
     code: &Code<'_>,
     size: u32,
     memory: &mut [u8],
@@ -65,12 +103,9 @@ fn store_step(
         ≡ option_map (λ c. (memory.new, core_of c)) result }
     ensures growth { IfSome result (λ c. steps_of c ≤ 1) }
 {
-    match outside_with(code, size, regs, value) {
-        OutsideResult::Goes(next, store) => {
-            write(memory, store);
-            Some(SerialCore::Closed(next))
-        }
-        OutsideResult::Begins(_) | OutsideResult::Stops(_) => None,
+    match row(code, regs.eip) {
+        Some(row) => store_step(row, code, size, memory, regs, value),
+        None => store_step(&fetch(code, regs.eip), code, size, memory, regs, value),
     }
 }
 
@@ -93,19 +128,21 @@ fn number(stop: Stop) -> u8
 
 // One instruction outside of transactions that stops for this reason.
 fn stop_step(
+    row: &Decoded,
     code: &Code<'_>,
     size: u32,
     memory: &[u8],
     regs: &Regs,
     stop: Stop,
 ) -> Option<SerialCore>
-    requires { length memory.now ≡ size }
+    requires row { StandsAt code.now.bytes.now code.now.base regs.now.eip row.now }
+    requires size { length memory.now ≡ size }
     ensures step { after_stop memory.now regs.now stop
         (outside_at (setting_of code.now.bytes.now code.now.base size 0 0) regs.now memory.now)
         ≡ option_map (λ c. (memory.now, core_of c)) result }
     ensures growth { IfSome result (λ c. steps_of c ≤ 1) }
 {
-    match outside_on(code, size, memory, regs) {
+    match outside_on(row, code, size, memory, regs) {
         OutsideResult::Stops(why) => {
             if number(stop) == number(why) {
                 Some(SerialCore::Halted(*regs, stop))
@@ -118,13 +155,20 @@ fn stop_step(
 }
 
 // An XBEGIN outside of transactions.
-fn begin_step(code: &Code<'_>, size: u32, memory: &[u8], regs: &Regs) -> Option<SerialCore>
-    requires { length memory.now ≡ size }
+fn begin_step(
+    row: &Decoded,
+    code: &Code<'_>,
+    size: u32,
+    memory: &[u8],
+    regs: &Regs,
+) -> Option<SerialCore>
+    requires row { StandsAt code.now.bytes.now code.now.base regs.now.eip row.now }
+    requires size { length memory.now ≡ size }
     ensures step { after_begin memory.now regs.now (outside_at (setting_of code.now.bytes.now code.now.base size 0 0)
         regs.now memory.now) ≡ option_map (λ c. (memory.now, core_of c)) result }
     ensures growth { IfSome result (λ c. steps_of c ≤ 1) }
 {
-    match outside_on(code, size, memory, regs) {
+    match outside_on(row, code, size, memory, regs) {
         OutsideResult::Begins(_) => Some(SerialCore::Opened(*regs, 1)),
         OutsideResult::Goes(_, _) | OutsideResult::Stops(_) => None,
     }
@@ -132,34 +176,36 @@ fn begin_step(code: &Code<'_>, size: u32, memory: &[u8], regs: &Regs) -> Option<
 
 // A step of a core that is in no transaction.
 fn closed_step(
+    row: &Decoded,
     code: &Code<'_>,
     size: u32,
     memory: &mut [u8],
     regs: &Regs,
     outcome: &Outcome,
 ) -> Option<SerialCore>
-    requires { length memory.old ≡ size }
+    requires row { StandsAt code.now.bytes.now code.now.base regs.now.eip row.now }
+    requires size { length memory.old ≡ size }
     ensures step { after_step_of (setting_of code.now.bytes.now code.now.base size 0 0) memory.old (Closed regs.now)
         outcome.now ≡ option_map (λ c. (memory.new, core_of c)) result }
     ensures growth { IfSome result (λ c. steps_of c ≤ 1) }
 {
     match outcome {
         Outcome::Plain => {
-            if is_in_two_steps(code, regs) {
+            if takes_two_steps(row) {
                 None
             } else {
-                plain_step(code, size, memory, regs)
+                plain_step(row, code, size, memory, regs)
             }
         }
         Outcome::Loaded => {
-            if is_in_two_steps(code, regs) {
-                load_step(code, size, memory, regs)
+            if takes_two_steps(row) {
+                load_step(row, code, size, memory, regs)
             } else {
                 None
             }
         }
-        Outcome::Stopped(stop) => stop_step(code, size, memory, regs, *stop),
-        Outcome::Begun => begin_step(code, size, memory, regs),
+        Outcome::Stopped(stop) => stop_step(row, code, size, memory, regs, *stop),
+        Outcome::Begun => begin_step(row, code, size, memory, regs),
         Outcome::Idle | Outcome::Inside | Outcome::Committed | Outcome::Aborted(_) => None,
     }
 }
@@ -169,10 +215,9 @@ fn registers_after_abort(code: &Code<'_>, regs: &Regs, status: u32) -> Regs
     ensures { (size : ℕ) → result ≡ registers_after_abort (setting_of code.now.bytes.now code.now.base size 0 0)
         regs.now status }
 {
-    let fetched = fetch(code, regs.eip);
     let mut next = *regs;
     next.set(0, status);
-    next.eip = fallback(&fetched, regs);
+    next.eip = fallback(code, regs);
     next
 }
 
@@ -220,10 +265,13 @@ pub fn core_step(
     ensures growth { IfSome result (λ c. steps_of c ≤ steps_of core.now + 1) }
 {
     match core {
-        SerialCore::Closed(regs) => closed_step(code, size, memory, regs, outcome),
+        SerialCore::Closed(regs) => match row(code, regs.eip) {
+            Some(row) => closed_step(row, code, size, memory, regs, outcome),
+            None => closed_step(&fetch(code, regs.eip), code, size, memory, regs, outcome),
+        },
         SerialCore::Opened(regs, steps) => open_step(code, size, memory, regs, *steps, outcome),
         SerialCore::Midway(regs, value) => match outcome {
-            Outcome::Plain => store_step(code, size, memory, regs, *value),
+            Outcome::Plain => finish_step(code, size, memory, regs, *value),
             _ => None,
         },
         SerialCore::Halted(regs, stop) => match outcome {

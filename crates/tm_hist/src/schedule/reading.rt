@@ -1,6 +1,7 @@
 //! Reading words that say runs of steps.
 
-ghost use Rattle.std.specs.Prelude.{◌≡◌, ◌+◌, ◌<◌, ◌≤◌, ◌++◌, ◌⊎◌, [], true, Ok, Err, Some, None, IfOk, IfErr, OnOk, length, unwrap_or};
+ghost use Rattle.std.specs.Prelude.{◌≡◌, ◌+◌, ◌<◌, ◌≤◌, ◌++◌, ◌⊎◌, [], true, Ok, Err, Some, None, IfOk, IfErr, OnOk};
+ghost use Rattle.std.specs.Prelude.{length, unwrap_or};
 ghost use Rattle.std.specs.Char.{is_ascii_digit, digit_value};
 ghost use Rattle.std.specs.List.{flat_map, list_all};
 ghost use Rattle.std.specs.Str.Parse.{digits_value};
@@ -92,7 +93,8 @@ fn run_of(word: &[u8]) -> Option<Run>
 #[tactic(auto, unfolding(crate::specs::ScheduleRuns::word_steps))]
 fn count_word(word: &[u8], line: usize, before: usize) -> Result<usize, ScheduleFault>
     requires { before ≤ 16777216 }
-    ensures ok { IfOk result (λ count. (steps_fault (Some most_steps) before line (word_steps word.now) ≡ None) × (count ≡ before + length (unwrap_or (word_steps word.now) [])) × (count ≤ 16777216)) }
+    ensures ok { IfOk result (λ count. (steps_fault (Some most_steps) before line (word_steps word.now) ≡ None)
+        × (count ≡ before + length (unwrap_or (word_steps word.now) [])) × (count ≤ 16777216)) }
     ensures err { IfErr result (λ fault. steps_fault (Some most_steps) before line (word_steps word.now) ≡ Some fault) }
 {
     if word.is_empty() {
@@ -111,7 +113,8 @@ fn count_word(word: &[u8], line: usize, before: usize) -> Result<usize, Schedule
 // How many steps words say.
 fn count_steps(words: Unread) -> Result<usize, ScheduleFault>
     ensures ok { OnOk result (first_fault word_steps (Some most_steps) 0 (unread_words words.entry) ≡ None) }
-    ensures err { IfErr result (λ fault. first_fault word_steps (Some most_steps) 0 (unread_words words.entry) ≡ Some fault) }
+    ensures err { IfErr result (λ fault.
+        first_fault word_steps (Some most_steps) 0 (unread_words words.entry) ≡ Some fault) }
 {
     let mut unread = words;
     let mut count = 0;
@@ -151,8 +154,10 @@ fn list_steps(alloc: Global, words: Unread, count: usize) -> Result<Vec<u8>, All
 
 /// The steps that words say. They are counted first, so that a text with too many takes no memory.
 pub fn read_runs(alloc: Global, words: Unread) -> Result<Vec<u8>, ScheduleFault>
-    ensures ok { IfOk result (λ cores. words_read word_steps (Some most_steps) (unread_words words.entry) ≡ Ok cores.items) }
-    ensures err { IfErr result (λ fault. (fault ≡ ScheduleFault.NoMemory) ⊎ (words_read word_steps (Some most_steps) (unread_words words.entry) ≡ Err fault)) }
+    ensures ok { IfOk result (λ cores.
+        words_read word_steps (Some most_steps) (unread_words words.entry) ≡ Ok cores.items) }
+    ensures err { IfErr result (λ fault. (fault ≡ ScheduleFault.NoMemory)
+        ⊎ (words_read word_steps (Some most_steps) (unread_words words.entry) ≡ Err fault)) }
 {
     let count = count_steps(words)?;
     match list_steps(alloc, words, count) {

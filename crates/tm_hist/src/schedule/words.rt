@@ -34,8 +34,8 @@ impl<'a> Unread<'a> {
         }
     }
 
-    /// The next word, and what is not read then. The word is empty where it stands between two spaces side by side, at an
-    /// end of a line or on an empty line.
+    /// The next word, and what is not read then. The word is empty where it stands between two spaces side by side, at
+    /// an end of a line or on an empty line.
     pub fn next(self) -> Option<(&'a [u8], Unread<'a>)>
         ensures { IsNextWord self.entry result }
     {

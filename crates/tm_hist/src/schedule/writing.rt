@@ -9,7 +9,8 @@ ghost use Rattle.tm_hist.specs.ScheduleRuns.{AreLongest, count_text, run_word, r
 ghost use Rattle.tm_hist.specs.ScheduleWords.{behind_word, words_text};
 
 use super::runs::Run;
-use crate::text_line::{TextLine, push, push_number};
+use crate::text_line::{TextLine, push_number};
+use ia_text::page::push;
 use ia_text::{Out, WriteFault};
 
 const WORDS_A_LINE: u8 = 16;
@@ -81,8 +82,8 @@ fn write_runs<O: Out>(cores: &[u8], out: &mut O) -> Result<(), WriteFault>
     Ok(())
 }
 
-/// Writes the schedule of a list of cores in the second form: its longest runs, 16 words a line, of which one of more than
-/// 16,777,216 steps is split from the front. A list of at most 16,777,216 steps is read back.
+/// Writes the schedule of a list of cores in the second form: its longest runs, 16 words a line, of which one of more
+/// than 16,777,216 steps is split from the front. A list of at most 16,777,216 steps is read back.
 ///
 /// [`WriteFault::Write`], where the device failed: a beginning of the schedule was written.
 pub fn write_schedule<O: Out>(cores: &[u8], out: &mut O) -> Result<(), WriteFault>

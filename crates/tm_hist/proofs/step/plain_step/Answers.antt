@@ -11,7 +11,7 @@ write-requires-clause-within c =
     let base = c.args.code.now.base in
     let load = load_at code base c.args.size c.args.regs.now in
     let v = loaded_value load (bytes_at c.args.memory.now (loaded_addresses load)) in
-    store_within c.args.size (length c.args.memory.now) c.in-Goes.store c.requires
+    store_within c.args.size (length c.args.memory.now) c.in-Goes.store c.requires.size
     (rule_store_within code base c.args.size c.args.regs.now v c.in-Goes.next c.in-Goes.store (sym c.outside_on.ensures ∙ c.in-Goes.is))
 
 pub write-requires-clause-fits : goal.write-requires-clause-fits

@@ -1,10 +1,13 @@
-use Rattle.std.proofs.Common.{◌∙◌, ap, map, None}
+use Rattle.std.proofs.Common.{◌≡◌, ◌∙◌, ap, map, None, refl, subst}
+use Rattle.std.specs.Prelude.{◌↔◌}
 use Rattle.tm_model.specs.Runs.{doomed_at_end}
 use Rattle.tm_model.specs.State.{opening_state}
 use Rattle.tm_core.specs.Theorem.{machine_setting}
-use Rattle.tm_hist.specs.Board.{ShownBoard, stop_shown}
+use Rattle.tm_model.specs.declared.outcome.Outcome.TheVariants.{Idle}
+use Rattle.tm_hist.specs.Board.{IsStopped, ShownBoard, stop_shown}
 use Rattle.tm_hist.specs.History.{pair_of}
 use Rattle.tm_hist.specs.Machine.{shown_state}
+use Rattle.tm_hist.proofs.Idles.{idle_exactly}
 use Rattle.tm_hist.proofs.Stops.{stays_stopped}
 use Rattle.tm_hist.proofs.board.Board.step.Goals as goal
 
@@ -18,3 +21,12 @@ returns-in-Ok-clause-stops c k stopped =
           (c.in-Ok.ensures.ok h.is_run.takes.last doom stands) k stopped.0
           (ap (λ (b : ShownBoard). stop_shown (shown_state b.machine k)) c.self.view_is ∙ stopped.1),
     )
+
+pub returns-in-Ok-clause-idle : goal.returns-in-Ok-clause-idle
+returns-in-Ok-clause-idle c =
+    let h = c.self.invariant in
+    let doom = doomed_at_end (machine_setting h.start) (opening_state c.self.inside.program) (λ _. None) (map pair_of c.self.inside.made.items) in
+    let stands = h.is_run.takes.stands in
+    let both = idle_exactly c.self.inside.machine c.step.new.self h.is_run.takes.last doom c.args.core c.in-Ok.outcome stands (c.in-Ok.ensures.exists.0 refl)
+    (c.in-Ok.ensures.ok h.is_run.takes.last doom stands) in
+    subst (λ (b : ShownBoard). (c.in-Ok.outcome ≡ Idle) ↔ IsStopped b c.args.core) c.self.view_is both
