@@ -6,11 +6,19 @@ use native.Mathlib.Decide.{ℕ_discrete}
 use Rattle.std.proofs.lemmas.Option.{slice_get-get_or, slice_get_within}
 use Rattle.tm_ledger.proofs.Moves.{slice_get_front, slice_get_last}
 use Rattle.tm_hist.specs.Board.{ShownBoard, IsHistory}
-use Rattle.tm_work.specs.Seats.{SeatProgress, seat_with, no_progress, SeatTells, Tells, GoesOn}
+use Rattle.tm_work.specs.Seats.{SeatProgress, seat_with, no_progress, AreSeats, SeatTells, Tells, GoesOn}
 use Rattle.tm_work.specs.Workers.{IsDone, AreLeft, EachDone, KeepsBudget, IsReport, IsRefused}
 
 no_seat : SeatProgress
 no_seat = seat_with 0 no_progress
+
+-- before the first worker all seats are left
+pub all_left : (seats : List SeatProgress) (n m : ℕ) → AreSeats seats n → m ≡ n → AreLeft seats 0 m
+all_left seats n m h e =
+    let l = h.0 in record {
+      count = omega (arith, l, e);
+      each = λ k below. let z : k ≡ 0 + k = omega arith in h.1 k (omega (arith, l, below)) ∙ ap (λ (i : ℕ). Some (seat_with i no_progress)) z;
+    }
 
 -- a seat that tells what is so of its core, and whose worker is done
 served_at : (given b : ShownBoard) (budget c : ℕ) (s : SeatProgress) → SeatTells given b s → IsDone c budget s → KeepsBudget given b budget c s.progress.steps

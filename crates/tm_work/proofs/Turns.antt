@@ -10,6 +10,7 @@ use Rattle.std.proofs.lemmas.List.Sums.{sum_by-append, count_by-le-length}
 use Rattle.std.proofs.lemmas.Option.{slice_get_within}
 use Rattle.tm_ledger.proofs.Moves.{slice_get_front, slice_get_last, slice_get_same, slice_get_other}
 use Rattle.tm_model.specs.declared.outcome.Outcome.{Outcome}
+use Rattle.tm_model.specs.declared.outcome.Outcome.TheVariants.{Idle}
 use Rattle.tm_hist.specs.Board.{ShownBoard, IsStopped, IsFull}
 use Rattle.tm_work.specs.declared.progress.Progress.{Progress}
 use Rattle.tm_work.specs.declared.progress.Receipt.{Receipt}
@@ -33,6 +34,10 @@ if_some_map : {A : Type 0} (o : Option A) (P Q : A → Type 0) → ((a : A) → 
 if_some_map (Some a) P Q f h = f a h
 if_some_map None P Q f h = tt
 
+All_one : {X : Type 0} (P : X → Type 0) (x : X) → P x → All P (x ∷ [])
+All_one P x h zero d below = h
+All_one P x h (suc k) d below = absurd (omega arith)
+
 part_next : (given b b' : ShownBoard) (c : ℕ) (r : Receipt) → GoesOn given b → IsStepMade b b' c r → new_part given b' ≡ new_part given b ++ (c, r.outcome) ∷ []
 part_next given b b' c r g made = ap (λ l. drop (length given.history) l) made.history ∙ part_step given.history b.history (c, r.outcome) g.history
 
@@ -40,6 +45,10 @@ goes_on_step : (given b b' : ShownBoard) (c : ℕ) (r : Receipt) → GoesOn give
 goes_on_step given b b' c r g made = record {
   same = record { program = made.same.program ∙ g.same.program; limits = made.same.limits ∙ g.same.limits; limit = made.same.limit ∙ g.same.limit };
   history = made.history ∙ ap (λ l. l ++ (c, r.outcome) ∷ []) g.history ∙ append_assoc given.history (new_part given b) ((c, r.outcome) ∷ []) ∙ ap (λ l. given.history ++ l) (sym (part_next given b b' c r g made));
+  none_idle =
+      subst (All (λ (step : ℕ × Outcome). step.1 ≢ Idle)) (sym (part_next given b b' c r g made))
+      (All-append (λ (step : ℕ × Outcome). step.1 ≢ Idle) (new_part given b) ((c, r.outcome) ∷ []) g.none_idle
+      (All_one (λ (step : ℕ × Outcome). step.1 ≢ Idle) (c, r.outcome) made.going));
 }
 
 -- what another core's progress says
@@ -61,7 +70,7 @@ own given b b' c r m g made t = record {
     (let e = ap length g.history in let i = made.index in omega (arith, e, i, length-append given.history (new_part given b))),
     ap (λ l. slice_get l r.index) made.history ∙ ap (λ i. slice_get (b.history ++ (c, r.outcome) ∷ []) i) made.index ∙ slice_get_last b.history (c, r.outcome),
   );
-  ended = λ e. ⊎_elim (λ (stopped : IsStopped b c). absurd (made.going stopped)) (λ (full : IsFull b). let room = made.room in absurd (omega arith)) (t.ended e);
+  ended = λ e. ⊎_elim (λ (stopped : IsStopped b c). absurd (made.stopped stopped)) (λ (full : IsFull b). let room = made.room in absurd (omega arith)) (t.ended e);
 }
 
 -- a line is the one that was written, or another
@@ -120,7 +129,11 @@ last_before given b ledger c m n a was here = if_some_map m.last _ _ (λ q h. le
 -- the board given, where no seat had a turn
 pub fresh_agrees : (given b : ShownBoard) (ledger : List Progress) → b ≡ given → HaveNoProgress ledger → LedgerAgrees given b ledger
 fresh_agrees given b ledger same fresh_all = subst (λ (y : ShownBoard). LedgerAgrees given y ledger) (sym same) record {
-  goes_on = record { same = record { program = refl; limits = refl; limit = refl }; history = sym (append-nil given.history) ∙ ap (λ l. given.history ++ l) (sym (drop-length given.history)) };
+  goes_on = record {
+    same = record { program = refl; limits = refl; limit = refl };
+    history = sym (append-nil given.history) ∙ ap (λ l. given.history ++ l) (sym (drop-length given.history));
+    none_idle = subst (All (λ (step : ℕ × Outcome). step.1 ≢ Idle)) (sym (drop-length given.history)) (λ k d below. absurd (omega arith));
+  };
   lines = λ c m is. subst (Tells given given c) (sym (fresh_all c m is)) record {
     steps = ap (λ l. count c l) (sym (drop-length given.history));
     last = tt;
@@ -141,10 +154,6 @@ seats_more seats n h = (
       (λ (e : k ≡ n). ap (λ i. slice_get (seats ++ seat_with n no_progress ∷ []) i) (e ∙ sym h.0) ∙ slice_get_last seats (seat_with n no_progress) ∙ ap (λ i. Some (seat_with i no_progress)) (sym e))
       (λ ne. slice_get_front seats (seat_with n no_progress ∷ []) k (seat_with k no_progress) (h.1 k (omega arith))),
 )
-
-All_one : {X : Type 0} (P : X → Type 0) (x : X) → P x → All P (x ∷ [])
-All_one P x h zero d below = h
-All_one P x h (suc k) d below = absurd (omega arith)
 
 pub told_more : (given b b' : ShownBoard) (seats : List SeatProgress) (s : SeatProgress) → b' ≡ b → All (SeatTells given b) seats → SeatTells given b' s → All (SeatTells given b') (seats ++ s ∷ [])
 told_more given b b' seats s same h t =

@@ -1,7 +1,8 @@
 -- What seats know of a board, and when a ledger of that agrees with the board (docs/MACHINE.md, "Threads").
-use Rattle.std.specs.Prelude.{◌≡◌, ◌⊎◌, ℕ, ◌+◌, ◌<◌, ◌≤◌, ◌==◌, Bool, true, false, List, [], ◌∷◌, ◌++◌, length, drop}
-use Rattle.std.specs.Prelude.{count_by, Option, Some, None, IfSome, slice_get}
+use Rattle.std.specs.Prelude.{◌≡◌, ◌≢◌, ◌⊎◌, ℕ, ◌+◌, ◌<◌, ◌≤◌, ◌==◌, Bool, true, false, List, [], ◌∷◌, ◌++◌, length}
+use Rattle.std.specs.Prelude.{All, count_by, drop, Option, Some, None, IfSome, slice_get}
 use Rattle.tm_model.specs.declared.outcome.Outcome.{Outcome}
+use Rattle.tm_model.specs.declared.outcome.Outcome.TheVariants.{Idle}
 use Rattle.tm_hist.specs.Board.{ShownBoard, SameBoard, IsStopped, IsFull}
 use Rattle.tm_work.specs.declared.progress.Progress.{Progress}
 use Rattle.tm_work.specs.declared.progress.Receipt.{Receipt}
@@ -37,10 +38,12 @@ count core history = count_by (λ (step : ℕ × Outcome). step.0 == core) histo
 abbrev pub new_part : ShownBoard → ShownBoard → List (ℕ × Outcome)
 new_part given board = drop (length given.history) board.history
 
--- the board has the program and the limits of the one given, and its history goes on from that one's
+-- the board has the program and the limits of the one given, its history goes on from that one's, and no step of the
+-- new part is that of a stopped core, which alone is idle
 pub record GoesOn (given board : ShownBoard) : Type 0 where
   pub same : SameBoard given board
   pub history : board.history ≡ given.history ++ new_part given board
+  pub none_idle : All (λ (step : ℕ × Outcome). step.1 ≢ Idle) (new_part given board)
 
 -- the receipt is of a step of this core in the new part of the history
 abbrev pub IsReceipt : ShownBoard → ShownBoard → ℕ → Receipt → Type 0
@@ -69,7 +72,8 @@ pub record IsStepMade (before after : ShownBoard) (core : ℕ) (receipt : Receip
   pub same : SameBoard before after
   pub history : after.history ≡ before.history ++ (core, receipt.outcome) ∷ []
   pub stops : (other : ℕ) → IsStopped before other → IsStopped after other
-  pub going : ¬ (IsStopped before core)
+  pub going : receipt.outcome ≢ Idle
+  pub stopped : ¬ (IsStopped before core)
   pub room : length before.history < before.limit
   pub limited : before.limit ≤ 16777216
 

@@ -1,6 +1,7 @@
 //! The desk that threads share.
 
-ghost use Rattle.std.specs.Prelude.{◌≡◌, ◌<◌, ◌++◌, ◌∷◌, [], length, All, IfOk, IfErr, IfSome, IfNone};
+ghost use Rattle.std.specs.Prelude.{◌≡◌, ◌≢◌, ◌+◌, ◌<◌, ◌≤◌, true, ◌++◌, ◌∷◌, [], length, All, IfOk, IfErr, IfSome, IfNone};
+ghost use Rattle.tm_model.specs.declared.outcome.Outcome.{Outcome};
 ghost use Rattle.tm_hist.specs.Board.{IsHistory};
 ghost use Rattle.tm_work.specs.Seats.{AreSeats, GoesOn, SeatTells};
 ghost use Rattle.tm_work.specs.Seats.{no_progress, seat_with, progress_after_step, progress_at_end};
@@ -13,11 +14,12 @@ use crate::progress::{Progress, Receipt};
 use crate::seat::{DeskIdentity, Seat};
 use std::alloc::Global;
 use std::collections::VecDeque;
-use std::sync::{Mutex, Wait};
+use std::sync::{Mutex, MutexGuard, Wait};
 use tm_hist::Board;
 use tm_ledger::Ledger;
 
-/// A board under a lock, for threads that have a seat each. Only `open` takes memory, and only `turn` waits.
+/// A board under a lock, for threads that have a seat each. Only `open` takes memory, and only `turn`
+/// and `turns` wait.
 #[derive(Drop)]
 pub struct Desk<J: DeskIdentity> {
     state: Mutex<DeskState<J>>,
@@ -43,20 +45,39 @@ impl<J: DeskIdentity> Desk<J> {
         Ok((Desk { state }, seats))
     }
 
-    /// One step of the seat's core, which is one more pair of the board's history; or nothing, where the core is
-    /// stopped or the history full. The receipt is then the seat's last one, and its index is greater than that of the
-    /// one before.
+    /// One step of the seat's core, which is one more pair of the board's history; or nothing, exactly where the core is
+    /// stopped or the history full. So no step is idle. The receipt is then the seat's last one, and its index is
+    /// greater than that of the one before.
     pub fn turn(&self, rt: &impl Wait, seat: &mut Seat<J>) -> Option<Receipt>
         ensures core { seat.new.core ≡ seat.old.core }
         ensures some { IfSome result (λ r. seat.new.progress ≡ progress_after_step seat.old.progress r) }
+        ensures going { IfSome result (λ r. r.outcome ≢ Outcome.Idle) }
         ensures later { IfSome result (λ r. IfSome seat.old.progress.last (λ q. q.index < r.index)) }
         ensures none { IfNone result (seat.new.progress ≡ progress_at_end seat.old.progress) }
     {
         self.state.lock(rt).turn(seat)
     }
 
+    /// Up to so many turns of the seat's core under one lock, and how many steps they made: fewer only where the core
+    /// stopped or the history is full, as `turn` finds it.
+    pub fn turns(&self, rt: &impl Wait, seat: &mut Seat<J>, most: u32) -> u32
+        ensures core { seat.new.core ≡ seat.old.core }
+        ensures most { result ≤ most }
+        ensures steps { seat.new.progress.steps ≡ seat.old.progress.steps + result }
+        ensures fewer { result < most → seat.new.progress.ended ≡ true }
+        ensures all { result ≡ most → seat.new.progress.ended ≡ seat.old.progress.ended }
+    {
+        self.state.lock(rt).turns(seat, most)
+    }
+
+    // The board, held: no turn begins before what is answered is dropped.
+    pub(crate) fn hold<'a>(&'a self, rt: &'a impl Wait) -> MutexGuard<'a, DeskState<J>> {
+        self.state.lock(rt)
+    }
+
     /// The board, with what the seats' turns made of it. Its history goes on from the one that the board had when the
-    /// desk was opened, its machine is the run of it, each outcome is the owed one, and what these seats say is so.
+    /// desk was opened, its machine is the run of it, each outcome is the owed one, and what these seats say is so. Of a
+    /// core whose seat is not handed in, no contract says how many of the steps are its own.
     pub fn close(self, seats: Vec<Seat<J>>) -> Board
         ensures goes_on { GoesOn J.given result }
         ensures run { IsHistory result }

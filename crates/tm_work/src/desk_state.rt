@@ -1,6 +1,7 @@
 //! What lies under the desk's lock.
 
-ghost use Rattle.std.specs.Prelude.{◌≡◌, ◌<◌, ◌⊎◌, length, All, IfSome, IfNone};
+ghost use Rattle.std.specs.Prelude.{◌≡◌, ◌≢◌, ◌+◌, ◌<◌, ◌≤◌, ◌⊎◌, true, length, All, IfSome, IfNone};
+ghost use Rattle.tm_model.specs.declared.outcome.Outcome.{Outcome};
 ghost use Rattle.tm_hist.specs.Board.{IsFull, IsHistory, IsStopped};
 ghost use Rattle.tm_work.specs.Seats.{GoesOn, HaveNoProgress, IsStepMade, SeatTells, Tells};
 ghost use Rattle.tm_work.specs.Seats.{progress_after_step, progress_at_end};
@@ -60,6 +61,7 @@ impl<J: DeskIdentity> DeskState<J> {
     pub(crate) fn turn(&mut self, seat: &mut Seat<J>) -> Option<Receipt>
         ensures core { seat.new.core ≡ seat.old.core }
         ensures some { IfSome result (λ r. seat.new.progress ≡ progress_after_step seat.old.progress r) }
+        ensures going { IfSome result (λ r. r.outcome ≢ Outcome.Idle) }
         ensures later { IfSome result (λ r. IfSome seat.old.progress.last (λ q. q.index < r.index)) }
         ensures none { IfNone result (seat.new.progress ≡ progress_at_end seat.old.progress) }
     {
@@ -82,6 +84,22 @@ impl<J: DeskIdentity> DeskState<J> {
         };
         seat.note(ledger, progress);
         Some(receipt)
+    }
+
+    // Up to so many turns of a seat, and how many made a step: fewer where one made none.
+    pub(crate) fn turns(&mut self, seat: &mut Seat<J>, most: u32) -> u32
+        ensures core { seat.new.core ≡ seat.old.core }
+        ensures most { result ≤ most }
+        ensures steps { seat.new.progress.steps ≡ seat.old.progress.steps + result }
+        ensures fewer { result < most → seat.new.progress.ended ≡ true }
+        ensures all { result ≡ most → seat.new.progress.ended ≡ seat.old.progress.ended }
+    {
+        for made in 0..most {
+            if self.turn(seat).is_none() {
+                return made;
+            }
+        }
+        most
     }
 
     // Compares a seat with the ledger, where it changes nothing.

@@ -10,4 +10,10 @@ pub trait Gate: Sync {
 
     /// After a turn that made a step.
     fn after(&self, core: u8, outcome: &Outcome);
+
+    /// The stack of this core's thread in bytes, where it is not to be the system's own size. One that is too large
+    /// refuses the thread.
+    fn stack_bytes(&self, _core: u8) -> Option<usize> {
+        None
+    }
 }

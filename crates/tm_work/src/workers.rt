@@ -9,8 +9,10 @@ ghost use Rattle.tm_work.specs.Faults.{IsFault};
 use crate::desk::Desk;
 use crate::fault::WorkFault;
 use crate::gate::Gate;
+use crate::manner::{Burst, Gated, Manner};
 use crate::opening::Opening;
 use crate::seat::{DeskIdentity, Seat};
+use core::thread::Stack;
 use std::alloc::Global;
 use std::collections::VecDeque;
 use std::marker::Brand;
@@ -43,11 +45,13 @@ impl<J: DeskIdentity> Promise<Seat<J>> for Job {
 
 type Handles<J> = Vec<PromisedHandle<Seat<J>, Job>>;
 
-/// Starts one worker a core, in the order of the cores, and joins them all. Each repeats [`Gate::before`], a turn and
-/// [`Gate::after`] until it has made as many steps as its budget, or a turn finds its core stopped or the history full.
+/// Starts one worker a core, in the order of the cores, and joins them all. Once all are started, each repeats
+/// [`Gate::before`], a turn and [`Gate::after`] until it has made as many steps as its budget, or a turn finds its core
+/// stopped or the history full.
 ///
 /// [`WorkFault::NoMemory`] (61): no worker was started, and the board is as it was. [`WorkFault::SpawnRefused`] (60):
-/// the workers of the cores below this one ran by these rules, and the other cores made no step.
+/// the workers of the cores below this one ran by these rules, and those of the cores above it made no step. Nor did
+/// this core; but no contract says so, since its seat is gone with the thread that was not made.
 pub fn run_workers<G: Gate, R: Threads + Wait + Sync>(
     rt: &R,
     alloc: Global,
@@ -60,15 +64,32 @@ pub fn run_workers<G: Gate, R: Threads + Wait + Sync>(
     ensures fault { IfErr result (λ e. IsFault board budgets.now e) }
 {
     let opening = Opening::new(alloc, board)?;
-    run_at::<Brand, G, R>(rt, alloc, opening, budgets, gate)
+    run_at::<Brand, Gated<'_, G>, R>(rt, alloc, opening, budgets, &Gated { gate })
 }
 
-fn run_at<J: DeskIdentity + Send + Sync, G: Gate, R: Threads + Wait + Sync>(
+/// The same without a gate, and with several steps under one lock: [`Desk::turns`] in place of turns one by one, as many
+/// at a time as the burst says.
+pub fn run_steadily<R: Threads + Wait + Sync>(
+    rt: &R,
+    alloc: Global,
+    board: Board,
+    budgets: &[u32],
+    burst: Burst,
+) -> Result<Report, WorkFault>
+    requires { length budgets.now ≡ length board.program.entries }
+    ensures report { IfOk result (λ r. IsReport board budgets.now r.board r.steps.items) }
+    ensures fault { IfErr result (λ e. IsFault board budgets.now e) }
+{
+    let opening = Opening::new(alloc, board)?;
+    run_at::<Brand, Burst, R>(rt, alloc, opening, budgets, &burst)
+}
+
+fn run_at<J: DeskIdentity + Send + Sync, M: Manner, R: Threads + Wait + Sync>(
     rt: &R,
     alloc: Global,
     opening: Opening,
     budgets: &[u32],
-    gate: &G,
+    manner: &M,
 ) -> Result<Report, WorkFault>
     requires name { opening.table ≡ J.table }
     requires given { opening.given ≡ J.given }
@@ -88,7 +109,7 @@ fn run_at<J: DeskIdentity + Send + Sync, G: Gate, R: Threads + Wait + Sync>(
     };
     let (desk, seats) = Desk::<J>::open(alloc, opening)?;
     let seats = VecDeque::from_vec(seats);
-    let (done, left) = serve(rt, &desk, gate, budgets, seats, handles, done);
+    let (done, left) = serve(rt, &desk, manner, budgets, seats, handles, done);
     let steps = steps_of(budgets, &done, steps);
     let core = done.len() as u8;
     match left {
@@ -100,11 +121,12 @@ fn run_at<J: DeskIdentity + Send + Sync, G: Gate, R: Threads + Wait + Sync>(
     }
 }
 
-// Starts a worker for each seat, and joins those that there are.
-fn serve<'x, J: DeskIdentity + Send + Sync, G: Gate, R: Threads + Wait + Sync>(
+// Starts a worker for each seat, and joins those that there are. The desk is held until all are started, so that none
+// is done before another begins.
+fn serve<'x, J: DeskIdentity + Send + Sync, M: Manner, R: Threads + Wait + Sync>(
     rt: &'x R,
     desk: &'x Desk<J>,
-    gate: &'x G,
+    manner: &'x M,
     budgets: &'x [u32],
     seats: VecDeque<Seat<J>>,
     handles: Handles<J>,
@@ -131,7 +153,9 @@ fn serve<'x, J: DeskIdentity + Send + Sync, G: Gate, R: Threads + Wait + Sync>(
                 × AreLeft left.items (vec_len result.0 + 1) (length budgets.entry.now)) }
         {
             let mut handles = handles;
-            let left = start_all(scope, rt, desk, gate, budgets, seats, &mut handles);
+            let held = desk.hold(rt);
+            let left = start_all(scope, rt, desk, manner, budgets, seats, &mut handles);
+            drop(held);
             (join_all(rt, budgets, handles, done), left)
         },
     )
@@ -139,11 +163,11 @@ fn serve<'x, J: DeskIdentity + Send + Sync, G: Gate, R: Threads + Wait + Sync>(
 
 // Starts the workers in the order of their cores. Where no thread can be made, the seats of the cores behind that one
 // come back.
-fn start_all<'s, E: 's, J: DeskIdentity + Send + Sync + 's, G: Gate + 's, R: Wait + Sync + 's>(
+fn start_all<'s, E: 's, J: DeskIdentity + Send + Sync + 's, M: Manner + 's, R: Wait + Sync + 's>(
     scope: &'s Scope<'s, E>,
     rt: &'s R,
     desk: &'s Desk<J>,
-    gate: &'s G,
+    manner: &'s M,
     budgets: &[u32],
     seats: VecDeque<Seat<J>>,
     handles: &mut Handles<J>,
@@ -168,8 +192,12 @@ fn start_all<'s, E: 's, J: DeskIdentity + Send + Sync + 's, G: Gate + 's, R: Wai
         let work = move || -> Seat<J>
             requires { seat.progress.steps ≡ 0 }
             ensures { IsDone seat.core job.budget result }
-        { work(rt, desk, seat, job.budget, gate) };
-        match scope.spawn_with(job, work) {
+        { manner.work(rt, desk, seat, job.budget) };
+        let stack = match manner.stack_bytes(job.core) {
+            Some(bytes) => Stack::new().stack_size(bytes),
+            None => Stack::new(),
+        };
+        match stack.spawn_scoped_with(scope, job, work) {
             Ok(handle) => handles.push_reserved(handle),
             Err(_) => return Some(seats),
         }
@@ -210,26 +238,4 @@ fn steps_of<J: DeskIdentity>(budgets: &[u32], seats: &Vec<Seat<J>>, steps: Vec<u
         steps.push_reserved(seat.steps() as u32);
     }
     steps
-}
-
-// What the worker of a seat does.
-fn work<J: DeskIdentity, G: Gate, R: Wait>(
-    rt: &R,
-    desk: &Desk<J>,
-    seat: Seat<J>,
-    budget: u32,
-    gate: &G,
-) -> Seat<J>
-    requires { seat.progress.steps ≡ 0 }
-    ensures { IsDone seat.core budget result }
-{
-    let mut seat = seat;
-    for done in 0..budget {
-        gate.before(seat.core(), done);
-        let Some(receipt) = desk.turn(rt, &mut seat) else {
-            return seat;
-        };
-        gate.after(seat.core(), &receipt.outcome);
-    }
-    seat
 }

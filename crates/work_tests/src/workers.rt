@@ -13,7 +13,9 @@ use std::thread;
 use std::thread::Threads;
 use tm_core::{Limits, Outcome};
 use tm_hist::Board;
-use tm_work::{Desk, DeskIdentity, Gate, Opening, Report, Seat, WorkFault, run_workers};
+use tm_work::{
+    Burst, Desk, DeskIdentity, Gate, Opening, Report, Seat, WorkFault, run_steadily, run_workers,
+};
 
 const LIMITS: Limits = Limits {
     read_lines: 512,
@@ -410,6 +412,164 @@ fn three_workers(rt: HostRuntime) -> Result<(), Fail> {
             Err("threads".into())
         }
     }
+}
+
+// Refuses the thread of one core, since no stack is as large.
+#[derive(Drop)]
+struct Refusing {
+    core: u8,
+}
+
+impl Gate for Refusing {
+    fn before(&self, _core: u8, _done: u32) {}
+
+    fn after(&self, _core: u8, _outcome: &Outcome) {}
+
+    fn stack_bytes(&self, core: u8) -> Option<usize> {
+        if core == self.core {
+            Some(usize::MAX)
+        } else {
+            None
+        }
+    }
+}
+
+// The workers of the lower cores use their budgets; this core and those above it make no step.
+fn refused_from<R: Threads + Wait + Abort + Sync>(
+    rt: &R,
+    alloc: Global,
+    core: u8,
+) -> Result<(), Fail> {
+    let board = board_of(alloc, &SPINS, &[0x100, 0x100, 0x100], 100)?;
+    match run_workers(rt, alloc, board, &[7, 3, 2], &Refusing { core }) {
+        Err(WorkFault::SpawnRefused(refused, board)) => {
+            assert_eq!(rt; refused, core);
+            assert_eq!(rt; steps_of(&board, 0), if core > 0 { 7 } else { 0 });
+            assert_eq!(rt; steps_of(&board, 1), if core > 1 { 3 } else { 0 });
+            assert_eq!(rt; steps_of(&board, 2), 0);
+            Ok(())
+        }
+        Err(WorkFault::NoMemory(_)) => Err("memory".into()),
+        Ok(_) => Err("a refusal".into()),
+    }
+}
+
+#[test]
+fn no_first_thread(rt: HostRuntime) -> Result<(), Fail> {
+    refused_from(&rt, rt.alloc(), 0)
+}
+
+#[test]
+fn no_second_thread(rt: HostRuntime) -> Result<(), Fail> {
+    refused_from(&rt, rt.alloc(), 1)
+}
+
+#[test]
+fn no_third_thread(rt: HostRuntime) -> Result<(), Fail> {
+    refused_from(&rt, rt.alloc(), 2)
+}
+
+// What workers with several steps a lock do; refused as those of `three_workers` may be.
+fn three_steady_workers<R: Threads + Wait + Abort + Sync>(
+    rt: &R,
+    alloc: Global,
+    burst: Burst,
+) -> Result<(), Fail> {
+    let board = board_of(alloc, &SPINS, &[0x100, 0x100, 0x100], 1000)?;
+    match run_steadily(rt, alloc, board, &[700, 30, 0], burst) {
+        Ok(report) => {
+            assert_eq!(rt; report.steps.as_slice(), [700, 30, 0].as_slice());
+            assert_eq!(rt; steps_of(&report.board, 0), 700);
+            assert_eq!(rt; steps_of(&report.board, 1), 30);
+            assert_eq!(rt; report.board.made(), 730);
+            Ok(())
+        }
+        Err(WorkFault::NoMemory(board)) => {
+            assert_eq!(rt; board.made(), 0);
+            Err("memory".into())
+        }
+        Err(WorkFault::SpawnRefused(core, board)) => {
+            assert!(rt; core < 3 && steps_of(&board, 2) == 0);
+            assert!(rt; steps_of(&board, 0) == if core > 0 { 700 } else { 0 });
+            assert!(rt; steps_of(&board, 1) == if core > 1 { 30 } else { 0 });
+            Err("threads".into())
+        }
+    }
+}
+
+#[test]
+fn one_step_a_lock(rt: HostRuntime) -> Result<(), Fail> {
+    three_steady_workers(&rt, rt.alloc(), Burst::Fixed(1))
+}
+
+#[test]
+fn no_step_a_lock_is_one(rt: HostRuntime) -> Result<(), Fail> {
+    three_steady_workers(&rt, rt.alloc(), Burst::Fixed(0))
+}
+
+#[test]
+fn more_steps_a_lock_than_there_are(rt: HostRuntime) -> Result<(), Fail> {
+    three_steady_workers(&rt, rt.alloc(), Burst::Fixed(u32::MAX))
+}
+
+#[test]
+fn varying_steps_a_lock(rt: HostRuntime) -> Result<(), Fail> {
+    three_steady_workers(&rt, rt.alloc(), Burst::Varying)
+}
+
+#[test]
+fn steady_workers_stop(rt: HostRuntime) -> Result<(), Fail> {
+    let board = board_of(rt.alloc(), &[0xf4], &[0x100, 0x100], 100)?;
+    let Ok(report) = run_steadily(&rt, rt.alloc(), board, &[5, 5], Burst::Varying) else {
+        return Err("a report".into());
+    };
+    assert_eq!(rt; report.steps.as_slice(), [1, 1].as_slice());
+    Ok(())
+}
+
+#[test]
+fn steady_workers_fill_the_history(rt: HostRuntime) -> Result<(), Fail> {
+    let board = board_of(rt.alloc(), &SPINS, &[0x100, 0x100], 100)?;
+    let Ok(report) = run_steadily(&rt, rt.alloc(), board, &[100, 100], Burst::Varying) else {
+        return Err("a report".into());
+    };
+    assert_eq!(rt; report.board.made(), 100);
+    assert_eq!(rt; sum_of(report.steps.as_slice()), 100);
+    Ok(())
+}
+
+// Turns of core 0 alone, and then a close to which no seat comes.
+fn close_without_seats<J: DeskIdentity, R: Wait + Abort>(
+    rt: &R,
+    alloc: Global,
+    opening: Opening,
+) -> Result<(), Fail>
+    requires name { opening.table ≡ J.table }
+    requires given { opening.given ≡ J.given }
+{
+    let Ok((desk, mut seats)) = Desk::<J>::open(alloc, opening) else {
+        return Err("a desk".into());
+    };
+    let mut one = seats.pop().ok_or("two seats")?;
+    let mut zero = seats.pop().ok_or("two seats")?;
+    assert_eq!(rt; desk.turns(rt, &mut zero, 3), 3);
+    assert_eq!(rt; desk.turns(rt, &mut zero, 0), 0);
+    assert!(rt; zero.steps() == 3 && !zero.ended());
+    assert_eq!(rt; desk.turns(rt, &mut one, 9), 2);
+    assert!(rt; one.steps() == 2 && one.ended());
+    let board = desk.close(Vec::new(alloc));
+    assert_eq!(rt; (steps_of(&board, 0), steps_of(&board, 1)), (3, 2));
+    assert_eq!(rt; board.made(), 5);
+    Ok(())
+}
+
+#[test]
+fn no_seat_comes_back(rt: HostRuntime) -> Result<(), Fail> {
+    let board = board_of(rt.alloc(), &SPINS, &[0x100, 0x100], 5)?;
+    let Ok(opening) = Opening::new(rt.alloc(), board) else {
+        return Err("an opening".into());
+    };
+    close_without_seats::<Brand, _>(&rt, rt.alloc(), opening)
 }
 
 #[test]

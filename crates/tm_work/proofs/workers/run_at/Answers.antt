@@ -1,9 +1,17 @@
-use Rattle.std.proofs.Common.{◌≡◌, ◌+◌, ◌<◌, length, sym, ◌∙◌, subst, arith, rules}
+use Rattle.std.proofs.Common.{List, ◌≡◌, ◌+◌, ◌<◌, length, sym, ap, ◌∙◌, subst, arith, rules}
 use Rattle.std.specs.Prelude.{vec_len}
 use Rattle.tm_hist.specs.Board.{ShownBoard}
+use Rattle.tm_work.specs.Seats.{AreSeats, SeatProgress}
 use Rattle.tm_work.specs.Workers.{IsReport, IsRefused, AreLeft}
-use Rattle.tm_work.proofs.Counts.{report_of, refused_of, none_of, some_of}
+use Rattle.tm_work.proofs.Counts.{all_left, report_of, refused_of, none_of, some_of}
 use Rattle.tm_work.proofs.workers.run_at.Goals as goal
+
+pub serve-done-requires-clause-seats : goal.serve-done-requires-clause-seats
+serve-done-requires-clause-seats g c κs within =
+    let entries = length g.J.DeskIdentity.given.program.entries in
+    all_left c.from_vec-seats.result.items entries (length c.args.budgets.now)
+    (subst (λ (l : List SeatProgress). AreSeats l entries) (sym c.from_vec-seats.ensures.items) c.in_ok-desk.ensures.seats)
+    (c.requires.budgets ∙ ap (λ (b : ShownBoard). length b.program.entries) c.requires.given)
 
 pub returns-in-None-clause-report : goal.returns-in-None-clause-report
 returns-in-None-clause-report g c =

@@ -5,12 +5,12 @@ use Rattle.tm_work.specs.Workers.{AreLeft}
 use Rattle.tm_work.proofs.Counts.{left_next, snoc_each}
 use Rattle.tm_work.proofs.workers.start_all.Goals as goal
 
-pub spawn_with-requires-clause-runs : goal.spawn_with-requires-clause-runs
-spawn_with-requires-clause-runs g c κs within =
+pub spawn_scoped_with-requires-clause-runs : goal.spawn_scoped_with-requires-clause-runs
+spawn_scoped_with-requires-clause-runs g c κs within =
     let i = c.loop-core.invariant in
     let split = c.pop_front.ensures.items ∙ ap (λ o. option_to_list o ++ c.pop_front.new.self.items) c.in-Some.is in
     let n = left_next c.loop-core.seats.items c.pop_front.new.self.items c.in-Some.seat _ _ i.seats split in
-    (ap (λ s. s.progress.steps) n.0, search rules)
+    ap (λ s. s.progress.steps) n.0
 
 pub loop-core-preserved : goal.loop-core-preserved
 loop-core-preserved g c =

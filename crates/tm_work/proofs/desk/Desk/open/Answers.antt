@@ -1,4 +1,5 @@
 use Rattle.std.proofs.Common.{◌≡◌, ◌+◌, ◌∷◌, ◌++◌, [], List, length, sym, ap, ◌∙◌, subst, arith, length-append}
+use Rattle.tm_hist.specs.Board.{ShownBoard}
 use Rattle.tm_work.specs.Seats.{HaveNoProgress, AreSeats, SeatProgress, seat_with, no_progress}
 use Rattle.tm_work.proofs.Turns.{fresh_more, seats_more}
 use Rattle.tm_work.proofs.desk.Desk.open.Goals as goal
@@ -19,3 +20,11 @@ loop-core-preserved g c =
       seats = subst (λ (l : List SeatProgress). AreSeats l (c.loop-core.core + 1)) (sym more) (seats_more c.loop-core.seats.items c.loop-core.core i.seats);
       room = omega (arith, room, kept);
     }
+
+pub returns-clause-seats : goal.returns-clause-seats
+returns-clause-seats g c =
+    let entries = c.cores-cores.ensures.program ∙ ap (λ (b : ShownBoard). length b.program.entries) (c.named-ledger.ensures.board ∙ c.requires.given) in
+    let low = c.loop-core.auto.core-end in
+    let ended = c.loop-core-test.false in
+    let all : c.loop-core.core ≡ c.cores-cores.result = omega (arith, low, ended) in
+    subst (AreSeats c.loop-core.seats.items) (all ∙ entries) c.loop-core.invariant.seats

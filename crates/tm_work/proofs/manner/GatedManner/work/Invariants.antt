@@ -1,5 +1,5 @@
 use Rattle.std.proofs.Common.{◌≡◌}
-use Rattle.tm_work.proofs.workers.work.Given as goal
+use Rattle.tm_work.proofs.manner.GatedManner.work.Given as goal
 
 abbrev pub invariant-loop-done : goal.invariant-loop-done
 invariant-loop-done g l = record {

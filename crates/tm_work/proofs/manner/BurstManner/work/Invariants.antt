@@ -1,0 +1,11 @@
+use Rattle.std.proofs.Common.{◌≡◌, ◌+◌}
+use Rattle.tm_work.proofs.manner.BurstManner.work.Given as goal
+
+abbrev pub invariant-loop-left : goal.invariant-loop-left
+invariant-loop-left g l = record {
+  steps : l.seat.progress.steps + l.left ≡ l.fn.budget;
+  core : l.seat.core ≡ l.initial.seat.core;
+}
+
+abbrev pub decreases-loop-left : goal.decreases-loop-left
+decreases-loop-left g l = l.left

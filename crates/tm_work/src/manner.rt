@@ -1,0 +1,105 @@
+//! How a worker makes its steps.
+
+ghost use Rattle.std.specs.Prelude.{◌≡◌, ◌<◌};
+ghost use Rattle.tm_work.specs.Workers.{IsDone};
+
+use crate::desk::Desk;
+use crate::gate::Gate;
+use crate::seat::{DeskIdentity, Seat};
+use std::sync::Wait;
+
+/// What the worker of a seat does until its budget is used or its core makes no further step.
+pub(crate) trait Manner: Sync {
+    // The seat comes back with what its turns came to.
+    fn work<J: DeskIdentity, R: Wait>(
+        &self,
+        rt: &R,
+        desk: &Desk<J>,
+        seat: Seat<J>,
+        budget: u32,
+    ) -> Seat<J>
+        requires { seat.progress.steps ≡ 0 }
+        ensures { IsDone seat.core budget result };
+
+    // The stack of this core's thread in bytes, where it is not to be the system's own size.
+    fn stack_bytes(&self, core: u8) -> Option<usize>;
+}
+
+/// A step at a time, each told to a gate.
+#[derive(Drop)]
+pub(crate) struct Gated<'a, G: Gate> {
+    pub(crate) gate: &'a G,
+}
+
+impl<'a, G: Gate> Manner for Gated<'a, G> {
+    fn work<J: DeskIdentity, R: Wait>(
+        &self,
+        rt: &R,
+        desk: &Desk<J>,
+        seat: Seat<J>,
+        budget: u32,
+    ) -> Seat<J> {
+        let mut seat = seat;
+        for done in 0..budget {
+            self.gate.before(seat.core(), done);
+            let Some(receipt) = desk.turn(rt, &mut seat) else {
+                return seat;
+            };
+            self.gate.after(seat.core(), &receipt.outcome);
+        }
+        seat
+    }
+
+    fn stack_bytes(&self, core: u8) -> Option<usize> {
+        self.gate.stack_bytes(core)
+    }
+}
+
+/// How many steps a worker makes under one lock.
+#[derive(Clone, Copy, PartialEq, Eq, Debug)]
+pub enum Burst {
+    /// Always as many; 0 counts as 1.
+    Fixed(u32),
+    /// One to three at first, so that workers which began at different times meet; then 17 to 47, which a program's
+    /// loops are seldom a multiple of.
+    Varying,
+}
+
+impl Burst {
+    // How many steps come next, after so many.
+    fn next(self, done: u32) -> u32
+        ensures { 0 < result }
+    {
+        match self {
+            Burst::Fixed(steps) => steps.max(1),
+            Burst::Varying if done < 64 => 1 + done % 3,
+            // The upper bits of a product with an odd number: any two values of `done` give unlike ones.
+            Burst::Varying => 17 + (done.wrapping_mul(0x9e37_79b9) >> 16) % 31,
+        }
+    }
+}
+
+impl Manner for Burst {
+    fn work<J: DeskIdentity, R: Wait>(
+        &self,
+        rt: &R,
+        desk: &Desk<J>,
+        seat: Seat<J>,
+        budget: u32,
+    ) -> Seat<J> {
+        let mut seat = seat;
+        let mut left = budget;
+        while left > 0 {
+            let most = self.next(budget - left).min(left);
+            if desk.turns(rt, &mut seat, most) < most {
+                return seat;
+            }
+            left -= most;
+        }
+        seat
+    }
+
+    fn stack_bytes(&self, _core: u8) -> Option<usize> {
+        None
+    }
+}
