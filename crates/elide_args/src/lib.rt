@@ -1,15 +1,15 @@
-//! The command line of `elide`: words to plain requests.
+//! The command line of `elide`: words to plain subcommands.
 //!
 //! Promises no more than safety: which words are taken, and each text of help and refusal, are compared by `doc_tests`. Alone in
 //! this repository it stands on `clap`, and no type of `clap` leaves it.
 #![tactic(auto)]
 
 mod line;
-mod request;
+mod subcommand;
 mod words;
 
-pub use request::{
-    AsmOptions, DebugOptions, DisOptions, MachineOptions, ReplayOptions, Request, RunOptions,
-    ScheduleOptions, ThreadsOptions,
+pub use subcommand::{
+    AsmOptions, DebugOptions, DisOptions, MachineOptions, ReplayOptions, RunOptions,
+    ScheduleOptions, Subcommand, ThreadsOptions,
 };
-pub use words::{NoRequest, request_of};
+pub use words::{NotASubcommand, subcommand_of};

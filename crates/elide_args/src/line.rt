@@ -132,12 +132,16 @@ fn threads_line<'a>(alloc: Global) -> Result<Command<'a>, AllocError> {
     let record = option(alloc, "record", "PATH").help(
         "Writes the schedule that came about to this file, before the state is printed",
     );
+    let burst = option(alloc, "burst", "N").help(
+        "The steps that a core makes before another can come between; by default 17 to 47, and fewer at first",
+    );
     machine_line(alloc, "threads")?
         .about("Runs each core on a thread of its own and prints the state")
         .after_help(
             "Example: elide threads examples/elision.asm --cores 4 --budget 1000000 --record schedule.txt",
         )
         .arg(budget)?
+        .arg(burst)?
         .arg(record)
 }
 

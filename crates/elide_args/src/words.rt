@@ -1,16 +1,16 @@
-//! The request that words make.
+//! The subcommand that words make.
 
 use crate::line::command_line;
-use crate::request::{
-    AsmOptions, DebugOptions, DisOptions, MachineOptions, ReplayOptions, Request, RunOptions,
-    ScheduleOptions, ThreadsOptions,
+use crate::subcommand::{
+    AsmOptions, DebugOptions, DisOptions, MachineOptions, ReplayOptions, RunOptions,
+    ScheduleOptions, Subcommand, ThreadsOptions,
 };
 use clap::{ArgMatches, Error};
 use std::alloc::Global;
 
-/// What words come to that make no request.
+/// What words come to that make no subcommand.
 #[derive(Debug, Drop)]
-pub enum NoRequest {
+pub enum NotASubcommand {
     /// They ask for this text, of help or of the version.
     Help(String),
     /// They are refused with this text.
@@ -19,60 +19,64 @@ pub enum NoRequest {
     NoMemory,
 }
 
-/// The request that the arguments make, given without the program's name. Where there is no memory for clap's text, it is
+/// The subcommand that the arguments make, given without the program's name. Where there is no memory for clap's text, it is
 /// empty.
-pub fn request_of<'a>(alloc: Global, words: &'a [String]) -> Result<Request<'a>, NoRequest> {
+pub fn subcommand_of<'a>(
+    alloc: Global,
+    words: &'a [String],
+) -> Result<Subcommand<'a>, NotASubcommand> {
     let Ok(line) = command_line(alloc) else {
-        return Err(NoRequest::NoMemory);
+        return Err(NotASubcommand::NoMemory);
     };
     match line.try_get_matches_from(words) {
-        Ok(matches) => asked(&matches).ok_or(NoRequest::NoMemory),
+        Ok(matches) => asked(&matches).ok_or(NotASubcommand::NoMemory),
         Err(error) => Err(told(alloc, &error)),
     }
 }
 
 // What clap tells.
-fn told(alloc: Global, error: &Error) -> NoRequest {
+fn told(alloc: Global, error: &Error) -> NotASubcommand {
     let text = match format!(in alloc; "{error}") {
         Ok(text) => text,
         Err(_) => String::new(alloc),
     };
     if error.use_stderr() {
-        NoRequest::Misuse(text)
+        NotASubcommand::Misuse(text)
     } else {
-        NoRequest::Help(text)
+        NotASubcommand::Help(text)
     }
 }
 
-// The request of the subcommand that was met.
-fn asked<'a>(matches: &ArgMatches<'a>) -> Option<Request<'a>> {
+// The subcommand that was met.
+fn asked<'a>(matches: &ArgMatches<'a>) -> Option<Subcommand<'a>> {
     let (name, options) = matches.subcommand()?;
-    request_named(name, options)
+    subcommand_named(name, options)
 }
 
-fn request_named<'a>(name: &str, options: &ArgMatches<'a>) -> Option<Request<'a>> {
+fn subcommand_named<'a>(name: &str, options: &ArgMatches<'a>) -> Option<Subcommand<'a>> {
     let file = options.get_str("FILE")?;
     match name {
-        "asm" => Some(Request::Asm(AsmOptions {
+        "asm" => Some(Subcommand::Asm(AsmOptions {
             file,
             lists: options.get_flag("list"),
         })),
-        "dis" => Some(Request::Dis(DisOptions { file })),
-        "run" => Some(Request::Run(RunOptions {
+        "dis" => Some(Subcommand::Dis(DisOptions { file })),
+        "run" => Some(Subcommand::Run(RunOptions {
             machine: machine_of(file, options),
             schedule: schedule_of(options),
             traces: options.get_flag("trace"),
         })),
-        "threads" => Some(Request::Threads(ThreadsOptions {
+        "threads" => Some(Subcommand::Threads(ThreadsOptions {
             machine: machine_of(file, options),
             budget: options.get_str("budget"),
+            burst: options.get_str("burst"),
             record: options.get_str("record"),
         })),
-        "replay" => Some(Request::Replay(ReplayOptions {
+        "replay" => Some(Subcommand::Replay(ReplayOptions {
             machine: machine_of(file, options),
             schedule: schedule_of(options),
         })),
-        "debug" => Some(Request::Debug(DebugOptions {
+        "debug" => Some(Subcommand::Debug(DebugOptions {
             machine: machine_of(file, options),
         })),
         _ => None,

@@ -2,8 +2,8 @@
 
 ghost use Rattle.std.specs.Prelude.{◌≤◌};
 
-use crate::telling::{tell, tell_no_request};
-use elide_args::{Request, request_of};
+use crate::telling::{tell, tell_not_a_subcommand};
+use elide_args::{Subcommand, subcommand_of};
 use elide_asm::{asm, dis};
 use elide_debug::debug;
 use elide_program::Paths;
@@ -31,13 +31,13 @@ pub fn command<R: Threads + Wait + Sync + AllocGlobal, P: Paths, I: In, O: Out, 
     ensures { result ≤ 2 }
 {
     let alloc = rt.alloc();
-    match request_of(alloc, words) {
-        Ok(request) => match obey(rt, &request, paths, input, out) {
+    match subcommand_of(alloc, words) {
+        Ok(subcommand) => match obey(rt, &subcommand, paths, input, out) {
             Ok(Answer::Done) => 0,
             Ok(Answer::Differs) => 1,
             Err(refusal) => tell(alloc, refusal, err),
         },
-        Err(answer) => tell_no_request(alloc, answer, out, err),
+        Err(answer) => tell_not_a_subcommand(alloc, answer, out, err),
     }
 }
 
@@ -53,19 +53,19 @@ enum Answer {
 // Does what is asked for.
 fn obey<R: Threads + Wait + Sync + AllocGlobal, P: Paths, I: In, O: Out>(
     rt: &R,
-    request: &Request<'_>,
+    subcommand: &Subcommand<'_>,
     paths: &mut P,
     input: &mut I,
     out: &mut O,
 ) -> Result<Answer, Refusal> {
     let alloc = rt.alloc();
-    match request {
-        Request::Asm(options) => asm(alloc, options, paths, out)?,
-        Request::Dis(options) => dis(alloc, options, paths, out)?,
-        Request::Run(options) => run(alloc, options, paths, out)?,
-        Request::Threads(options) => threads(rt, options, paths, out)?,
-        Request::Debug(options) => debug(rt, alloc, options, paths, input, out)?,
-        Request::Replay(options) => {
+    match subcommand {
+        Subcommand::Asm(options) => asm(alloc, options, paths, out)?,
+        Subcommand::Dis(options) => dis(alloc, options, paths, out)?,
+        Subcommand::Run(options) => run(alloc, options, paths, out)?,
+        Subcommand::Threads(options) => threads(rt, options, paths, out)?,
+        Subcommand::Debug(options) => debug(rt, alloc, options, paths, input, out)?,
+        Subcommand::Replay(options) => {
             if replay(alloc, options, paths, out)? == Agreement::Differs {
                 return Ok(Answer::Differs);
             }

@@ -1,6 +1,6 @@
 //! The commands of `elide`, over files and devices that are handed in.
 //!
-//! [`command`] promises the exit status, 0, 1 or 2; what it writes is compared by `doc_tests`. The words become a plain request
+//! [`command`] promises the exit status, 0, 1 or 2; what it writes is compared by `doc_tests`. The words become a plain subcommand
 //! in `elide_args`; each command is a crate of its own, `elide_asm`, `elide_run`, `elide_threads` and `elide_debug`, and this one
 //! chooses among them and tells how they ended.
 #![tactic(auto)]

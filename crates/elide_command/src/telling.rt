@@ -2,7 +2,7 @@
 
 ghost use Rattle.std.specs.Prelude.{◌≤◌};
 
-use elide_args::NoRequest;
+use elide_args::NotASubcommand;
 use elide_setup::{Fault, Refusal};
 use ia_text::Out;
 use std::alloc::{AllocError, Global};
@@ -32,25 +32,25 @@ fn fault_line(alloc: Global, fault: Fault) -> Result<String, AllocError> {
     }
 }
 
-/// Tells what words come to that make no request: a refusal on `err`, or on `out` the help or version that they ask for.
-pub fn tell_no_request<O: Out, E: Out>(
+/// Tells what words come to that make no subcommand: a refusal on `err`, or on `out` the help or version that they ask for.
+pub fn tell_not_a_subcommand<O: Out, E: Out>(
     alloc: Global,
-    answer: NoRequest,
+    answer: NotASubcommand,
     out: &mut O,
     err: &mut E,
 ) -> u8
     ensures { result ≤ 2 }
 {
     match answer {
-        NoRequest::Help(text) => {
+        NotASubcommand::Help(text) => {
             put_text(Ok(text), out);
             0
         }
-        NoRequest::Misuse(text) => {
+        NotASubcommand::Misuse(text) => {
             put_text(Ok(text), err);
             2
         }
-        NoRequest::NoMemory => tell(alloc, Refusal::no_memory(), err),
+        NotASubcommand::NoMemory => tell(alloc, Refusal::no_memory(), err),
     }
 }
 

@@ -2,24 +2,14 @@
 
 use crate::record::record;
 use elide_args::ThreadsOptions;
-use elide_program::{Paths, Settings, number_of};
+use elide_program::{Paths, ProgramRefusal, Settings, number_of};
 use elide_setup::{Fault, Refusal, Setup, hand_on, new_board, part_of, prepared, show};
 use ia_text::{Out, ToVec};
 use std::alloc::Global;
 use std::sync::Wait;
 use std::thread::Threads;
-use tm_core::Outcome;
 use tm_hist::Board;
-use tm_work::{Gate, WorkFault, run_workers};
-
-// Nothing is done before and after a worker's steps.
-struct NoGate;
-
-impl Gate for NoGate {
-    fn before(&self, _core: u8, _done: u32) {}
-
-    fn after(&self, _core: u8, _outcome: &Outcome) {}
-}
+use tm_work::{Burst, WorkFault, run_steadily};
 
 /// Runs each core on a thread of its own, writes the schedule that came about where it is asked for, and prints the state
 /// and the dump.
@@ -32,13 +22,25 @@ pub fn threads<R: Threads + Wait + Sync + AllocGlobal, P: Paths, O: Out>(
     let alloc = rt.alloc();
     let settings = Settings::read(&options.machine)?;
     let budget = number_of(options.budget, "--budget")?;
+    let burst = burst_of(options.burst)?;
     let setup = prepared(alloc, options.machine.file, &settings, paths)?;
     let board = opened(alloc, &setup, budget)?;
-    let board = worked(rt, board, budget)?;
+    let board = worked(rt, board, budget, burst)?;
     if let Some(path) = options.record {
         record(alloc, &board, path, paths)?;
     }
     tell(alloc, &board, &setup, out)
+}
+
+// How many steps a core makes before another can come between.
+fn burst_of(text: Option<&str>) -> Result<Burst, ProgramRefusal> {
+    if text.is_none() {
+        return Ok(Burst::Varying);
+    }
+    match number_of(text, "--burst")? {
+        0 => Err(ProgramRefusal::Usage("--burst")),
+        steps => Ok(Burst::Fixed(steps)),
+    }
 }
 
 // A board with room for so many steps of each core.
@@ -52,10 +54,11 @@ fn worked<R: Threads + Wait + Sync + AllocGlobal>(
     rt: &R,
     board: Board,
     budget: u32,
+    burst: Burst,
 ) -> Result<Board, Refusal> {
     let alloc = rt.alloc();
     let budgets = vec![in alloc; budget; usize::from(board.cores())]?;
-    match run_workers(rt, alloc, board, budgets.as_slice(), &NoGate) {
+    match run_steadily(rt, alloc, board, budgets.as_slice(), burst) {
         Ok(report) => Ok(report.board),
         Err(fault) => Err(Refusal::Fault(fault_of(&fault))),
     }

@@ -72,9 +72,11 @@ command_named name.Run first second third = command_with (λ number. command.Run
 command_named name.Break first second third = command_with (λ number. command.Break number) (one_number first second)
 command_named name.Clear first second third = command_with (λ number. command.Clear number) (one_number first second)
 command_named name.Regs first second third = command_with (λ number. command.Regs number) (one_number first second)
-command_named name.Mem first second third = command_with (λ (pair : ℕ × ℕ). command.Mem pair.0 pair.1) (two_numbers first second third)
+command_named name.Mem first second third =
+    command_with (λ (pair : ℕ × ℕ). command.Mem pair.0 pair.1) (two_numbers first second third)
 command_named name.Sets first second third = command_with (λ number. command.Sets number) (one_number first second)
-command_named name.List first second third = command_with (λ (pair : ℕ × ℕ). command.List pair.0 pair.1) (two_numbers first second third)
+command_named name.List first second third =
+    command_with (λ (pair : ℕ × ℕ). command.List pair.0 pair.1) (two_numbers first second third)
 command_named name.Quit first second third = command_alone first command.Quit
 
 abbrev pub command_by : Option CommandName → List ℕ → Result Command Refusal

@@ -239,7 +239,8 @@ mem_answer machine at count =
 -- 1 to 64 lines, the first of them in the code
 abbrev pub list_answer : Program → ℕ → ℕ → List ℕ
 list_answer program at count =
-    if nat_lt count 1 || nat_lt 64 count || nat_lt at program.base || nat_le (length (code_of program)) (at - program.base)
+    if nat_lt count 1 || nat_lt 64 count || nat_lt at program.base
+    || nat_le (length (code_of program)) (at - program.base)
     then refusal_line OutOfRange
     else some_lines count (drop (at - program.base) (code_of program)) at
 
@@ -270,7 +271,8 @@ abbrev pub Answers : Command → SessionValue → List ℕ → SessionValue → 
 Answers (Step core) from text to = StepAnswer from core text to
 Answers (Run number) from text to = RunAnswer number from text to
 Answers (Break address) from text to = (text ≡ done_line (set_break from address).0) × (to ≡ (set_break from address).1)
-Answers (Clear address) from text to = (text ≡ done_line (unset_break from address).0) × (to ≡ (unset_break from address).1)
+Answers (Clear address) from text to =
+    (text ≡ done_line (unset_break from address).0) × (to ≡ (unset_break from address).1)
 Answers (Regs core) from text to = (text ≡ regs_answer from core) × (to ≡ from)
 Answers (Mem at number) from text to = (text ≡ mem_answer from.board.machine at number) × (to ≡ from)
 Answers (Sets core) from text to = SetsAnswer from core text to

@@ -12,9 +12,10 @@ ghost use Rattle.tm_debug.specs.Commands.{refusal_line};
 use crate::refusal::Refusal;
 use crate::state::{MOST_BREAKPOINTS, RunCheck, SessionState, core_count};
 use ia_image::Program;
+use ia_text::page::{push, push_eight};
 use ia_text::{Out, WriteFault, write_line};
 use tm_core::Machine;
-use tm_hist::text_line::{TextLine, push, push_long, push_number};
+use tm_hist::text_line::{TextLine, push_number};
 use tm_hist::{StepFault, write_core, write_dump, write_outcome};
 
 /// Tells a refusal.
@@ -67,7 +68,7 @@ fn push_break(row: &mut TextLine, core: u8, address: u32)
     push(row, b"break ");
     push_number(row, core);
     push(row, b" ");
-    push_long(row, address);
+    push_eight(row, address);
     push(row, b"\n");
 }
 

@@ -8,6 +8,7 @@ ghost use Rattle.tm_debug.specs.Serving.{IsKept, IsLast, IsLine, ReadsLine};
 
 use crate::input::In;
 use arrayvec::ArrayVec;
+use ia_lex::without_cr;
 use ia_text::Failed;
 use std::sync::Wait;
 
@@ -33,22 +34,6 @@ pub enum Line {
 pub struct LineStart {
     row: Bytes,
     long: bool,
-}
-
-// A line without the carriage return that may end it.
-#[tactic(auto, using(ia_lex::proofs::Ends::ends_in_cr, ia_lex::proofs::Ends::ends_otherwise, ia_lex::proofs::Ends::ends_nowhere))]
-fn without_return(line: &[u8]) -> &[u8]
-    ensures { result.now ≡ without_cr line.now }
-{
-    let long = line.len();
-    if long == 0 {
-        return line;
-    }
-    if line[long - 1] == b'\r' {
-        &line[..long - 1]
-    } else {
-        line
-    }
 }
 
 // A line of these bytes.
@@ -105,7 +90,7 @@ impl LineStart {
         if self.long {
             Line::Long
         } else {
-            line_of(without_return(self.row.as_slice()))
+            line_of(without_cr(self.row.as_slice()))
         }
     }
 }

@@ -1,8 +1,8 @@
 //! What the words of a command line ask for. The values are texts of the words, or clap's defaults; no one has read them yet.
 
-/// A request: a subcommand with its options.
+/// A subcommand with its options.
 #[derive(Clone, Copy, Debug)]
-pub enum Request<'a> {
+pub enum Subcommand<'a> {
     /// `asm`.
     Asm(AsmOptions<'a>),
     /// `dis`.
@@ -51,6 +51,8 @@ pub struct ThreadsOptions<'a> {
     pub machine: MachineOptions<'a>,
     /// `--budget`: the most steps of each core.
     pub budget: Option<&'a str>,
+    /// `--burst`: how many steps a core makes before another can come between.
+    pub burst: Option<&'a str>,
     /// `--record`: the path that the schedule is written to.
     pub record: Option<&'a str>,
 }
