@@ -4,7 +4,7 @@ ghost use Rattle.std.specs.Prelude.{◌≡◌, ◌+◌, ◌≤◌, length, nat_l
 ghost use Rattle.std.specs.List.{list_any};
 ghost use Rattle.ia_image.specs.Load.{Loads, bad_cores, bad_memory_size, load_refusal, outside_code};
 
-use crate::decoding::decode_rows;
+use crate::decoding::decode_code;
 use crate::fault::LoadFault;
 use crate::program::{MOST_CORES, Program, entry_row};
 use std::alloc::Global;
@@ -106,10 +106,11 @@ pub fn load(
     if let Some(fault) = refusal(bytes, base, code_len, mem_size, entries) {
         return Err(fault);
     }
-    let rows = decode_rows(alloc, &bytes[..code_len as usize])?;
+    let decoded = decode_code(alloc, &bytes[..code_len as usize])?;
     let bytes = Vec::from_slice(alloc, bytes)?;
     Ok(Program {
-        rows,
+        rows: decoded.rows,
+        lines: decoded.lines,
         bytes,
         base,
         code_len,

@@ -1,6 +1,7 @@
 //! Each fault of the loader at its limit and one past it, and image text by example.
 
 use ia_image::{ImageFault, LoadFault, load, read_image, write_image};
+use ia_row::Row;
 use ia_text::{Out, ToVec};
 use std::alloc::Global;
 use std::test::Fail;
@@ -70,6 +71,39 @@ fn a_program(rt: HostRuntime) -> Result<(), Fail> {
     assert_eq!(rt; copy.code(), b"\xf4\xf4".as_slice());
     let outside = load(rt.alloc(), b"\xf4\xf4\x07", 256, 2, 12_288, &[256, 258]);
     assert_eq!(rt; outside.err().map(LoadFault::code), Some(24));
+    Ok(())
+}
+
+/// INC EAX; DEC ECX; PUSH EDX; JNZ; XEND; NOP; and then LOCK INC dword [1000h], ADD AL, CL, HLT, which are no usual ones,
+/// and a byte that begins nothing.
+const CODE: [u8; 20] = [
+    0x40, 0x49, 0x52, 0x75, 0xfb, 0x0f, 0x01, 0xd5, 0x90, 0xf0, 0xff, 0x05, 0, 0x10, 0, 0, 0x00,
+    0xc8, 0xf4, 0x0f,
+];
+
+#[test]
+fn rows_and_lines(rt: HostRuntime) -> Result<(), Fail> {
+    let program = load(rt.alloc(), &CODE, 256, 20, 12_288, &[256])?;
+    assert_eq!(rt; program.rows().len(), 20);
+    assert_eq!(rt; program.lines().len(), 20);
+    let cases: [(usize, Row, u8); 9] = [
+        (0, Row::Inc(0), 1),
+        (1, Row::Dec(1), 1),
+        (2, Row::Push(2), 1),
+        (5, Row::End, 3),
+        (8, Row::Nothing, 1),
+        (9, Row::Other, 7),
+        (16, Row::Other, 2),
+        (18, Row::Other, 1),
+        (19, Row::Other, 0),
+    ];
+    for (offset, row, len) in cases {
+        let line = program.lines().get(offset).copied();
+        assert_eq!(rt; line.map(|line| line.row), Some(row));
+        assert_eq!(rt; line.map(|line| line.len), Some(len));
+        let length = program.insn_at(offset as u32).map_or(0, |(_, len)| len);
+        assert_eq!(rt; length, len);
+    }
     Ok(())
 }
 
