@@ -1,7 +1,6 @@
 -- Memory, while the bytes of slots are written to it.
-use Rattle.std.proofs.Common.{◌≡◌, ℕ, ◌+◌, ◌*◌, ◌/◌, ◌%◌, ◌<◌, ◌≤◌, Bool, true, false, cond, eqb, ltb, ◌&&◌, List, length, map, get_or, set, Option, Some, None, refl, sym, ap, ◌∙◌, ⊎_elim, inl, inr, ◌⊎◌, arith}
+use Rattle.std.proofs.Common.{◌≡◌, ℕ, ◌+◌, ◌*◌, ◌/◌, ◌%◌, ◌<◌, ◌≤◌, Bool, true, false, cond, eqb, ltb, ◌&&◌, List, length, map, get_or, Option, Some, None, refl, sym, ap, ◌∙◌, ⊎_elim, arith}
 use Rattle.std.proofs.lemmas.Bool.{cases_eq, cases_lt, eq-eqb, ne_eqb, lt-ltb, le-ltb}
-use Rattle.std.proofs.lemmas.List.{get_or-set_same, get_or-set_other}
 use Rattle.std.proofs.lemmas.List.{ext_get_or}
 use Rattle.std.proofs.lemmas.List.FromFn.{length-map-range_with_len, get_or-map-range_with_len}
 use Rattle.std.specs.Int.{bit_at}
@@ -13,63 +12,11 @@ use Rattle.tm_buffer.specs.Slots.{found, slot_byte, bytes_of, AtItsPlace}
 use Rattle.tm_buffer.proofs.Places.{place_in, StandsAt}
 use Rattle.tm_buffer.proofs.Entries.{get_bytes}
 
--- a byte of memory, after the bytes of a slot at offsets below n were written
-abbrev pub laid : ℕ → ℕ → List ℕ → List ℕ → ℕ → ℕ → ℕ
-laid line mask bytes old n q = cond (eqb (q / 64) line && (ltb (q % 64) n && eqb (bit_at mask (q % 64)) 1)) (get_or bytes (q % 64) 0) (get_or old q 0)
-
--- the offset n has no byte, or q is not its address
-laid_same : (line mask : ℕ) (bytes old : List ℕ) (n q : ℕ) → (q ≡ line * 64 + n → bit_at mask n ≡ 1 → ⊥) → laid line mask bytes old n q ≡ laid line mask bytes old (n + 1) q
-laid_same line mask bytes old n q apart =
-    let x : ℕ = get_or bytes (q % 64) 0 in
-    let y : ℕ = get_or old q 0 in
-    let bit : Bool = eqb (bit_at mask (q % 64)) 1 in
-    ⊎_elim
-    (λ (e : q / 64 ≡ line → ⊥). let no : eqb (q / 64) line ≡ false = ne_eqb (q / 64) line e in
-    ap (λ t. cond (t && (ltb (q % 64) n && bit)) x y) no ∙ sym (ap (λ t. cond (t && (ltb (q % 64) (n + 1) && bit)) x y) no))
-    (λ (e : q / 64 ≡ line). ap (λ t. cond (eqb (q / 64) line && t) x y) (tests e))
-    (turned (cases_eq (q / 64) line))
-  where
-    turned : {A B : Type 0} → (A ⊎ B) → (B ⊎ A)
-    turned s = ⊎_elim (λ a. inr a) (λ b. inl b) s
-
-    tests : q / 64 ≡ line → (ltb (q % 64) n && eqb (bit_at mask (q % 64)) 1) ≡ (ltb (q % 64) (n + 1) && eqb (bit_at mask (q % 64)) 1)
-    tests e = ⊎_elim
-        (λ (here : q % 64 ≡ n).
-        let none : eqb (bit_at mask (q % 64)) 1 ≡ false = ne_eqb (bit_at mask (q % 64)) 1 (λ b. apart (omega arith) (sym (ap (bit_at mask) here) ∙ b)) in
-        ap (λ t. ltb (q % 64) n && t) none ∙ no_bit (ltb (q % 64) n) ∙ sym (ap (λ t. ltb (q % 64) (n + 1) && t) none ∙ no_bit (ltb (q % 64) (n + 1))))
-        (λ (there : q % 64 ≡ n → ⊥). ap (λ t. t && eqb (bit_at mask (q % 64)) 1) (⊎_elim
-        (λ (below : q % 64 < n). lt-ltb (q % 64) n below ∙ sym (lt-ltb (q % 64) (n + 1) (omega arith)))
-        (λ (above : n ≤ q % 64). le-ltb (q % 64) n above ∙ sym (le-ltb (q % 64) (n + 1) (omega arith)))
-        (cases_lt (q % 64) n)))
-        (cases_eq (q % 64) n)
-      where
-        no_bit : (t : Bool) → (t && false) ≡ false
-        no_bit true = refl
-        no_bit false = refl
-
-pub laid_unset : (line mask : ℕ) (bytes old m : List ℕ) (n : ℕ) → (bit_at mask n ≡ 1 → ⊥)
-    → ((q : ℕ) → get_or m q 0 ≡ laid line mask bytes old n q) → (q : ℕ) → get_or m q 0 ≡ laid line mask bytes old (n + 1) q
-laid_unset line mask bytes old m n unset h q = h q ∙ laid_same line mask bytes old n q (λ _ b. unset b)
-
-pub laid_set : (line mask : ℕ) (bytes old m : List ℕ) (n a v : ℕ) → bit_at mask n ≡ 1 → n < 64 → a ≡ line * 64 + n → v ≡ get_or bytes n 0 → a < length m
-    → ((q : ℕ) → get_or m q 0 ≡ laid line mask bytes old n q) → (q : ℕ) → get_or (set m a v) q 0 ≡ laid line mask bytes old (n + 1) q
-laid_set line mask bytes old m n a v bit small is value below h q = ⊎_elim
-    (λ (e : q ≡ a).
-    let at_line : q / 64 ≡ line = omega arith in
-    let at_offset : q % 64 ≡ n = omega arith in
-    ap (λ j. get_or (set m a v) j 0) e ∙ get_or-set_same m a v 0 below ∙ value ∙ sym (
-    ap (λ t. cond (t && (ltb (q % 64) (n + 1) && eqb (bit_at mask (q % 64)) 1)) (get_or bytes (q % 64) 0) (get_or old q 0)) (eq-eqb (q / 64) line at_line)
-    ∙ ap (λ j. cond (ltb j (n + 1) && eqb (bit_at mask j) 1) (get_or bytes j 0) (get_or old q 0)) at_offset
-    ∙ ap (λ t. cond (t && eqb (bit_at mask n) 1) (get_or bytes n 0) (get_or old q 0)) (lt-ltb n (n + 1) (omega arith))
-    ∙ ap (λ t. cond t (get_or bytes n 0) (get_or old q 0)) (eq-eqb (bit_at mask n) 1 bit)))
-    (λ (e : q ≡ a → ⊥). get_or-set_other m a q v 0 e ∙ h q ∙ laid_same line mask bytes old n q (λ i _. e (i ∙ sym is)))
-    (cases_eq q a)
-
 abbrev pub memory_with_at : ℕ → (ℕ → Option ℕ) → ℕ → Option ℕ → ℕ
 memory_with_at n f old None = old
 memory_with_at n f old (Some k) = cond (ltb k n) (unwrap_or (f k) old) old
 
--- a byte of memory, after the slots below n were written to it
+-- a byte of memory, after the lines at places below n were written to it
 abbrev pub memory_with_below : List ℕ → List ℕ → List ℕ → List ℕ → ℕ → ℕ → ℕ
 memory_with_below lines masks bytes old n q = memory_with_at n (slot_byte masks bytes (q % 64)) (get_or old q 0) (place_of lines (q / 64))
 

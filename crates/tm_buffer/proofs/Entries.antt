@@ -36,7 +36,7 @@ get_entries f (a ∷ qs) q =
     nothing false true o e = sym e
     nothing false false o e = refl
 
-in_range : (a n q : ℕ) → a ≤ q → q < a + n → list_any (eqb q) (range_with_len a n) ≡ true
+pub in_range : (a n q : ℕ) → a ≤ q → q < a + n → list_any (eqb q) (range_with_len a n) ≡ true
 in_range a zero q l h = absurd (omega arith)
 in_range a (suc n) q l h = ⊎_elim
     (λ (e : q ≡ a). ap (λ t. t || list_any (eqb q) (range_with_len (a + 1) n)) (eq-eqb q a e))

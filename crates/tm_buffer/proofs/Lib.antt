@@ -3,4 +3,7 @@ pub mod Orders
 pub mod Entries
 pub mod Fits
 pub mod Kept
+pub mod Runs
+pub mod Holding
 pub mod Drain
+pub mod Bits

@@ -120,3 +120,10 @@ lines_two order first last =
       | true ↦ one_line order first
       | false ↦ one_line (with_line order first) last ∙ ap (λ s. set.insert s last) (one_line order first) ∙ insert_turned (lines_of order) first last
     ]
+
+-- the same, where the lines came one after the other
+pub one_given : (order : List ℕ) (first last : ℕ) → last ≡ first → lines_of (with_line order first) ≡ lines_of ((first ∷ cond (eqb last first) [] (last ∷ [])) ++ order)
+one_given order first last e = one_line order first ∙ sym (ap (λ t. lines_of ((first ∷ cond t [] (last ∷ [])) ++ order)) (eq-eqb last first e))
+
+pub two_given : (order : List ℕ) (first last : ℕ) → lines_of (with_line (with_line order first) last) ≡ lines_of ((first ∷ cond (eqb last first) [] (last ∷ [])) ++ order)
+two_given order first last = ap lines_of (two_lines order first last) ∙ lines_two order first last

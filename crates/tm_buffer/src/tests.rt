@@ -64,3 +64,48 @@ fn exactly_the_stored_bytes_are_written(rt: HostRuntime) {
     assert_eq!(rt; buffer.lines(), 0);
     assert_eq!(rt; buffer.overlay(0x3e, Width::D, 5), 5);
 }
+
+/// Slots in any order, and again after `clear`.
+#[test]
+fn a_doubleword_over_a_line_end_by_slots(rt: HostRuntime) {
+    let mut buffer = Buffer::with_lines(rt.alloc(), 4).expect(&rt, "memory");
+    buffer.put_at(0x103e, Width::D, 0x1122_3344, [Some(3), Some(1)]);
+    assert_eq!(rt; buffer.lines(), 2);
+    assert_eq!(rt; buffer.overlay(0x103e, Width::D, 0), 0x1122_3344);
+    assert_eq!(rt;
+        buffer.overlay_at(0x103e, Width::D, 0, [Some(3), Some(1)]),
+        0x1122_3344
+    );
+    assert_eq!(rt;
+        buffer.overlay_at(0x1040, Width::D, 0xaabb_ccdd, [Some(1), None]),
+        0xaabb_1122
+    );
+    assert_eq!(rt;
+        buffer.overlay_at(0x1041, Width::B, 0, [Some(1), None]),
+        0x11
+    );
+    assert_eq!(rt;
+        buffer.overlay_at(0x107e, Width::D, 0x99, [Some(1), None]),
+        0x99
+    );
+    buffer.clear();
+    buffer.put_at(0x2000, Width::B, 5, [Some(1), None]);
+    assert_eq!(rt; buffer.overlay_at(0x2000, Width::D, 0, [Some(1), None]), 5);
+    assert_eq!(rt; buffer.line_at(0), 0x80);
+}
+
+#[test]
+fn a_line_filled_by_slots(rt: HostRuntime) {
+    let mut buffer = Buffer::with_lines(rt.alloc(), 1).expect(&rt, "memory");
+    buffer.put_at(0x1000, Width::D, 0x0403_0201, [Some(0), None]);
+    buffer.put_at(0x1002, Width::D, 0x0807_0605, [Some(0), None]);
+    assert_eq!(rt;
+        buffer.overlay_at(0x1000, Width::D, 0, [Some(0), None]),
+        0x0605_0201
+    );
+    assert_eq!(rt;
+        buffer.overlay_at(0x1003, Width::D, 0xeeee_eeee, [Some(0), None]),
+        0xee08_0706
+    );
+    assert_eq!(rt; buffer.lines(), 1);
+}

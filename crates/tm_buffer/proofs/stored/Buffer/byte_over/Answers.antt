@@ -23,25 +23,25 @@ returns-in_default c =
     let p : place_of c.self.inside.lines.items (c.args.address / 64) ≡ None = place_is _ _ _ _ _ (ap (λ h. h.order) c.self.view_is) c.requires c.in_default.is in
     seen c.self.inside.lines.items c.self.inside.masks.items c.self.inside.bytes.items c.args.self.now.bytes c.args.address c.args.under None (ap (λ h. h.bytes) c.self.view_is) p
 
-pub byte_in-requires-clause-slot : goal.byte_in-requires-clause-slot
-byte_in-requires-clause-slot c =
-    let p : place_of c.self.inside.lines.items (c.args.address / 64) ≡ Some c.in-Some.slot = place_is _ _ _ _ _ (ap (λ h. h.order) c.self.view_is) c.requires c.in-Some.is in
+pub byte_in-requires-clause-place : goal.byte_in-requires-clause-place
+byte_in-requires-clause-place c =
+    let p : place_of c.self.inside.lines.items (c.args.address / 64) ≡ Some c.in-Some.place = place_is _ _ _ _ _ (ap (λ h. h.order) c.self.view_is) c.requires c.in-Some.is in
     omega (arith, below_room _ _ _ _ p c.self.invariant.0.within, c.self.invariant.0.masks, ap length c.as_slice-masks.ensures.value)
 
 pub byte_in-requires-clause-bytes : goal.byte_in-requires-clause-bytes
 byte_in-requires-clause-bytes c =
-    let p : place_of c.self.inside.lines.items (c.args.address / 64) ≡ Some c.in-Some.slot = place_is _ _ _ _ _ (ap (λ h. h.order) c.self.view_is) c.requires c.in-Some.is in
+    let p : place_of c.self.inside.lines.items (c.args.address / 64) ≡ Some c.in-Some.place = place_is _ _ _ _ _ (ap (λ h. h.order) c.self.view_is) c.requires c.in-Some.is in
     omega (arith, below_room _ _ _ _ p c.self.invariant.0.within, c.self.invariant.0.bytes, ap length c.as_slice-bytes.ensures.value)
 
 pub byte_in-requires-clause-fits : goal.byte_in-requires-clause-fits
 byte_in-requires-clause-fits c =
-    let p : place_of c.self.inside.lines.items (c.args.address / 64) ≡ Some c.in-Some.slot = place_is _ _ _ _ _ (ap (λ h. h.order) c.self.view_is) c.requires c.in-Some.is in
-    omega (arith, below_room _ _ _ _ p c.self.invariant.0.within, c.self.invariant.2)
+    let p : place_of c.self.inside.lines.items (c.args.address / 64) ≡ Some c.in-Some.place = place_is _ _ _ _ _ (ap (λ h. h.order) c.self.view_is) c.requires c.in-Some.is in
+    omega (arith, below_room _ _ _ _ p c.self.invariant.0.within, c.self.invariant.3)
 
 pub returns : goal.returns
 returns c =
-    let p : place_of c.self.inside.lines.items (c.args.address / 64) ≡ Some c.in-Some.slot = place_is _ _ _ _ _ (ap (λ h. h.order) c.self.view_is) c.requires c.in-Some.is in
+    let p : place_of c.self.inside.lines.items (c.args.address / 64) ≡ Some c.in-Some.place = place_is _ _ _ _ _ (ap (λ h. h.order) c.self.view_is) c.requires c.in-Some.is in
     c.unwrap_or.ensures
-    ∙ ap (λ o. unwrap_or o c.args.under) (c.byte_in.ensures ∙ ap (λ m. slot_byte m c.as_slice-bytes.result.now (c.args.address % 64) c.in-Some.slot) c.as_slice-masks.ensures.value
-    ∙ ap (λ b. slot_byte c.self.inside.masks.items b (c.args.address % 64) c.in-Some.slot) c.as_slice-bytes.ensures.value)
-    ∙ seen c.self.inside.lines.items c.self.inside.masks.items c.self.inside.bytes.items c.args.self.now.bytes c.args.address c.args.under (Some c.in-Some.slot) (ap (λ h. h.bytes) c.self.view_is) p
+    ∙ ap (λ o. unwrap_or o c.args.under) (c.byte_in.ensures ∙ ap (λ m. slot_byte m c.as_slice-bytes.result.now (c.args.address % 64) c.in-Some.place) c.as_slice-masks.ensures.value
+    ∙ ap (λ b. slot_byte c.self.inside.masks.items b (c.args.address % 64) c.in-Some.place) c.as_slice-bytes.ensures.value)
+    ∙ seen c.self.inside.lines.items c.self.inside.masks.items c.self.inside.bytes.items c.args.self.now.bytes c.args.address c.args.under (Some c.in-Some.place) (ap (λ h. h.bytes) c.self.view_is) p
