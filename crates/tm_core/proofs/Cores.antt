@@ -10,7 +10,7 @@ use Rattle.tm_buffer.specs.Buffer.{memory_with}
 use Rattle.tm_sets.specs.Content.{Content}
 use Rattle.tm_model.specs.Setting.{Setting}
 use Rattle.tm_model.specs.Shown.{View, view_outside}
-use Rattle.tm_core.specs.Representation.{AreClosed, AreLines, Elsewhere, IsHeld, IsStep, KeptCore, condemn_kept}
+use Rattle.tm_core.specs.Representation.{AreClosed, AreHit, AreLines, AreOthersClosed, Elsewhere, IsHeld, IsStep, KeptCore, condemn_kept}
 use Rattle.tm_core.specs.Representation.{cpu_at, cpu_view, cpu_views, is_open, kept_after_hit, kept_at, kept_of}
 use Rattle.tm_core.specs.Representation.{no_cpu}
 use Rattle.tm_core.specs.StepRefinement.{StepResult, Touched, condemn_view, finished, lines_hit, lines_touched}
@@ -165,14 +165,18 @@ closed_condemn x (AtStop stop) h = refl
 closed_kept : (touched : Touched) (x : KeptCore) → is_open x.view.mode ≡ false → kept_after_hit touched x ≡ x
 closed_kept touched x h = (elim (lines_hit x.view.reads x.view.writes touched) as (λ t. cond t (condemn_kept x.view.mode x) x ≡ x) [ true ↦ closed_condemn x x.view.mode h | false ↦ refl ])
 
-pub quiet_kept : (a : Content) (cpus : List Cpu) (c : ℕ) (x : Cpu) (touched : Touched) → AreClosed cpus → (j : ℕ) → j < length cpus →
-    kept_at a (set cpus c x) j ≡ cond (eqb j c) (kept_at a (set cpus c x) j) (kept_after_hit touched (kept_at a (set cpus c x) j))
-quiet_kept a cpus c x touched closed j h =
-    let y : KeptCore = kept_at a (set cpus c x) j in
+pub quiet_hits : (a : Content) (cpus : List Cpu) (c : ℕ) (touched : Touched) → AreOthersClosed cpus c → AreHit touched c (length cpus) (kept_at a cpus) (kept_at a cpus)
+quiet_hits a cpus c touched closed j h =
+    let y : KeptCore = kept_at a cpus j in
     (elim (eqb j c) as (λ t. eqb j c ≡ t → y ≡ cond t y (kept_after_hit touched y)) [
       | true ↦ λ e. refl
-      | false ↦ λ e. sym (closed_kept touched y (ap (λ (z : Cpu). is_open z.state) (cpu_other cpus c j x (eqb-false j c e)) ∙ closed j h))
+      | false ↦ λ e. sym (closed_kept touched y (closed j h e))
     ]) refl
+
+-- a core's own step opens none of the others
+pub others_closed : (cpus : List Cpu) (c : ℕ) (x : Cpu) → length (set cpus c x) ≡ length cpus → AreClosed cpus → AreOthersClosed (set cpus c x) c
+others_closed cpus c x same closed j h other =
+    ap (λ (z : Cpu). is_open z.state) (cpu_other cpus c j x (eqb-false j c other)) ∙ closed j (subst (λ n. j < n) same h)
 
 -- what stands at the EIP of a core that is in no transaction
 pub row_of_base : (code : List ℕ) (base : ℕ) (row : Result (Insn × ℕ) DecodeFault) (x y : Cpu) → x ≡ y → y.regs ≡ y.base → StandsAt code base y.regs.eip row → StandsAt code base x.base.eip row

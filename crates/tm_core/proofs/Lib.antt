@@ -1,4 +1,5 @@
 pub mod Sound
+pub mod UsualSteps
 pub mod Frame
 pub mod BufferLemmas
 pub mod OtherCores

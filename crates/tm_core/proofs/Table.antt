@@ -43,3 +43,7 @@ store_value size (Some w) h = h.1
 pub store_place : (size : ℕ) (o : Option Store) → StoreIn size o → IfSome o (λ w. w.addr + bytes_of w.width ≤ size)
 store_place size None h = tt
 store_place size (Some w) h = h.0
+
+pub place_lines : (size n : ℕ) (o : Option Store) → IfSome o (λ w. w.addr + bytes_of w.width ≤ size) → size ≤ n * 64 → size < 2 ^ 32 → IfSome o (λ w. (w.addr + bytes_of w.width ≤ n * 64) × (w.addr + bytes_of w.width ≤ 2 ^ 32))
+place_lines size n None h e f = tt
+place_lines size n (Some w) h e f = (omega arith, omega arith)

@@ -8,6 +8,8 @@ use Rattle.ia_decode.specs.Offsets.{AreDecoded}
 use Rattle.ia_image.specs.Program.{ProgramValue as Program, start_regs}
 use Rattle.ia_insn.specs.declared.fault.DecodeFault.{DecodeFault}
 use Rattle.ia_insn.specs.declared.op.Insn.{Insn}
+use Rattle.ia_row.specs.declared.row.Line.{Line}
+use Rattle.ia_row.specs.Lines.{AreLines}
 use Rattle.tm_sets.specs.Content.{Content}
 use Rattle.tm_core.specs.declared.cpu.Cpu.{Cpu}
 use Rattle.tm_core.specs.declared.limits.Limits.{Limits}
@@ -74,7 +76,7 @@ shown_by content code base memory cpus = record {
 
 -- what holds of a machine between steps; where it is not busy, no core is open
 pub record IsMachine (content : Content) (code : List ℕ) (base : ℕ) (rows : List (Result (Insn × ℕ) DecodeFault))
-    (memory : List ℕ) (cpus : List Cpu) (busy : Bool) : Type 0 where
+    (lines : List Line) (memory : List ℕ) (cpus : List Cpu) (busy : Bool) : Type 0 where
   pub some : 1 ≤ length cpus
   pub few : length cpus ≤ 64
   pub small : length memory < 2 ^ 32
@@ -83,6 +85,7 @@ pub record IsMachine (content : Content) (code : List ℕ) (base : ℕ) (rows : 
   pub known : length cpus ≤ content.fixed.cores
   pub within : length memory ≤ content.fixed.line_count * 64
   pub decoded : AreDecoded code rows
+  pub lined : AreLines code lines
 
 -- ---- before the first step
 

@@ -9,6 +9,7 @@ use Rattle.ia_word.specs.Width.{bytes_of}
 use Rattle.tm_buffer.specs.Buffer.{Fits}
 use Rattle.tm_sets.specs.Content.{Content}
 use Rattle.tm_core.specs.declared.cpu.Cpu.{Cpu}
+use Rattle.tm_core.specs.declared.step.OutsideStep.{OutsideStep}
 use Rattle.tm_core.specs.declared.transaction.InsideStep.{InsideStep}
 use Rattle.tm_core.specs.declared.transaction.InsideStep.TheVariants.{Aborts, Commits, GoesInside}
 use Rattle.tm_core.specs.StepRefinement.{StepResult, Touched, finished, lines_hit, stayed, stepped, touched_by}
@@ -24,6 +25,7 @@ use Rattle.tm_model.specs.Access.{loaded_addresses, memory_after, stores_of}
 use Rattle.tm_model.specs.Owed.{have_room}
 use Rattle.tm_model.specs.Setting.{Setting, setting_of}
 use Rattle.tm_model.specs.Shown.{View, view_between, view_outside}
+use Rattle.tm_quick.specs.Goes.{IsGoing}
 
 -- ---- views
 
@@ -52,7 +54,7 @@ no_cpu = record {
   regs = no_regs;
   state = Running;
   kept = 0;
-  buffer = record { bytes = map_of.empty; order = []; room = 0 };
+  buffer = record { bytes = map_of.empty; order = []; slots = []; room = 0 };
 }
 
 abbrev pub cpu_at : List Cpu → ℕ → Cpu
@@ -126,12 +128,6 @@ parts_setting code base size content =
 abbrev pub AreLines : Lines → ℕ → Type 0
 AreLines lines size = (q : ℕ) → set.contains lines q ≡ true → q * 64 < size
 
--- the instruction goes on
-abbrev pub IsGoing : OutsideResult → Type 0
-IsGoing (Goes regs store) = Unit {0}
-IsGoing (Begins regs) = ⊥
-IsGoing (Stops stop) = ⊥
-
 -- what holds of each core
 abbrev pub Sane : Setting → View → CoreState → Type 0
 Sane setting view (Open depth) =
@@ -159,6 +155,11 @@ is_open (AtStop stop) = false
 abbrev pub AreClosed : List Cpu → Type 0
 AreClosed cpus = (number : ℕ) → number < length cpus → is_open (cpu_at cpus number).state ≡ false
 
+-- no core but that of this number is open
+abbrev pub AreOthersClosed : List Cpu → ℕ → Type 0
+AreOthersClosed cpus number =
+    (other : ℕ) → other < length cpus → nat_eq other number ≡ false → is_open (cpu_at cpus other).state ≡ false
+
 -- a transaction begins
 abbrev pub has_begun : Outcome → Bool
 has_begun Begun = true
@@ -180,6 +181,19 @@ left_outside memory outcome access store view = record {
   view = view;
   touched = touched_by (loaded_addresses access) store;
 }
+
+-- the same with its store in memory, of a core that no transaction keeps open
+pub record RanInPlace (code : List ℕ) (base : ℕ) (memory memory_now : List ℕ) (cpu cpu_now : Cpu)
+    (ran : OutsideStep) : Type 0 where
+  pub memory_is : memory_now ≡ memory_after memory (stores_of ran.store)
+  pub same_buffer : cpu_now.buffer ≡ cpu.buffer
+  pub loads : IfSome ran.access (λ load. load.addr + bytes_of load.width ≤ length memory)
+  pub stores : IfSome ran.store (λ store. store.addr + bytes_of store.width ≤ length memory)
+  pub step : (content : Content) (number : ℕ) →
+      let setting : Setting = parts_setting code base (length memory) content in
+      Sane setting (cpu_view content number cpu) cpu.state →
+      stepped setting memory (cpu_view content number cpu) cpu.state
+      ≡ left_outside memory ran.outcome ran.access ran.store (cpu_view content number cpu_now)
 
 -- inside: it is an abort, or an instruction whose load others are still to see, or a commit that is still to be made
 abbrev pub left_inside : List ℕ → InsideStep → View → StepResult

@@ -2,12 +2,13 @@
 //! it. Whoever is hit is condemned.
 
 ghost use Rattle.std.specs.Prelude.{◌≡◌, ◌+◌, ◌-◌, ◌/◌, ◌*◌, ◌^◌, ◌<◌, ◌≤◌, ℕ, [], ◌∷◌, List, IfSome, length, map};
-ghost use Rattle.std.specs.Prelude.{slice_index, nat_eq, not, ◌&&◌};
+ghost use Rattle.std.specs.Prelude.{slice_index, nat_eq, not, false, ◌&&◌};
 ghost use Rattle.ia_word.specs.Line.{line};
 ghost use Rattle.ia_word.specs.Width.{bytes_of};
 ghost use Rattle.tm_sets.specs.Content.{IsMaskOf, bit};
 ghost use Rattle.tm_model.specs.Access.{addresses_of, loaded_addresses};
-ghost use Rattle.tm_core.specs.Representation.{AreHit, Elsewhere, IsOnLines, condemn_kept, cpu_at, kept_at, kept_of};
+ghost use Rattle.tm_core.specs.Representation.{AreHit, AreOthersClosed, Elsewhere, IsOnLines, condemn_kept, cpu_at};
+ghost use Rattle.tm_core.specs.Representation.{kept_at, kept_of};
 ghost use Rattle.tm_core.specs.StepRefinement.{addresses_touched, line_hits, lines_touched, store_addresses};
 ghost use Rattle.tm_core.specs.StepRefinement.{touched_by};
 
@@ -123,6 +124,7 @@ fn hit_store<S: Sets>(cpus: &mut [Cpu], sets: &mut S, c: u8, store: Option<Store
 }
 
 /// Condemns each other open core that the load and the store of one instruction of core c hit.
+#[inline(never)]
 pub fn hit_touched<S: Sets>(
     cpus: &mut [Cpu],
     sets: &mut S,
@@ -141,6 +143,31 @@ pub fn hit_touched<S: Sets>(
 {
     hit_load(cpus, sets, c, access);
     hit_store(cpus, sets, c, store);
+}
+
+/// The same where `busy` says whether a core may be open: where it is false, no other is.
+#[inline(always)]
+pub fn hit_others<S: Sets>(
+    cpus: &mut [Cpu],
+    sets: &mut S,
+    c: u8,
+    access: Option<Access>,
+    store: Option<Store>,
+    busy: bool,
+)
+    requires cores { length cpus.old ≤ (S.content sets.old).fixed.cores }
+    requires exists { c < length cpus.old }
+    requires access { IfSome access (λ a. IsOnLines (S.content sets.old) a.addr a.width) }
+    requires store { IfSome store (λ w. IsOnLines (S.content sets.old) w.addr w.width) }
+    requires few { length cpus.old ≤ 64 }
+    requires quiet { busy ≡ false → AreOthersClosed cpus.old c }
+    ensures kept { AreHit (touched_by (loaded_addresses access) store) c (length cpus.old)
+        (kept_at (S.content sets.old) cpus.old) (kept_at (S.content sets.new) cpus.new) }
+    ensures fixed { (S.content sets.new).fixed ≡ (S.content sets.old).fixed }
+{
+    if busy {
+        hit_touched(cpus, sets, c, access, store);
+    }
 }
 
 /// Condemns each other open core that has a line to which core c has stored.

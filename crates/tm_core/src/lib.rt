@@ -23,6 +23,7 @@ mod start;
 mod step;
 mod transaction;
 mod two_steps;
+mod usual;
 
 pub use fault::{MachineFault, NoSuchCore, RunFault};
 pub use laws::transactions_are_as_they_went;

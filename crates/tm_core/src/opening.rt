@@ -4,6 +4,7 @@ ghost use Rattle.std.specs.Prelude.{◌≡◌, ◌<◌, ◌≤◌, ◌*◌, ◌�
 ghost use Rattle.std.specs.FinSet as set;
 ghost use Rattle.ia_decode.specs.Offsets.{AreDecoded};
 ghost use Rattle.ia_image.specs.Program.{opening_memory as memory_of, code_of};
+ghost use Rattle.ia_row.specs.Lines.{AreLines};
 ghost use Rattle.tm_sets.specs.declared.interface.Kind as AnyKind;
 ghost use Rattle.tm_model.specs.Setting.{program_setting};
 ghost use Rattle.tm_model.specs.State.{opening_state};
@@ -17,6 +18,7 @@ use crate::limits::Limits;
 use crate::machine::Machine;
 use crate::start::{opening_memory, start_regs};
 use ia_image::Program;
+use ia_row::Line;
 use std::alloc::{AllocError, Global};
 use tm_buffer::Buffer;
 use tm_model::CoreState;
@@ -62,14 +64,19 @@ fn start_cpus(alloc: Global, program: &Program, write_lines: u32) -> Result<Vec<
     Ok(cpus)
 }
 
-// The code, with what decoding gives from each of its first offsets.
-fn start_code(alloc: Global, program: &Program) -> Result<(Vec<u8>, Vec<Decoded>), AllocError>
+// The code, with what decoding gives from each of its first offsets, and the same as flat rows.
+fn start_code(
+    alloc: Global,
+    program: &Program,
+) -> Result<(Vec<u8>, Vec<Decoded>, Vec<Line>), AllocError>
     ensures code { IfOk result (λ parts. parts.0.items ≡ code_of program.now) }
     ensures rows { IfOk result (λ parts. AreDecoded (code_of program.now) parts.1.items) }
+    ensures lines { IfOk result (λ parts. AreLines (code_of program.now) parts.2.items) }
 {
     let rows = Vec::from_slice(alloc, program.rows())?;
+    let lines = Vec::from_slice(alloc, program.lines())?;
     let code = Vec::from_slice(alloc, program.code())?;
-    Ok((code, rows))
+    Ok((code, rows, lines))
 }
 
 // Memory and cores of a machine before its first step.
@@ -114,7 +121,7 @@ impl<S: Sets + Drop> Machine<S> {
         if limits.are_bad() {
             return Err(MachineFault::BadLimits);
         }
-        let Ok((code, rows)) = start_code(alloc, program) else {
+        let Ok((code, rows, lines)) = start_code(alloc, program) else {
             return Err(MachineFault::NoMemory);
         };
         match start_parts(alloc, program, limits.write_lines) {
@@ -122,6 +129,7 @@ impl<S: Sets + Drop> Machine<S> {
                 code,
                 base: program.base(),
                 rows,
+                lines,
                 memory,
                 cpus,
                 sets,

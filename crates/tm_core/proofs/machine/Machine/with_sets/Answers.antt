@@ -1,6 +1,7 @@
 use Rattle.std.proofs.Common.{◌≡◌, ◌<◌, ◌≤◌, ◌*◌, ◌^◌, ℕ, length, sym, ◌∙◌, subst, arith}
 use Rattle.ia_decode.specs.Offsets.{AreDecoded}
 use Rattle.ia_image.specs.Program.{ProgramValue as Program}
+use Rattle.ia_row.specs.Lines.{AreLines}
 use Rattle.tm_sets.specs.Content.{Content}
 use Rattle.tm_core.specs.Machine.{IsStart}
 use Rattle.tm_core.specs.Representation.{cpu_at}
@@ -18,7 +19,8 @@ invariant_of-result g c =
     let small : length c.in-Ok-start_parts.memory.items < 2 ^ 32 = omega arith in
     let lines : p.mem_size ≤ a.fixed.line_count * 64 = c.requires.lines in
     opening_machine p a c.in-Ok.code.items c.base.result c.in-Ok-start_parts.memory.items c.in-Ok-start_parts.cpus.items c.requires.empty c.in-Ok-start_parts.ensures.memory c.in-Ok-start_parts.ensures.cores start
-    c.in-Ok.rows.items (subst (λ code. AreDecoded code c.in-Ok.rows.items) (sym c.in-Ok.ensures.code) c.in-Ok.ensures.rows) c.base.ensures.sound.some_core c.base.ensures.sound.few_cores small c.requires.cores (omega arith)
+    c.in-Ok.rows.items c.in-Ok.lines.items (subst (λ code. AreDecoded code c.in-Ok.rows.items) (sym c.in-Ok.ensures.code) c.in-Ok.ensures.rows)
+    (subst (λ code. AreLines code c.in-Ok.lines.items) (sym c.in-Ok.ensures.code) c.in-Ok.ensures.lines) c.base.ensures.sound.some_core c.base.ensures.sound.few_cores small c.requires.cores (omega arith)
 
 pub returns-in-Ok-start_parts-clause-opening : goal.returns-in-Ok-start_parts-clause-opening
 returns-in-Ok-start_parts-clause-opening g c =
