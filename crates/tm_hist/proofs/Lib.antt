@@ -1,3 +1,4 @@
+mod UsualSteps
 pub mod Rows
 pub mod Cuts
 pub mod Counts

@@ -153,6 +153,13 @@ step_some k m now serial_cores i c o x d next at l e done =
     ∙ ap (with_core (map core_of serial_cores) i) done
     ∙ ap (λ cs. Some (now, cs)) (sym (map-set core_of serial_cores i next))
 
+pub step_none : (k : Setting) (m : List ℕ) (serial_cores : List SerialCore) (i c : ℕ) (o : Outcome) (x d : SerialCore) → i ≡ c → i < length serial_cores → x ≡ get_or serial_cores i d →
+    after_step_of k m (core_of x) o ≡ None → list_step k m (map core_of serial_cores) c o ≡ None
+step_none k m serial_cores i c o x d at l e none =
+    ap (λ j. list_step k m (map core_of serial_cores) j o) (sym at)
+    ∙ step_at k m serial_cores i o x d l e
+    ∙ ap (with_core (map core_of serial_cores) i) none
+
 pub growth_none : (serial_cores : List SerialCore) (most : ℕ) → AllByRecursion (λ c. steps_of c ≤ most) serial_cores → AllByRecursion (λ c. steps_of c ≤ most + 1) serial_cores
 growth_none serial_cores most h = all_more (λ c. steps_of c ≤ most) (λ c. steps_of c ≤ most + 1) serial_cores (λ c l. omega arith) h
 

@@ -22,6 +22,7 @@ mod schedule;
 mod serial_core;
 mod step;
 pub mod text_line;
+mod usual;
 
 pub use board::{Board, BoardFault, MOST_STEPS, StepFault};
 pub use history::History;

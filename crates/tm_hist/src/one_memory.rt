@@ -4,6 +4,7 @@ ghost use Rattle.std.specs.Prelude.{◌≡◌, ◌⊎◌, ◌-◌, ◌≤◌, �
 ghost use Rattle.std.specs.Prelude.{IfErr};
 ghost use Rattle.std.specs.List.{AllByRecursion, range_with_len};
 ghost use Rattle.ia_image.specs.Program.{opening_memory};
+ghost use Rattle.ia_row.specs.Lines.{AreLines};
 ghost use Rattle.tm_model.specs.Setting.{setting_of};
 ghost use Rattle.tm_hist.specs.History.{pairs_of};
 ghost use Rattle.tm_hist.specs.Replay.{IsRefused, IsReplay};
@@ -14,18 +15,21 @@ use crate::replay::{Serial, SerialFault};
 use crate::serial_core::SerialCore;
 use crate::step::step;
 use ia_image::Program;
+use ia_row::Line;
 use std::alloc::Global;
 use tm_core::start_regs;
 use tm_rule::Code;
 
 // Runs a history; where that fails, the index of the first pair at which it is no run.
 fn run_history(
+    lines: &[Line],
     code: &Code<'_>,
     size: u32,
     memory: &mut [u8],
     cores: &mut [SerialCore],
     history: History<'_>,
 ) -> Result<(), usize>
+    requires lines { AreLines code.now.bytes.now lines.now }
     requires size { length memory.old ≡ size }
     requires closed { AllByRecursion (λ c. steps_of c ≤ 0) cores.old }
     ensures ok { OnOk result (list_run (setting_of code.now.bytes.now code.now.base size 0 0) memory.old
@@ -35,7 +39,7 @@ fn run_history(
 {
     'pairs: for index in 0..history.len() {
         let (core, outcome) = history.get(index).unwrap();
-        if !step(code, size, memory, cores, core, &outcome) {
+        if !step(lines, code, size, memory, cores, core, &outcome) {
             return Err(index);
         }
     }
@@ -96,7 +100,14 @@ pub fn serial(alloc: Global, program: &Program, history: History<'_>) -> Result<
     };
     let mut memory = first_memory(alloc, program)?;
     let mut cores = first_cores(alloc, program)?;
-    match run_history(&code, program.mem_size(), &mut memory, &mut cores, history) {
+    match run_history(
+        program.lines(),
+        &code,
+        program.mem_size(),
+        &mut memory,
+        &mut cores,
+        history,
+    ) {
         Ok(()) => Ok(Serial { memory, cores }),
         Err(index) => Err(SerialFault::NotARun(index)),
     }

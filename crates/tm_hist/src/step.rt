@@ -3,6 +3,7 @@
 ghost use Rattle.std.specs.Prelude.{◌≡◌, ℕ, ◌+◌, ◌<◌, ◌^◌, ◌≤◌, length, map, Some, None, IfSome, option_map};
 ghost use Rattle.std.specs.Prelude.{if◌then◌else◌};
 ghost use Rattle.std.specs.List.{AllByRecursion};
+ghost use Rattle.ia_row.specs.Lines.{AreLines};
 ghost use Rattle.tm_model.specs.Setting.{outside_at, setting_of, value_at};
 ghost use Rattle.tm_model.specs.State.{Closed, Halted, Midway, Opened};
 ghost use Rattle.tm_rule.specs.Rule.{StandsAt, outside_of};
@@ -13,7 +14,9 @@ ghost use Rattle.tm_hist.specs.Serial.{core_of, list_step, steps_of};
 
 use crate::flat::{outside_on, outside_with, run_body, value_on};
 use crate::serial_core::SerialCore;
+use crate::usual::usual_step;
 use ia_regs::Regs;
+use ia_row::Line;
 use tm_core::memory::write;
 use tm_core::{Outcome, takes_two_steps};
 use tm_rule::{Code, Decoded, OutsideResult, Stop, fallback, fetch, row};
@@ -223,6 +226,7 @@ fn registers_after_abort(code: &Code<'_>, regs: &Regs, status: u32) -> Regs
 
 // A step of a core that has made so many steps since its XBEGIN.
 fn open_step(
+    lines: &[Line],
     code: &Code<'_>,
     size: u32,
     memory: &mut [u8],
@@ -230,6 +234,7 @@ fn open_step(
     steps: u64,
     outcome: &Outcome,
 ) -> Option<SerialCore>
+    requires lines { AreLines code.now.bytes.now lines.now }
     requires size { length memory.old ≡ size }
     requires few { steps + 1 < 2 ^ 64 }
     ensures step { after_step_of (setting_of code.now.bytes.now code.now.base size 0 0) memory.old
@@ -238,7 +243,7 @@ fn open_step(
 {
     match outcome {
         Outcome::Inside => Some(SerialCore::Opened(*regs, steps + 1)),
-        Outcome::Committed => match run_body(code, size, memory, regs, steps + 1) {
+        Outcome::Committed => match run_body(lines, code, size, memory, regs, steps + 1) {
             Some(regs) => Some(SerialCore::Closed(regs)),
             None => None,
         },
@@ -251,13 +256,16 @@ fn open_step(
 }
 
 /// The core after its step of this outcome, where the rules of a run allow that; memory changes with it.
+#[inline(never)]
 pub fn core_step(
+    lines: &[Line],
     code: &Code<'_>,
     size: u32,
     memory: &mut [u8],
     core: &SerialCore,
     outcome: &Outcome,
 ) -> Option<SerialCore>
+    requires lines { AreLines code.now.bytes.now lines.now }
     requires size { length memory.old ≡ size }
     requires few { steps_of core.now + 1 < 2 ^ 64 }
     ensures step { after_step_of (setting_of code.now.bytes.now code.now.base size 0 0) memory.old (core_of core.now)
@@ -269,7 +277,9 @@ pub fn core_step(
             Some(row) => closed_step(row, code, size, memory, regs, outcome),
             None => closed_step(&fetch(code, regs.eip), code, size, memory, regs, outcome),
         },
-        SerialCore::Opened(regs, steps) => open_step(code, size, memory, regs, *steps, outcome),
+        SerialCore::Opened(regs, steps) => {
+            open_step(lines, code, size, memory, regs, *steps, outcome)
+        }
         SerialCore::Midway(regs, value) => match outcome {
             Outcome::Plain => finish_step(code, size, memory, regs, *value),
             _ => None,
@@ -282,7 +292,9 @@ pub fn core_step(
 }
 
 /// One step of a run: the pair of a core and its outcome. False where the rules of a run do not allow it.
+#[inline(always)]
 pub fn step(
+    lines: &[Line],
     code: &Code<'_>,
     size: u32,
     memory: &mut [u8],
@@ -290,6 +302,7 @@ pub fn step(
     core: u8,
     outcome: &Outcome,
 ) -> bool
+    requires lines { AreLines code.now.bytes.now lines.now }
     requires size { length memory.old ≡ size }
     requires few { AllByRecursion (λ c. steps_of c + 1 < 2 ^ 64) cores.old }
     ensures step { list_step (setting_of code.now.bytes.now code.now.base size 0 0) memory.old (map core_of cores.old)
@@ -301,9 +314,13 @@ pub fn step(
     if index >= cores.len() {
         return false;
     }
-    match core_step(code, size, memory, &cores[index], outcome) {
+    let stepping = &mut cores[index];
+    if usual_step(lines, code.bytes, code.base, memory, stepping, outcome) {
+        return true;
+    }
+    match core_step(lines, code, size, memory, stepping, outcome) {
         Some(next) => {
-            cores[index] = next;
+            *stepping = next;
             true
         }
         None => false,
