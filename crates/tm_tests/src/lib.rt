@@ -9,4 +9,6 @@ mod boards;
 #[cfg(test)]
 mod rules;
 #[cfg(test)]
+mod slots;
+#[cfg(test)]
 mod texts;

@@ -1,0 +1,101 @@
+//! Two representations of the sets beside one another, and a transaction that stores over the end of a line.
+
+ghost use Rattle.std.specs.Prelude.{◌≡◌};
+
+use ia_image::load;
+use std::process::Abort;
+use tm_core::{Limits, Machine, Outcome};
+use tm_sets::{Directory, Kind, PlainSets, Sets};
+
+/// Lines 40h and 41h meet at 1040h.
+#[test]
+fn a_transaction_stores_over_the_end_of_a_line(rt: HostRuntime) {
+    // xbegin 106h; mov dword [103eh], 11223344h; mov eax, [103eh]; xend
+    let code = [
+        0xc7, 0xf8, 0, 0, 0, 0, 0xc7, 0x05, 0x3e, 0x10, 0, 0, 0x44, 0x33, 0x22, 0x11, 0xa1, 0x3e,
+        0x10, 0, 0, 0x0f, 0x01, 0xd5,
+    ];
+    let program = load(rt.alloc(), &code, 0x100, 24, 0x1_0000, &[0x100]).expect(&rt, "loads");
+    let limits = Limits {
+        read_lines: 2,
+        write_lines: 2,
+    };
+    let mut machine: Machine = Machine::new(rt.alloc(), &program, limits).expect(&rt, "makes");
+    let outcomes = machine.run(rt.alloc(), &[0, 0, 0]).expect(&rt, "runs");
+    assert_eq!(rt;
+        outcomes.as_slice(),
+        [Outcome::Begun, Outcome::Inside, Outcome::Inside].as_slice()
+    );
+    assert_eq!(rt; machine.regs(0).expect(&rt, "core").gpr[0], 0x1122_3344);
+    assert_eq!(rt; machine.view().get(0x103e), Some(&0));
+    assert_eq!(rt; machine.step(0), Ok(Outcome::Committed));
+    for address in 0x1000..0x1080 {
+        let want = match address {
+            0x103e => 0x44,
+            0x103f => 0x33,
+            0x1040 => 0x22,
+            0x1041 => 0x11,
+            _ => 0,
+        };
+        assert_eq!(rt; machine.view().get(address), Some(&want), "at {address:x}");
+    }
+}
+
+/// One call of both, which answer alike: of three cores and eight lines, chosen by a number.
+fn same_answer<A: Sets, B: Sets>(rt: &impl Abort, one: &mut A, other: &mut B, number: u32)
+    requires one_cores { (A.content one.old).fixed.cores ≡ 3 }
+    requires one_lines { (A.content one.old).fixed.line_count ≡ 8 }
+    requires other_cores { (B.content other.old).fixed.cores ≡ 3 }
+    requires other_lines { (B.content other.old).fixed.line_count ≡ 8 }
+    ensures one { (A.content one.new).fixed ≡ (A.content one.old).fixed }
+    ensures other { (B.content other.new).fixed ≡ (B.content other.old).fixed }
+{
+    let core = (number / 16 % 3) as u8;
+    let line = number / 64 % 8;
+    let kind = if number / 1024 % 2 == 0 {
+        Kind::Read
+    } else {
+        Kind::Write
+    };
+    match number % 16 {
+        0..=8 => assert_eq!(rt;
+            one.add(core, line, kind).is_ok(),
+            other.add(core, line, kind).is_ok()
+        ),
+        9..=10 => assert_eq!(rt; one.has(core, line, kind), other.has(core, line, kind)),
+        11 => assert_eq!(rt; one.others_on(line, core), other.others_on(line, core)),
+        12 => assert_eq!(rt; one.writers_on(line, core), other.writers_on(line, core)),
+        13 => assert_eq!(rt; one.count(core, kind), other.count(core, kind)),
+        14 => assert_eq!(rt;
+            one.slot(core, line).is_some(),
+            other.slot(core, line).is_some()
+        ),
+        _ => {
+            one.clear(core);
+            other.clear(core);
+        }
+    }
+}
+
+/// Many calls, by the numbers of a linear congruential generator.
+fn same_answers<A: Sets, B: Sets>(rt: &impl Abort, one: &mut A, other: &mut B)
+    requires one_cores { (A.content one.old).fixed.cores ≡ 3 }
+    requires one_lines { (A.content one.old).fixed.line_count ≡ 8 }
+    requires other_cores { (B.content other.old).fixed.cores ≡ 3 }
+    requires other_lines { (B.content other.old).fixed.line_count ≡ 8 }
+{
+    let mut number = 1u32;
+    for _ in 0..20_000 {
+        number = number.wrapping_mul(1_664_525).wrapping_add(1_013_904_223);
+        same_answer(rt, one, other, number / 256);
+    }
+}
+
+#[test]
+fn both_representations_answer_alike(rt: HostRuntime) {
+    let mut plain = PlainSets::new(rt.alloc(), 3, 8, 4, 3).expect(&rt, "memory");
+    let mut directory = Directory::new(rt.alloc(), 3, 8, 4, 3).expect(&rt, "memory");
+    same_answers(&rt, &mut plain, &mut directory);
+    assert!(rt; plain.visits() > 0);
+    assert!(rt; directory.visits() > 0);
+}
