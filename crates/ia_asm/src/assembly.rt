@@ -126,11 +126,7 @@ fn symbols_modulo<'a>(
 fn address_in(symbols: &IndexMap<Name, u32>, name: &[u8]) -> Option<u32>
     ensures { result ≡ known_as name.now symbols.now.entries }
 {
-    let name = Name {
-        scope: &[],
-        own: name,
-    };
-    symbols.get(&name).copied()
+    symbols.get(&Name::new(name)).copied()
 }
 
 impl<'a> Unit<'a> {

@@ -1,3 +1,4 @@
+pub mod Digests
 pub mod Names
 pub mod Expressions
 pub mod Fields

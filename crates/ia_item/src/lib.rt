@@ -13,7 +13,8 @@
 mod expression;
 mod item;
 mod name;
+mod naming;
 
 pub use expression::{ScopedAtom, ScopedExpression, ScopedTerm};
 pub use item::{Entry, Field, Item, Section, Template};
-pub use name::Name;
+pub use name::{Name, Scope};

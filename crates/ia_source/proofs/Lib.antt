@@ -8,3 +8,5 @@ pub mod Names
 pub mod FormsFit
 pub mod SourceFits
 pub mod Named
+mod Sums
+mod OperandLists

@@ -13,7 +13,6 @@ use Rattle.ia_lex.specs.declared.terms.Term.{Term}
 use Rattle.ia_source.specs.Commas.{is_mark_of}
 use Rattle.ia_source.specs.declared.memory.Piece.{Piece as CodePiece}
 use Rattle.ia_source.specs.declared.memory.Piece.TheVariants as piece
-use Rattle.ia_source.specs.declared.memory.MemoryOperand.{MemoryOperand as CodeMemoryOperand}
 
 -- base and index, and the terms of the displacement, which stands as 0
 pub record MemoryOperand : Type 0 where
@@ -169,8 +168,6 @@ piece_content (piece.Valued a) = Valued (atom_content a)
 abbrev pub piece_and_length : CodePiece × ℕ → Piece × ℕ
 piece_and_length x = (piece_content x.0, x.1)
 
-abbrev pub with_piece_content : Mem × ArrayVec Term → Mem × List TermContent
-with_piece_content x = (x.0, terms_content x.1)
-
-abbrev pub memory_content : CodeMemoryOperand → MemoryOperand
-memory_content p = record { mem = p.mem; terms = terms_content p.terms }
+-- a place, and the terms of its displacement
+abbrev pub place_content : Mem → ArrayVec Term → MemoryOperand
+place_content m e = record { mem = m; terms = terms_content e }

@@ -6,13 +6,14 @@ use Rattle.ia_word.specs.declared.width.Width.TheVariants.{B, D}
 use Rattle.ia_lex.specs.Words.{register_of, find_word}
 use Rattle.ia_lex.specs.Tokens.{Lexeme, Word, Mark}
 use Rattle.ia_lex.specs.Terms.{TermContent, expression_at}
+use Rattle.ia_lex.specs.declared.terms.Term.{Term}
+use Rattle.arrayvec.specs.ArrayVec.{ArrayVec}
 use Rattle.ia_source.specs.declared.shape.OperandShape.{OperandShape}
 use Rattle.ia_source.specs.declared.shape.OperandShape.TheVariants as shape
 use Rattle.ia_source.specs.declared.shape.OperandShapes.{OperandShapes}
 use Rattle.ia_source.specs.declared.shape.OperandShapes.TheVariants.{Nothing, One, Two, Three}
 use Rattle.ia_source.specs.declared.operand.OperandPrefix.{OperandPrefix}
 use Rattle.ia_source.specs.declared.operand.OperandPrefix.TheVariants.{Register, Size, Near, Short}
-use Rattle.ia_source.specs.declared.operand.Operand.{Operand as CodeOperand}
 use Rattle.ia_source.specs.declared.operand.Operands.{Operands as CodeOperands}
 use Rattle.ia_source.specs.Keywords.{or_else}
 use Rattle.ia_source.specs.Commas.{between_commas}
@@ -120,8 +121,19 @@ operands_of (t ∷ ts) = operands_from empty_operands (between_commas (t ∷ ts)
 
 -- ---- what the code's values stand for
 
-abbrev pub operand_content : CodeOperand → Operand
-operand_content o = record { shape = o.shape; terms = terms_content o.terms }
+abbrev pub placed_by : OperandShape → List TermContent → List TermContent → List TermContent
+    → OperandShape × List TermContent × List TermContent
+placed_by (shape.Register w r) number displacement ps = (shape.Register w r, number, displacement)
+placed_by (shape.Memory size m) number displacement ps = (shape.Memory size m, number, ps)
+placed_by s number displacement ps = (s, ps, displacement)
+
+abbrev pub operand_content : OperandShape → ArrayVec Term → Operand
+operand_content s e = record { shape = s; terms = terms_content e }
+
+-- an operand's shape, and behind the terms of earlier operands its own: those of an expression, or those of a place
+abbrev pub terms_placed : List TermContent → List TermContent → Operand
+    → OperandShape × List TermContent × List TermContent
+terms_placed number displacement o = placed_by o.shape number displacement o.terms
 
 abbrev pub operands_content : CodeOperands → Operands
 operands_content os = record {

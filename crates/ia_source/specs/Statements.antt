@@ -202,7 +202,7 @@ behind at w ts = in_next_line (behind_statement at w ts)
 -- ---- what the code's values stand for
 
 abbrev pub state_content : SourceState → StateContent
-state_content s = record { line = s.line; scope = s.scope.now; section = s.section; based = s.based; placed = s.placed }
+state_content s = record { line = s.line; scope = s.scope.text.now; section = s.section; based = s.based; placed = s.placed }
 
 -- a call that adds entries told why it did not
 abbrev pub IsBad : Option (List EntryContent) → ℕ → SourceFault → Type 0

@@ -6,7 +6,7 @@ ghost use Rattle.ia_source.specs.Contents.{scoped_term_content, expression_conte
 ghost use Rattle.ia_source.specs.MemoryOperands.{terms_content};
 ghost use Rattle.ia_source.specs.Symbols.{is_local, whole_of, term_in_scope, scoped_term, terms_in_scope};
 
-use ia_item::{Name, ScopedAtom, ScopedExpression, ScopedTerm};
+use ia_item::{Name, Scope, ScopedAtom, ScopedExpression, ScopedTerm};
 use ia_lex::{Atom, Expression, Term};
 use std::alloc::{AllocError, Global};
 
@@ -21,18 +21,18 @@ pub fn is_local(own: &[u8]) -> bool
 }
 
 /// A name behind a label.
-pub fn name_in<'a>(scope: &'a [u8], own: &'a [u8]) -> Name<'a>
-    ensures { whole_name result ≡ whole_of scope.now own.now }
+pub fn name_in<'a>(scope: &Scope<'a>, own: &'a [u8]) -> Name<'a>
+    ensures { whole_name result ≡ whole_of scope.now.text.now own.now }
 {
     if is_local(own) {
-        Name { scope, own }
+        Name::local(scope, own)
     } else {
-        Name { scope: b"", own }
+        Name::new(own)
     }
 }
 
-fn term_in<'a>(scope: &'a [u8], term: &Term<'a>) -> ScopedTerm<'a>
-    ensures { scoped_term_content result ≡ scoped_term scope.now term.now }
+fn term_in<'a>(scope: &Scope<'a>, term: &Term<'a>) -> ScopedTerm<'a>
+    ensures { scoped_term_content result ≡ scoped_term scope.now.text.now term.now }
 {
     let Term { negative, atom } = *term;
     match atom {
@@ -51,10 +51,10 @@ fn term_in<'a>(scope: &'a [u8], term: &Term<'a>) -> ScopedTerm<'a>
 #[tactic(auto, using(crate::proofs::ScopedTerms::step, crate::proofs::ScopedTerms::finish, crate::proofs::ScopedTerms::twice))]
 pub fn expression_in<'a>(
     alloc: Global,
-    scope: &'a [u8],
+    scope: &Scope<'a>,
     expression: &Expression<'a>,
 ) -> Result<ScopedExpression<'a>, AllocError>
-    ensures { IfOk result (λ s. expression_content s ≡ map (term_in_scope scope.now) (terms_content expression.now)) }
+    ensures { IfOk result (λ s. expression_content s ≡ map (term_in_scope scope.now.text.now) (terms_content expression.now)) }
 {
     let source_terms = expression.as_slice();
     let mut terms = Vec::with_capacity(alloc, source_terms.len())?;
@@ -67,11 +67,11 @@ pub fn expression_in<'a>(
 /// The expression, where there is one.
 pub fn some_expression<'a>(
     alloc: Global,
-    scope: &'a [u8],
+    scope: &Scope<'a>,
     expression: &Expression<'a>,
 ) -> Result<Option<ScopedExpression<'a>>, AllocError>
     ensures { IfOk result (λ s. option_map expression_content s
-        ≡ terms_in_scope scope.now (terms_content expression.now)) }
+        ≡ terms_in_scope scope.now.text.now (terms_content expression.now)) }
 {
     if expression.is_empty() {
         Ok(None)

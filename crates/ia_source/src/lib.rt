@@ -21,6 +21,7 @@ mod shape;
 mod source;
 mod state;
 mod statement;
+mod sum;
 
 pub use fault::{SourceFault, Why};
 pub use source::entries;

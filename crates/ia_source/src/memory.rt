@@ -6,21 +6,12 @@ ghost use Rattle.ia_lex.specs.Terms.{term_content, atom_content};
 ghost use Rattle.ia_source.specs.MemoryOperands.{long_register, scale_of, both, with_register, with_scaled, with_term};
 ghost use Rattle.ia_source.specs.MemoryOperands.{plain, product, factor_of, piece_at, with_piece, memory_from};
 ghost use Rattle.ia_source.specs.MemoryOperands.{memory_of, terms_content, piece_content, piece_and_length};
-ghost use Rattle.ia_source.specs.MemoryOperands.{with_piece_content, memory_content};
+ghost use Rattle.ia_source.specs.MemoryOperands.{place_content};
 
 use crate::comma::is_mark;
 use ia_insn::Mem;
 use ia_lex::{Atom, Expression, Term, Token, atom, register_of, sign};
 use ia_word::Width;
-
-/// An operand in memory.
-#[derive(Drop)]
-pub struct MemoryOperand<'a> {
-    /// Its base and its index, with a displacement of 0.
-    pub mem: Mem,
-    /// The terms of its displacement.
-    pub terms: Expression<'a>,
-}
 
 /// A piece of an operand in memory.
 #[derive(Clone, Copy)]
@@ -122,16 +113,15 @@ fn with_scaled(mem: Mem, register: u8, scale: u8) -> Option<Mem>
 
 /// One more term, of at most 16.
 #[tactic(auto, using(crate::proofs::MemoryOperands::one_more, crate::proofs::MemoryOperands::has_room, crate::proofs::MemoryOperands::is_full))]
-fn with_term<'a>(terms: Expression<'a>, negative: bool, atom: Atom<'a>) -> Option<Expression<'a>>
-    ensures { option_map terms_content result
-        ≡ with_term (terms_content terms.entry) negative (atom_content atom.entry) }
+fn push_term<'a>(terms: &mut Expression<'a>, negative: bool, atom: Atom<'a>) -> Option<()>
+    ensures { option_map (λ _. terms_content terms.new) result
+        ≡ with_term (terms_content terms.old) negative (atom_content atom.entry) }
 {
-    let mut terms = terms;
     if terms.is_full() {
         return None;
     }
     terms.push(Term { negative, atom });
-    Some(terms)
+    Some(())
 }
 
 fn plain<'a>(token: &Token<'a>) -> Option<Piece<'a>>
@@ -204,38 +194,32 @@ fn front_piece<'a>(tokens: &[Token<'a>]) -> Option<(Piece<'a>, usize)>
     }
 }
 
-/// A place with one more piece.
+/// A place with one more piece, whose terms go to those of its displacement.
 fn with_piece<'a>(
     mem: Mem,
-    terms: Expression<'a>,
+    terms: &mut Expression<'a>,
     negative: bool,
     register: bool,
     piece: Piece<'a>,
-) -> Option<(Mem, Expression<'a>)>
-    ensures { option_map with_piece_content result
-        ≡ with_piece mem (terms_content terms.entry) negative register (piece_content piece.entry) }
+) -> Option<Mem>
+    ensures { option_map (λ m. (m, terms_content terms.new)) result
+        ≡ with_piece mem (terms_content terms.old) negative register (piece_content piece.entry) }
 {
     match piece {
         Piece::Register(number) => {
             if !register {
                 return None;
             }
-            match with_register(mem, number) {
-                Some(mem) => Some((mem, terms)),
-                None => None,
-            }
+            with_register(mem, number)
         }
         Piece::Scaled(number, scale) => {
             if !register {
                 return None;
             }
-            match with_scaled(mem, number, scale) {
-                Some(mem) => Some((mem, terms)),
-                None => None,
-            }
+            with_scaled(mem, number, scale)
         }
-        Piece::Valued(atom) => match with_term(terms, negative, atom) {
-            Some(terms) => Some((mem, terms)),
+        Piece::Valued(atom) => match push_term(terms, negative, atom) {
+            Some(()) => Some(mem),
             None => None,
         },
     }
@@ -243,23 +227,15 @@ fn with_piece<'a>(
 
 /// What stands behind a piece: a sign and pieces, or the closing bracket.
 #[cycle(memory)]
-fn behind_piece<'a>(
-    mem: Mem,
-    terms: Expression<'a>,
-    tokens: &[Token<'a>],
-) -> Option<MemoryOperand<'a>>
-    ensures { option_map memory_content result
-        ≡ memory_from 0 mem (terms_content terms.entry) None (map lexeme_of tokens.now) }
+fn behind_piece<'a>(mem: Mem, terms: &mut Expression<'a>, tokens: &[Token<'a>]) -> Option<Mem>
+    ensures { option_map (λ m. place_content m terms.new) result
+        ≡ memory_from 0 mem (terms_content terms.old) None (map lexeme_of tokens.now) }
 {
     match tokens.split_first() {
         None => None,
         Some((token, rest)) => {
             if is_mark(b']', token) {
-                if rest.is_empty() {
-                    Some(MemoryOperand { mem, terms })
-                } else {
-                    None
-                }
+                if rest.is_empty() { Some(mem) } else { None }
             } else {
                 match sign(token) {
                     None => None,
@@ -275,33 +251,35 @@ fn behind_piece<'a>(
 #[tactic(auto, using(crate::proofs::MemoryOperands::behind_some, crate::proofs::MemoryOperands::behind_none, crate::proofs::MemoryOperands::behind_bad))]
 fn behind_sign<'a>(
     mem: Mem,
-    terms: Expression<'a>,
+    terms: &mut Expression<'a>,
     negative: bool,
     register: bool,
     tokens: &[Token<'a>],
-) -> Option<MemoryOperand<'a>>
-    ensures { option_map memory_content result
-        ≡ memory_from 0 mem (terms_content terms.entry) (Some (negative, register)) (map lexeme_of tokens.now) }
+) -> Option<Mem>
+    ensures { option_map (λ m. place_content m terms.new) result
+        ≡ memory_from 0 mem (terms_content terms.old) (Some (negative, register)) (map lexeme_of tokens.now) }
 {
     match front_piece(tokens) {
         None => None,
         Some((piece, taken)) => match with_piece(mem, terms, negative, register, piece) {
             None => None,
-            Some((mem, terms)) => behind_piece(mem, terms, &tokens[taken..]),
+            Some(mem) => behind_piece(mem, terms, &tokens[taken..]),
         },
     }
 }
 
-/// The place whose tokens stand behind an opening bracket. A sign in front belongs to a number or a symbol.
+/// The base and the index of the place whose tokens stand behind an opening bracket, with a displacement of 0, whose
+/// terms go to `terms`. A sign in front belongs to a number or a symbol.
 #[tactic(auto, unfolding(crate::specs::MemoryOperands::memory_of))]
-pub fn read_memory<'a>(tokens: &[Token<'a>]) -> Option<MemoryOperand<'a>>
-    ensures { option_map memory_content result ≡ memory_of (map lexeme_of tokens.now) }
+pub fn read_memory<'a>(tokens: &[Token<'a>], terms: &mut Expression<'a>) -> Option<Mem>
+    ensures { option_map (λ m. place_content m terms.new) result ≡ memory_of (map lexeme_of tokens.now) }
 {
+    terms.clear();
     match tokens.split_first() {
         None => None,
         Some((token, rest)) => match sign(token) {
-            None => behind_sign(NOWHERE, Expression::new(), false, true, tokens),
-            Some(negative) => behind_sign(NOWHERE, Expression::new(), negative, false, rest),
+            None => behind_sign(NOWHERE, terms, false, true, tokens),
+            Some(negative) => behind_sign(NOWHERE, terms, negative, false, rest),
         },
     }
 }

@@ -1,17 +1,19 @@
 //! Operands.
 
-ghost use Rattle.std.specs.Prelude.{◌≡◌, length, map, option_map};
+ghost use Rattle.std.specs.Prelude.{◌≡◌, [], Some, map, option_map};
 ghost use Rattle.ia_lex.specs.Tokens.{lexeme_of};
 ghost use Rattle.ia_source.specs.Commas.{between_commas};
 ghost use Rattle.ia_source.specs.MemoryOperands.{terms_content};
-ghost use Rattle.ia_source.specs.Operands.{expression_of, expression_operand, memory_operand, sized_memory};
-ghost use Rattle.ia_source.specs.Operands.{register_operand, prefix_of, by_prefix, operand_of, with_shape};
-ghost use Rattle.ia_source.specs.Operands.{with_operand, operands_from, operands_of, operand_content, operands_content};
+ghost use Rattle.ia_source.specs.Operands.{sized_memory};
+ghost use Rattle.ia_source.specs.Operands.{register_operand, prefix_of, operand_of, with_shape, terms_placed};
+ghost use Rattle.ia_source.specs.Operands.{operands_from, operands_of, operand_content, operands_content};
 
 use crate::comma::{first_piece, is_mark};
 use crate::memory::read_memory;
 use crate::shape::{OperandShape, OperandShapes};
-use ia_lex::{Expression, Token, expression, find_word, register_of};
+use crate::sum::whole_expression;
+use ia_insn::Mem;
+use ia_lex::{Expression, Token, find_word, register_of};
 use ia_word::Width;
 
 /// A word that decides what operand follows.
@@ -27,15 +29,6 @@ pub enum OperandPrefix {
     Short,
 }
 
-/// An operand.
-#[derive(Drop)]
-pub struct Operand<'a> {
-    /// What decides the form of an instruction.
-    pub shape: OperandShape,
-    /// The terms of its expression or of its displacement.
-    pub terms: Expression<'a>,
-}
-
 /// The operands of an instruction.
 #[derive(Drop)]
 pub struct Operands<'a> {
@@ -47,6 +40,17 @@ pub struct Operands<'a> {
     pub displacement: Expression<'a>,
 }
 
+impl Operands<'_> {
+    /// No operands, with room for any.
+    pub fn new() -> Self {
+        Operands {
+            shapes: OperandShapes::Nothing,
+            number: Expression::new(),
+            displacement: Expression::new(),
+        }
+    }
+}
+
 static PREFIXES: [(&str, OperandPrefix); 4] = [
     ("byte", OperandPrefix::Size(Width::B)),
     ("dword", OperandPrefix::Size(Width::D)),
@@ -54,47 +58,20 @@ static PREFIXES: [(&str, OperandPrefix); 4] = [
     ("short", OperandPrefix::Short),
 ];
 
-/// An expression that takes all of the tokens.
-pub fn whole_expression<'a>(tokens: &[Token<'a>]) -> Option<Expression<'a>>
-    ensures { option_map terms_content result ≡ expression_of (map lexeme_of tokens.now) }
-{
-    match expression(tokens) {
-        Some((terms, rest)) => { if rest.is_empty() { Some(terms) } else { None } }
-        None => None,
-    }
-}
-
-fn expression_operand<'a>(shape: OperandShape, tokens: &[Token<'a>]) -> Option<Operand<'a>>
-    ensures { option_map operand_content result ≡ expression_operand shape (map lexeme_of tokens.now) }
-{
-    match whole_expression(tokens) {
-        Some(terms) => Some(Operand { shape, terms }),
-        None => None,
-    }
-}
-
-/// The memory operand behind an opening bracket.
-fn memory_operand<'a>(size: Option<Width>, tokens: &[Token<'a>]) -> Option<Operand<'a>>
-    ensures { option_map operand_content result ≡ memory_operand size (map lexeme_of tokens.now) }
-{
-    match read_memory(tokens) {
-        Some(memory) => Some(Operand {
-            shape: OperandShape::Memory(size, memory.mem),
-            terms: memory.terms,
-        }),
-        None => None,
-    }
-}
-
-/// What follows a size word.
-fn sized_memory<'a>(width: Width, tokens: &[Token<'a>]) -> Option<Operand<'a>>
-    ensures { option_map operand_content result ≡ sized_memory width (map lexeme_of tokens.now) }
+/// The place that follows a size word, the terms of whose displacement go to `displacement`.
+fn sized_memory<'a>(
+    width: Width,
+    tokens: &[Token<'a>],
+    displacement: &mut Expression<'a>,
+) -> Option<Mem>
+    ensures { option_map (λ m. operand_content (OperandShape.Memory (Some width) m) displacement.new) result
+        ≡ sized_memory width (map lexeme_of tokens.now) }
 {
     match tokens.split_first() {
         None => None,
         Some((token, rest)) => {
             if is_mark(b'[', token) {
-                memory_operand(Some(width), rest)
+                read_memory(rest, displacement)
             } else {
                 None
             }
@@ -103,14 +80,12 @@ fn sized_memory<'a>(width: Width, tokens: &[Token<'a>]) -> Option<Operand<'a>>
 }
 
 /// What follows a register.
-fn register_operand<'a>(width: Width, register: u8, tokens: &[Token<'a>]) -> Option<Operand<'a>>
-    ensures { option_map operand_content result ≡ register_operand width register (map lexeme_of tokens.now) }
+fn register_operand(width: Width, register: u8, tokens: &[Token]) -> Option<OperandShape>
+    ensures { option_map (λ s. record { shape = s; terms = [] }) result
+        ≡ register_operand width register (map lexeme_of tokens.now) }
 {
     if tokens.is_empty() {
-        Some(Operand {
-            shape: OperandShape::Register(width, register),
-            terms: Expression::new(),
-        })
+        Some(OperandShape::Register(width, register))
     } else {
         None
     }
@@ -125,24 +100,49 @@ fn find_prefix(word: &[u8]) -> Option<OperandPrefix>
     }
 }
 
-/// The operand that tokens are.
+/// The operand that tokens are, whose terms go to `number` if they are an expression's, and to `displacement` if they
+/// are those of a place.
 #[tactic(auto, unfolding(crate::specs::Operands::operand_of))]
-pub fn read_operand<'a>(tokens: &[Token<'a>]) -> Option<Operand<'a>>
-    ensures { option_map operand_content result ≡ operand_of (map lexeme_of tokens.now) }
+fn read_operand<'a>(
+    tokens: &[Token<'a>],
+    number: &mut Expression<'a>,
+    displacement: &mut Expression<'a>,
+) -> Option<OperandShape>
+    ensures { option_map (λ s. (s, terms_content number.new, terms_content displacement.new)) result
+        ≡ option_map (terms_placed (terms_content number.old) (terms_content displacement.old)) (operand_of
+        (map lexeme_of tokens.now)) }
 {
     match tokens.split_first() {
         None => None,
         Some((Token::Word(word), rest)) => match find_prefix(word) {
-            None => expression_operand(OperandShape::Number, tokens),
+            None => match whole_expression(tokens, number) {
+                Some(()) => Some(OperandShape::Number),
+                None => None,
+            },
             Some(OperandPrefix::Register(width, register)) => register_operand(
                 width, register, rest,
             ),
-            Some(OperandPrefix::Size(width)) => sized_memory(width, rest),
-            Some(OperandPrefix::Near) => expression_operand(OperandShape::Near, rest),
-            Some(OperandPrefix::Short) => expression_operand(OperandShape::Short, rest),
+            Some(OperandPrefix::Size(width)) => match sized_memory(width, rest, displacement) {
+                Some(mem) => Some(OperandShape::Memory(Some(width), mem)),
+                None => None,
+            },
+            Some(OperandPrefix::Near) => match whole_expression(rest, number) {
+                Some(()) => Some(OperandShape::Near),
+                None => None,
+            },
+            Some(OperandPrefix::Short) => match whole_expression(rest, number) {
+                Some(()) => Some(OperandShape::Short),
+                None => None,
+            },
         },
-        Some((Token::Mark(b'['), rest)) => memory_operand(None, rest),
-        Some(_) => expression_operand(OperandShape::Number, tokens),
+        Some((Token::Mark(b'['), rest)) => match read_memory(rest, displacement) {
+            Some(mem) => Some(OperandShape::Memory(None, mem)),
+            None => None,
+        },
+        Some(_) => match whole_expression(tokens, number) {
+            Some(()) => Some(OperandShape::Number),
+            None => None,
+        },
     }
 }
 
@@ -157,77 +157,38 @@ fn with_shape(shapes: OperandShapes, shape: OperandShape) -> Option<OperandShape
     }
 }
 
-/// One more operand, of at most three.
-fn with_operand<'a>(operands: Operands<'a>, operand: Operand<'a>) -> Option<Operands<'a>>
-    ensures { option_map operands_content result
-        ≡ with_operand (operands_content operands.entry) (operand_content operand.entry) }
-{
-    let Operands {
-        shapes,
-        number,
-        displacement,
-    } = operands;
-    let Operand { shape, terms } = operand;
-    let shapes = with_shape(shapes, shape)?;
-    match shape {
-        OperandShape::Register(_, _) => Some(Operands {
-            shapes,
-            number,
-            displacement,
-        }),
-        OperandShape::Memory(_, _) => Some(Operands {
-            shapes,
-            number,
-            displacement: terms,
-        }),
-        OperandShape::Number => Some(Operands {
-            shapes,
-            number: terms,
-            displacement,
-        }),
-        OperandShape::Near => Some(Operands {
-            shapes,
-            number: terms,
-            displacement,
-        }),
-        OperandShape::Short => Some(Operands {
-            shapes,
-            number: terms,
-            displacement,
-        }),
-    }
-}
-
-/// Operands, and those that tokens are.
-fn more_operands<'a>(before: Operands<'a>, tokens: &[Token<'a>]) -> Option<Operands<'a>>
-    ensures { option_map operands_content result
-        ≡ operands_from (operands_content before.entry) (between_commas (map lexeme_of tokens.now)) }
+/// Takes in the operands that tokens are, behind others.
+#[tactic(auto, using(crate::proofs::OperandLists::one_more, crate::proofs::OperandLists::unread, crate::proofs::OperandLists::no_room))]
+fn more_operands<'a>(operands: &mut Operands<'a>, tokens: &[Token<'a>]) -> Option<()>
+    ensures { option_map (λ _. operands_content operands.new) result
+        ≡ operands_from (operands_content operands.old) (between_commas (map lexeme_of tokens.now)) }
 {
     let (piece, rest) = first_piece(tokens);
-    match read_operand(piece) {
+    match read_operand(piece, &mut operands.number, &mut operands.displacement) {
         None => None,
-        Some(operand) => match with_operand(before, operand) {
+        Some(shape) => match with_shape(operands.shapes, shape) {
             None => None,
-            Some(operands) => match rest {
-                None => Some(operands),
-                Some(rest) => more_operands(operands, rest),
-            },
+            Some(shapes) => {
+                operands.shapes = shapes;
+                match rest {
+                    None => Some(()),
+                    Some(rest) => more_operands(operands, rest),
+                }
+            }
         },
     }
 }
 
-/// The operands that tokens are, between commas.
-pub fn read_operands<'a>(tokens: &[Token<'a>]) -> Option<Operands<'a>>
-    ensures { option_map operands_content result ≡ operands_of (map lexeme_of tokens.now) }
+/// Takes in the operands that tokens are, between commas, in place of others.
+pub fn read_operands<'a>(operands: &mut Operands<'a>, tokens: &[Token<'a>]) -> Option<()>
+    ensures { option_map (λ _. operands_content operands.new) result ≡ operands_of (map lexeme_of tokens.now) }
 {
-    let none = Operands {
-        shapes: OperandShapes::Nothing,
-        number: Expression::new(),
-        displacement: Expression::new(),
-    };
+    operands.shapes = OperandShapes::Nothing;
+    operands.number.clear();
+    operands.displacement.clear();
     if tokens.is_empty() {
-        Some(none)
+        Some(())
     } else {
-        more_operands(none, tokens)
+        more_operands(operands, tokens)
     }
 }

@@ -11,6 +11,7 @@ use crate::directive::Directive;
 use crate::expression::name_in;
 use crate::fault::{SourceFault, Why};
 use crate::head::{Statement, read_head};
+use crate::operand::Operands;
 use crate::state::{SourceState, behind, start, with_label};
 use crate::statement::push_statement;
 use ia_item::{Entry, Item, Name};
@@ -35,7 +36,7 @@ fn define<'a>(
     match label {
         None => Ok(()),
         Some(own) => {
-            let (_, is_new) = names.insert_full(name_in(state.scope, own))?;
+            let (_, is_new) = names.insert_full(name_in(&state.scope, own))?;
             if is_new {
                 Ok(())
             } else {
@@ -63,7 +64,7 @@ fn push_name<'a>(
         entries.push(Entry {
             line: state.line,
             section: state.section,
-            item: Item::Label(name_in(state.scope, own)),
+            item: Item::Label(name_in(&state.scope, own)),
         })?;
     }
     Ok(())
@@ -90,6 +91,7 @@ fn push_label<'a>(
 #[tactic(auto, unfolding(crate::specs::Source::line_onto))]
 fn push_line<'a>(
     alloc: Global,
+    operands: &mut Operands<'a>,
     names: &mut IndexSet<Name<'a>>,
     entries: &mut Vec<Entry<'a>>,
     state: SourceState<'a>,
@@ -118,7 +120,15 @@ fn push_line<'a>(
     define(names, state, head.label)?;
     push_label(entries, state, head.label, head.statement)?;
     let here = with_label(state, head.label, head.statement);
-    push_statement(alloc, entries, here, head.label, head.statement, head.rest)?;
+    push_statement(
+        alloc,
+        operands,
+        entries,
+        here,
+        head.label,
+        head.statement,
+        head.rest,
+    )?;
     Ok(behind(here, head.statement, head.rest))
 }
 
@@ -133,6 +143,7 @@ pub fn entries<'a>(alloc: Global, source: &'a [u8]) -> Result<Vec<Entry<'a>>, So
 {
     let mut names = IndexSet::new(alloc);
     let mut entries = Vec::new(alloc);
+    let mut operands = Operands::new();
     let SourceState {
         mut line,
         mut scope,
@@ -150,7 +161,7 @@ pub fn entries<'a>(alloc: Global, source: &'a [u8]) -> Result<Vec<Entry<'a>>, So
             based,
             placed,
         };
-        match push_line(alloc, &mut names, &mut entries, state, bytes) {
+        match push_line(alloc, &mut operands, &mut names, &mut entries, state, bytes) {
             Ok(next) => {
                 line = next.line;
                 scope = next.scope;

@@ -8,7 +8,7 @@ ghost use Rattle.ia_source.specs.Statements.{in_section, with_flags, behind_stat
 use crate::directive::Directive;
 use crate::expression::is_local;
 use crate::head::Statement;
-use ia_item::Section;
+use ia_item::{Scope, Section};
 use ia_lex::Token;
 
 /// What a line has to know of the lines above.
@@ -17,7 +17,7 @@ pub struct SourceState<'a> {
     /// The line's number, from 1; from u32::MAX on it stays.
     pub line: u32,
     /// The last label that is not local.
-    pub scope: &'a [u8],
+    pub scope: Scope<'a>,
     /// The section in force.
     pub section: Section,
     /// Whether `org` stood above.
@@ -32,7 +32,7 @@ pub fn start<'a>() -> SourceState<'a>
 {
     SourceState {
         line: 1,
-        scope: b"",
+        scope: Scope::new(b""),
         section: Section::Text,
         based: false,
         placed: false,
@@ -93,7 +93,7 @@ pub fn with_label<'a>(
             } else {
                 SourceState {
                     line: state.line,
-                    scope: own,
+                    scope: Scope::new(own),
                     section: state.section,
                     based: state.based,
                     placed: state.placed,

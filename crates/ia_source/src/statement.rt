@@ -16,26 +16,28 @@ use crate::expression::{expression_in, name_in, some_expression};
 use crate::fault::{SourceFault, Why};
 use crate::form::instruction;
 use crate::head::Statement;
-use crate::operand::{read_operands, whole_expression};
+use crate::operand::{Operands, read_operands};
 use crate::state::{SourceState, named_section, only_number};
+use crate::sum::whole_expression;
 use ia_insn::Mnemonic;
 use ia_item::{Entry, Item, ScopedExpression, Template};
-use ia_lex::{Token, register_of};
+use ia_lex::{Expression, Token, register_of};
 use std::alloc::{AllocError, Global};
 
 /// The expression that tokens are, if they are one.
 fn read_expression<'a>(
     alloc: Global,
+    terms: &mut Expression<'a>,
     state: SourceState<'a>,
     tokens: &[Token<'a>],
 ) -> Result<Option<ScopedExpression<'a>>, AllocError>
     ensures { IfOk result (λ s. option_map expression_content s
         ≡ expression_in (state_content state.entry) (map lexeme_of tokens.now)) }
 {
-    match whole_expression(tokens) {
+    match whole_expression(tokens, terms) {
         None => Ok(None),
-        Some(expression) => {
-            let scoped = expression_in(alloc, state.scope, &expression)?;
+        Some(()) => {
+            let scoped = expression_in(alloc, &state.scope, terms)?;
             Ok(Some(scoped))
         }
     }
@@ -44,6 +46,7 @@ fn read_expression<'a>(
 /// The instruction that a mnemonic and operands write.
 fn read_code<'a>(
     alloc: Global,
+    operands: &mut Operands<'a>,
     state: SourceState<'a>,
     lock: bool,
     mnemonic: Mnemonic,
@@ -52,13 +55,13 @@ fn read_code<'a>(
     ensures { IfOk result (λ i. option_map item_content i
         ≡ code_item (state_content state.entry) lock mnemonic (operands_of (map lexeme_of tokens.now))) }
 {
-    match read_operands(tokens) {
+    match read_operands(operands, tokens) {
         None => Ok(None),
-        Some(operands) => match instruction(lock, mnemonic, operands.shapes) {
+        Some(()) => match instruction(lock, mnemonic, operands.shapes) {
             None => Ok(None),
             Some(insn) => {
-                let number = some_expression(alloc, state.scope, &operands.number)?;
-                let displacement = some_expression(alloc, state.scope, &operands.displacement)?;
+                let number = some_expression(alloc, &state.scope, &operands.number)?;
+                let displacement = some_expression(alloc, &state.scope, &operands.displacement)?;
                 Ok(Some(Item::Code(Template {
                     insn,
                     number,
@@ -72,6 +75,7 @@ fn read_code<'a>(
 /// A value of `db`.
 fn read_byte<'a>(
     alloc: Global,
+    terms: &mut Expression<'a>,
     state: SourceState<'a>,
     tokens: &[Token<'a>],
 ) -> Result<Option<Item<'a>>, AllocError>
@@ -81,7 +85,7 @@ fn read_byte<'a>(
     if let [Token::Text(bytes)] = tokens {
         return Ok(Some(Item::Text(bytes)));
     }
-    match read_expression(alloc, state, tokens)? {
+    match read_expression(alloc, terms, state, tokens)? {
         Some(expression) => Ok(Some(Item::Byte(expression))),
         None => Ok(None),
     }
@@ -90,6 +94,7 @@ fn read_byte<'a>(
 /// A value of `dd`, or of `db`.
 fn read_value<'a>(
     alloc: Global,
+    terms: &mut Expression<'a>,
     state: SourceState<'a>,
     long: bool,
     tokens: &[Token<'a>],
@@ -98,9 +103,9 @@ fn read_value<'a>(
         ≡ value_item long (state_content state.entry) (map lexeme_of tokens.now)) }
 {
     if !long {
-        return read_byte(alloc, state, tokens);
+        return read_byte(alloc, terms, state, tokens);
     }
-    match read_expression(alloc, state, tokens)? {
+    match read_expression(alloc, terms, state, tokens)? {
         Some(expression) => Ok(Some(Item::Long(expression))),
         None => Ok(None),
     }
@@ -108,13 +113,14 @@ fn read_value<'a>(
 
 fn read_reserve<'a>(
     alloc: Global,
+    terms: &mut Expression<'a>,
     state: SourceState<'a>,
     tokens: &[Token<'a>],
 ) -> Result<Option<Item<'a>>, AllocError>
     ensures { IfOk result (λ i. option_map item_content i
         ≡ option_map Reserve (expression_in (state_content state.entry) (map lexeme_of tokens.now))) }
 {
-    match read_expression(alloc, state, tokens)? {
+    match read_expression(alloc, terms, state, tokens)? {
         Some(expression) => Ok(Some(Item::Reserve(expression))),
         None => Ok(None),
     }
@@ -122,6 +128,7 @@ fn read_reserve<'a>(
 
 fn read_equ<'a>(
     alloc: Global,
+    terms: &mut Expression<'a>,
     state: SourceState<'a>,
     label: Option<&'a [u8]>,
     tokens: &[Token<'a>],
@@ -131,8 +138,8 @@ fn read_equ<'a>(
 {
     match label {
         None => Ok(None),
-        Some(own) => match read_expression(alloc, state, tokens)? {
-            Some(expression) => Ok(Some(Item::Equ(name_in(state.scope, own), expression))),
+        Some(own) => match read_expression(alloc, terms, state, tokens)? {
+            Some(expression) => Ok(Some(Item::Equ(name_in(&state.scope, own), expression))),
             None => Ok(None),
         },
     }
@@ -235,6 +242,7 @@ pub fn push_some<'a>(
 
 fn push_value<'a>(
     alloc: Global,
+    terms: &mut Expression<'a>,
     entries: &mut Vec<Entry<'a>>,
     state: SourceState<'a>,
     long: bool,
@@ -246,13 +254,14 @@ fn push_value<'a>(
         (IsBad (add_some (map entry_content entries.old.items) (state_content state.entry) (value_item long
         (state_content state.entry) (map lexeme_of tokens.now))) state.entry.line) }
 {
-    let item = read_value(alloc, state, long, tokens)?;
+    let item = read_value(alloc, terms, state, long, tokens)?;
     push_some(entries, state, item)
 }
 
 /// Adds the values of `dd`, or of `db`.
 fn push_values<'a>(
     alloc: Global,
+    terms: &mut Expression<'a>,
     entries: &mut Vec<Entry<'a>>,
     state: SourceState<'a>,
     long: bool,
@@ -268,7 +277,7 @@ fn push_values<'a>(
     while place <= tokens.len() {
         let left = &tokens[place..];
         let end = comma_index(left);
-        match push_value(alloc, entries, state, long, &left[..end]) {
+        match push_value(alloc, terms, entries, state, long, &left[..end]) {
             Ok(()) => {}
             Err(fault) => return Err(fault),
         }
@@ -294,6 +303,7 @@ fn if_fits(fits: bool, state: SourceState) -> Result<(), SourceFault>
 #[tactic(auto, unfolding(crate::specs::Statements::directive_onto))]
 fn push_directive<'a>(
     alloc: Global,
+    operands: &mut Operands<'a>,
     entries: &mut Vec<Entry<'a>>,
     state: SourceState<'a>,
     label: Option<&'a [u8]>,
@@ -311,15 +321,15 @@ fn push_directive<'a>(
         Directive::Org => push_some(entries, state, read_org(state, tokens)),
         Directive::Bits => if_fits(is_32(tokens), state),
         Directive::Global => if_fits(is_symbol(tokens), state),
-        Directive::Db => push_values(alloc, entries, state, false, tokens),
-        Directive::Dd => push_values(alloc, entries, state, true, tokens),
+        Directive::Db => push_values(alloc, &mut operands.number, entries, state, false, tokens),
+        Directive::Dd => push_values(alloc, &mut operands.number, entries, state, true, tokens),
         Directive::Resb => {
-            let item = read_reserve(alloc, state, tokens)?;
+            let item = read_reserve(alloc, &mut operands.number, state, tokens)?;
             push_some(entries, state, item)
         }
         Directive::Align => push_some(entries, state, read_align(tokens)),
         Directive::Equ => {
-            let item = read_equ(alloc, state, label, tokens)?;
+            let item = read_equ(alloc, &mut operands.number, state, label, tokens)?;
             push_some(entries, state, item)
         }
     }
@@ -328,6 +338,7 @@ fn push_directive<'a>(
 /// Adds what a line asks for, behind its label.
 pub fn push_statement<'a>(
     alloc: Global,
+    operands: &mut Operands<'a>,
     entries: &mut Vec<Entry<'a>>,
     state: SourceState<'a>,
     label: Option<&'a [u8]>,
@@ -343,11 +354,11 @@ pub fn push_statement<'a>(
     match statement {
         Statement::Nothing => Ok(()),
         Statement::Code(lock, mnemonic) => {
-            let item = read_code(alloc, state, lock, mnemonic, tokens)?;
+            let item = read_code(alloc, operands, state, lock, mnemonic, tokens)?;
             push_some(entries, state, item)
         }
         Statement::Directive(directive) => {
-            push_directive(alloc, entries, state, label, directive, tokens)
+            push_directive(alloc, operands, entries, state, label, directive, tokens)
         }
         Statement::Unfit => Err(SourceFault::Line {
             line: state.line,

@@ -4,4 +4,4 @@ use Rattle.ia_source.specs.Symbols.{scoped_term}
 use Rattle.ia_source.proofs.expression.expression_in.Given as goal
 
 abbrev pub invariant-loop-term : goal.invariant-loop-term
-invariant-loop-term l = map scoped_term_content l.terms.items ++ map (scoped_term l.scope) (drop l.term-index l.source_terms) ≡ map (scoped_term l.scope) l.source_terms
+invariant-loop-term l = map scoped_term_content l.terms.items ++ map (scoped_term l.scope.text.now) (drop l.term-index l.source_terms) ≡ map (scoped_term l.scope.text.now) l.source_terms

@@ -10,7 +10,7 @@ pub returns-clause-fit : goal.returns-clause-fit
 returns-clause-fit c =
     let end : drop c.lines.place c.args.source.now ≡ [] = drop_all c.lines.place c.args.source.now (omega arith) in
     let last : SourceContent = record {
-      at = record { line = c.lines.line; scope = c.lines.scope.now; section = c.lines.section; based = c.lines.based; placed = c.lines.placed };
+      at = record { line = c.lines.line; scope = c.lines.scope.text.now; section = c.lines.section; based = c.lines.based; placed = c.lines.placed };
       names = names_content c.lines.names;
       entries = map entry_content c.lines.entries.items;
     } in

@@ -9,7 +9,7 @@ abbrev pub invariant-lines : goal.invariant-lines
 invariant-lines l = record {
   within : l.place ≤ length l.source;
   read : lines_onto (record {
-    at = record { line = l.line; scope = l.scope; section = l.section; based = l.based; placed = l.placed };
+    at = record { line = l.line; scope = l.scope.text.now; section = l.section; based = l.based; placed = l.placed };
     names = names_content l.names;
     entries = map entry_content l.entries.items;
   }) (lines_of (drop l.place l.source)) ≡ entries_of l.source;
