@@ -1,3 +1,4 @@
+pub mod Bursts
 pub mod Faults
 pub mod Opening
 pub mod Seats

@@ -14,6 +14,7 @@ mod desk_state;
 mod fault;
 mod gate;
 mod manner;
+mod meeting;
 mod opening;
 mod progress;
 mod seat;

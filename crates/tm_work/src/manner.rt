@@ -1,10 +1,12 @@
 //! How a worker makes its steps.
 
 ghost use Rattle.std.specs.Prelude.{◌≡◌, ◌<◌};
+ghost use Rattle.tm_work.specs.Bursts.{IsBurst};
 ghost use Rattle.tm_work.specs.Workers.{IsDone};
 
 use crate::desk::Desk;
 use crate::gate::Gate;
+use crate::meeting::Meeting;
 use crate::seat::{DeskIdentity, Seat};
 use std::sync::Wait;
 
@@ -23,6 +25,9 @@ pub(crate) trait Manner: Sync {
 
     // The stack of this core's thread in bytes, where it is not to be the system's own size.
     fn stack_bytes(&self, core: u8) -> Option<usize>;
+
+    // Hears that the threads of all workers but so many were started.
+    fn started(&self, missing: usize);
 }
 
 /// A step at a time, each told to a gate.
@@ -53,6 +58,8 @@ impl<'a, G: Gate> Manner for Gated<'a, G> {
     fn stack_bytes(&self, core: u8) -> Option<usize> {
         self.gate.stack_bytes(core)
     }
+
+    fn started(&self, _missing: usize) {}
 }
 
 /// How many steps a worker makes under one lock.
@@ -68,7 +75,8 @@ pub enum Burst {
 impl Burst {
     // How many steps come next, after so many.
     fn next(self, done: u32) -> u32
-        ensures { 0 < result }
+        ensures some { 0 < result }
+        ensures is { IsBurst self done result }
     {
         match self {
             Burst::Fixed(steps) => steps.max(1),
@@ -79,18 +87,37 @@ impl Burst {
     }
 }
 
-impl Manner for Burst {
-    fn work<J: DeskIdentity, R: Wait>(
+/// Several steps under one lock, and a meeting with the other workers before the first ones.
+#[derive(Drop)]
+pub(crate) struct Steady {
+    burst: Burst,
+    meeting: Meeting,
+}
+
+impl Steady {
+    pub(crate) fn new(burst: Burst, workers: usize) -> Steady {
+        Steady {
+            burst,
+            meeting: Meeting::new(workers),
+        }
+    }
+
+    // Bursts until the budget is used or the core makes no further step. Each begins with a meeting.
+    fn bursts<J: DeskIdentity, R: Wait>(
         &self,
         rt: &R,
         desk: &Desk<J>,
         seat: Seat<J>,
         budget: u32,
-    ) -> Seat<J> {
+    ) -> Seat<J>
+        requires { seat.progress.steps ≡ 0 }
+        ensures { IsDone seat.core budget result }
+    {
         let mut seat = seat;
         let mut left = budget;
         while left > 0 {
-            let most = self.next(budget - left).min(left);
+            self.meeting.meet();
+            let most = self.burst.next(budget - left).min(left);
             if desk.turns(rt, &mut seat, most) < most {
                 return seat;
             }
@@ -98,8 +125,27 @@ impl Manner for Burst {
         }
         seat
     }
+}
+
+impl Manner for Steady {
+    fn work<J: DeskIdentity, R: Wait>(
+        &self,
+        rt: &R,
+        desk: &Desk<J>,
+        seat: Seat<J>,
+        budget: u32,
+    ) -> Seat<J> {
+        let seat = self.bursts(rt, desk, seat, budget);
+        self.meeting.leave(1);
+        seat
+    }
 
     fn stack_bytes(&self, _core: u8) -> Option<usize> {
         None
+    }
+
+    // Nobody waits for whom no thread was made, nor for who started the others.
+    fn started(&self, missing: usize) {
+        self.meeting.leave(missing.saturating_add(1));
     }
 }

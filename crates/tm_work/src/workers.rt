@@ -9,7 +9,7 @@ ghost use Rattle.tm_work.specs.Faults.{IsFault};
 use crate::desk::Desk;
 use crate::fault::WorkFault;
 use crate::gate::Gate;
-use crate::manner::{Burst, Gated, Manner};
+use crate::manner::{Burst, Gated, Manner, Steady};
 use crate::opening::Opening;
 use crate::seat::{DeskIdentity, Seat};
 use core::thread::Stack;
@@ -68,7 +68,8 @@ pub fn run_workers<G: Gate, R: Threads + Wait + Sync>(
 }
 
 /// The same without a gate, and with several steps under one lock: [`Desk::turns`] in place of turns one by one, as many
-/// at a time as the burst says.
+/// at a time as the burst says. Before its first bursts each worker waits a while for the others, so that they make
+/// these side by side.
 pub fn run_steadily<R: Threads + Wait + Sync>(
     rt: &R,
     alloc: Global,
@@ -81,7 +82,8 @@ pub fn run_steadily<R: Threads + Wait + Sync>(
     ensures fault { IfErr result (λ e. IsFault board budgets.now e) }
 {
     let opening = Opening::new(alloc, board)?;
-    run_at::<Brand, Burst, R>(rt, alloc, opening, budgets, &burst)
+    let manner = Steady::new(burst, budgets.len());
+    run_at::<Brand, Steady, R>(rt, alloc, opening, budgets, &manner)
 }
 
 fn run_at<J: DeskIdentity + Send + Sync, M: Manner, R: Threads + Wait + Sync>(
@@ -156,6 +158,7 @@ fn serve<'x, J: DeskIdentity + Send + Sync, M: Manner, R: Threads + Wait + Sync>
             let held = desk.hold(rt);
             let left = start_all(scope, rt, desk, manner, budgets, seats, &mut handles);
             drop(held);
+            manner.started(budgets.len().saturating_sub(handles.len()));
             (join_all(rt, budgets, handles, done), left)
         },
     )

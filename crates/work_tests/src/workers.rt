@@ -538,6 +538,76 @@ fn steady_workers_fill_the_history(rt: HostRuntime) -> Result<(), Fail> {
     Ok(())
 }
 
+// Turns of core 0 alone, and then a close to which no seat comes.
+fn close_without_seats<J: DeskIdentity, R: Wait + Abort>(
+    rt: &R,
+    alloc: Global,
+    opening: Opening,
+) -> Result<(), Fail>
+    requires name { opening.table ≡ J.table }
+    requires given { opening.given ≡ J.given }
+{
+    let Ok((desk, mut seats)) = Desk::<J>::open(alloc, opening) else {
+        return Err("a desk".into());
+    };
+    let mut one = seats.pop().ok_or("two seats")?;
+    let mut zero = seats.pop().ok_or("two seats")?;
+    assert_eq!(rt; desk.turns(rt, &mut zero, 3), 3);
+    assert_eq!(rt; desk.turns(rt, &mut zero, 0), 0);
+    assert!(rt; zero.steps() == 3 && !zero.ended());
+    assert_eq!(rt; desk.turns(rt, &mut one, 9), 2);
+    assert!(rt; one.steps() == 2 && one.ended());
+    let board = desk.close(Vec::new(alloc));
+    assert_eq!(rt; (steps_of(&board, 0), steps_of(&board, 1)), (3, 2));
+    assert_eq!(rt; board.made(), 5);
+    Ok(())
+}
+
+#[test]
+fn no_seat_comes_back(rt: HostRuntime) -> Result<(), Fail> {
+    let board = board_of(rt.alloc(), &SPINS, &[0x100, 0x100], 5)?;
+    let Ok(opening) = Opening::new(rt.alloc(), board) else {
+        return Err("an opening".into());
+    };
+    close_without_seats::<Brand, _>(&rt, rt.alloc(), opening)
+}
+
+// A desk with a seat a core, or the board as it was.
+fn three_seats<J: DeskIdentity, R: Abort>(
+    rt: &R,
+    alloc: Global,
+    opening: Opening,
+) -> Result<(), Fail>
+    requires name { opening.table ≡ J.table }
+    requires given { opening.given ≡ J.given }
+{
+    match Desk::<J>::open(alloc, opening) {
+        Ok((desk, seats)) => {
+            assert_eq!(rt; seats.len(), 3);
+            assert_eq!(rt; desk.close(seats).made(), 1);
+            Ok(())
+        }
+        Err(WorkFault::NoMemory(board)) => {
+            assert_eq!(rt; board.made(), 1);
+            Err("memory".into())
+        }
+        Err(WorkFault::SpawnRefused(_, _)) => Err("a desk".into()),
+    }
+}
+
+#[test]
+fn a_desk_opens(rt: HostRuntime) -> Result<(), Fail> {
+    let mut board = board_of(rt.alloc(), &SPINS, &[0x100, 0x100, 0x100], 5)?;
+    assert!(rt; board.step(0).is_ok());
+    match Opening::new(rt.alloc(), board) {
+        Ok(opening) => three_seats::<Brand, _>(&rt, rt.alloc(), opening),
+        Err(fault) => {
+            assert_eq!(rt; fault.code(), 61);
+            Err("memory".into())
+        }
+    }
+}
+
 #[test]
 fn without_memory(rt: HostRuntime) -> Result<(), Fail> {
     let fault = WorkFault::NoMemory(board_of(rt.alloc(), &[0xf4], &[0x100], 1)?);

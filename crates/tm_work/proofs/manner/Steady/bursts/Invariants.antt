@@ -1,5 +1,5 @@
 use Rattle.std.proofs.Common.{◌≡◌, ◌+◌}
-use Rattle.tm_work.proofs.manner.BurstManner.work.Given as goal
+use Rattle.tm_work.proofs.manner.Steady.bursts.Given as goal
 
 abbrev pub invariant-loop-left : goal.invariant-loop-left
 invariant-loop-left g l = record {
