@@ -11,9 +11,11 @@ pub struct Told<'a> {
     pub err: &'a str,
 }
 
-/// How many bytes the outputs of a command take before they fail.
+/// How many bytes the outputs of a command take, and its input gives, before they fail.
 #[derive(Clone, Copy, Debug)]
 pub struct Room {
+    /// Standard input.
+    pub input: usize,
     /// Standard output.
     pub out: usize,
     /// Standard error.
@@ -26,9 +28,10 @@ pub fn is_wanted(lines: &[&str], told: Told<'_>, before: &str) -> bool {
     is_status(lines, told.status) && is_output(lines, told.out, before) && is_error(lines, told.err)
 }
 
-/// How many bytes the outputs take: those of the lines `takes N` and `hears N`, or all.
+/// How many bytes the input gives and the outputs take: those of the lines `gives N`, `takes N` and `hears N`, or all.
 pub fn room_of(lines: &[&str]) -> Room {
     Room {
+        input: number_behind(lines, "gives "),
         out: number_behind(lines, "takes "),
         err: number_behind(lines, "hears "),
     }
@@ -77,9 +80,10 @@ fn is_error(lines: &[&str], said: &str) -> bool {
     left.is_empty()
 }
 
-// Whether a line is the exit status, or the room of an output.
+// Whether a line is the exit status, or the room of a device.
 fn is_setting(line: &str) -> bool {
-    line.starts_with("exit ") || line.starts_with("takes ") || line.starts_with("hears ")
+    let marks = ["exit ", "gives ", "takes ", "hears "];
+    marks.iter().any(|mark| line.starts_with(*mark))
 }
 
 fn is_of_output(line: &str) -> bool {
@@ -87,7 +91,7 @@ fn is_of_output(line: &str) -> bool {
 }
 
 // What is left behind a line, where the text begins with it: `...` is all that is left, and something; `^` is what the
-// command before printed; a line that ends in ` ...` is one that begins so.
+// command before printed; `*N LINE` is a line that stands there N times.
 fn behind<'s>(line: &str, text: &'s str, before: &str) -> Option<&'s str> {
     if line == "..." {
         return if text.is_empty() { None } else { Some("") };
@@ -95,6 +99,29 @@ fn behind<'s>(line: &str, text: &'s str, before: &str) -> Option<&'s str> {
     if line == "^" {
         return text.strip_prefix(before);
     }
+    match repeated(line) {
+        Some((count, line)) => behind_all(count, line, text),
+        None => behind_one(line, text),
+    }
+}
+
+// The count and the line of `*N LINE`.
+fn repeated(line: &str) -> Option<(usize, &str)> {
+    let (count, line) = line.strip_prefix('*')?.split_once(' ')?;
+    Some((count.parse::<usize>().ok()?, line))
+}
+
+// What is left behind so many lines.
+fn behind_all<'s>(count: usize, line: &str, text: &'s str) -> Option<&'s str> {
+    let mut left = text;
+    for _ in 0..count {
+        left = behind_one(line, left)?;
+    }
+    Some(left)
+}
+
+// What is left behind a line; one that ends in ` ...` is one that begins so.
+fn behind_one<'s>(line: &str, text: &'s str) -> Option<&'s str> {
     let (first, rest) = text.split_once('\n')?;
     let is_same = match line.strip_suffix(" ...") {
         Some(front) => first.starts_with(front),

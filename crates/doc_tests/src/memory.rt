@@ -1,7 +1,9 @@
 //! Files in memory.
 
-use elide_command::Paths;
-use ia_text::Failed;
+ghost use Rattle.std.specs.Prelude.{◌≤◌, IfOk, length};
+
+use elide_command::{Paths, ReadFault, Text};
+use ia_text::{Failed, ToVec};
 use std::alloc::{AllocError, Global};
 use std::collections::BTreeMap;
 
@@ -32,18 +34,27 @@ impl Memory {
 }
 
 impl Paths for Memory {
-    fn read(&mut self, path: &str) -> Result<Vec<u8>, Failed> {
+    fn read(&mut self, path: &str, most: usize) -> Result<Vec<u8>, ReadFault> {
         match self.files.get(path) {
-            Some(Some(bytes)) => bytes.as_slice().to_vec(self.alloc).map_err(|_| Failed),
-            _ => Err(Failed),
+            Some(Some(bytes)) if bytes.len() <= most => match bytes.as_slice().to_vec(self.alloc) {
+                Ok(bytes) => Ok(bytes),
+                Err(_) => Err(ReadFault::NoMemory),
+            },
+            Some(Some(_)) => Err(ReadFault::TooLong),
+            _ => Err(ReadFault::Failed),
         }
     }
 
-    fn write(&mut self, path: &str, bytes: &[u8]) -> Result<(), Failed> {
+    fn write<T: Text>(&mut self, path: &str, text: &T) -> Result<(), Failed> {
         if let Some(None) = self.files.get(path) {
             return Err(Failed);
         }
-        let content = bytes.to_vec(self.alloc).map_err(|_| Failed)?;
-        self.put(path, Some(content)).map_err(|_| Failed)
+        let mut content = ToVec::new(Vec::new(self.alloc));
+        text.write_to(&mut content).map_err(|_| Failed)?;
+        self.put(path, Some(content.bytes)).map_err(|_| Failed)
+    }
+
+    fn is_same_file(&mut self, path: &str, other: &str) -> bool {
+        path == other
     }
 }

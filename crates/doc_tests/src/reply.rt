@@ -5,7 +5,7 @@ use elide_command::{Paths, command};
 use ia_text::ToWriter;
 use std::alloc::{AllocError, Global};
 use std::io;
-use std::io::Write;
+use std::io::{Read, Write};
 use std::sync::Wait;
 use std::thread::Threads;
 use tm_debug::FromReader;
@@ -32,13 +32,14 @@ impl Reply {
     }
 }
 
-/// Outputs that take all that is written.
+/// An input that gives all that it has, and outputs that take all that is written.
 pub const ALL: Room = Room {
+    input: usize::MAX,
     out: usize::MAX,
     err: usize::MAX,
 };
 
-/// Runs a command over these files and this input; its outputs take so many bytes and then fail.
+/// Runs a command over these files and this input; its input gives and its outputs take so many bytes and then fail.
 pub fn reply_to<R: Threads + Wait + Sync + AllocGlobal, P: Paths>(
     rt: &R,
     words: &[String],
@@ -47,15 +48,39 @@ pub fn reply_to<R: Threads + Wait + Sync + AllocGlobal, P: Paths>(
     room: Room,
 ) -> Result<Reply, AllocError> {
     let alloc = rt.alloc();
-    let mut input = FromReader::new(given);
+    let words: Vec<&str> = words.iter().map(|word| word.as_str()).collect(alloc)?;
+    let mut input = FromReader::new(Tape {
+        bytes: given,
+        room: room.input,
+    });
     let mut out = ToWriter::new(Sheet::new(alloc, room.out));
     let mut err = ToWriter::new(Sheet::new(alloc, room.err));
-    let status = command(rt, words, paths, &mut input, &mut out, &mut err);
+    let status = command(rt, words.as_slice(), paths, &mut input, &mut out, &mut err);
     Ok(Reply {
         status,
         out: out.writer.text(alloc)?,
         err: err.writer.text(alloc)?,
     })
+}
+
+// An input in memory that gives so many bytes.
+#[derive(Clone, Copy, Debug)]
+struct Tape<'a> {
+    bytes: &'a [u8],
+    room: usize,
+}
+
+impl Read for Tape<'_> {
+    fn read(&mut self, buf: &mut [u8]) -> io::Result<usize> {
+        if self.room == 0 {
+            return Err(io::Error::from(io::ErrorKind::Other));
+        }
+        let count = buf.len().min(self.room).min(self.bytes.len());
+        buf[..count].copy_from_slice(&self.bytes[..count]);
+        self.bytes = &self.bytes[count..];
+        self.room -= count;
+        Ok(count)
+    }
 }
 
 // A device in memory with room for so many bytes.

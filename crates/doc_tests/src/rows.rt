@@ -94,7 +94,9 @@ fn said<R: Threads + Wait + Sync + AllocGlobal>(
     let alloc = rt.alloc();
     let line = line_of(alloc, command)?;
     let given = match &line.input {
-        Some(name) => memory.read(name.as_str()).map_err(|_| AllocError)?,
+        Some(name) => memory
+            .read(name.as_str(), usize::MAX)
+            .map_err(|_| AllocError)?,
         None => Vec::new(alloc),
     };
     let words = line.words.as_slice().get(1..).unwrap_or(&[]);

@@ -3,21 +3,31 @@
 //! `main` hands in the arguments, the files and the standard streams; the rest is [`elide_command::command`].
 #![tactic(auto)]
 
+mod ahead;
+mod arguments;
+
+use ahead::ReadAhead;
+use arguments::{MOST, ROOM, Words, words_from};
 use elide_command::{HostPaths, command};
-use ia_text::ToWriter;
-use std::io::BufReader;
+use ia_text::{Out, ToWriter};
+use std::io;
 use std::process::ExitCode;
-use std::{env, io};
 use tm_debug::FromReader;
 
-fn main(rt: HostRuntime) -> io::Result<ExitCode> {
-    let words: Vec<String> = env::args(&rt)?.skip(1).collect(rt.alloc())?;
-    let mut paths = HostPaths::new(&rt);
-    // A debugger's answer is written before more of the input is awaited, since a read takes what is there.
-    let mut input = FromReader::new(BufReader::new(rt.alloc(), rt.reader())?);
-    let mut out = ToWriter::new(io::writer(&rt));
+fn main(rt: HostRuntime) -> ExitCode {
     let stderr = rt.stderr();
     let mut err = ToWriter::new(&stderr);
+    let mut row = [0; ROOM];
+    let mut words = Words::new();
+    // The first argument is the program's name.
+    if let Err(not_words) = words_from(&rt, 1, MOST, &mut row, &mut words) {
+        // A failure here has no further place to be told.
+        let _ = err.put(not_words.line());
+        return ExitCode::from(2);
+    }
+    let mut paths = HostPaths::new(&rt);
+    let mut input = FromReader::new(ReadAhead::new(rt.stdin()));
+    let mut out = ToWriter::new(io::writer(&rt));
     let status = command(
         &rt,
         words.as_slice(),
@@ -26,5 +36,5 @@ fn main(rt: HostRuntime) -> io::Result<ExitCode> {
         &mut out,
         &mut err,
     );
-    Ok(ExitCode::from(status))
+    ExitCode::from(status)
 }

@@ -5,45 +5,74 @@ use crate::subcommand::{
     AsmOptions, DebugOptions, DisOptions, MachineOptions, ReplayOptions, RunOptions,
     ScheduleOptions, Subcommand, ThreadsOptions,
 };
+use clap::error::ErrorKind;
 use clap::{ArgMatches, Error};
+use ia_text::Out;
 use std::alloc::Global;
+use std::fmt;
+use std::fmt::Write;
 
 /// What words come to that make no subcommand.
-#[derive(Debug, Drop)]
+#[derive(Clone, Copy, PartialEq, Eq, Debug)]
 pub enum NotASubcommand {
-    /// They ask for this text, of help or of the version.
-    Help(String),
-    /// They are refused with this text.
-    Misuse(String),
+    /// They ask for a text, of help or of the version, which was written.
+    Helped,
+    /// They are refused, with a text.
+    Misused,
     /// There is no memory to read them.
     NoMemory,
+    /// The text that they ask for was not written whole.
+    NotWritten,
 }
 
-/// The subcommand that the arguments make, given without the program's name. Where there is no memory for clap's text, it is
-/// empty.
-pub fn subcommand_of<'a>(
+/// The subcommand that the arguments make, given without the program's name. Where they make none, the text that they ask for is
+/// written on `out`, and one that refuses them on `err`.
+pub fn subcommand_of<'a, O: Out, E: Out>(
     alloc: Global,
-    words: &'a [String],
+    words: &'a [&'a str],
+    out: &mut O,
+    err: &mut E,
 ) -> Result<Subcommand<'a>, NotASubcommand> {
     let Ok(line) = command_line(alloc) else {
         return Err(NotASubcommand::NoMemory);
     };
     match line.try_get_matches_from(words) {
         Ok(matches) => asked(&matches).ok_or(NotASubcommand::NoMemory),
-        Err(error) => Err(told(alloc, &error)),
+        Err(error) => Err(told(&error, out, err)),
     }
 }
 
-// What clap tells.
-fn told(alloc: Global, error: &Error) -> NotASubcommand {
-    let text = match format!(in alloc; "{error}") {
-        Ok(text) => text,
-        Err(_) => String::new(alloc),
-    };
-    if error.use_stderr() {
-        NotASubcommand::Misuse(text)
-    } else {
-        NotASubcommand::Help(text)
+// Tells why clap met no subcommand.
+fn told<O: Out, E: Out>(error: &Error, out: &mut O, err: &mut E) -> NotASubcommand {
+    match error.kind() {
+        ErrorKind::OutOfMemory => NotASubcommand::NoMemory,
+        ErrorKind::DisplayHelp | ErrorKind::DisplayVersion => match write(error, out) {
+            Ok(()) => NotASubcommand::Helped,
+            Err(_) => NotASubcommand::NotWritten,
+        },
+        _ => {
+            // A failure here has no further place to be told.
+            let _ = write(error, err);
+            NotASubcommand::Misused
+        }
+    }
+}
+
+// Writes clap's text.
+fn write<O: Out>(error: &Error, out: &mut O) -> fmt::Result {
+    let mut device = Device { out };
+    write!(device, "{error}")
+}
+
+// A device that text is formatted to, which takes no memory.
+#[derive(Drop)]
+struct Device<'o, O> {
+    out: &'o mut O,
+}
+
+impl<O: Out> fmt::Write for Device<'_, O> {
+    fn write_str(&mut self, text: &str) -> fmt::Result {
+        self.out.put(text.as_bytes()).map_err(|_| fmt::Error)
     }
 }
 

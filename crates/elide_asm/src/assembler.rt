@@ -1,7 +1,7 @@
 //! `elide asm`.
 
 use elide_args::AsmOptions;
-use elide_program::{Paths, ProgramFault, ProgramRefusal, read_file};
+use elide_program::{Paths, ProgramFault, ProgramRefusal, read_source};
 use ia_asm::{assemble, assemble_image};
 use ia_image::write_image;
 use ia_text::{Failed, Out, WriteFault};
@@ -14,7 +14,7 @@ pub fn asm<P: Paths, O: Out>(
     paths: &mut P,
     out: &mut O,
 ) -> Result<(), ProgramRefusal> {
-    let text = read_file(options.file, paths)?;
+    let text = read_source(options.file, paths)?;
     if options.lists {
         list(alloc, text.as_slice(), out)
     } else {

@@ -2,13 +2,13 @@
 
 ghost use Rattle.std.specs.Prelude.{◌≤◌};
 
-use crate::telling::{tell, tell_not_a_subcommand};
-use elide_args::{Subcommand, subcommand_of};
+use crate::telling::tell;
+use elide_args::{NotASubcommand, Subcommand, subcommand_of};
 use elide_asm::{asm, dis};
 use elide_debug::debug;
 use elide_program::Paths;
 use elide_run::{Agreement, replay, run};
-use elide_setup::Refusal;
+use elide_setup::{Fault, Refusal};
 use elide_threads::threads;
 use ia_text::Out;
 use std::sync::Wait;
@@ -19,10 +19,10 @@ use tm_debug::In;
 ///
 /// The words are the arguments without the program's name. A fault is one line on `err`, as `fault 23 BadCores`, or with the
 /// line of a text as `fault 27 BadImageText line 3`; a misused option is `usage: ` and its name. Nothing is written on
-/// `out` then, unless the fault came while writing there. Waits only for `input` and for workers.
+/// `out` then, unless the fault came while writing there. Telling it takes no memory. Waits only for `input` and for workers.
 pub fn command<R: Threads + Wait + Sync + AllocGlobal, P: Paths, I: In, O: Out, E: Out>(
     rt: &R,
-    words: &[String],
+    words: &[&str],
     paths: &mut P,
     input: &mut I,
     out: &mut O,
@@ -30,14 +30,16 @@ pub fn command<R: Threads + Wait + Sync + AllocGlobal, P: Paths, I: In, O: Out, 
 ) -> u8
     ensures { result ≤ 2 }
 {
-    let alloc = rt.alloc();
-    match subcommand_of(alloc, words) {
+    match subcommand_of(rt.alloc(), words, out, err) {
         Ok(subcommand) => match obey(rt, &subcommand, paths, input, out) {
             Ok(Answer::Done) => 0,
             Ok(Answer::Differs) => 1,
-            Err(refusal) => tell(alloc, refusal, err),
+            Err(refusal) => tell(refusal, err),
         },
-        Err(answer) => tell_not_a_subcommand(alloc, answer, out, err),
+        Err(NotASubcommand::Helped) => 0,
+        Err(NotASubcommand::Misused) => 2,
+        Err(NotASubcommand::NotWritten) => tell(Refusal::Fault(Fault::Output), err),
+        Err(NotASubcommand::NoMemory) => tell(Refusal::Fault(Fault::NoWords), err),
     }
 }
 

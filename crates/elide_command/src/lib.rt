@@ -9,4 +9,4 @@ mod dispatch;
 mod telling;
 
 pub use dispatch::command;
-pub use elide_program::{HostPaths, Paths};
+pub use elide_program::{HostPaths, Paths, ReadFault, Text};

@@ -1,62 +1,42 @@
-//! How a command's end is told.
+//! How a command's end is told. Takes no memory.
 
 ghost use Rattle.std.specs.Prelude.{◌≤◌};
 
-use elide_args::NotASubcommand;
+use arrayvec::ArrayString;
 use elide_setup::{Fault, Refusal};
 use ia_text::Out;
-use std::alloc::{AllocError, Global};
+use std::fmt;
+use std::fmt::Write;
+
+// A line that tells a fault or a misused option. The longest has some 60 bytes.
+type Line = ArrayString<128>;
 
 /// Tells why a command ended, and gives its status.
-pub fn tell<E: Out>(alloc: Global, refusal: Refusal, err: &mut E) -> u8
+pub fn tell<E: Out>(refusal: Refusal, err: &mut E) -> u8
     ensures { result ≤ 2 }
 {
+    let mut line = Line::new();
+    // A line that is cut short, and one that is not written whole, have no further place to be told.
+    let _ = write_refusal(refusal, &mut line);
+    let _ = err.put(line.as_str().as_bytes());
     match refusal {
-        Refusal::Fault(fault) => {
-            put_text(fault_line(alloc, fault), err);
-            1
-        }
-        Refusal::Usage(name) => {
-            put_text(format!(in alloc; "usage: {name}\n"), err);
-            2
-        }
+        Refusal::Fault(_) => 1,
+        Refusal::Usage(_) => 2,
+    }
+}
+
+fn write_refusal(refusal: Refusal, line: &mut Line) -> fmt::Result {
+    match refusal {
+        Refusal::Fault(fault) => write_fault(fault, line),
+        Refusal::Usage(name) => writeln!(line, "usage: {name}"),
     }
 }
 
 // The line that tells a fault.
-fn fault_line(alloc: Global, fault: Fault) -> Result<String, AllocError> {
+fn write_fault(fault: Fault, line: &mut Line) -> fmt::Result {
     let code = fault.code();
     match fault.line() {
-        None => format!(in alloc; "fault {code} {fault}\n"),
-        Some(line) => format!(in alloc; "fault {code} {fault} line {line}\n"),
-    }
-}
-
-/// Tells what words come to that make no subcommand: a refusal on `err`, or on `out` the help or version that they ask for.
-pub fn tell_not_a_subcommand<O: Out, E: Out>(
-    alloc: Global,
-    answer: NotASubcommand,
-    out: &mut O,
-    err: &mut E,
-) -> u8
-    ensures { result ≤ 2 }
-{
-    match answer {
-        NotASubcommand::Help(text) => {
-            put_text(Ok(text), out);
-            0
-        }
-        NotASubcommand::Misuse(text) => {
-            put_text(Ok(text), err);
-            2
-        }
-        NotASubcommand::NoMemory => tell(alloc, Refusal::no_memory(), err),
-    }
-}
-
-// Writes a text that could be made. A failure here has no further place to be told.
-fn put_text<O: Out>(text: Result<String, AllocError>, out: &mut O) {
-    if let Ok(text) = text {
-        let _ = out.put(text.as_bytes());
+        None => writeln!(line, "fault {code} {fault}"),
+        Some(number) => writeln!(line, "fault {code} {fault} line {number}"),
     }
 }

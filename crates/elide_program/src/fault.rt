@@ -1,5 +1,6 @@
 //! Why there is no program.
 
+use crate::paths::ReadFault;
 use ia_asm::AsmFault;
 use ia_image::{ImageFault, LoadFault};
 use ia_text::WriteFault;
@@ -24,6 +25,9 @@ pub enum ProgramFault {
     /// A file cannot be read.
     #[error("Input")]
     Input,
+    /// A file is longer than 640 MiB.
+    #[error("TooLong")]
+    TooLong,
 }
 
 impl ProgramFault {
@@ -35,6 +39,7 @@ impl ProgramFault {
             ProgramFault::Image(fault) => fault.code(),
             ProgramFault::Load(fault) => fault.code(),
             ProgramFault::Input => 80,
+            ProgramFault::TooLong => 82,
         }
     }
 
@@ -44,6 +49,16 @@ impl ProgramFault {
             ProgramFault::Assemble(fault) => fault.line().map(|line| line as usize),
             ProgramFault::Image(fault) => fault.line(),
             _ => None,
+        }
+    }
+}
+
+impl From<ReadFault> for ProgramFault {
+    fn from(fault: ReadFault) -> ProgramFault {
+        match fault {
+            ReadFault::Failed => ProgramFault::Input,
+            ReadFault::TooLong => ProgramFault::TooLong,
+            ReadFault::NoMemory => ProgramFault::Load(LoadFault::NoMemory),
         }
     }
 }

@@ -2,9 +2,9 @@
 
 use crate::entries::EntryList;
 use crate::fault::{ProgramFault, ProgramRefusal};
-use crate::paths::Paths;
+use crate::paths::{Paths, ReadFault};
 use crate::settings::Settings;
-use ia_asm::{ProgramImage, assemble_image};
+use ia_asm::{AsmFault, ProgramImage, assemble_image};
 use ia_image::{ImageText, Program, load, read_image};
 use std::alloc::Global;
 
@@ -17,11 +17,25 @@ pub enum ProgramFile<'a> {
     Source(ProgramImage<'a>),
 }
 
-/// The content of a file.
+/// The most bytes of a file that is read: 640 MiB, more than the image text of the greatest memory takes.
+pub const MOST_BYTES: usize = 671_088_640;
+
+/// The content of a program's file.
 pub fn read_file<P: Paths>(path: &str, paths: &mut P) -> Result<Vec<u8>, ProgramRefusal> {
-    match paths.read(path) {
+    match paths.read(path, MOST_BYTES) {
         Ok(text) => Ok(text),
-        Err(_) => Err(ProgramRefusal::Fault(ProgramFault::Input)),
+        Err(fault) => Err(ProgramRefusal::Fault(ProgramFault::from(fault))),
+    }
+}
+
+/// The content of a source's file. Want of memory is the assembler's fault.
+pub fn read_source<P: Paths>(path: &str, paths: &mut P) -> Result<Vec<u8>, ProgramRefusal> {
+    match paths.read(path, MOST_BYTES) {
+        Ok(text) => Ok(text),
+        Err(ReadFault::NoMemory) => {
+            Err(ProgramRefusal::Fault(ProgramFault::Assemble(AsmFault::NoMemory)))
+        }
+        Err(fault) => Err(ProgramRefusal::Fault(ProgramFault::from(fault))),
     }
 }
 

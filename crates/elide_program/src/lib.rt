@@ -7,12 +7,15 @@
 mod entries;
 mod fault;
 mod file;
+mod host_paths;
 mod number;
 mod paths;
+mod replacing;
 mod settings;
 
 pub use entries::EntryList;
 pub use fault::{ProgramFault, ProgramRefusal};
-pub use file::{ProgramFile, read_file};
-pub use paths::{HostPaths, Paths};
+pub use file::{MOST_BYTES, ProgramFile, read_file, read_source};
+pub use host_paths::HostPaths;
+pub use paths::{Paths, ReadFault, Text};
 pub use settings::{Dump, Settings, number_of};

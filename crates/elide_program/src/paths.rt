@@ -1,37 +1,36 @@
 //! Files by their paths.
 
-use ia_text::Failed;
-use std::fs;
-use std::rt::Files;
+ghost use Rattle.std.specs.Prelude.{◌≤◌, IfOk, length};
+
+use ia_text::{Failed, Out, WriteFault};
+
+/// Why a file is not read.
+#[derive(Clone, Copy, PartialEq, Eq, Debug)]
+pub enum ReadFault {
+    /// It cannot be opened or read.
+    Failed,
+    /// It is longer than what is asked for.
+    TooLong,
+    /// There is no memory for it.
+    NoMemory,
+}
+
+/// A text that writes itself.
+pub trait Text {
+    /// Writes the text. A beginning of it, where the device fails.
+    fn write_to<O: Out>(&self, out: &mut O) -> Result<(), WriteFault>;
+}
 
 /// The files that a command reads and writes.
 pub trait Paths {
-    /// The whole content of a file.
-    fn read(&mut self, path: &str) -> Result<Vec<u8>, Failed>;
+    /// The whole content of a file of at most so many bytes.
+    fn read(&mut self, path: &str, most: usize) -> Result<Vec<u8>, ReadFault>
+        ensures { IfOk result (λ bytes. length bytes.items ≤ most) };
 
-    /// Makes a file with this content, or replaces the content of one that is there.
-    fn write(&mut self, path: &str, bytes: &[u8]) -> Result<(), Failed>;
-}
+    /// Makes a file with this text, or replaces one that is there. Where that fails, a file that was there stays as it was.
+    /// What is no regular file, such as a device, is written as it is.
+    fn write<T: Text>(&mut self, path: &str, text: &T) -> Result<(), Failed>;
 
-/// The files of the system.
-#[derive(Drop)]
-pub struct HostPaths<'a, R> {
-    rt: &'a R,
-}
-
-impl<'a, R: Files + AllocGlobal> HostPaths<'a, R> {
-    /// The files that this runtime reaches.
-    pub fn new(rt: &'a R) -> HostPaths<'a, R> {
-        HostPaths { rt }
-    }
-}
-
-impl<R: Files + AllocGlobal> Paths for HostPaths<'_, R> {
-    fn read(&mut self, path: &str) -> Result<Vec<u8>, Failed> {
-        fs::read(self.rt, path).map_err(|_| Failed)
-    }
-
-    fn write(&mut self, path: &str, bytes: &[u8]) -> Result<(), Failed> {
-        fs::write(self.rt, path, bytes).map_err(|_| Failed)
-    }
+    /// Whether both paths lead to one regular file.
+    fn is_same_file(&mut self, path: &str, other: &str) -> bool;
 }

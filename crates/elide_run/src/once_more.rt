@@ -2,8 +2,8 @@
 
 use elide_args::ReplayOptions;
 use elide_program::Paths;
-use elide_setup::{Fault, MemoryPart, Refusal, Setup, hand_on, part_of, scheduled, show};
-use ia_text::{Out, ToVec};
+use elide_setup::{Fault, Gathered, MemoryPart, Refusal, Setup, part_of, scheduled, show};
+use ia_text::Out;
 use std::alloc::Global;
 use tm_core::{CoreState, Machine, RunFault};
 use tm_hist::{Board, Serial};
@@ -30,26 +30,25 @@ pub fn replay<P: Paths, O: Out>(
     let board = replayed(alloc, &setup, steps.as_slice())?;
     let part = part_of(board.machine().view(), setup.dump)?;
     let agreement = again(alloc, &board)?;
-    tell(alloc, &board, part, agreement, out)?;
+    tell(&board, part, agreement, out)?;
     Ok(agreement)
 }
 
 // Prints the state, the dump, and whether both runs ended alike.
 fn tell<O: Out>(
-    alloc: Global,
     board: &Board,
     part: Option<MemoryPart<'_>>,
     agreement: Agreement,
     out: &mut O,
 ) -> Result<(), Refusal> {
-    let mut page = ToVec::new(Vec::new(alloc));
-    show(board.machine(), part, &mut page, out)?;
+    let mut page = Gathered::new(out);
+    show(board.machine(), part, &mut page)?;
     let word: &[u8] = match agreement {
         Agreement::Agrees => b"agree\n",
         Agreement::Differs => b"differ\n",
     };
     page.put(word)?;
-    hand_on(&mut page, 0, out)?;
+    page.finish()?;
     Ok(())
 }
 

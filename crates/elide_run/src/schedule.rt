@@ -2,8 +2,8 @@
 
 use elide_args::RunOptions;
 use elide_program::Paths;
-use elide_setup::{Fault, PIECE, Refusal, Setup, hand_on, part_of, scheduled, show};
-use ia_text::{Out, ToVec, WriteFault};
+use elide_setup::{Fault, Gathered, Refusal, Setup, part_of, scheduled, show};
+use ia_text::{Out, WriteFault};
 use std::alloc::Global;
 use tm_core::{Machine, Outcome};
 use tm_hist::write_outcome;
@@ -17,7 +17,7 @@ pub fn run<P: Paths, O: Out>(
 ) -> Result<(), Refusal> {
     let (setup, steps) = scheduled(alloc, &options.machine, &options.schedule, paths)?;
     let ran = Ran::of(alloc, &setup, steps.as_slice())?;
-    ran.tell(alloc, &setup, options.traces, steps.as_slice(), out)
+    ran.tell(&setup, options.traces, steps.as_slice(), out)
 }
 
 // A machine after a schedule, and what came of each step.
@@ -38,33 +38,26 @@ impl Ran {
     // Prints the outcomes where they are asked for, the state and the dump.
     fn tell<O: Out>(
         &self,
-        alloc: Global,
         setup: &Setup,
         traces: bool,
         steps: &[u8],
         out: &mut O,
     ) -> Result<(), Refusal> {
         let part = part_of(self.machine.view(), setup.dump)?;
-        let mut page = ToVec::new(Vec::new(alloc));
+        let mut page = Gathered::new(out);
         if traces {
-            write_trace(steps, self.outcomes.as_slice(), &mut page, out)?;
+            write_trace(steps, self.outcomes.as_slice(), &mut page)?;
         }
-        show(&self.machine, part, &mut page, out)?;
-        hand_on(&mut page, 0, out)?;
+        show(&self.machine, part, &mut page)?;
+        page.finish()?;
         Ok(())
     }
 }
 
 // One outcome line a step.
-fn write_trace<O: Out>(
-    steps: &[u8],
-    outcomes: &[Outcome],
-    page: &mut ToVec,
-    out: &mut O,
-) -> Result<(), WriteFault> {
+fn write_trace<O: Out>(steps: &[u8], outcomes: &[Outcome], out: &mut O) -> Result<(), WriteFault> {
     for (core, outcome) in steps.iter().zip(outcomes) {
-        write_outcome(*core, outcome, page)?;
-        hand_on(page, PIECE, out)?;
+        write_outcome(*core, outcome, out)?;
     }
     Ok(())
 }

@@ -50,9 +50,12 @@ pub enum Fault {
     /// A part of memory passes the memory's end.
     #[error("OutOfRange")]
     OutOfRange,
-    /// A file cannot be written.
+    /// A file, or a text of help, cannot be written.
     #[error("Output")]
     Output,
+    /// There is no memory to read the words of the command line.
+    #[error("NoMemory")]
+    NoWords,
 }
 
 impl Fault {
@@ -73,6 +76,7 @@ impl Fault {
             Fault::SessionWrite => 77,
             Fault::NoSession => 78,
             Fault::Output => 81,
+            Fault::NoWords => 83,
         }
     }
 
@@ -96,13 +100,6 @@ pub enum Refusal {
     Usage(&'static str),
 }
 
-impl Refusal {
-    /// A refusal for want of memory.
-    pub fn no_memory() -> Refusal {
-        Refusal::Fault(Fault::Program(ProgramFault::Load(LoadFault::NoMemory)))
-    }
-}
-
 impl From<Fault> for Refusal {
     fn from(fault: Fault) -> Refusal {
         Refusal::Fault(fault)
@@ -120,7 +117,7 @@ impl From<ProgramRefusal> for Refusal {
 
 impl From<AllocError> for Refusal {
     fn from(_refused: AllocError) -> Refusal {
-        Refusal::no_memory()
+        Refusal::Fault(Fault::Program(ProgramFault::Load(LoadFault::NoMemory)))
     }
 }
 

@@ -11,6 +11,6 @@ mod plan;
 mod shown;
 
 pub use fault::{Fault, Refusal};
-pub use gathered::{PIECE, hand_on};
+pub use gathered::Gathered;
 pub use machine::{Setup, new_board, prepared, scheduled};
 pub use shown::{MemoryPart, part_of, show};

@@ -2,7 +2,7 @@
 
 use crate::fault::{Fault, Refusal};
 use elide_args::ScheduleOptions;
-use elide_program::{Paths, read_file};
+use elide_program::{MOST_BYTES, Paths, ProgramFault, ReadFault};
 use std::alloc::Global;
 use tm_hist::{ScheduleFault, read_schedule, read_steps};
 
@@ -34,10 +34,19 @@ impl<'a> Plan<'a> {
         match self {
             Plan::Steps(steps) => Ok(steps),
             Plan::File(path) => {
-                let text = read_file(path, paths)?;
+                let text = text_of(path, paths)?;
                 steps_of(alloc, text.as_slice())
             }
         }
+    }
+}
+
+// The content of a schedule's file.
+fn text_of<P: Paths>(path: &str, paths: &mut P) -> Result<Vec<u8>, Fault> {
+    match paths.read(path, MOST_BYTES) {
+        Ok(text) => Ok(text),
+        Err(ReadFault::NoMemory) => Err(Fault::Schedule(ScheduleFault::NoMemory)),
+        Err(fault) => Err(Fault::Program(ProgramFault::from(fault))),
     }
 }
 

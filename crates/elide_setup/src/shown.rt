@@ -1,9 +1,8 @@
 //! What is printed of a machine.
 
 use crate::fault::{Fault, Refusal};
-use crate::gathered::{PIECE, hand_on};
 use elide_program::Dump;
-use ia_text::{Out, ToVec, WriteFault};
+use ia_text::{Out, WriteFault};
 use tm_core::Machine;
 use tm_hist::{write_dump, write_state};
 
@@ -34,28 +33,11 @@ pub fn part_of(memory: &[u8], dump: Option<Dump>) -> Result<Option<MemoryPart<'_
 pub fn show<O: Out>(
     machine: &Machine,
     part: Option<MemoryPart<'_>>,
-    page: &mut ToVec,
     out: &mut O,
 ) -> Result<(), WriteFault> {
-    write_state(machine, page)?;
-    if let Some(MemoryPart { bytes, address }) = part {
-        write_part(bytes, address, page, out)?;
+    write_state(machine, out)?;
+    match part {
+        Some(MemoryPart { bytes, address }) => write_dump(bytes, address, out),
+        None => Ok(()),
     }
-    Ok(())
-}
-
-// The dump lines of these bytes, a page of memory at a time.
-fn write_part<O: Out>(
-    bytes: &[u8],
-    address: u32,
-    page: &mut ToVec,
-    out: &mut O,
-) -> Result<(), WriteFault> {
-    let mut at = address;
-    for piece in bytes.chunks(4096) {
-        write_dump(piece, at, page)?;
-        hand_on(page, PIECE, out)?;
-        at = at.wrapping_add(4096);
-    }
-    Ok(())
 }

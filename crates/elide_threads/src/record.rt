@@ -1,41 +1,50 @@
-//! The schedule that came about.
+//! The schedule that comes about.
 
-use elide_program::Paths;
-use elide_setup::{Fault, Refusal};
-use ia_text::ToVec;
+use elide_program::{Paths, Text};
+use elide_setup::{Fault, Gathered, Refusal};
+use ia_text::{Out, WriteFault};
 use std::alloc::{AllocError, Global};
 use tm_hist::{Board, write_schedule};
 
-/// Writes the schedule of a board's steps to a file.
-pub fn record<P: Paths>(
-    alloc: Global,
-    board: &Board,
-    path: &str,
-    paths: &mut P,
-) -> Result<(), Refusal> {
-    let page = page_of(alloc, board)?;
-    match paths.write(path, page.bytes.as_slice()) {
-        Ok(()) => Ok(()),
-        Err(_) => Err(Refusal::Fault(Fault::Output)),
+/// The schedule that comes about, and the path of the file that it is for. Its memory is taken before the first step.
+#[derive(Drop)]
+pub struct Record<'a> {
+    path: &'a str,
+    cores: Vec<u8>,
+}
+
+impl<'a> Record<'a> {
+    /// Room for all the steps that a board can make.
+    pub fn reserve(alloc: Global, path: &'a str, board: &Board) -> Result<Record<'a>, AllocError> {
+        let cores = Vec::with_capacity(alloc, board.limit() as usize)?;
+        Ok(Record { path, cores })
     }
-}
 
-// The schedule text of a board's steps.
-fn page_of(alloc: Global, board: &Board) -> Result<ToVec, Refusal> {
-    let cores = cores_of(alloc, board)?;
-    let mut page = ToVec::new(Vec::new(alloc));
-    write_schedule(cores.as_slice(), &mut page)?;
-    Ok(page)
-}
-
-// The core of each step that was made.
-fn cores_of(alloc: Global, board: &Board) -> Result<Vec<u8>, AllocError> {
-    let history = board.history();
-    let mut cores = Vec::with_capacity(alloc, history.len())?;
-    for index in 0..history.len() {
-        if let Some((core, _outcome)) = history.get(index) {
-            cores.push(core).map_err(|_| AllocError)?;
+    /// Writes the schedule of a board's steps.
+    pub fn write<P: Paths>(mut self, board: &Board, paths: &mut P) -> Result<(), Refusal> {
+        let history = board.history();
+        for index in 0..history.len() {
+            if let Some((core, _outcome)) = history.get(index) {
+                self.cores.push(core).map_err(|_| AllocError)?;
+            }
+        }
+        let schedule = Schedule(self.cores.as_slice());
+        match paths.write(self.path, &schedule) {
+            Ok(()) => Ok(()),
+            Err(_) => Err(Refusal::Fault(Fault::Output)),
         }
     }
-    Ok(cores)
+}
+
+// The text of a schedule of these cores.
+#[derive(Clone, Copy, Debug)]
+struct Schedule<'a>(&'a [u8]);
+
+impl Text for Schedule<'_> {
+    fn write_to<O: Out>(&self, out: &mut O) -> Result<(), WriteFault> {
+        let mut page = Gathered::new(out);
+        write_schedule(self.0, &mut page)?;
+        page.finish()?;
+        Ok(())
+    }
 }

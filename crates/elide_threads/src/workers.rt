@@ -1,10 +1,10 @@
 //! The workers of a command.
 
-use crate::record::record;
+use crate::record::Record;
 use elide_args::ThreadsOptions;
 use elide_program::{Paths, ProgramRefusal, Settings, number_of};
-use elide_setup::{Fault, Refusal, Setup, hand_on, new_board, part_of, prepared, show};
-use ia_text::{Out, ToVec};
+use elide_setup::{Fault, Gathered, Refusal, Setup, new_board, part_of, prepared, show};
+use ia_text::Out;
 use std::alloc::Global;
 use std::sync::Wait;
 use std::thread::Threads;
@@ -23,13 +23,15 @@ pub fn threads<R: Threads + Wait + Sync + AllocGlobal, P: Paths, O: Out>(
     let settings = Settings::read(&options.machine)?;
     let budget = number_of(options.budget, "--budget")?;
     let burst = burst_of(options.burst)?;
+    let path = path_of(options, paths)?;
     let setup = prepared(alloc, options.machine.file, &settings, paths)?;
     let board = opened(alloc, &setup, budget)?;
+    let record = record_of(alloc, path, &board)?;
     let board = worked(rt, board, budget, burst)?;
-    if let Some(path) = options.record {
-        record(alloc, &board, path, paths)?;
+    if let Some(record) = record {
+        record.write(&board, paths)?;
     }
-    tell(alloc, &board, &setup, out)
+    tell(&board, &setup, out)
 }
 
 // How many steps a core makes before another can come between.
@@ -40,6 +42,34 @@ fn burst_of(text: Option<&str>) -> Result<Burst, ProgramRefusal> {
     match number_of(text, "--burst")? {
         0 => Err(ProgramRefusal::Usage("--burst")),
         steps => Ok(Burst::Fixed(steps)),
+    }
+}
+
+// Where the schedule that comes about is written, which is not where the program is read.
+fn path_of<'a, P: Paths>(
+    options: &ThreadsOptions<'a>,
+    paths: &mut P,
+) -> Result<Option<&'a str>, ProgramRefusal> {
+    match options.record {
+        Some(path) if paths.is_same_file(path, options.machine.file) => {
+            Err(ProgramRefusal::Usage("--record"))
+        }
+        path => Ok(path),
+    }
+}
+
+// Room for the schedule, where it is asked for.
+fn record_of<'a>(
+    alloc: Global,
+    path: Option<&'a str>,
+    board: &Board,
+) -> Result<Option<Record<'a>>, Fault> {
+    match path {
+        Some(path) => match Record::reserve(alloc, path, board) {
+            Ok(record) => Ok(Some(record)),
+            Err(_) => Err(Fault::NoWorkers),
+        },
+        None => Ok(None),
     }
 }
 
@@ -57,7 +87,9 @@ fn worked<R: Threads + Wait + Sync + AllocGlobal>(
     burst: Burst,
 ) -> Result<Board, Refusal> {
     let alloc = rt.alloc();
-    let budgets = vec![in alloc; budget; usize::from(board.cores())]?;
+    let Ok(budgets) = vec![in alloc; budget; usize::from(board.cores())] else {
+        return Err(Refusal::Fault(Fault::NoWorkers));
+    };
     match run_steadily(rt, alloc, board, budgets.as_slice(), burst) {
         Ok(report) => Ok(report.board),
         Err(fault) => Err(Refusal::Fault(fault_of(&fault))),
@@ -73,10 +105,10 @@ fn fault_of(fault: &WorkFault) -> Fault {
 }
 
 // Prints the state and the dump.
-fn tell<O: Out>(alloc: Global, board: &Board, setup: &Setup, out: &mut O) -> Result<(), Refusal> {
+fn tell<O: Out>(board: &Board, setup: &Setup, out: &mut O) -> Result<(), Refusal> {
     let part = part_of(board.machine().view(), setup.dump)?;
-    let mut page = ToVec::new(Vec::new(alloc));
-    show(board.machine(), part, &mut page, out)?;
-    hand_on(&mut page, 0, out)?;
+    let mut page = Gathered::new(out);
+    show(board.machine(), part, &mut page)?;
+    page.finish()?;
     Ok(())
 }

@@ -1,0 +1,107 @@
+//! The files of the system.
+
+ghost use Rattle.std.specs.Prelude.{◌≤◌, IfOk, length};
+
+use crate::paths::{Paths, ReadFault, Text};
+use crate::replacing::replace;
+use ia_text::{Failed, ToWriter};
+use std::fs::{File, OpenFile, OpenOptions};
+use std::io::{ErrorKind, Read};
+use std::os::unix::fs::MetadataExt;
+use std::rt::Files;
+use std::{fs, io};
+
+/// The files of the system. Paths are UTF-8.
+#[derive(Drop)]
+pub struct HostPaths<'a, R> {
+    rt: &'a R,
+}
+
+impl<'a, R: Files + AllocGlobal> HostPaths<'a, R> {
+    /// The files that this runtime reaches.
+    pub fn new(rt: &'a R) -> HostPaths<'a, R> {
+        HostPaths { rt }
+    }
+}
+
+impl<R: Files + AllocGlobal> Paths for HostPaths<'_, R> {
+    fn read(&mut self, path: &str, most: usize) -> Result<Vec<u8>, ReadFault> {
+        let mut file = match File::open(self.rt, path) {
+            Ok(file) => file,
+            Err(error) => return Err(ReadFault::from(error)),
+        };
+        let size = size_of(&file);
+        if size > most {
+            return Err(ReadFault::TooLong);
+        }
+        let mut bytes = Vec::new(self.rt.alloc());
+        if bytes.reserve_exact(size).is_err() {
+            return Err(ReadFault::NoMemory);
+        }
+        let mut within = file.take((most as u64).saturating_add(1));
+        match within.read_to_end(&mut bytes) {
+            Ok(_) if bytes.len() <= most => Ok(bytes),
+            Ok(_) => Err(ReadFault::TooLong),
+            Err(error) => Err(ReadFault::from(error)),
+        }
+    }
+
+    fn write<T: Text>(&mut self, path: &str, text: &T) -> Result<(), Failed> {
+        match fs::symlink_metadata(self.rt, path) {
+            Ok(there) if there.is_file() => {
+                if !can_write(self.rt, path) {
+                    return Err(Failed);
+                }
+                replace(self.rt, path, Some(there.permissions()), text)
+            }
+            Ok(_) => write_in_place(self.rt, path, text),
+            Err(error) if error.kind() == ErrorKind::NotFound => replace(self.rt, path, None, text),
+            Err(_) => Err(Failed),
+        }
+    }
+
+    fn is_same_file(&mut self, path: &str, other: &str) -> bool {
+        match (fs::metadata(self.rt, path), fs::metadata(self.rt, other)) {
+            (Ok(one), Ok(two)) => {
+                one.is_file() && one.dev() == two.dev() && one.ino() == two.ino()
+            }
+            _ => false,
+        }
+    }
+}
+
+impl From<io::Error> for ReadFault {
+    fn from(error: io::Error) -> ReadFault {
+        match error.kind() {
+            ErrorKind::OutOfMemory => ReadFault::NoMemory,
+            _ => ReadFault::Failed,
+        }
+    }
+}
+
+// How many bytes a regular file has, as far as the system says.
+fn size_of<F: OpenFile>(file: &F) -> usize {
+    match file.metadata() {
+        Ok(metadata) if metadata.is_file() => metadata.len() as usize,
+        _ => 0,
+    }
+}
+
+// Whether a file that is there may be written.
+fn can_write<R: Files>(rt: &R, path: &str) -> bool {
+    OpenOptions::new().write(true).open(rt, path).is_ok()
+}
+
+/// Writes a file where it stands.
+pub fn write_in_place<R: Files, T: Text>(rt: &R, path: &str, text: &T) -> Result<(), Failed> {
+    match File::create(rt, path) {
+        Ok(file) => write_all(file, text),
+        Err(_) => Err(Failed),
+    }
+}
+
+/// Writes a text to an open file.
+pub fn write_all<F: io::Write + Drop, T: Text>(file: F, text: &T) -> Result<(), Failed> {
+    let mut out = ToWriter::new(file);
+    text.write_to(&mut out).map_err(|_| Failed)
+}
