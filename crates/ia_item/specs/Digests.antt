@@ -10,5 +10,6 @@ new_hasher = sip.initial
 abbrev pub given_more : DefaultHasher → List ℕ → DefaultHasher
 given_more s bytes = sip.write s bytes
 
+-- the digest of a whole name (Aumasson and Bernstein, "SipHash: a fast short-input PRF", 2012), with keys of 0
 unfoldable pub name_digest : List ℕ → ℕ
 name_digest bytes = sip.finish (given_more new_hasher bytes)

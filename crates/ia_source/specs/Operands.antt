@@ -121,6 +121,7 @@ operands_of (t ∷ ts) = operands_from empty_operands (between_commas (t ∷ ts)
 
 -- ---- what the code's values stand for
 
+-- where the terms of an operand of this shape go: a place's to the displacement, a number's to the number
 abbrev pub placed_by : OperandShape → List TermContent → List TermContent → List TermContent
     → OperandShape × List TermContent × List TermContent
 placed_by (shape.Register w r) number displacement ps = (shape.Register w r, number, displacement)
