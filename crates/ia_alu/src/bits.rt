@@ -1,8 +1,8 @@
 //! Bit tests.
 
-ghost use Rattle.std.specs.Prelude.{◌≡◌, ◌<◌, ◌%◌, ◌==◌, ◌↔◌, IsTrue};
+ghost use Rattle.std.specs.Prelude.{◌≡◌, ◌<◌, ◌%◌, ◌==◌, ◌↔◌, ℕ, IsTrue};
 ghost use Rattle.std.specs.Int.{bit_at};
-ghost use Rattle.ia_alu.specs.Bits.{bit_value};
+ghost use Rattle.ia_alu.specs.Bits.{bit_after, bit_value};
 ghost use Rattle.ia_regs.specs.Flags.{has_carry, has_parity, has_adjust, has_zero, has_sign, has_overflow, with_carry};
 
 use ia_regs::Flags;
@@ -10,10 +10,14 @@ use ia_word::BitOp;
 
 /// A doubleword with the bit of an index modulo 32 as it is, set, cleared or turned, and CF the bit before (SDM volume
 /// 2, BT, BTS, BTR, BTC).
-#[tactic(auto, unfolding(crate::specs::Bits::bit_value))]
+#[tactic(auto, using(crate::proofs::SetBits::chosen_is, crate::proofs::SetBits::others_are))]
 pub fn bit(op: BitOp, a: u32, index: u8, flags: Flags) -> (u32, Flags)
     ensures value { result.0 ≡ bit_value op a (index % 32) }
     ensures flags { result.1 ≡ with_carry (bit_at a (index % 32) == 1) flags }
+
+    // The chosen bit is as it was, set, cleared or turned, and the others are as they were.
+    ensures chosen { bit_at result.0 (index % 32) ≡ bit_after op (bit_at a (index % 32)) }
+    ensures others { (k : ℕ) → (k ≡ index % 32 → ⊥) → bit_at result.0 k ≡ bit_at a k }
 
     // The flags one by one: all but CF are kept.
     ensures cf { IsTrue (has_carry result.1) ↔ bit_at a (index % 32) ≡ 1 }
@@ -24,15 +28,23 @@ pub fn bit(op: BitOp, a: u32, index: u8, flags: Flags) -> (u32, Flags)
     ensures of { has_overflow result.1 ≡ has_overflow flags }
 {
     let place = index % 32;
-    let mask = 1u32 << place;
     let after = selected(a, place, flags);
-    let value = match op {
+    (changed(op, a, place), after)
+}
+
+// The number, with the bit at a place as it is, set, cleared or turned.
+#[tactic(auto, using(crate::proofs::SetBits::kept))]
+fn changed(op: BitOp, a: u32, place: u8) -> u32
+    requires { place < 32 }
+    ensures { result ≡ bit_value op a place }
+{
+    let mask = 1u32 << place;
+    match op {
         BitOp::Bt => a,
         BitOp::Bts => a | mask,
         BitOp::Btr => a & !mask,
         BitOp::Btc => a ^ mask,
-    };
-    (value, after)
+    }
 }
 
 // The flags, with CF the bit at a place.
