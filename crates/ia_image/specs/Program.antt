@@ -6,7 +6,7 @@ use Rattle.ia_decode.specs.Offsets.{AreDecoded}
 use Rattle.ia_insn.specs.declared.fault.DecodeFault.{DecodeFault}
 use Rattle.ia_insn.specs.declared.op.Insn.{Insn}
 use Rattle.ia_regs.specs.declared.Regs.{Regs}
-use Rattle.ia_row.specs.Lines.{AreLines}
+use Rattle.ia_row.specs.Lines.{AreLines, TellAll}
 use Rattle.ia_row.specs.declared.row.Line.{Line}
 
 -- a program as its contracts see it: the bytes of the image, the address of the first, how many of them are code, the
@@ -50,6 +50,7 @@ pub record IsProgram (program : ProgramValue) (rows : List (Result (Insn × ℕ)
   pub decoded : AreDecoded (code_of program) rows
   pub line_count : length lines ≡ decoded_once (code_of program)
   pub lined : AreLines (code_of program) lines
+  pub told : TellAll (code_of program) lines
 
 -- memory at the start: the image at its base, and zeros
 unfoldable pub opening_memory : ProgramValue → List ℕ
