@@ -1,5 +1,6 @@
 pub mod Commas
 pub mod MemoryOperands
+pub mod Addends
 pub mod ScopedTerms
 pub mod Heads
 pub mod AddedEntries

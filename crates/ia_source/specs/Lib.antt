@@ -3,6 +3,7 @@ pub mod Keywords
 pub mod Forms
 pub mod Commas
 pub mod MemoryOperands
+pub mod Addends
 pub mod Operands
 pub mod Heads
 pub mod Symbols

@@ -4,6 +4,7 @@
 //!
 //! Promised by `entries`: exactly the entries that the lines of the source ask for, in their order, each of which can
 //! be placed; or the first line that is wrong and the first thing that is wrong with it; or that no memory was left.
+//! A memory operand reads as the sum of its addends, in whichever order they stand.
 //!
 //! It stands on `ia_lex` for lines, tokens and expressions, and on `ia_item` for what it gives.
 #![tactic(auto)]
@@ -15,6 +16,7 @@ mod fault;
 mod form;
 mod head;
 mod keyword;
+mod laws;
 mod memory;
 mod operand;
 mod shape;
@@ -24,4 +26,5 @@ mod statement;
 mod sum;
 
 pub use fault::{SourceFault, Why};
+pub use laws::places_are_sums;
 pub use source::entries;
