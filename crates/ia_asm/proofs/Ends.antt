@@ -1,10 +1,8 @@
 -- Bytes are as many as the sizes say, and a source without fault is short.
-use Rattle.std.proofs.Common.{◌≡◌, ℕ, ◌+◌, ◌≤◌, ◌^◌, Bool, true, false, cond, List, [], ◌∷◌, ◌⊎◌, inl, inr, Option, Some, None, refl, sym, ◌∙◌, ap, subst, length, length-append, arith}
+use Rattle.std.proofs.Common.{◌≡◌, ℕ, ◌+◌, ◌≤◌, ◌^◌, Bool, true, false, List, [], ◌∷◌, ◌⊎◌, inl, inr, Option, Some, None, refl, sym, ◌∙◌, ap, subst, length, length-append, arith}
 use Rattle.std.specs.Prelude.{ℤ, nat_lt, option_map}
-use Rattle.std.proofs.lemmas.List.{length-replicate}
 use Rattle.std.proofs.lemmas.Bool.{ltb-false}
 use Rattle.ia_item.specs.Expressions.{Env}
-use Rattle.ia_item.specs.Fields.{modulo_long}
 use Rattle.ia_item.specs.declared.item.Entry.{Entry}
 use Rattle.ia_item.specs.declared.item.Section.{Section}
 use Rattle.ia_item.specs.declared.item.Section.TheVariants.{Text as InText, Data as InData}
@@ -12,35 +10,13 @@ use Rattle.ia_item.specs.declared.item.Item.{Item}
 use Rattle.ia_item.specs.declared.item.Item.TheVariants as item
 use Rattle.ia_resolve.specs.declared.place_fault.PlaceFault.{PlaceFault}
 use Rattle.ia_resolve.specs.declared.place_fault.PlaceFault.TheVariants.{Range}
-use Rattle.ia_resolve.specs.Items.{field_value, field_fault, template_fault}
+use Rattle.ia_resolve.specs.Items.{field_fault, template_fault}
 use Rattle.ia_item.specs.declared.item.Field.TheVariants as field
 use Rattle.ia_resolve.specs.PlaceFaults.{first_of}
-use Rattle.ia_layout.specs.Placement.{LayoutState, EntryPlace, nowhere, critical_value, gap, size_of, at_in, place_at, text_next, next, places, after, pad, bytes_at, item_bytes, part_of, section_bytes, in_section, end_fault, item_fault, place_fault, fault_on, by_first, first_fault, base_of, text_end, tail_base, start, all_places, values}
+use Rattle.ia_layout.specs.Placement.{LayoutState, EntryPlace, critical_value, size_of, at_in, place_at, text_next, next, places, after, part_of, section_bytes, end_fault, item_fault, place_fault, fault_on, by_first, first_fault, base_of, text_end, tail_base, start, all_places, values}
+use Rattle.ia_layout.proofs.Lengths.{part_length}
 use Rattle.ia_asm.specs.Assemblies.{code_of, fault_of}
-use Rattle.ia_resolve.proofs.Sizes.{code_length, long_length}
 use Rattle.ia_asm.proofs.FaultLemmas.{first_some}
-
-bytes_length : (env : Env) (at : ℕ) (v : ℤ) (s : Section) (i : Item) → length (bytes_at env at v s i) ≡ size_of at v i
-unfolding bytes_at size_of
-bytes_length env at v s (item.Label n) = refl
-bytes_length env at v s (item.Equ n e) = refl
-bytes_length env at v s (item.Code t) = code_length env nowhere at t
-bytes_length env at v s (item.Byte e) = refl
-bytes_length env at v s (item.Text b) = refl
-bytes_length env at v s (item.Long e) = long_length (field_value env at field.Long e)
-bytes_length env at v s (item.Reserve e) = length-replicate (modulo_long v) 0
-bytes_length env at v s (item.Align n) = length-replicate (gap n at) (pad s)
-bytes_length env at v s (item.Org n) = refl
-
-part_length : (env : Env) (s : LayoutState) (e : Entry) → s.text + length (part_of InText env (place_at s e)) ≡ (next s e).text
-part_length env s e = by e.section refl
-  where
-    p : EntryPlace
-    p = place_at s e
-
-    by : (x : Section) → e.section ≡ x → s.text + length (cond (in_section InText e.section) (item_bytes env p) []) ≡ text_next e.section s.text p.size
-    by InText is = rw is (ap (λ n. s.text + n) (bytes_length env s.text (critical_value s.above e.item) InText e.item))
-    by InData is = rw is (omega arith)
 
 -- the code ends where the addresses say
 pub code_end : (env : Env) (s : LayoutState) (es : List Entry) → s.text + length (section_bytes InText env (places s es)) ≡ (after s es).text

@@ -1,5 +1,6 @@
 pub mod FaultLemmas
 pub mod Ends
+pub mod Placements
 pub mod SymbolValues
 pub mod ProgramLayouts
 pub mod Refusals

@@ -1,5 +1,5 @@
 -- What a layout of entries gives.
-use Rattle.std.proofs.Common.{◌≡◌, ℕ, ◌+◌, ◌≤◌, ◌^◌, Some, Err, sym, ◌∙◌, ap, length, map, arith, List}
+use Rattle.std.proofs.Common.{◌≡◌, ℕ, ◌+◌, ◌≤◌, ◌^◌, Some, ◌∙◌, ap, length, map, arith, List}
 use Rattle.std.specs.Prelude.{option_map, ℤ}
 use Rattle.ia_item.specs.declared.name.Name.{Name}
 use Rattle.ia_item.specs.declared.item.Entry.{Entry}
@@ -18,6 +18,8 @@ use Rattle.ia_asm.specs.ListingText.{listing_text}
 use Rattle.ia_asm.specs.Assemblies.{symbol_modulo, code_of, tail_of, fault_of, TellsFault, IsImage}
 use Rattle.ia_asm.specs.ProgramLayouts.{layout_bytes, layout_symbols, IsLayout}
 use Rattle.ia_asm.proofs.Ends.{code_fits, code_near}
+use Rattle.ia_asm.proofs.Placements.{is_placement}
+use Rattle.ia_item.specs.Fits.{AllFit}
 
 -- what the places are, of which each step speaks
 pub record Steps (es : List Entry) (base end : ℕ) (spots : List PlacedEntry) (table : List (Name × ℤ)) : Type 0 where
@@ -58,14 +60,20 @@ section_is part es l s = ap (section_bytes part (known l.table.values.entries)) 
 pub listing_is : (es : List Entry) (l : ProgramLayout) → IsLayout es l → listing_text (known l.table.values.entries) (map entry_place l.spots.items) ≡ listing_text (values (all_places es)) (all_places es)
 listing_is es l s = ap (listing_text (known l.table.values.entries)) s.all ∙ ap (λ x. listing_text (known x) (all_places es)) s.known_as
 
-pub image_is : (es : List Entry) (l : ProgramLayout) (p : ProgramImage) → IsLayout es l → p.base ≡ l.base → p.image.items ≡ code_and_data (layout_bytes InText l) (gap 64 l.end) (layout_bytes InData l)
+pub image_is : (es : List Entry) (l : ProgramLayout) (p : ProgramImage) → AllFit es → IsLayout es l → p.base ≡ l.base → p.image.items ≡ code_and_data (layout_bytes InText l) (gap 64 l.end) (layout_bytes InData l)
     → l.base + p.code_len ≡ l.end → p.symbols.entries ≡ map symbol_modulo (layout_symbols l) → IsImage es p
-image_is es l p s base image code_len names = record {
-  faultless = s.faultless;
-  base = base ∙ s.begins;
-  image = image ∙ ap (λ x. code_and_data x (gap 64 l.end) (layout_bytes InData l)) (section_is InText es l s) ∙ ap (code_and_data (code_of es) (gap 64 l.end)) (section_is InData es l s)
-      ∙ ap (λ x. code_and_data (code_of es) (gap 64 x) (tail_of es)) s.ends;
-  code_len = omega (arith, code_len, code_fits es, s.begins, s.ends);
-  end = code_fits es;
-  symbols = names ∙ ap (λ x. map symbol_modulo (symbols x)) s.all;
-}
+image_is es l p fits s base image code_len names =
+    let begins : p.base ≡ base_of es = base ∙ s.begins in
+    let whole : p.image.items ≡ code_and_data (code_of es) (gap 64 (text_end es)) (tail_of es) =
+    image ∙ ap (λ x. code_and_data x (gap 64 l.end) (layout_bytes InData l)) (section_is InText es l s) ∙ ap (code_and_data (code_of es) (gap 64 l.end)) (section_is InData es l s)
+    ∙ ap (λ x. code_and_data (code_of es) (gap 64 x) (tail_of es)) s.ends in
+    let long : p.code_len ≡ length (code_of es) = omega (arith, code_len, code_fits es, s.begins, s.ends) in
+    record {
+      faultless = s.faultless;
+      base = begins;
+      image = whole;
+      code_len = long;
+      end = code_fits es;
+      placement = is_placement es p.base p.code_len p.image.items fits begins whole long;
+      symbols = names ∙ ap (λ x. map symbol_modulo (symbols x)) s.all;
+    }

@@ -16,6 +16,7 @@ use Rattle.ia_asm.specs.Faults.{at_line}
 use Rattle.ia_asm.specs.ListingText.{listing_text}
 use Rattle.ia_layout.specs.Placement.{base_of, text_end, all_places, symbols, values, section_bytes, gap, code_and_data}
 use Rattle.ia_layout.specs.Placement.{first_fault}
+use Rattle.ia_layout.specs.Placements.{IsPlacement}
 
 -- a symbol's value modulo 2^32; none is below -2^31
 abbrev pub value_modulo : ℤ → ℕ
@@ -46,6 +47,7 @@ pub record IsAssembly (es : List Entry) (u : Assembly) : Type 0 where
   pub code_len : u.code_len ≡ length (code_of es)
   -- the code ends where its items do, so that the data stands at its addresses
   pub end : base_of es + length (code_of es) ≡ text_end es
+  pub placement : IsPlacement es u.base u.code_len u.image.items (symbols (all_places es))
   pub symbols : u.symbols.entries ≡ map symbol_modulo (symbols (all_places es))
   pub listing : u.listing.items ≡ listing_text (values (all_places es)) (all_places es)
 
@@ -56,6 +58,7 @@ pub record IsImage (es : List Entry) (p : ProgramImage) : Type 0 where
   pub image : p.image.items ≡ code_and_data (code_of es) (gap 64 (text_end es)) (tail_of es)
   pub code_len : p.code_len ≡ length (code_of es)
   pub end : base_of es + length (code_of es) ≡ text_end es
+  pub placement : IsPlacement es p.base p.code_len p.image.items (symbols (all_places es))
   pub symbols : p.symbols.entries ≡ map symbol_modulo (symbols (all_places es))
 
 -- memory was refused, or this is the first line of the entries that has a fault, and its first fault

@@ -1,2 +1,4 @@
 pub mod Powers
 pub mod Layouts
+pub mod Lengths
+pub mod Placing

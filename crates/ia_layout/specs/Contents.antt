@@ -1,5 +1,5 @@
 -- What the code's values stand for.
-use Rattle.std.specs.Prelude.{ℕ, ◌+◌, ◌-◌, ◌≤◌, ◌^◌, Option, Some, None, ℤ, pos, negsuc, ◌≤ℤ◌}
+use Rattle.std.specs.Prelude.{ℕ, ◌+◌, ◌-◌, ◌≤◌, ◌^◌, Option, Some, None, pos, negsuc, ◌≤ℤ◌}
 use Rattle.ia_item.specs.Fits.{FitsEntry}
 use Rattle.ia_layout.specs.declared.layout.PlacedEntry.{PlacedEntry}
 use Rattle.ia_layout.specs.declared.layout.Layout.{Layout}

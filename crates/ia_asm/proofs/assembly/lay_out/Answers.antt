@@ -1,4 +1,4 @@
-use Rattle.std.proofs.Common.{◌≡◌, Some, None, Err, sym, subst, map}
+use Rattle.std.proofs.Common.{◌≡◌, Some, sym, subst, map}
 use Rattle.ia_layout.specs.Placement.{all_places}
 use Rattle.ia_layout.specs.Contents.{entry_place}
 use Rattle.ia_asm.specs.Assemblies.{fault_of, TellsFault}

@@ -20,13 +20,14 @@ returns c =
     let l = c.in_ok-layout.layout in
     let s = c.in_ok-layout.ensures in
     let e = c.in_ok-image.ensures in
-    let i = image_is es l c.in_ok-image.field-0 s e.base e.image e.code_len e.symbols in
+    let i = image_is es l c.in_ok-image.field-0 c.requires s e.base e.image e.code_len e.symbols in
     record {
       faultless = s.faultless;
       base = i.base;
       image = i.image;
       code_len = i.code_len;
       end = i.end;
+      placement = i.placement;
       symbols = i.symbols;
       listing = c.in_ok-listing.ensures ∙ ap (λ x. listing_text (known l.table.values.entries) (map entry_place x)) c.as_slice.ensures.value ∙ listing_is es l s;
     }

@@ -13,4 +13,4 @@ image_of-requires-clause-short c = ends_near c.args.entries.now c.in_ok-layout.l
 pub returns : goal.returns
 returns c =
     let e = c.in_ok-program.ensures in
-    image_is c.args.entries.now c.in_ok-layout.layout c.in_ok-program.program c.in_ok-layout.ensures e.base e.image e.code_len e.symbols
+    image_is c.args.entries.now c.in_ok-layout.layout c.in_ok-program.program c.requires c.in_ok-layout.ensures e.base e.image e.code_len e.symbols
