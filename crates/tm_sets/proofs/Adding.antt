@@ -4,6 +4,7 @@ use Rattle.std.proofs.Math.Logic.{∥∥₁_elim}
 use Rattle.std.proofs.Math.Path.{fun_ext}
 use Rattle.std.proofs.Math.Seq.{take-append_seam}
 use Rattle.std.proofs.Props.{props}
+use Rattle.std.proofs.lemmas.Bool.{eq-eqb}
 use Rattle.std.proofs.lemmas.List.{length-set}
 use Rattle.std.proofs.lemmas.List.Sums.{sum_by-cons}
 use native.Mathlib.Nat.{mul-add}
@@ -14,10 +15,9 @@ use Rattle.tm_sets.specs.declared.interface.Kind.TheVariants.{Read, Write}
 use Rattle.tm_sets.specs.declared.row.Entry.{Entry}
 use Rattle.tm_sets.specs.Content.{Content, by_kind, same_kind, with_line}
 use Rattle.tm_sets.specs.Count.{count_below}
-use Rattle.tm_sets.specs.LineSet.{Lines}
 use Rattle.tm_sets.specs.Row.{entry_at, lines_in, slot_among, hooked}
 use Rattle.tm_sets.specs.Threaded.{Rows, held, IsFree, after_on_core, IsThreaded, AreCounted, AreSized, more, if_read, if_written, threaded_content}
-use Rattle.tm_sets.proofs.Contents.{join_lines, counted_joined}
+use Rattle.tm_sets.proofs.Contents.{join_lines, join_same, counted_joined}
 use Rattle.tm_sets.proofs.Counting.{tested, never, fails, both, equal, count_all}
 use Rattle.tm_sets.proofs.Lists.{kept}
 use Rattle.tm_sets.proofs.Joining.{Joined, threaded_joined, with_rank}
@@ -52,11 +52,12 @@ sum_less (x ∷ xs) r (suc k) h b l =
     let e : suc (length xs) * r ≡ length xs * r + r = search Rattle.std.proofs.Common.rules in
     omega arith
 
--- contents are alike where all lines and what is fixed are
-pub same_content : (a b : Content) → ((c : ℕ) (k : Kind) → a.lines c k ≡ b.lines c k) → a.fixed ≡ b.fixed → a ≡ b
-same_content a b h f =
+-- contents are alike where all lines, the slots and what is fixed are
+pub same_content : (a b : Content) → ((c : ℕ) (k : Kind) → a.lines c k ≡ b.lines c k) → ((c : ℕ) → a.slots c ≡ b.slots c) → a.fixed ≡ b.fixed → a ≡ b
+same_content a b h g f =
     let l : a.lines ≡ b.lines = fun_ext (λ c. fun_ext (λ k. h c k)) in
-    ap (λ (x : ℕ → Kind → Lines). record { lines = x; fixed = a.fixed }) l ∙ ap (λ (x : Rattle.tm_sets.specs.Content.Fixed). record { lines = b.lines; fixed = x }) f
+    let s : a.slots ≡ b.slots = fun_ext g in
+    λ i. record { lines = l i; slots = s i; fixed = f i }
 
 -- rows of the same parts
 pub same_rows : (r : Rows) (es fs : List Entry) (ch ch' lh lh' : List ℕ) (f f' : ℕ) (rs rs' ws ws' : List ℕ) → es ≡ fs → ch ≡ ch' → lh ≡ lh' → f ≡ f' → rs ≡ rs' → ws ≡ ws'
@@ -254,9 +255,10 @@ module _ (r : Rows) (threaded : IsThreaded r) (counted : AreCounted r) (sized : 
       free = after_on_core r.entries n;
       reads = if_read kind (more r.reads core) r.reads;
       writes = if_written kind (more r.writes core) r.writes;
-    }) ≡ with_line (threaded_content r) core kind line
+    }) ≡ with_line (threaded_content r) core kind line (slot_among fs)
     add_content = same_content _ _
         (λ c k. join_lines r fs n core kind line (get_or r.core_heads core 0) (get_or r.line_heads line 0) j new c k)
+        (λ c. refl)
         (ap (λ (m : ℕ). let f : Rattle.tm_sets.specs.Content.Fixed = record { room = by_kind r.read_lines r.write_lines; cores = m; line_count = r.line_count } in f) (length-set r.core_heads core (n + 1)))
 
     pub add_slots : (c l : ℕ) → IsSome (slot_among r.entries c l) → slot_among fs c l ≡ slot_among r.entries c l
@@ -273,6 +275,23 @@ module _ (r : Rows) (threaded : IsThreaded r) (counted : AreCounted r) (sized : 
         let other : p ≡ n → ⊥ = λ e. never (held r.entries p) w.is_held (ap (held r.entries) e ∙ j.was_free) in
         (triple (entry_at fs p) c Write l (record { is_held = j.old_held p other ∙ w.is_held; at_core = j.old_core p other ∙ w.at_core; at_kind = j.old_kind p other ∙ w.at_kind; at_line = j.old_line p other ∙ w.at_line }), j.old_slot p other)) t
 
+    -- the slots of other cores
+    pub add_others : (c : ℕ) → (eqb c core ≡ true → ⊥) → slot_among fs c ≡ slot_among r.entries c
+    add_others c d = fun_ext (λ l. ⊎_elim
+        (λ (t : lines.contains (lines_in r.entries c Write) l ≡ true). add_slots c l (there l t))
+        (λ (t : lines.contains (lines_in r.entries c Write) l ≡ false).
+        slot_nowhere fs c l (λ i b. fails (is_triple (entry_at fs i) c Write l) (λ s.
+        never (lines.contains (lines_in fs c Write) l) (present fs i c Write l b s)
+        (ap (λ x. lines.contains x l) (join_same r fs n core kind line (get_or r.core_heads core 0) (get_or r.line_heads line 0) j new c Write (λ e _. d (eq-eqb c core e))) ∙ t)))
+        ∙ sym (slot_nowhere r.entries c l (λ i b. fails (is_triple (entry_at r.entries i) c Write l) (λ s.
+        never (lines.contains (lines_in r.entries c Write) l) (present r.entries i c Write l b s) t))))
+        (tested (lines.contains (lines_in r.entries c Write) l)))
+      where
+        there : (l : ℕ) → lines.contains (lines_in r.entries c Write) l ≡ true → IsSome (slot_among r.entries c l)
+        there l t =
+            let p = place_of r.entries c Write l t in
+            ap is_some (slot_there r.entries p.place c l p.below p.is (alone r counted c Write l p.place p.below p.is))
+
 -- the rows as they come back from the calls that change them
 pub rows_added : (r : Rows) (E fs : List Entry) (n core line free i new_free : ℕ) (kind : Kind) (R W : List ℕ)
     → E ≡ fs → free ≡ n + 1 → i ≡ core → new_free ≡ after_on_core r.entries n → R ≡ if_read kind (more r.reads core) r.reads → W ≡ if_written kind (more r.writes core) r.writes
@@ -282,11 +301,11 @@ rows_added r E fs n core line free i new_free kind R W e f g h rs ws = sym (same
     e (ap (λ x. set r.core_heads x free) g ∙ ap (set r.core_heads core) f) (ap (set r.line_heads line) f) h rs ws)
 
 -- a line that is there changes nothing
-pub known_line : (content : Content) (core : ℕ) (kind : Kind) (line : ℕ) → lines.contains (content.lines core kind) line ≡ true → content ≡ with_line content core kind line
-known_line content core kind line there = same_content content (with_line content core kind line) (λ c k. ⊎_elim
+pub known_line : (content : Content) (core : ℕ) (kind : Kind) (line : ℕ) → lines.contains (content.lines core kind) line ≡ true → content ≡ with_line content core kind line content.slots
+known_line content core kind line there = same_content content (with_line content core kind line content.slots) (λ c k. ⊎_elim
     (λ (t : (eqb c core && same_kind k kind) ≡ true).
     let w = both (eqb c core) (same_kind k kind) t in
     sym (ap (λ b. cond b (lines.insert (content.lines c k) line) (content.lines c k)) t ∙ kept (content.lines c k) line
     (ap (λ x. lines.contains (content.lines x k) line) (equal c core w.0) ∙ ap (λ x. lines.contains (content.lines core x) line) (same_kinds k kind w.1) ∙ there)))
     (λ (t : (eqb c core && same_kind k kind) ≡ false). sym (ap (λ b. cond b (lines.insert (content.lines c k) line) (content.lines c k)) t))
-    (tested (eqb c core && same_kind k kind))) refl
+    (tested (eqb c core && same_kind k kind))) (λ c. refl) refl

@@ -1,6 +1,7 @@
 -- The first triple of a core goes.
-use Rattle.std.proofs.Common.{◌≡◌, ℕ, zero, suc, ◌+◌, ◌-◌, ◌*◌, ◌<◌, ◌≤◌, true, false, cond, eqb, List, length, get_or, set, Some, refl, sym, ap, ◌∙◌, ⊎_elim, arith}
+use Rattle.std.proofs.Common.{◌≡◌, ℕ, zero, suc, ◌+◌, ◌-◌, ◌*◌, ◌<◌, ◌≤◌, true, false, cond, eqb, List, length, get_or, set, Some, None, refl, sym, ap, ◌∙◌, ⊎_elim, arith}
 use Rattle.std.proofs.Math.Logic.{∥∥₁_elim}
+use Rattle.std.proofs.Math.Path.{fun_ext}
 use Rattle.std.proofs.Props.{props}
 use Rattle.std.proofs.lemmas.Bool.{eq-eqb, ne_eqb}
 use Rattle.std.proofs.lemmas.List.{get_or-set_same, get_or-set_other, length-set}
@@ -190,6 +191,12 @@ none_left r threaded core b z k = lines.same_set nat_cmp_total lines.nat_cmp-IsA
     let s = stands (entry_at r.entries i) core k q t in
     ∥∥₁_elim threaded (hlevel props) (λ w. (w.2.cores core b).some i (d, s.is_held, s.at_core) z)))
     ∙ sym (lines.contains-empty nat_cmp q))
+
+-- and no slot
+pub none_slotted : (r : Rows) → IsThreaded r → (core : ℕ) → core < length r.core_heads → get_or r.core_heads core 0 ≡ 0 → slot_among r.entries core ≡ (λ _. None)
+none_slotted r threaded core b z = fun_ext (λ q. slot_nowhere r.entries core q (λ i d. fails (is_triple (entry_at r.entries i) core Write q) (λ t.
+    let s = stands (entry_at r.entries i) core Write q t in
+    ∥∥₁_elim threaded (hlevel props) (λ w. (w.2.cores core b).some i (d, s.is_held, s.at_core) z))))
 
 -- the rows as they come back from the calls that change them
 pub rows_taken : (r : Rows) (E fs : List Entry) (n core i at next : ℕ) (LH lh : List ℕ) (kind : Kind) (R W : List ℕ)

@@ -1,5 +1,6 @@
 -- Rows of which all entries are free.
-use Rattle.std.proofs.Common.{◌≡◌, ℕ, suc, ◌+◌, ◌<◌, ◌≤◌, false, min, List, [], ◌∷◌, length, get_or, sum, refl, sym, ap, ◌∙◌, ⊎_elim, arith}
+use Rattle.std.proofs.Common.{◌≡◌, ℕ, suc, ◌+◌, ◌<◌, ◌≤◌, false, min, List, [], ◌∷◌, length, get_or, sum, None, refl, sym, ap, ◌∙◌, ⊎_elim, arith}
+use Rattle.std.proofs.Math.Path.{fun_ext}
 use Rattle.std.proofs.Math.ListN.{replicate}
 use Rattle.std.proofs.lemmas.Bool.{cases_lt}
 use Rattle.std.proofs.lemmas.List.{get_or-replicate, length-replicate, get_or_past}
@@ -11,12 +12,12 @@ use Rattle.tm_sets.specs.declared.interface.Kind.{Kind}
 use Rattle.tm_sets.specs.declared.interface.Kind.TheVariants.{Read, Write}
 use Rattle.tm_sets.specs.Content.{Content, empty_content, by_kind}
 use Rattle.tm_sets.specs.Ranked.{IsRanked, GoesBack}
-use Rattle.tm_sets.specs.Row.{entry_at, lines_in, freed, no_entry}
+use Rattle.tm_sets.specs.Row.{entry_at, lines_in, slot_among, freed, no_entry}
 use Rattle.tm_sets.specs.Threaded.{Rows, held, OnLine, OnCore, after_on_line, before_on_line, after_on_core, before_on_core, IsThreaded, AreCounted, threaded_content}
 use Rattle.tm_sets.proofs.Adding.{same_content}
 use Rattle.tm_sets.proofs.Contents.{not_held}
 use Rattle.tm_sets.proofs.Counting.{never, count_none}
-use Rattle.tm_sets.proofs.Members.{absent}
+use Rattle.tm_sets.proofs.Members.{absent, slot_nowhere}
 
 nothing_on : (on : ℕ → Type 0) (head : ℕ) (after rank : ℕ → ℕ) → head ≡ 0 → ((e : ℕ) → on e → ⊥) → IsRanked on head after rank
 nothing_on on head after rank z none = record {
@@ -102,8 +103,11 @@ module _ (r : Rows) (row : (place : ℕ) → place < length r.entries → entry_
     slot = λ core e o k. never (held r.entries e) o.1 (none_held e o.0);
   }
 
+  no_slots : (core : ℕ) → slot_among r.entries core ≡ (λ _. None)
+  no_slots core = fun_ext (λ q. slot_nowhere r.entries core q (λ i b. not_held (entry_at r.entries i) (none_held i b) core Write q))
+
   pub fresh_content : (cores : ℕ) → length r.core_heads ≡ cores → threaded_content r ≡ empty_content cores r.line_count r.read_lines r.write_lines
-  fresh_content cores l = same_content _ _ nothing_in (ap (λ (m : ℕ). let f : Rattle.tm_sets.specs.Content.Fixed = record { room = by_kind r.read_lines r.write_lines; cores = m; line_count = r.line_count } in f) l)
+  fresh_content cores l = same_content _ _ nothing_in no_slots (ap (λ (m : ℕ). let f : Rattle.tm_sets.specs.Content.Fixed = record { room = by_kind r.read_lines r.write_lines; cores = m; line_count = r.line_count } in f) l)
 
 -- a list that is made of zeros
 pub all_zero : (xs : List ℕ) (n : ℕ) → xs ≡ replicate n 0 → (i : ℕ) → get_or xs i 0 ≡ 0

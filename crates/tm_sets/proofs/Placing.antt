@@ -7,7 +7,7 @@ use Rattle.std.specs.Cmp.{unsigned_tied}
 use Rattle.std.specs.FinSet as set
 use Rattle.tm_sets.specs.Content.{AreSlots}
 use Rattle.tm_sets.specs.LineSet.{BoundedLines, lines_of, place_of}
-use Rattle.tm_sets.specs.Plain.{AreWithin, line_set_at, plain_content, plain_slots}
+use Rattle.tm_sets.specs.Plain.{AreWithin, line_set_at, plain_content}
 use Rattle.tm_sets.proofs.Counting.{same_test, equal}
 use Rattle.tm_sets.proofs.Lists.{contains_cons}
 
@@ -97,7 +97,7 @@ place_known (x ∷ xs) l =
 
 -- places among the lines that cores have written are slots of them
 pub plain_are_slots : (reads writes : List BoundedLines) (line_count read_lines write_lines : ℕ) → length writes ≡ length reads → AreWithin writes write_lines
-    → AreSlots (plain_content reads writes line_count read_lines write_lines) (plain_slots writes)
+    → AreSlots (plain_content reads writes line_count read_lines write_lines)
 plain_are_slots reads writes line_count read_lines write_lines same within = record {
   there = λ core line b. place_known (line_set_at writes core).order line;
   below = λ core line slot b e. let s = place_in (line_set_at writes core).order line slot e in let w = within core (omega arith) in let l = s.below in omega arith;

@@ -23,7 +23,7 @@ pub slot_none : (r : Rows) (core line : ℕ) → lines.contains (lines_in r.entr
 slot_none r core line f = slot_nowhere r.entries core line (λ i b. fails (is_triple (entry_at r.entries i) core Write line) (λ t.
     never (lines.contains (lines_in r.entries core Write) line) (present r.entries i core Write line b t) f))
 
-pub directory_slots : (r : Rows) → IsThreaded r → AreCounted r → AreSlots (threaded_content r) (slot_among r.entries)
+pub directory_slots : (r : Rows) → IsThreaded r → AreCounted r → AreSlots (threaded_content r)
 directory_slots r threaded a = record {
   there = λ core line b. same_test (is_some (slot_among r.entries core line)) (lines.contains (lines_in r.entries core Write) line)
       (λ t. let p = slot_place r.entries core line t in present r.entries p.place core Write line p.below p.is)

@@ -1,7 +1,7 @@
 -- The read sets and write sets of all cores, as one value (SDM volume 1, chapter "Programming with Intel Transactional
 -- Synchronization Extensions").
 use Rattle.std.specs.Prelude.{ℕ, ◌≡◌, ◌+◌, ◌<◌, Bool, true, false, ◌&&◌, ◌||◌, not, nat_eq, nat_le, if◌then◌else◌}
-use Rattle.std.specs.Prelude.{Option, Some, is_some}
+use Rattle.std.specs.Prelude.{Option, Some, None, is_some}
 use Rattle.tm_sets.specs.LineSet.{Lines}
 use Rattle.tm_sets.specs.Count.{count_below}
 use Rattle.std.specs.Int.{bit_at}
@@ -15,9 +15,10 @@ pub record Fixed : Type 0 where
   pub cores : ℕ
   pub line_count : ℕ
 
--- the lines of each core and kind
+-- the lines of each core and kind, and the slot of each line that a core has written
 pub record Content : Type 0 where
   pub lines : ℕ → Kind → Lines
+  pub slots : ℕ → ℕ → Option ℕ
   pub fixed : Fixed
 
 abbrev pub same_kind : Kind → Kind → Bool
@@ -35,22 +36,25 @@ by_kind read write Write = write
 abbrev pub empty_content : ℕ → ℕ → ℕ → ℕ → Content
 empty_content cores line_count read_lines write_lines = record {
   lines = λ _ _. set.empty;
+  slots = λ _ _. None;
   fixed = record { room = by_kind read_lines write_lines; cores = cores; line_count = line_count };
 }
 
--- the core's set of the kind has the line too
-abbrev pub with_line : Content → ℕ → Kind → ℕ → Content
-with_line content core kind line = record {
+-- the core's set of the kind has the line too, and lines have these slots
+abbrev pub with_line : Content → ℕ → Kind → ℕ → (ℕ → ℕ → Option ℕ) → Content
+with_line content core kind line slots = record {
   lines = λ other other_kind. if nat_eq other core && same_kind other_kind kind
       then set.insert (content.lines other other_kind) line
       else content.lines other other_kind;
+  slots = slots;
   fixed = content.fixed;
 }
 
--- the core has no line of either kind
+-- the core has no line of either kind, and so no slot in use
 abbrev pub without_core : Content → ℕ → Content
 without_core content core = record {
   lines = λ other kind. if nat_eq other core then set.empty else content.lines other kind;
+  slots = λ other. if nat_eq other core then (λ _. None) else content.slots other;
   fixed = content.fixed;
 }
 
@@ -90,12 +94,12 @@ triples_on content line =
     count_below (λ core. set.contains (content.lines core Read) line) content.fixed.cores
     + count_below (λ core. set.contains (content.lines core Write) line) content.fixed.cores
 
--- the slots of the lines that cores have written: one for each of them, and for no other line, below the core's room,
--- and another one for each line of a core
-pub record AreSlots (content : Content) (slots : ℕ → ℕ → Option ℕ) : Type 0 where
+-- each line that a core has written has a slot, and no other line has one; it is below the core's room, and another one
+-- for each line of a core
+pub record AreSlots (content : Content) : Type 0 where
   pub there : (core line : ℕ) → core < content.fixed.cores
-      → is_some (slots core line) ≡ set.contains (content.lines core Write) line
-  pub below : (core line slot : ℕ) → core < content.fixed.cores → slots core line ≡ Some slot
+      → is_some (content.slots core line) ≡ set.contains (content.lines core Write) line
+  pub below : (core line slot : ℕ) → core < content.fixed.cores → content.slots core line ≡ Some slot
       → slot < content.fixed.room Write
-  pub apart : (core line other slot : ℕ) → core < content.fixed.cores → slots core line ≡ Some slot
-      → slots core other ≡ Some slot → line ≡ other
+  pub apart : (core line other slot : ℕ) → core < content.fixed.cores → content.slots core line ≡ Some slot
+      → content.slots core other ≡ Some slot → line ≡ other

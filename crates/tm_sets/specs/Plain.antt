@@ -13,9 +13,14 @@ abbrev pub lines_at : List BoundedLines → List BoundedLines → ℕ → Kind �
 lines_at reads writes core Read = lines_in_set (line_set_at reads core)
 lines_at reads writes core Write = lines_in_set (line_set_at writes core)
 
+-- the place of a line among the lines that a core has written
+abbrev pub plain_slots : List BoundedLines → ℕ → ℕ → Option ℕ
+plain_slots writes core = place_of (line_set_at writes core).order
+
 abbrev pub plain_content : List BoundedLines → List BoundedLines → ℕ → ℕ → ℕ → Content
 plain_content reads writes line_count read_lines write_lines = record {
   lines = lines_at reads writes;
+  slots = plain_slots writes;
   fixed = record { room = by_kind read_lines write_lines; cores = length reads; line_count = line_count };
 }
 
@@ -26,10 +31,6 @@ HaveRoom sets room = (core : ℕ) → core < length sets → (line_set_at sets c
 -- each core has so many lines at most
 abbrev pub AreWithin : List BoundedLines → ℕ → Type 0
 AreWithin sets room = (core : ℕ) → core < length sets → length (line_set_at sets core).order ≤ room
-
--- the place of a line among the lines that a core has written
-abbrev pub plain_slots : List BoundedLines → ℕ → ℕ → Option ℕ
-plain_slots writes core line = place_of (line_set_at writes core).order line
 
 -- core k is not this core, and has the line
 abbrev pub is_other : List BoundedLines → List BoundedLines → ℕ → ℕ → ℕ → Bool

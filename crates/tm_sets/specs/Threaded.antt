@@ -8,7 +8,7 @@ use Rattle.tm_sets.specs.declared.row.Entry.{Entry}
 use Rattle.tm_sets.specs.Content.{Content, by_kind, same_kind, other_on_line, other_writes_line}
 use Rattle.tm_sets.specs.Count.{count_below}
 use Rattle.tm_sets.specs.Ranked.{IsRanked, GoesBack}
-use Rattle.tm_sets.specs.Row.{entry_at, lines_in}
+use Rattle.tm_sets.specs.Row.{entry_at, lines_in, slot_among}
 
 -- the row, the heads of the lists, how many lines a core has read and written
 pub record Rows : Type 0 where
@@ -99,6 +99,7 @@ IsThreaded r = ∥ ((rank : ℕ → ℕ) × (top : ℕ) × AreThreaded r rank to
 abbrev pub threaded_content : Rows → Content
 threaded_content r = record {
   lines = lines_in r.entries;
+  slots = slot_among r.entries;
   fixed = record { room = by_kind r.read_lines r.write_lines; cores = length r.core_heads; line_count = r.line_count };
 }
 

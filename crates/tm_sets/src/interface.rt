@@ -1,6 +1,6 @@
 //! What every representation of the sets answers.
 
-ghost use Rattle.std.specs.Prelude.{◌≡◌, ◌<◌, ◌≤◌, ◌^◌, ℕ, Bool, ◌&&◌, not, nat_eq, is_err, Option, IsSome, IfOk};
+ghost use Rattle.std.specs.Prelude.{◌≡◌, ◌<◌, ◌≤◌, ◌^◌, ℕ, Bool, ◌&&◌, not, nat_eq, true, is_err, Option, IsSome, IfOk};
 ghost use Rattle.std.specs.Prelude.{OnOk, OnErr};
 ghost use Rattle.std.specs.FinSet as set;
 ghost use Rattle.std.specs.List.Sorted.{IsStrictlyIncreasing};
@@ -23,25 +23,25 @@ pub enum Kind {
 ///
 /// Each call is asked for cores and lines below the numbers that the set was made for. Only `listing` takes memory.
 pub trait Sets {
-    /// What it contains, however it is kept.
+    /// What it contains, however it is kept, with the slot of each line that a core has written.
     ghost content: { Self → Content };
-
-    /// The slot of each line that a core has written.
-    ghost slots: { Self → ℕ → ℕ → Option ℕ };
 
     /// The number of entries visited so far by `has`, `others_on` and `writers_on`.
     ghost visited: { Self → ℕ };
 
     /// Adds a line to a core's read set or write set. `Full` (31), and nothing changed, exactly where the line is new
-    /// there and the core has as many lines of this kind as it has room for.
+    /// there and the core has as many lines of this kind as it has room for. Each line that has a slot keeps it.
     fn add(&mut self, core: u8, line: u32, kind: Kind) -> Result<(), Full>
         requires core { core < (content self.old).fixed.cores }
         requires line { line < (content self.old).fixed.line_count }
         ensures full { is_err result ≡ is_full (content self.old) core kind line }
-        ensures ok { OnOk result (content self.new ≡ with_line (content self.old) core kind line) }
+        ensures ok { OnOk result (content self.new
+            ≡ with_line (content self.old) core kind line (content self.new).slots) }
         ensures err { OnErr result (content self.new ≡ content self.old) }
-        ensures slots { (other written : ℕ) → IsSome (slots self.old other written)
-            → slots self.new other written ≡ slots self.old other written }
+        ensures kept { (written : ℕ) → IsSome ((content self.old).slots core written)
+            → (content self.new).slots core written ≡ (content self.old).slots core written }
+        ensures others { (other : ℕ) → (nat_eq other core ≡ true → ⊥)
+            → (content self.new).slots other ≡ (content self.old).slots other }
         ensures visits { visited self.new ≡ visited self.old };
 
     /// Whether the line is in this set of the core.
@@ -50,7 +50,6 @@ pub trait Sets {
         requires line { line < (content self.old).fixed.line_count }
         ensures value { result ≡ set.contains ((content self.old).lines core kind) line }
         ensures same { content self.new ≡ content self.old }
-        ensures slots { slots self.new ≡ slots self.old }
         ensures visits { visited self.old ≤ visited self.new };
 
     /// The other cores that have the line in either set: bit k for core k.
@@ -60,7 +59,6 @@ pub trait Sets {
         ensures mask { IsMaskOf result (content self.old).fixed.cores (other_on_line (content self.old) line core) }
         ensures below { result < 2 ^ (content self.old).fixed.cores }
         ensures same { content self.new ≡ content self.old }
-        ensures slots { slots self.new ≡ slots self.old }
         ensures visits { visited self.old ≤ visited self.new };
 
     /// The other cores that have the line in their write set: bit k for core k.
@@ -70,7 +68,6 @@ pub trait Sets {
         ensures mask { IsMaskOf result (content self.old).fixed.cores (other_writes_line (content self.old) line core) }
         ensures below { result < 2 ^ (content self.old).fixed.cores }
         ensures same { content self.new ≡ content self.old }
-        ensures slots { slots self.new ≡ slots self.old }
         ensures visits { visited self.old ≤ visited self.new };
 
     /// How many lines this set of the core has.
@@ -83,14 +80,13 @@ pub trait Sets {
     fn slot(&self, core: u8, line: u32) -> Option<u32>
         requires core { core < (content self.now).fixed.cores }
         requires line { line < (content self.now).fixed.line_count }
-        ensures value { result ≡ slots self.now core line }
-        ensures all { AreSlots (content self.now) (slots self.now) };
+        ensures value { result ≡ (content self.now).slots core line }
+        ensures all { AreSlots (content self.now) };
 
     /// Takes away the lines of a core, of both kinds, and no others.
     fn clear(&mut self, core: u8)
         requires { core < (content self.old).fixed.cores }
         ensures content { content self.new ≡ without_core (content self.old) core }
-        ensures slots { (other line : ℕ) → (other ≡ core → ⊥) → slots self.new other line ≡ slots self.old other line }
         ensures visits { visited self.new ≡ visited self.old };
 
     /// The lines of this set of the core, ascending. `NoMemory` (32) where there is no memory for the list.

@@ -4,7 +4,7 @@ ghost use Rattle.std.specs.Prelude.{◌≡◌, ◌<◌, ◌≤◌, ◌^◌, ℕ,
 ghost use Rattle.std.specs.Prelude.{IfSome};
 ghost use Rattle.std.specs.Prelude.{OnOk, OnErr};
 ghost use Rattle.std.specs.FinSet as set;
-ghost use Rattle.tm_sets.specs.Plain.{plain_content, plain_slots, HaveRoom, AreWithin, is_other, is_writer};
+ghost use Rattle.tm_sets.specs.Plain.{plain_content, HaveRoom, AreWithin, is_other, is_writer};
 ghost use Rattle.tm_sets.specs.Plain.{line_set_at};
 ghost use Rattle.tm_sets.specs.LineSet.{lines_in_set};
 ghost use Rattle.tm_sets.specs.Content.{IsMaskOf};
@@ -160,8 +160,6 @@ fn writers(writes: &[LineSet], line: u32, core: u8, visits: &mut u64) -> u64
 
 impl Sets for PlainSets {
     ghost content = { λ s. plain_content s.reads.items s.writes.items s.line_count s.read_lines s.write_lines };
-
-    ghost slots = { λ s. plain_slots s.writes.items };
 
     ghost visited = { λ s. s.visits };
 

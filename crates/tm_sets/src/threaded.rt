@@ -122,9 +122,11 @@ impl Directory {
         requires room { by_kind (slice_index self.old.reads.items core) (slice_index self.old.writes.items core) kind
             < by_kind self.old.read_lines self.old.write_lines kind }
         ensures content { threaded_content (rows_of self.new)
-            ≡ with_line (threaded_content (rows_of self.old)) core kind line }
-        ensures slots { (other : ℕ) (old : ℕ) → IsSome (slot_among self.old.entries.items other old)
-            → slot_among self.new.entries.items other old ≡ slot_among self.old.entries.items other old }
+            ≡ with_line (threaded_content (rows_of self.old)) core kind line (slot_among self.new.entries.items) }
+        ensures kept { (old : ℕ) → IsSome (slot_among self.old.entries.items core old)
+            → slot_among self.new.entries.items core old ≡ slot_among self.old.entries.items core old }
+        ensures others { (other : ℕ) → (nat_eq other core ≡ true → ⊥)
+            → slot_among self.new.entries.items other ≡ slot_among self.old.entries.items other }
         ensures visits { self.new.visits ≡ self.old.visits }
     {
         let at = self.free;
@@ -326,8 +328,6 @@ impl Sets for Directory {
 
     ghost content = { λ s. threaded_content (rows_of s) };
 
-    ghost slots = { λ s. slot_among s.entries.items };
-
     ghost visited = { λ s. s.visits };
 
     fn add(&mut self, core: u8, line: u32, kind: Kind) -> Result<(), Full> {
@@ -349,7 +349,6 @@ impl Sets for Directory {
         requires line { line < self.old.line_count }
         ensures value { result ≡ set.contains (lines_in self.old.entries.items core kind) line }
         ensures same { threaded_content (rows_of self.new) ≡ threaded_content (rows_of self.old) }
-        ensures slots { slot_among self.new.entries.items ≡ slot_among self.old.entries.items }
         ensures visits { self.old.visits ≤ self.new.visits }
         ensures most { self.new.visits ≤ self.old.visits + triples_on (threaded_content (rows_of self.old)) line }
         ensures some { self.old.visits < u64.MAX → IsTrue result → self.old.visits < self.new.visits }
@@ -369,7 +368,6 @@ impl Sets for Directory {
             (other_on_line (threaded_content (rows_of self.old)) line core) }
         ensures below { result < 2 ^ length self.old.core_heads.items }
         ensures same { threaded_content (rows_of self.new) ≡ threaded_content (rows_of self.old) }
-        ensures slots { slot_among self.new.entries.items ≡ slot_among self.old.entries.items }
         ensures visits { self.old.visits ≤ self.new.visits }
         ensures exact { self.new.visits
             ≡ min (self.old.visits + triples_on (threaded_content (rows_of self.old)) line) u64.MAX }
@@ -387,7 +385,6 @@ impl Sets for Directory {
             (other_writes_line (threaded_content (rows_of self.old)) line core) }
         ensures below { result < 2 ^ length self.old.core_heads.items }
         ensures same { threaded_content (rows_of self.new) ≡ threaded_content (rows_of self.old) }
-        ensures slots { slot_among self.new.entries.items ≡ slot_among self.old.entries.items }
         ensures visits { self.old.visits ≤ self.new.visits }
         ensures exact { self.new.visits
             ≡ min (self.old.visits + triples_on (threaded_content (rows_of self.old)) line) u64.MAX }

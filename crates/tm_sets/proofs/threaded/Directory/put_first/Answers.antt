@@ -2,10 +2,11 @@ use Rattle.std.proofs.Common.{◌≡◌, ◌+◌, ◌-◌, ◌++◌, ℕ, true, 
 use Rattle.std.proofs.lemmas.List.{get_or_read, length-set}
 use Rattle.tm_sets.specs.declared.interface.Kind.{Kind}
 use Rattle.tm_sets.specs.declared.row.Entry.{Entry}
+use Rattle.tm_sets.specs.Content.{with_line}
 use Rattle.tm_sets.specs.Row.{no_entry, hooked, slot_among}
 use Rattle.tm_sets.specs.Threaded.{Rows, AreCounted, AreSized, IsThreaded, if_read, if_written, more, after_on_core, threaded_content}
 use Rattle.tm_sets.specs.DirectoryRows.{rows_of}
-use Rattle.tm_sets.proofs.Adding.{lent, rows_added, free_some, free_in, core_head_in, line_head_in, its_joined, add_threaded, add_counted, add_sized, add_content, add_slots}
+use Rattle.tm_sets.proofs.Adding.{lent, rows_added, free_some, free_in, core_head_in, line_head_in, its_joined, add_threaded, add_counted, add_sized, add_content, add_slots, add_others}
 use Rattle.tm_sets.proofs.threaded.Directory.put_first.Goals as goal
 
 -- the entry as it is made, and as it is spoken of
@@ -170,9 +171,10 @@ returns-clause-content c =
     let whole = rows_added r (take d.entries.len (c.hook.new.entries ++ drop (length c.hook.new.entries) d.entries.items)) fs (d.free - 1) c.args.core c.args.line d.free c.from-3.result c.index-4.result.now.after_on_core c.args.kind
     (take d.reads.len (c.count_more.new.reads ++ drop (length c.count_more.new.reads) d.reads.items)) (take d.writes.len (c.count_more.new.writes ++ drop (length c.count_more.new.writes) d.writes.items)) E at c.from-3.ensures next R W in
     ap threaded_content (sym whole) ∙ add_content r d.threaded d.counted d.sized c.args.core c.args.kind c.args.line c.requires.core c.requires.line c.requires.new c.requires.room (d.free - 1) at fs j
+    ∙ ap (λ xs. with_line (threaded_content r) c.args.core c.args.kind c.args.line (slot_among xs)) (sym E)
 
-pub returns-clause-slots : goal.returns-clause-slots
-returns-clause-slots c =
+pub returns-clause-kept : goal.returns-clause-kept
+returns-clause-kept c =
     let d = c.args.self.now in
     let r : Rows = rows_of d in
     let n : ℕ = d.free - 1 in
@@ -194,4 +196,29 @@ returns-clause-slots c =
     let j = its_joined r d.threaded d.counted d.sized c.args.core c.args.kind c.args.line c.requires.core c.requires.line c.requires.new c.requires.room (d.free - 1) at fs refl in
     let whole = rows_added r (take d.entries.len (c.hook.new.entries ++ drop (length c.hook.new.entries) d.entries.items)) fs (d.free - 1) c.args.core c.args.line d.free c.from-3.result c.index-4.result.now.after_on_core c.args.kind
     (take d.reads.len (c.count_more.new.reads ++ drop (length c.count_more.new.reads) d.reads.items)) (take d.writes.len (c.count_more.new.writes ++ drop (length c.count_more.new.writes) d.writes.items)) E at c.from-3.ensures next R W in
-    λ other old t. ap (λ xs. slot_among xs other old) E ∙ add_slots r d.threaded d.counted d.sized c.args.core c.args.kind c.args.line c.requires.core c.requires.line c.requires.new c.requires.room (d.free - 1) at fs j other old t
+    λ old t. ap (λ xs. slot_among xs c.args.core old) E ∙ add_slots r d.threaded d.counted d.sized c.args.core c.args.kind c.args.line c.requires.core c.requires.line c.requires.new c.requires.room (d.free - 1) at fs j c.args.core old t
+
+pub returns-clause-others : goal.returns-clause-others
+returns-clause-others c =
+    let d = c.args.self.now in
+    let r : Rows = rows_of d in
+    let n : ℕ = d.free - 1 in
+    let some = free_some r d.threaded d.counted d.sized c.args.core c.args.kind c.args.line c.requires.core c.requires.line c.requires.new c.requires.room in
+    let at : d.free ≡ d.free - 1 + 1 = omega arith in
+    let entries_len : vec_len d.entries ≡ d.entries.len = search rules in
+    let fs : List Entry = hooked d.entries.items (d.free - 1) (record { held = true; core = c.args.core; kind = c.args.kind; line = c.args.line; slot = get_or d.writes.items c.args.core 0; before_on_core = 0; after_on_core = get_or d.core_heads.items c.args.core 0; before_on_line = 0; after_on_line = get_or d.line_heads.items c.args.line 0 }) in
+    let slot : c.index.result.now ≡ get_or d.writes.items c.args.core 0 = get_or_read d.writes.items c.args.core c.index.result.now (omega (arith, c.requires.core, d.sized.writes)) (subst (λ k. c.index.result.now ≡ get_or d.writes.items k c.index.result.now) c.from.ensures c.index.ensures) 0 in
+    let core_head : c.index-2.result.now ≡ get_or d.core_heads.items c.args.core 0 = get_or_read d.core_heads.items c.args.core c.index-2.result.now c.requires.core (subst (λ k. c.index-2.result.now ≡ get_or d.core_heads.items k c.index-2.result.now) c.from-2.ensures c.index-2.ensures) 0 in
+    let line_head : c.index-3.result.now ≡ get_or d.line_heads.items c.args.line 0 = get_or_read d.line_heads.items c.args.line c.index-3.result.now (omega (arith, c.requires.line, d.sized.lines)) c.index-3.ensures 0 in
+    let free = free_in r d.threaded d.counted d.sized c.args.core c.args.kind c.args.line c.requires.core c.requires.line c.requires.new c.requires.room (d.free - 1) at in
+    let next : c.index-4.result.now.after_on_core ≡ after_on_core d.entries.items (d.free - 1) = ap (λ e. e.after_on_core) (get_or_read d.entries.items (d.free - 1) c.index-4.result.now free.0 c.index-4.ensures no_entry) in
+    let E : take d.entries.len (c.hook.new.entries ++ drop (length c.hook.new.entries) d.entries.items) ≡ fs = entries_are d.entries.items c.deref_mut.result.now c.hook.new.entries d.entries.len (d.free - 1) d.free c.args.core c.args.line c.args.kind c.index.result.now c.index-2.result.now c.index-3.result.now d.writes.items d.core_heads.items d.line_heads.items c.args.core 0 0
+    c.deref_mut.ensures.value (c.hook.auto.entries ∙ c.deref_mut.ensures.len) refl refl c.hook.ensures slot core_head line_head in
+    let R : take d.reads.len (c.count_more.new.reads ++ drop (length c.count_more.new.reads) d.reads.items) ≡ if_read c.args.kind (more d.reads.items c.args.core) d.reads.items =
+    lent d.reads.len c.count_more.new.reads (drop (length c.count_more.new.reads) d.reads.items) (c.count_more.auto.reads ∙ c.deref_mut-2.ensures.len) ∙ c.count_more.ensures.reads ∙ ap (λ xs. if_read c.args.kind (more xs c.args.core) xs) c.deref_mut-2.ensures.value in
+    let W : take d.writes.len (c.count_more.new.writes ++ drop (length c.count_more.new.writes) d.writes.items) ≡ if_written c.args.kind (more d.writes.items c.args.core) d.writes.items =
+    lent d.writes.len c.count_more.new.writes (drop (length c.count_more.new.writes) d.writes.items) (c.count_more.auto.writes ∙ c.deref_mut-3.ensures.len) ∙ c.count_more.ensures.writes ∙ ap (λ xs. if_written c.args.kind (more xs c.args.core) xs) c.deref_mut-3.ensures.value in
+    let j = its_joined r d.threaded d.counted d.sized c.args.core c.args.kind c.args.line c.requires.core c.requires.line c.requires.new c.requires.room (d.free - 1) at fs refl in
+    let whole = rows_added r (take d.entries.len (c.hook.new.entries ++ drop (length c.hook.new.entries) d.entries.items)) fs (d.free - 1) c.args.core c.args.line d.free c.from-3.result c.index-4.result.now.after_on_core c.args.kind
+    (take d.reads.len (c.count_more.new.reads ++ drop (length c.count_more.new.reads) d.reads.items)) (take d.writes.len (c.count_more.new.writes ++ drop (length c.count_more.new.writes) d.writes.items)) E at c.from-3.ensures next R W in
+    λ other apart. ap (λ xs. slot_among xs other) E ∙ add_others r d.threaded d.counted d.sized c.args.core c.args.kind c.args.line c.requires.core c.requires.line c.requires.new c.requires.room (d.free - 1) at fs j other apart

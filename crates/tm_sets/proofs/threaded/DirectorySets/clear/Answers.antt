@@ -1,13 +1,14 @@
-use Rattle.std.proofs.Common.{◌≡◌, ◌<◌, ℕ, cond, get_or, length, sym, ap, ◌∙◌, ⊎_elim, subst, arith}
+use Rattle.std.proofs.Common.{◌≡◌, ◌<◌, ℕ, None, cond, get_or, length, sym, ap, ◌∙◌, ⊎_elim, subst, arith}
+use Rattle.std.proofs.Math.Path.{fun_ext}
 use Rattle.std.proofs.lemmas.Bool.{cases_eq, eq-eqb, ne_eqb}
 use Rattle.std.proofs.lemmas.List.{get_or_read}
 use Rattle.std.specs.FinSet as lines
 use Rattle.tm_sets.specs.Content.{Fixed, by_kind, without_core}
-use Rattle.tm_sets.specs.Row.{lines_in}
+use Rattle.tm_sets.specs.Row.{lines_in, slot_among}
 use Rattle.tm_sets.specs.Threaded.{threaded_content}
 use Rattle.tm_sets.specs.DirectoryRows.{rows_of}
 use Rattle.tm_sets.proofs.Adding.{same_content}
-use Rattle.tm_sets.proofs.Clearing.{none_left}
+use Rattle.tm_sets.proofs.Clearing.{none_left, none_slotted}
 use Rattle.tm_sets.proofs.threaded.DirectorySets.clear.Goals as goal
 
 same_fixed : (a a' b b' x x' y y' : ℕ) → a ≡ a' → b ≡ b' → x ≡ x' → y ≡ y'
@@ -30,5 +31,12 @@ returns-clause-content c =
     ∙ sym (ap (λ t. cond t lines.empty (lines_in old.entries.items other kind)) (eq-eqb other c.args.core e)))
     (λ (e : other ≡ c.args.core → ⊥).
     i.lines other kind e ∙ sym (ap (λ t. cond t lines.empty (lines_in old.entries.items other kind)) (ne_eqb other c.args.core e)))
+    (cases_eq other c.args.core))
+    (λ other. ⊎_elim
+    (λ (e : other ≡ c.args.core).
+    ap (slot_among new.entries.items) e ∙ none_slotted (rows_of new) new.threaded c.args.core below head
+    ∙ sym (ap (λ t. cond t (λ _. None) (slot_among old.entries.items other)) (eq-eqb other c.args.core e)))
+    (λ (e : other ≡ c.args.core → ⊥).
+    fun_ext (λ line. i.slots other line e) ∙ sym (ap (λ t. cond t (λ _. None) (slot_among old.entries.items other)) (ne_eqb other c.args.core e)))
     (cases_eq other c.args.core))
     (same_fixed new.read_lines old.read_lines new.write_lines old.write_lines (length new.core_heads.items) (length old.core_heads.items) new.line_count old.line_count i.read_lines i.write_lines i.cores i.line_count)
