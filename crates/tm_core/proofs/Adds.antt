@@ -69,11 +69,11 @@ same_self Read = refl
 same_self Write = refl
 
 -- the set that a line is added to
-pub added_own : (a b : Content) (c : ℕ) (kind : Kind) (l : ℕ) → b ≡ with_line a c kind l → b.lines c kind ≡ finset.insert (a.lines c kind) l
+pub added_own : (a b : Content) (c : ℕ) (kind : Kind) (l : ℕ) → b ≡ with_line a c kind l b.slots → b.lines c kind ≡ finset.insert (a.lines c kind) l
 added_own a b c kind l e =
     ap (λ (x : Content). x.lines c kind) e
     ∙ ap (λ t. cond (t && same_kind kind kind) (finset.insert (a.lines c kind) l) (a.lines c kind)) (eq-eqb c c refl)
     ∙ ap (λ t. cond t (finset.insert (a.lines c kind) l) (a.lines c kind)) (same_self kind)
 
-pub added_fixed : (a b : Content) (c : ℕ) (kind : Kind) (l : ℕ) → b ≡ with_line a c kind l → b.fixed ≡ a.fixed
+pub added_fixed : (a b : Content) (c : ℕ) (kind : Kind) (l : ℕ) → b ≡ with_line a c kind l b.slots → b.fixed ≡ a.fixed
 added_fixed a b c kind l e = ap (λ (x : Content). x.fixed) e

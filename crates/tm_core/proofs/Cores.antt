@@ -1,21 +1,22 @@
-use Rattle.std.proofs.Common.{◌≡◌, ℕ, zero, suc, ◌*◌, ◌<◌, ◌≤◌, Bool, true, false, cond, eqb, List, [], ◌∷◌, length, get_or, set, refl, sym, ap, ◌∙◌, subst, arith}
+use Rattle.std.proofs.Common.{◌≡◌, ℕ, zero, suc, ◌*◌, ◌<◌, ◌≤◌, Bool, true, false, cond, eqb, List, [], ◌∷◌, length, map, get_or, set, Option, Some, refl, sym, ap, ◌∙◌, subst, arith}
 use Rattle.std.proofs.lemmas.List.{get_or-set_same, get_or-set_other}
 use Rattle.std.proofs.lemmas.Bool.{eqb-true, eqb-false, eq-eqb, or_left, or_right, true≢false}
 use Rattle.std.specs.List.{list_any}
 use Rattle.std.specs.FinSet as finset
-use Rattle.std.specs.Prelude.{Result}
+use Rattle.std.specs.Prelude.{Result, ◌&&◌, ◌||◌, not}
+use Rattle.std.proofs.lemmas.Nat.Bits.{bit_at-zero}
 use Rattle.ia_insn.specs.declared.fault.DecodeFault.{DecodeFault}
 use Rattle.ia_insn.specs.declared.op.Insn.{Insn}
-use Rattle.tm_buffer.specs.Buffer.{memory_with}
-use Rattle.tm_sets.specs.Content.{Content}
+use Rattle.tm_buffer.specs.Buffer.{BufferValue, memory_with}
+use Rattle.tm_sets.specs.Content.{Content, IsMaskOf, bit}
 use Rattle.tm_model.specs.Setting.{Setting}
 use Rattle.tm_model.specs.Shown.{View, view_outside}
 use Rattle.tm_core.specs.Representation.{AreClosed, AreHit, AreLines, AreOthersClosed, Elsewhere, IsHeld, IsStep, KeptCore, condemn_kept}
 use Rattle.tm_core.specs.Representation.{cpu_at, cpu_view, cpu_views, is_open, kept_after_hit, kept_at, kept_of}
 use Rattle.tm_core.specs.Representation.{no_cpu}
-use Rattle.tm_core.specs.StepRefinement.{StepResult, Touched, condemn_view, finished, lines_hit, lines_touched}
+use Rattle.tm_core.specs.StepRefinement.{StepResult, Touched, condemn_view, finished, line_hits, lines_hit, lines_touched}
 use Rattle.tm_core.specs.StepRefinement.{stepped, view_after_hit, views_after}
-use Rattle.tm_core.specs.Types.{AtStop, Committed, Condemned, CoreState, Mid, Open, Outcome, Read, Regs, Running}
+use Rattle.tm_core.specs.Types.{AtStop, Committed, Condemned, CoreState, Kind, Mid, Open, Outcome, Read, Regs, Running}
 use Rattle.tm_core.specs.Types.{Write}
 use Rattle.tm_rule.specs.Rule.{StandsAt}
 use Rattle.tm_core.proofs.BufferLemmas.{items_any}
@@ -24,11 +25,15 @@ use Rattle.tm_core.proofs.Hits.{hit_kept_view, lines_hit_same}
 use Rattle.tm_core.specs.declared.cpu.Cpu.{Cpu}
 use Rattle.tm_core.specs.Representation.{kept_in}
 
-pub held_as : (room : ℕ) (x y : KeptCore) → y.room ≡ x.room → y.order ≡ x.order → y.view.writes ≡ x.view.writes → IsHeld room x → IsHeld room y
-held_as room x y e f g h = held_of room y (e ∙ h.same_room) (ordered_as x.order y.order x.view.writes y.view.writes f g (ordered_of room x h))
+-- what is held is said of the buffer, the write set and the slots alone
+pub held_as : (room : ℕ) (a b : Content) (j : ℕ) (x y : Cpu) → y.buffer ≡ x.buffer → b.lines j Write ≡ a.lines j Write → b.slots j ≡ a.slots j → IsHeld room (kept_of a j x) → IsHeld room (kept_of b j y)
+held_as room a b j x y same writes slots h =
+    held_of room (kept_of b j y) (ap (λ (z : BufferValue). z.room) same ∙ h.same_room)
+    (ordered_as x.buffer.order y.buffer.order (a.lines j Write) (b.lines j Write) (ap (λ (z : BufferValue). z.order) same) writes (ordered_of room (kept_of a j x) h))
+    (ap (λ (z : BufferValue). map (b.slots j) z.order) same ∙ ap (λ f. map f x.buffer.order) slots ∙ h.slotted ∙ sym (ap (λ (z : BufferValue). map {A = ℕ} {B = Option ℕ} Some z.slots) same))
 
 condemn_held : (room : ℕ) (x : KeptCore) (mode : CoreState) → IsHeld room x → IsHeld room (condemn_kept mode x)
-condemn_held room x (Open depth) h = held_plain room (condemn_kept (Open depth) x) h.same_room refl refl
+condemn_held room x (Open depth) h = held_plain room (condemn_kept (Open depth) x) h.same_room refl refl refl
 condemn_held room x Running h = h
 condemn_held room x Mid h = h
 condemn_held room x (Condemned depth) h = h
@@ -61,11 +66,12 @@ held_after room a b cpus c x below same before own j h =
       | true ↦ λ e. subst (λ n. IsHeld room (kept_at b (set cpus c x) n)) (sym (eqb-true j c e)) (subst (λ (y : Cpu). IsHeld room (kept_of b c y)) (sym (cpu_same cpus c x below)) own)
       | false ↦ λ e.
           let other : cpu_at (set cpus c x) j ≡ cpu_at cpus j = cpu_other cpus c j x (eqb-false j c e) in
-          held_as room (kept_at a cpus j) (kept_at b (set cpus c x) j) (ap (λ (y : Cpu). y.buffer.room) other) (ap (λ (y : Cpu). y.buffer.order) other) (same.lines j (λ t. true≢false (sym t ∙ e)) Write) (before j h)
+          let ne : eqb j c ≡ true → ⊥ = λ t. true≢false (sym t ∙ e) in
+          held_as room a b j (cpu_at cpus j) (cpu_at (set cpus c x) j) (ap (λ (y : Cpu). y.buffer) other) (same.lines j ne Write) (same.slots j ne) (before j h)
     ]) refl
 
 pub nothing_else : (a : Content) (c : ℕ) → Elsewhere a a c
-nothing_else a c = record { lines = λ j ne kind. refl; fixed = refl }
+nothing_else a c = record { lines = λ j ne kind. refl; slots = λ j ne. refl; fixed = refl }
 
 any_member : (xs : List ℕ) (i : ℕ) → i < length xs → list_any (eqb (get_or xs i 0)) xs ≡ true
 any_member [] i h = absurd (omega arith)
@@ -181,3 +187,18 @@ others_closed cpus c x same closed j h other =
 -- what stands at the EIP of a core that is in no transaction
 pub row_of_base : (code : List ℕ) (base : ℕ) (row : Result (Insn × ℕ) DecodeFault) (x y : Cpu) → x ≡ y → y.regs ≡ y.base → StandsAt code base y.regs.eip row → StandsAt code base x.base.eip row
 row_of_base code base row x y same regs h = subst (λ (z : Cpu). StandsAt code base z.base.eip row) (sym same) (subst (λ (r : Regs). StandsAt code base r.eip row) regs h)
+
+-- ---- where no other core has the line, nothing is hit
+
+pub none_hit : (a b : Content) (cpus : List Cpu) (c l mask : ℕ) (kind : Kind) → b ≡ a → mask ≡ 0 → length cpus ≤ a.fixed.cores →
+    IsMaskOf mask a.fixed.cores (λ k. not (eqb k c) && line_hits (a.lines k Read) (a.lines k Write) kind l) → AreHit ((kind, l) ∷ []) c (length cpus) (kept_at a cpus) (kept_at b cpus)
+none_hit a b cpus c l mask kind same none cores told j h =
+    let y : KeptCore = kept_at a cpus j in
+    let hits : Bool = line_hits (a.lines j Read) (a.lines j Write) kind l in
+    ap (λ (x : Content). kept_at x cpus j) same
+    ∙ (elim (eqb j c) as (λ t. eqb j c ≡ t → y ≡ cond t y (kept_after_hit ((kind, l) ∷ []) y)) [
+      | true ↦ λ e. refl
+      | false ↦ λ e.
+          let misses : hits ≡ false = ap (λ t. not t && hits) (sym e) ∙ sym (told j (omega arith)) ∙ ap (λ n. bit n j) none ∙ ap (λ n. eqb n 1) (bit_at-zero j) in
+          sym (ap (λ t. cond (t || false) (condemn_kept y.view.mode y) y) misses)
+    ]) refl

@@ -1,4 +1,4 @@
-use Rattle.std.proofs.Common.{ltb, cond, eqb, ◌≤◌, ◌≡◌, ℕ, ◌+◌, Bool, true, false, cond, eqb, ◌||◌, List, [], ◌∷◌, ◌++◌, length, Option, Some, None, refl, sym, ap, ◌∙◌, subst}
+use Rattle.std.proofs.Common.{ltb, cond, eqb, ◌≤◌, ◌≡◌, ℕ, ◌+◌, Bool, true, false, cond, eqb, ◌||◌, List, [], ◌∷◌, ◌++◌, length, map, Option, Some, None, refl, sym, ap, ◌∙◌, subst}
 use Rattle.std.specs.Prelude.{is_some, option_map}
 use Rattle.std.specs.List.{list_any}
 use Rattle.std.specs.Ordering.{nat_cmp}
@@ -41,7 +41,7 @@ swapped x l = same_test (eqb x l) (eqb l x) (λ e. eq-eqb l x (sym (eqb-true x l
     same_test false true f g = g refl
     same_test false false f g = refl
 
-found_at : (order : List ℕ) (l : ℕ) → is_some (place_of order l) ≡ list_any (eqb l) order
+pub found_at : (order : List ℕ) (l : ℕ) → is_some (place_of order l) ≡ list_any (eqb l) order
 found_at [] l = refl
 found_at (x ∷ xs) l =
     (elim (eqb x l) as (λ t. is_some (cond t (Some 0) (option_map (λ k. k + 1) (place_of xs l))) ≡ (t || list_any (eqb l) xs)) [
@@ -114,9 +114,10 @@ never_full order s a w room h fits = ap (ltb room) (ordered_access order s a w h
 pub ordered_of : (room : ℕ) (x : KeptCore) → IsHeld room x → Ordered x.order x.view.writes
 ordered_of room x h = record { count = h.count; same = h.same }
 
-pub held_of : (room : ℕ) (x : KeptCore) → x.room ≡ room → Ordered x.order x.view.writes → IsHeld room x
-held_of room x e h = record { same_room = e; count = h.count; same = h.same }
+pub held_of : (room : ℕ) (x : KeptCore) → x.room ≡ room → Ordered x.order x.view.writes → map x.slots x.order ≡ map Some x.held → IsHeld room x
+held_of room x e h s = record { same_room = e; count = h.count; same = h.same; slotted = s }
 
 -- a closed core's buffer is empty
-pub held_plain : (room : ℕ) (x : KeptCore) → x.room ≡ room → x.order ≡ [] → x.view.writes ≡ finset.empty → IsHeld room x
-held_plain room x e f g = held_of room x e (ordered_as [] x.order finset.empty x.view.writes f g no_order)
+pub held_plain : (room : ℕ) (x : KeptCore) → x.room ≡ room → x.order ≡ [] → x.held ≡ [] → x.view.writes ≡ finset.empty → IsHeld room x
+held_plain room x e f s g =
+    held_of room x e (ordered_as [] x.order finset.empty x.view.writes f g no_order) (ap (map x.slots) f ∙ sym (ap (λ xs. map {A = ℕ} {B = Option ℕ} Some xs) s))

@@ -3,8 +3,6 @@ use Rattle.std.proofs.lemmas.Bool.{eq-eqb}
 use Rattle.tm_sets.specs.Content.{Content}
 use Rattle.std.proofs.lemmas.List.{map-append, take_more}
 use Rattle.std.specs.List.{list_any}
-use Rattle.std.specs.FinSet as finset
-use Rattle.tm_model.specs.Shown.{view_outside}
 use Rattle.tm_core.specs.Representation.{KeptCore, condemn_kept, cpu_at, kept_after_hit, kept_at}
 use Rattle.tm_core.specs.StepRefinement.{Touched, condemn_view, line_hits, lines_hit, lines_touched, view_after_hit}
 use Rattle.tm_core.specs.Types.{AtStop, Condemned, CoreState, Kind, Lines, Mid, Open, Running}
@@ -38,7 +36,7 @@ not_twice : (x : KeptCore) (ls : Touched) → condemn_kept x.view.mode x ≡ x �
 not_twice x ls e = (elim (lines_hit x.view.reads x.view.writes ls) as (λ t. cond t (condemn_kept x.view.mode x) x ≡ x) [ true ↦ e | false ↦ refl ])
 
 doomed_again : (x : KeptCore) (ls : Touched) (mode : CoreState) → x.view.mode ≡ mode → kept_after_hit ls (condemn_kept mode x) ≡ condemn_kept mode x
-doomed_again x ls (Open depth) e = let y : KeptCore = record { view = view_outside (Condemned depth) x.view.base; order = []; room = x.room } in ap (λ t. cond t (condemn_kept (Condemned depth) y) y) (lines_hit-empty ls)
+doomed_again x ls (Open depth) e = let y : KeptCore = condemn_kept (Open depth) x in ap (λ t. cond t (condemn_kept (Condemned depth) y) y) (lines_hit-empty ls)
 doomed_again x ls Mid e = not_twice x ls (ap (λ mode. condemn_kept mode x) e)
 doomed_again x ls Running e = not_twice x ls (ap (λ mode. condemn_kept mode x) e)
 doomed_again x ls (Condemned depth) e = not_twice x ls (ap (λ mode. condemn_kept mode x) e)

@@ -15,6 +15,10 @@ pub mod MachineLemmas
 pub mod Cores
 pub mod Sanity
 pub mod Held
+pub mod BeginEnd
+pub mod Slotted
 pub mod Adds
 pub mod Rooms
 pub mod InterleavedBodies
+pub mod UnseenSteps
+pub mod UsualMachine

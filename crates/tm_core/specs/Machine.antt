@@ -103,4 +103,5 @@ pub record IsStart (program : Program) (write_lines number : ℕ) (cpu : Cpu) : 
   pub state : cpu.state ≡ Running
   pub bytes : cpu.buffer.bytes ≡ map_of.empty
   pub order : cpu.buffer.order ≡ []
+  pub slots : cpu.buffer.slots ≡ []
   pub room : cpu.buffer.room ≡ write_lines

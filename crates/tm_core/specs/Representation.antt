@@ -1,6 +1,6 @@
 -- How a machine's parts show its views, and what holds of them between steps.
-use Rattle.std.specs.Prelude.{◌≡◌, ℕ, ◌+◌, ◌*◌, ◌^◌, ◌<◌, ◌≤◌, Bool, true, false, List, [], Option, Some}
-use Rattle.std.specs.Prelude.{if◌then◌else◌, length}
+use Rattle.std.specs.Prelude.{◌≡◌, ℕ, ◌+◌, ◌*◌, ◌^◌, ◌<◌, ◌≤◌, Bool, true, false, List, [], Option, Some, None}
+use Rattle.std.specs.Prelude.{if◌then◌else◌, length, map}
 use Rattle.std.specs.Prelude.{slice_index_or, nat_eq, IfSome}
 use Rattle.std.specs.List.{list_any}
 use Rattle.std.specs.FinSet as set
@@ -10,16 +10,18 @@ use Rattle.tm_buffer.specs.Buffer.{Fits}
 use Rattle.tm_sets.specs.Content.{Content}
 use Rattle.tm_core.specs.declared.cpu.Cpu.{Cpu}
 use Rattle.tm_core.specs.declared.step.OutsideStep.{OutsideStep}
+use Rattle.tm_core.specs.declared.usual.Usual.{Usual}
+use Rattle.tm_core.specs.declared.usual.Usual.TheVariants as usual
 use Rattle.tm_core.specs.declared.transaction.InsideStep.{InsideStep}
 use Rattle.tm_core.specs.declared.transaction.InsideStep.TheVariants.{Aborts, Commits, GoesInside}
 use Rattle.tm_core.specs.StepRefinement.{StepResult, Touched, finished, lines_hit, stayed, stepped, touched_by}
 use Rattle.tm_core.specs.StepRefinement.{views_after}
 use Rattle.tm_core.specs.Theorem.{no_regs}
-use Rattle.tm_core.specs.Types.{Aborted, Access, AtStop, Begins, Begun, Committed, Condemned, CoreState, Goes, Idle}
+use Rattle.tm_core.specs.Types.{Aborted, Access, AtStop, Begun, Committed, Condemned, CoreState, Idle}
 use Rattle.tm_core.specs.Types.{Inside, Kind}
 use Rattle.tm_core.specs.Types.{Lines}
 use Rattle.tm_core.specs.Types.{Open}
-use Rattle.tm_core.specs.Types.{Loaded, Mid, Outcome, OutsideResult, Plain, Read, Regs, Running, Stopped, Stops}
+use Rattle.tm_core.specs.Types.{Loaded, Mid, Outcome, Plain, Read, Running, Stopped}
 use Rattle.tm_core.specs.Types.{Store, Width, Write}
 use Rattle.tm_model.specs.Access.{loaded_addresses, memory_after, stores_of}
 use Rattle.tm_model.specs.Owed.{have_room}
@@ -63,15 +65,23 @@ cpu_at cpus number = slice_index_or cpus number no_cpu
 abbrev pub cpu_views : Content → List Cpu → ℕ → View
 cpu_views content cpus number = cpu_view content number (cpu_at cpus number)
 
--- a view, with the order and the number of the lines of the buffer
+-- a view, with the order and the number of the lines of the buffer, the slots that these lines hold there, and the slots
+-- that the sets tell of lines
 pub record KeptCore : Type 0 where
   pub view : View
   pub order : List ℕ
   pub room : ℕ
+  pub held : List ℕ
+  pub slots : ℕ → Option ℕ
 
 abbrev pub kept_of : Content → ℕ → Cpu → KeptCore
-kept_of content number cpu =
-    record { view = cpu_view content number cpu; order = cpu.buffer.order; room = cpu.buffer.room }
+kept_of content number cpu = record {
+  view = cpu_view content number cpu;
+  order = cpu.buffer.order;
+  room = cpu.buffer.room;
+  held = cpu.buffer.slots;
+  slots = content.slots number;
+}
 
 abbrev pub kept_at : Content → List Cpu → ℕ → KeptCore
 kept_at content cpus number = kept_of content number (cpu_at cpus number)
@@ -79,8 +89,13 @@ kept_at content cpus number = kept_of content number (cpu_at cpus number)
 -- ---- hits
 
 abbrev pub condemn_kept : CoreState → KeptCore → KeptCore
-condemn_kept (Open depth) core =
-    record { view = view_outside (Condemned depth) core.view.base; order = []; room = core.room }
+condemn_kept (Open depth) core = record {
+  view = view_outside (Condemned depth) core.view.base;
+  order = [];
+  room = core.room;
+  held = [];
+  slots = λ _. None;
+}
 condemn_kept Running core = core
 condemn_kept Mid core = core
 condemn_kept (Condemned depth) core = core
@@ -108,16 +123,18 @@ IsLoadOnLines content Commits = Unit {0}
 
 -- ---- between steps
 
--- the buffer has just the lines of the write set, and room for as many as that
+-- the buffer has just the lines of the write set, on the slots that the sets tell, and room for as many as that
 pub record IsHeld (room : ℕ) (core : KeptCore) : Type 0 where
   pub same_room : core.room ≡ room
   pub count : length core.order ≡ set.len core.view.writes
   pub same : (q : ℕ) → list_any (nat_eq q) core.order ≡ set.contains core.view.writes q
+  pub slotted : map core.slots core.order ≡ map Some core.held
 
 -- the sets of all cores but one are as they were
 pub record Elsewhere (before after : Content) (number : ℕ) : Type 0 where
   pub lines : (other : ℕ) → (nat_eq other number ≡ true → ⊥) → (kind : Kind) →
       after.lines other kind ≡ before.lines other kind
+  pub slots : (other : ℕ) → (nat_eq other number ≡ true → ⊥) → after.slots other ≡ before.slots other
   pub fixed : after.fixed ≡ before.fixed
 
 abbrev pub parts_setting : List ℕ → ℕ → ℕ → Content → Setting
@@ -208,3 +225,17 @@ pub record IsStep (setting : Setting) (memory : List ℕ) (views : ℕ → View)
   pub new_memory : memory_now ≡ (stepped setting memory (views number) (views number).mode).memory
   pub each : (other : ℕ) → other < count →
       views_now other ≡ views_after views number (stepped setting memory (views number) (views number).mode) other
+
+-- ---- a usual step where no core is open
+
+-- it ran in place, and nobody asks what it touched
+pub record RanUnseen (code : List ℕ) (base : ℕ) (memory memory_now : List ℕ) (cpu cpu_now : Cpu) (outcome : Outcome)
+    : Type 0 where
+  pub ran : OutsideStep
+  pub outcome_is : ran.outcome ≡ outcome
+  pub in_place : RanInPlace code base memory memory_now cpu cpu_now ran
+
+abbrev pub IsUsual : List ℕ → ℕ → List ℕ → List ℕ → Cpu → Cpu → Usual → Type 0
+IsUsual code base memory memory_now cpu cpu_now usual.Plain = RanUnseen code base memory memory_now cpu cpu_now Plain
+IsUsual code base memory memory_now cpu cpu_now usual.Loaded = RanUnseen code base memory memory_now cpu cpu_now Loaded
+IsUsual code base memory memory_now cpu cpu_now usual.Other = (memory_now ≡ memory) × (cpu_now ≡ cpu)

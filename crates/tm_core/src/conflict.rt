@@ -68,6 +68,9 @@ fn hit_line<S: Sets>(cpus: &mut [Cpu], sets: &mut S, c: u8, line: u32, kind: Kin
     ensures fixed { (S.content sets.new).fixed ≡ (S.content sets.old).fixed }
 {
     let mask = others_hit(sets, c, line, kind);
+    if mask == 0 {
+        return;
+    }
     for j in 0..cpus.len() {
         if has_bit(mask, j as u8) {
             condemn(&mut cpus[j], sets, j as u8);

@@ -11,6 +11,7 @@
 //! `sets`.
 #![tactic(auto)]
 
+mod boundary;
 mod conflict;
 mod cpu;
 mod fault;

@@ -1,12 +1,16 @@
 //! One core's transaction: its instructions, its commit and its abort.
 
 ghost use Rattle.std.specs.Prelude.{◌≡◌, ◌+◌, ◌-◌, ◌*◌, ◌/◌, ◌^◌, ◌<◌, ◌≤◌, ℕ, List, Option, None, [], ◌∷◌, true};
-ghost use Rattle.std.specs.Prelude.{false, length, map, nat_lt, not, slice_set, IfSome};
+ghost use Rattle.std.specs.Prelude.{false, length, map, nat_lt, not, slice_set, IfNone, IfSome, IsSome, ◌==◌};
+ghost use Rattle.std.specs.Prelude.{if◌then◌else◌};
 ghost use Rattle.std.specs.FinSet as set;
+ghost use Rattle.ia_row.specs.Lines.{AreLines};
+ghost use Rattle.ia_word.specs.Line.{line, last_line};
 ghost use Rattle.ia_word.specs.Width.{bytes_of, bits_of};
-ghost use Rattle.tm_buffer.specs.Buffer.{memory_with, Fits};
+ghost use Rattle.tm_buffer.specs.Buffer.{memory_with, Fits, first_slot, last_slot};
+ghost use Rattle.tm_quick.specs.Goes.{IsLineAt};
 ghost use Rattle.tm_rule.specs.Rule.{StandsAt, load_at as load_by, fallback_of};
-ghost use Rattle.tm_sets.specs.Content.{Content, with_line};
+ghost use Rattle.tm_sets.specs.Content.{AreSlots, Content, with_line};
 ghost use Rattle.tm_sets.specs.declared.interface.Kind as AnyKind;
 ghost use Rattle.tm_model.specs.Access.{addresses_of, loaded_addresses, loaded_value, stores_of};
 ghost use Rattle.tm_model.specs.Owed.{have_room};
@@ -15,14 +19,17 @@ ghost use Rattle.tm_core.specs.Representation.{IsLoadOnLines, Elsewhere, IsHeld,
 ghost use Rattle.tm_core.specs.Representation.{parts_setting};
 ghost use Rattle.tm_core.specs.StepRefinement.{add_all, grows, seen, stepped, store_addresses};
 
+use crate::boundary::end;
 use crate::cpu::Cpu;
 use crate::memory::read;
 use ia_addr::Access;
 use ia_exec::Store;
 use ia_regs::Regs;
+use ia_row::Line;
 use ia_word::{Width, line_of};
 use tm_model::{CoreState, Outcome};
-use tm_rule::{Code, Decoded, Inside, fallback, inside_in, load_at};
+use tm_quick::{access_of, line_at, quick_with_value};
+use tm_rule::{Code, Decoded, Inside, fallback, fetch, inside_in, load_at, row};
 use tm_sets::{Kind, Sets};
 use tm_status::{Cause, status};
 
@@ -46,14 +53,13 @@ pub fn abort<S: Sets>(
         }) }
     ensures elsewhere { Elsewhere (S.content sets.old) (S.content sets.new) c }
     ensures order { cpu.new.buffer.order ≡ [] }
+    ensures slots { cpu.new.buffer.slots ≡ [] }
     ensures room { cpu.new.buffer.room ≡ cpu.old.buffer.room }
 {
     let status = status(cause, depth > 1);
-    let mut regs = cpu.base;
-    regs.eip = fallback(code, &regs);
-    regs.set(0, status);
-    cpu.base = regs;
-    cpu.regs = regs;
+    cpu.base.eip = fallback(code, &cpu.base);
+    cpu.base.set(0, status);
+    cpu.regs = cpu.base;
     cpu.state = CoreState::Running;
     cpu.buffer.clear();
     sets.clear(c);
@@ -68,6 +74,7 @@ pub fn commit<S: Sets>(memory: &mut [u8], cpu: &mut Cpu, sets: &mut S, c: u8)
     ensures memory { memory.new ≡ memory_with cpu.old.buffer.bytes memory.old }
     ensures elsewhere { Elsewhere (S.content sets.old) (S.content sets.new) c }
     ensures order { cpu.new.buffer.order ≡ [] }
+    ensures slots { cpu.new.buffer.slots ≡ [] }
     ensures room { cpu.new.buffer.room ≡ cpu.old.buffer.room }
 {
     cpu.buffer.drain_into(memory);
@@ -76,16 +83,43 @@ pub fn commit<S: Sets>(memory: &mut [u8], cpu: &mut Cpu, sets: &mut S, c: u8)
     sets.clear(c);
 }
 
+// The slots of the lines of an access: that of its first byte's line, and of its last byte's where this is another.
+#[inline(always)]
+fn slots_of<S: Sets>(sets: &S, c: u8, addr: u32, width: Width) -> [Option<u32>; 2]
+    requires core { c < (S.content sets.now).fixed.cores }
+    requires within { addr + bytes_of width ≤ (S.content sets.now).fixed.line_count * 64 }
+    requires small { addr + bytes_of width ≤ 2 ^ 32 }
+    ensures first { first_slot result ≡ (S.content sets.now).slots c (line addr) }
+    ensures last { last_slot result ≡ (if last_line addr width == line addr then None
+        else (S.content sets.now).slots c (last_line addr width)) }
+    ensures all { AreSlots (S.content sets.now) }
+{
+    let first = line_of(addr);
+    let last = line_of(addr + (width.bytes() - 1));
+    let slot = sets.slot(c, first);
+    if last == first {
+        [slot, None]
+    } else {
+        [slot, sets.slot(c, last)]
+    }
+}
+
 // What the transaction loads: memory, with its own bytes laid over it.
-fn load(memory: &[u8], cpu: &Cpu, access: Option<Access>) -> u32
+#[inline(always)]
+fn load<S: Sets>(memory: &[u8], cpu: &Cpu, sets: &S, c: u8, access: Option<Access>) -> u32
+    requires core { c < (S.content sets.now).fixed.cores }
+    requires lines { length memory.now ≤ (S.content sets.now).fixed.line_count * 64 }
     requires small { length memory.now < 2 ^ 32 }
+    requires held { IsHeld ((S.content sets.now).fixed.room Kind.Write) (kept_of (S.content sets.now) c cpu.now) }
     requires within { IfSome access (λ a. a.addr + bytes_of a.width ≤ length memory.now) }
     ensures { result ≡ loaded_value access (map (seen cpu.now.buffer.bytes memory.now) (loaded_addresses access)) }
 {
     match access {
-        Some(a) => cpu
-            .buffer
-            .overlay(a.addr, a.width, read(memory, a.addr, a.width)),
+        Some(a) => {
+            let slots = slots_of(sets, c, a.addr, a.width);
+            let under = read(memory, a.addr, a.width);
+            cpu.buffer.overlay_at(a.addr, a.width, under, slots)
+        }
         None => 0,
     }
 }
@@ -98,8 +132,12 @@ fn add_line<S: Sets>(sets: &mut S, c: u8, line: u32, kind: Kind) -> bool
     requires room { set.len ((S.content sets.old).lines c kind) ≤ (S.content sets.old).fixed.room kind }
     ensures told { result ≡ not (nat_lt ((S.content sets.old).fixed.room kind)
         (set.len (set.insert ((S.content sets.old).lines c kind) line))) }
-    ensures ok { result ≡ true → S.content sets.new ≡ with_line (S.content sets.old) c kind line }
+    ensures ok { result ≡ true → S.content sets.new
+        ≡ with_line (S.content sets.old) c kind line (S.content sets.new).slots }
     ensures err { result ≡ false → S.content sets.new ≡ S.content sets.old }
+    ensures kept { (written : ℕ) → IsSome ((S.content sets.old).slots c written) →
+        (S.content sets.new).slots c written ≡ (S.content sets.old).slots c written }
+    ensures elsewhere { Elsewhere (S.content sets.old) (S.content sets.new) c }
 {
     sets.add(c, line, kind).is_ok()
 }
@@ -116,6 +154,8 @@ fn add_lines<S: Sets>(sets: &mut S, c: u8, addr: u32, width: Width, kind: Kind) 
         ≡ add_all ((S.content sets.old).lines c kind) (addresses_of addr width) }
     ensures others { (other : AnyKind.Kind) → Rattle.tm_sets.specs.Content.same_kind other kind ≡ false →
         (S.content sets.new).lines c other ≡ (S.content sets.old).lines c other }
+    ensures kept { (written : ℕ) → IsSome ((S.content sets.old).slots c written) →
+        (S.content sets.new).slots c written ≡ (S.content sets.old).slots c written }
     ensures elsewhere { Elsewhere (S.content sets.old) (S.content sets.new) c }
 {
     let first = line_of(addr);
@@ -140,6 +180,8 @@ fn touch<S: Sets>(sets: &mut S, c: u8, access: Option<Access>, store: Option<Sto
         ≡ add_all ((S.content sets.old).lines c Kind.Read) (loaded_addresses access) }
     ensures writes { result ≡ true → (S.content sets.new).lines c Kind.Write
         ≡ add_all ((S.content sets.old).lines c Kind.Write) (store_addresses store) }
+    ensures kept { (written : ℕ) → IsSome ((S.content sets.old).slots c written) →
+        (S.content sets.new).slots c written ≡ (S.content sets.old).slots c written }
     ensures elsewhere { Elsewhere (S.content sets.old) (S.content sets.new) c }
 {
     let read = match access {
@@ -190,10 +232,8 @@ fn grow<S: Sets>(
     if room {
         cpu.state = CoreState::Open(depth);
         if let Some(w) = store {
-            match cpu.buffer.put(w.addr, w.width, w.value) {
-                Ok(()) => {}
-                Err(_) => unreachable!(),
-            }
+            let slots = slots_of(sets, c, w.addr, w.width);
+            cpu.buffer.put_at(w.addr, w.width, w.value, slots);
         }
     }
     room
@@ -210,8 +250,9 @@ pub enum InsideStep {
     Commits,
 }
 
-/// A step of an open core, but for what it does to other cores, and what a commit does to memory.
-pub fn step_inside<S: Sets>(
+/// The same by the tests of one instruction, of which this is what stands at EIP.
+#[inline(never)]
+fn step_inside<S: Sets>(
     row: &Decoded,
     code: &Code,
     memory: &[u8],
@@ -241,7 +282,7 @@ pub fn step_inside<S: Sets>(
     ensures order { result ≡ InsideStep.Commits → cpu.new.buffer.order ≡ cpu.old.buffer.order }
 {
     let access = load_at(row, &cpu.regs, size);
-    let loaded = load(memory, cpu, access);
+    let loaded = load(memory, cpu, sets, c, access);
     match inside_in(row, code, size, &mut cpu.regs, loaded, depth) {
         Inside::Fails(cause) => InsideStep::Aborts(abort(code, cpu, sets, c, cause, depth)),
         Inside::GoesOn(store) => {
@@ -267,5 +308,100 @@ pub fn step_inside<S: Sets>(
                 InsideStep::GoesInside(access)
             }
         }
+    }
+}
+
+// The step of an open core whose line loads or stores a doubleword, where the instruction goes on. None, and nothing
+// changed, for any other.
+#[inline(always)]
+fn step_line<S: Sets>(
+    line: &Line,
+    code: &Code,
+    memory: &[u8],
+    cpu: &mut Cpu,
+    sets: &mut S,
+    c: u8,
+    depth: u8,
+) -> Option<InsideStep>
+    requires line { IsLineAt code.now.bytes.now code.now.base cpu.old.regs.eip line.now }
+    requires core { c < (S.content sets.old).fixed.cores }
+    requires lines { length memory.now ≤ (S.content sets.old).fixed.line_count * 64 }
+    requires small { length memory.now < 2 ^ 32 }
+    requires mode { cpu.old.state ≡ CoreState.Open depth }
+    requires reads { set.len ((S.content sets.old).lines c Kind.Read) ≤ (S.content sets.old).fixed.room Kind.Read }
+    requires writes { set.len ((S.content sets.old).lines c Kind.Write) ≤ (S.content sets.old).fixed.room Kind.Write }
+    requires held { IsHeld ((S.content sets.old).fixed.room Kind.Write) (kept_of (S.content sets.old) c cpu.old) }
+    ensures step { IfSome result (λ went. stepped
+        (parts_setting code.now.bytes.now code.now.base (length memory.now) (S.content sets.old)) memory.now
+        (cpu_view (S.content sets.old) c cpu.old) (CoreState.Open depth)
+        ≡ left_inside memory.now went (cpu_view (S.content sets.new) c cpu.new)) }
+    ensures held { IfSome result (λ went. IsHeld ((S.content sets.old).fixed.room Kind.Write)
+        (kept_of (S.content sets.new) c cpu.new)) }
+    ensures lines { IfSome result (λ went. IsLoadOnLines (S.content sets.old) went) }
+    ensures elsewhere { IfSome result (λ went. Elsewhere (S.content sets.old) (S.content sets.new) c) }
+    ensures stays { IfSome result (λ went. went ≡ InsideStep.Commits → ⊥) }
+    ensures same { IfNone result ((cpu.new ≡ cpu.old) × (sets.new ≡ sets.old)) }
+{
+    let access = access_of(line, &cpu.regs, memory)?;
+    let loaded = load(memory, cpu, sets, c, access);
+    let store = quick_with_value(line, loaded, &mut cpu.regs, memory, code.bytes, code.base)?;
+    if grow(cpu, sets, c, access, store, depth) {
+        Some(InsideStep::GoesInside(access))
+    } else {
+        let outcome = abort(code, cpu, sets, c, Cause::Capacity, depth);
+        Some(InsideStep::Aborts(outcome))
+    }
+}
+
+/// A step of an open core, but for what it does to other cores, and what a commit does to memory.
+pub fn step_at<S: Sets>(
+    lines: &[Line],
+    code: &Code,
+    memory: &[u8],
+    cpu: &mut Cpu,
+    sets: &mut S,
+    c: u8,
+    size: u32,
+    depth: u8,
+) -> InsideStep
+    requires decoded { AreLines code.now.bytes.now lines.now }
+    requires core { c < (S.content sets.old).fixed.cores }
+    requires lines { size ≤ (S.content sets.old).fixed.line_count * 64 }
+    requires size { size ≡ length memory.now }
+    requires mode { cpu.old.state ≡ CoreState.Open depth }
+    requires deep { 0 < depth }
+    requires depth { depth ≤ 7 }
+    requires reads { set.len ((S.content sets.old).lines c Kind.Read) ≤ (S.content sets.old).fixed.room Kind.Read }
+    requires writes { set.len ((S.content sets.old).lines c Kind.Write) ≤ (S.content sets.old).fixed.room Kind.Write }
+    requires held { IsHeld ((S.content sets.old).fixed.room Kind.Write) (kept_of (S.content sets.old) c cpu.old) }
+    ensures step { stepped (parts_setting code.now.bytes.now code.now.base size (S.content sets.old)) memory.now
+        (cpu_view (S.content sets.old) c cpu.old) (CoreState.Open depth)
+        ≡ left_inside memory.now result (cpu_view (S.content sets.new) c cpu.new) }
+    ensures held { IsHeld ((S.content sets.old).fixed.room Kind.Write) (kept_of (S.content sets.new) c cpu.new) }
+    ensures lines { IsLoadOnLines (S.content sets.old) result }
+    ensures elsewhere { Elsewhere (S.content sets.old) (S.content sets.new) c }
+    ensures buffer { result ≡ InsideStep.Commits → cpu.new.buffer.bytes ≡ cpu.old.buffer.bytes }
+    ensures order { result ≡ InsideStep.Commits → cpu.new.buffer.order ≡ cpu.old.buffer.order }
+{
+    if let Some(line) = line_at(lines, code.base, cpu.regs.eip) {
+        if depth == 1 && end(line, cpu) {
+            return InsideStep::Commits;
+        }
+        if let Some(step) = step_line(line, code, memory, cpu, sets, c, depth) {
+            return step;
+        }
+    }
+    match row(code, cpu.regs.eip) {
+        Some(row) => step_inside(row, code, memory, cpu, sets, c, size, depth),
+        None => step_inside(
+            &fetch(code, cpu.regs.eip),
+            code,
+            memory,
+            cpu,
+            sets,
+            c,
+            size,
+            depth,
+        ),
     }
 }

@@ -71,7 +71,7 @@ returns-else-grow-clause-step g c =
 
 pub returns-else-grow-clause-held : goal.returns-else-grow-clause-held
 returns-else-grow-clause-held g c =
-    held_plain ((g.S.Sets.content c.args.sets.now).fixed.room Write) _ (c.abort-else-grow.ensures.room ∙ c.grow.ensures.room ∙ c.requires.held.same_room) c.abort-else-grow.ensures.order (ap (λ (w : View). w.writes) c.abort-else-grow.ensures.view)
+    held_plain ((g.S.Sets.content c.args.sets.now).fixed.room Write) _ (c.abort-else-grow.ensures.room ∙ c.grow.ensures.room ∙ c.requires.held.same_room) c.abort-else-grow.ensures.order c.abort-else-grow.ensures.slots (ap (λ (w : View). w.writes) c.abort-else-grow.ensures.view)
 
 pub returns-then-grow-2-clause-step : goal.returns-then-grow-2-clause-step
 returns-then-grow-2-clause-step g c =
@@ -99,7 +99,7 @@ returns-else-grow-2-clause-step g c =
 
 pub returns-else-grow-2-clause-held : goal.returns-else-grow-2-clause-held
 returns-else-grow-2-clause-held g c =
-    held_plain ((g.S.Sets.content c.args.sets.now).fixed.room Write) _ (c.abort-else-grow-2.ensures.room ∙ c.grow-in-Nests.ensures.room ∙ c.requires.held.same_room) c.abort-else-grow-2.ensures.order (ap (λ (w : View). w.writes) c.abort-else-grow-2.ensures.view)
+    held_plain ((g.S.Sets.content c.args.sets.now).fixed.room Write) _ (c.abort-else-grow-2.ensures.room ∙ c.grow-in-Nests.ensures.room ∙ c.requires.held.same_room) c.abort-else-grow-2.ensures.order c.abort-else-grow-2.ensures.slots (ap (λ (w : View). w.writes) c.abort-else-grow-2.ensures.view)
 
 pub returns-then-not-grow-clause-step : goal.returns-then-not-grow-clause-step
 returns-then-not-grow-clause-step g c =
@@ -115,11 +115,11 @@ returns-then-not-grow-clause-step g c =
 
 pub returns-then-not-grow-clause-held : goal.returns-then-not-grow-clause-held
 returns-then-not-grow-clause-held g c =
-    held_plain ((g.S.Sets.content c.args.sets.now).fixed.room Write) _ (c.abort-then-not-grow.ensures.room ∙ c.grow-in-Ends.ensures.room ∙ c.requires.held.same_room) c.abort-then-not-grow.ensures.order (ap (λ (w : View). w.writes) c.abort-then-not-grow.ensures.view)
+    held_plain ((g.S.Sets.content c.args.sets.now).fixed.room Write) _ (c.abort-then-not-grow.ensures.room ∙ c.grow-in-Ends.ensures.room ∙ c.requires.held.same_room) c.abort-then-not-grow.ensures.order c.abort-then-not-grow.ensures.slots (ap (λ (w : View). w.writes) c.abort-then-not-grow.ensures.view)
 
 pub returns-in-Fails-clause-held : goal.returns-in-Fails-clause-held
 returns-in-Fails-clause-held g c =
-    held_plain ((g.S.Sets.content c.args.sets.now).fixed.room Write) _ (c.abort.ensures.room ∙ c.requires.held.same_room) c.abort.ensures.order (ap (λ (w : View). w.writes) c.abort.ensures.view)
+    held_plain ((g.S.Sets.content c.args.sets.now).fixed.room Write) _ (c.abort.ensures.room ∙ c.requires.held.same_room) c.abort.ensures.order c.abort.ensures.slots (ap (λ (w : View). w.writes) c.abort.ensures.view)
 
 pub returns-then-depth-eq1-clause-step : goal.returns-then-depth-eq1-clause-step
 returns-then-depth-eq1-clause-step g c =
