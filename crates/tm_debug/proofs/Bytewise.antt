@@ -4,14 +4,15 @@ use Rattle.std.specs.Prelude.{◌==◌}
 use Rattle.ia_lex.specs.Lines.{lines_of, without_cr}
 use Rattle.tm_debug.specs.declared.line.Line.{Line}
 use Rattle.tm_debug.specs.declared.line.LineStart.{LineStart}
-use Rattle.tm_debug.specs.Serving.{IsKept, IsLast, IsLine, ReadsLine}
-use Rattle.tm_debug.proofs.Feeds.{NoFeed, line_at_end, line_at_feed, no_feed_more}
+use Rattle.std.specs.Io.KnownBytes.{Keeps}
+use Rattle.tm_debug.specs.Serving.{BeginsLine, HasNoFeed, IsKept, IsLast, IsLine, ReadsLine}
+use Rattle.tm_debug.proofs.Feeds.{line_at_end, line_at_feed, no_feed_more}
 
 -- of the known input these bytes were read, and the others are left
 pub record Reading (old new : Option (List ℕ)) (failed_old failed_new : ℕ) (s : LineStart) : Type 0 where
   pub taken : List ℕ
   pub kept : IsKept taken s
-  pub no_feed : NoFeed taken
+  pub no_feed : HasNoFeed taken
   pub failed : failed_new ≡ failed_old
   pub input : (xs : List ℕ) → old ≡ Some xs → (ys : List ℕ) × (new ≡ Some ys) × (xs ≡ taken ++ ys)
 
@@ -42,8 +43,19 @@ pub read_feed : {a b c : Option (List ℕ)} {f g : ℕ} {s : LineStart} (byte : 
 read_feed byte line feed r reads gives xs e =
     let before = r.input xs e in
     let after = reads before.0 before.1 in
-    let whole : xs ≡ r.taken ++ 10 ∷ after.0 = before.2 ∙ ap (λ l. r.taken ++ l) after.2 ∙ ap (λ b. r.taken ++ b ∷ after.0) feed in
-    (after.0, after.1, inr (without_cr r.taken, gives r.taken r.kept, ap lines_of whole ∙ line_at_feed r.taken after.0 r.no_feed))
+    let whole : xs ≡ r.taken ++ 10 ∷ after.0 = before.2 ∙ ap (λ l. r.taken ++ l) after.2 ∙ ap (λ b. r.taken ++ b ∷ after.0) feed in (
+      after.0,
+      after.1,
+      inr (
+        without_cr r.taken,
+        gives r.taken r.kept,
+        record {
+          bytes = r.taken ++ 10 ∷ [];
+          split = whole ∙ sym (append_assoc r.taken (10 ∷ []) after.0);
+          ended = inr (λ zs. ap lines_of (append_assoc r.taken (10 ∷ []) zs) ∙ line_at_feed r.taken zs r.no_feed);
+        },
+      ),
+    )
 
 pub read_end : {a b c : Option (List ℕ)} {f g : ℕ} {s : LineStart} (line : Line) → Reading a b f g s → ReadsByte b c None → ((taken : List ℕ) → IsKept taken s → IsLast taken line) → GivesLine a c line
 read_end line r reads gives xs e =
@@ -52,6 +64,28 @@ read_end line r reads gives xs e =
     let none : after.0 ≡ [] = after.3 refl in
     let whole : xs ≡ r.taken = before.2 ∙ ap (λ l. r.taken ++ l) (after.2 ∙ none) ∙ append-nil r.taken in
     elim (gives r.taken r.kept) [
-      | inl end ↦ (after.0, after.1, inl (end.0, whole ∙ end.1))
-      | inr last ↦ (after.0, after.1, inr (r.taken, last.1, ap lines_of whole ∙ line_at_end r.taken last.0 r.no_feed ∙ ap (λ l. r.taken ∷ lines_of l) (sym none)))
+      | inl end ↦ (after.0, after.1, inl (end.0, whole ∙ end.1, none))
+      | inr last ↦ (
+        after.0,
+        after.1,
+        inr (
+          r.taken,
+          last.1,
+          record {
+            bytes = r.taken;
+            split = before.2 ∙ ap (λ l. r.taken ++ l) after.2;
+            ended = inl (none, line_at_end r.taken last.0 r.no_feed);
+          },
+        ),
+      )
     ]
+
+-- the input failed
+pub read_fails : {a b c : Option (List ℕ)} {f g : ℕ} {s : LineStart} → Reading a b f g s → Keeps b c → (xs : List ℕ) → a ≡ Some xs → (ys : List ℕ) × (c ≡ Some ys) × BeginsLine xs ys
+read_fails {a} {b} {c} r keeps xs e =
+    let before = r.input xs e in
+    (before.0, kept_is b c before.0 before.1 keeps, record { begun = r.taken; split = before.2; no_feed = r.no_feed }) where
+      kept_is : (b c : Option (List ℕ)) (ys : List ℕ) → b ≡ Some ys → Keeps b c → c ≡ Some ys
+      kept_is None c ys e h = cc
+      kept_is (Some xs) None ys e h = absurd h
+      kept_is (Some xs) (Some zs) ys e h = ap Some h ∙ e

@@ -1,12 +1,12 @@
 -- Texts that are written in parts, and runs that grow by a step.
-use Rattle.std.proofs.Common.{◌≡◌, ℕ, zero, suc, ◌+◌, ◌-◌, ◌%◌, ◌^◌, ◌<◌, ◌==◌, List, [], ◌++◌, drop, refl, sym, ap, ◌∙◌, arith, append-nil, inl, inr, subst}
+use Rattle.std.proofs.Common.{◌≡◌, ℕ, zero, suc, ◌+◌, ◌-◌, ◌%◌, ◌^◌, ◌<◌, ◌==◌, List, ◌++◌, drop, refl, sym, ap, ◌∙◌, arith, inr, subst}
 use Rattle.std.specs.Prelude.{Result, Ok, Err, IsErr, OnErr, OnOk}
 use Rattle.ia_text.specs.Listing.{listing_line, shown_bytes}
 use Rattle.ia_text.specs.Writing.{Device, Stopped, Writes, Wrote}
-use Rattle.ia_text.proofs.Writing.{stopped_then, writes_stopped, writes_then, wrote_none, wrote_then}
+use Rattle.ia_text.proofs.Writing.{writes_stopped, writes_then, wrote_none, wrote_then}
 use Rattle.tm_debug.specs.declared.state.RunCheck.{RunCheck}
-use Rattle.tm_debug.specs.declared.state.RunCheck.TheVariants.{Go}
-use Rattle.tm_debug.specs.Session.{GoAnswer, SessionValue, IsRunOf, RunPart, RunWhole, run_ending, some_lines, run_check}
+use Rattle.tm_debug.specs.declared.state.RunCheck.TheVariants.{AllStopped, AtBreakpoint, Full, Go}
+use Rattle.tm_debug.specs.Session.{GoAnswer, IsRunOf, NextLine, RunBroken, RunWhole, SessionValue, run_check, run_ending, some_lines}
 
 pub no_lines : (d : Device) (n : ℕ) (code : List ℕ) (at : ℕ) → n ≡ 0 → Wrote d d (some_lines n code at)
 unfolding some_lines
@@ -60,26 +60,34 @@ pub on_err : {T E : Type 0} (r : Result T E) (P : Type 0) → P → OnErr r P
 on_err (Ok x) P h = tt
 on_err (Err e) P h = h
 
--- the line of the last step was not written whole
-pub step_broken : {a b c : Device} (count n : ℕ) (p q s : SessionValue) (core : ℕ) → n < count → run_check q (n == 0) ≡ Go core → SoFar n p q a b → (line : List ℕ) × GoAnswer q core line s × Stopped b c line →
-    (text : List ℕ) × RunPart count p text s × Stopped a c text
-step_broken count n p q s core below turn so_far told = (
-  so_far.0 ++ told.0,
-  record {
-    count = n + 1;
-    lines = so_far.0 ++ told.0;
-    tail = [];
-    few = omega arith;
-    ran = ran_more n p q s core so_far.0 told.0 turn so_far.1 told.1;
-    tail_is = inl refl;
-    whole = sym (append-nil (so_far.0 ++ told.0));
-  },
-  stopped_then so_far.2 told.2,
-)
+-- the next line was not written whole
+next_broken : {a b c : Device} (count n : ℕ) (p q s : SessionValue) (turn : RunCheck) (line : List ℕ) → n < count → turn ≡ run_check q (n == 0) → NextLine turn q line s → SoFar n p q a b → Stopped b c line → RunBroken count p a c s
+next_broken {a} {b} {c} count n p q s turn line below same next so_far stopped = record {
+  count = n;
+  below = below;
+  lines = so_far.0;
+  before = q;
+  ran = so_far.1;
+  between = b;
+  wrote = so_far.2;
+  last = line;
+  next_line = subst (λ (t : RunCheck). NextLine t q line s) same next;
+  stopped = stopped;
+}
+
+-- the line of a step was not written whole
+pub step_broken : {a b c : Device} (count n : ℕ) (p q s : SessionValue) (core : ℕ) → n < count → run_check q (n == 0) ≡ Go core → SoFar n p q a b → (line : List ℕ) × GoAnswer q core line s × Stopped b c line → RunBroken count p a c s
+step_broken count n p q s core below turn so_far told = next_broken count n p q s (Go core) told.0 below (sym turn) told.1 so_far told.2
+
+ending_line : (turn : RunCheck) (q : SessionValue) → ((core : ℕ) → turn ≡ Go core → ⊥) → NextLine turn q (run_ending turn) q
+ending_line AllStopped q ends = (refl, refl)
+ending_line Full q ends = (refl, refl)
+ending_line (AtBreakpoint core address) q ends = (refl, refl)
+ending_line (Go core) q ends = absurd (ends core refl)
 
 -- a test ends the run
 pub run_ended : {E : Type 0} (a b c : Device) (count n : ℕ) (p q : SessionValue) (turn : RunCheck) (r : Result (Unit {0}) E) → n < count → turn ≡ run_check q (n == 0) → ((core : ℕ) → turn ≡ Go core → ⊥) → SoFar n p q a b → Writes b c (run_ending turn) r →
-    OnOk r ((text : List ℕ) × RunWhole count p text q × Wrote a c text) × OnErr r ((text : List ℕ) × RunPart count p text q × Stopped a c text)
+    OnOk r ((text : List ℕ) × RunWhole count p text q × Wrote a c text) × OnErr r (RunBroken count p a c q)
 run_ended a b c count n p q turn (Ok done) below same ends so_far writes = (
   (
     so_far.0 ++ run_ending turn,
@@ -97,17 +105,5 @@ run_ended a b c count n p q turn (Ok done) below same ends so_far writes = (
 )
 run_ended a b c count n p q turn (Err fault) below same ends so_far writes = (
   tt,
-  (
-    so_far.0 ++ run_ending turn,
-    record {
-      count = n;
-      lines = so_far.0;
-      tail = run_ending turn;
-      few = omega arith;
-      ran = so_far.1;
-      tail_is = inr (ap run_ending same);
-      whole = refl;
-    },
-    stopped_then so_far.2 writes,
-  ),
+  next_broken count n p q q turn (run_ending turn) below same (ending_line turn q ends) so_far writes,
 )

@@ -1,22 +1,23 @@
 -- Sessions that grow by a line.
-use Rattle.std.proofs.Common.{◌≡◌, ◌==◌, ◌<◌, length, ℕ, List, [], ◌∷◌, ◌++◌, Option, Some, refl, sym, ◌∙◌, ap, append-nil, append_assoc, inl, inr, subst}
-use Rattle.std.specs.Prelude.{Result, Ok, Err, MatchResult, OnErr, OnOk}
+use Rattle.std.proofs.Common.{◌≡◌, ◌⊎◌, ◌==◌, ◌<◌, Bool, true, false, length, ℕ, List, [], ◌∷◌, ◌++◌, Option, Some, refl, sym, ◌∙◌, ap, append-nil, append_assoc, inl, inr, subst}
+use Rattle.std.specs.Prelude.{Result, Ok, Err, MatchResult, OnOk}
 use Rattle.tm_debug.specs.declared.interruption.Interruption.{Interruption}
-use Rattle.std.specs.Io.KnownBytes.{Appends}
 use Rattle.ia_lex.specs.Lines.{lines_of}
-use Rattle.ia_text.specs.Writing.{AppendsFront, Device, Rose, Stopped, Wrote}
-use Rattle.ia_text.proofs.Writing.{stopped_then, wrote_none, wrote_then}
+use Rattle.ia_text.specs.Writing.{Device, Rose, Stopped, Wrote}
+use Rattle.ia_text.proofs.Writing.{wrote_none, wrote_then}
 use Rattle.tm_debug.specs.declared.line.Line.{Line}
 use Rattle.tm_debug.specs.declared.line.Line.TheVariants as read
 use Rattle.tm_debug.specs.declared.session.Request.{Request}
-use Rattle.tm_debug.specs.declared.session.Request.TheVariants.{Leave, Refuse}
+use Rattle.tm_debug.specs.declared.session.Request.TheVariants.{Do, Leave, Nothing, Refuse}
+use Rattle.tm_debug.specs.declared.command.Command.{Command}
+use Rattle.tm_debug.specs.declared.command.Command.TheVariants as command
 use Rattle.tm_debug.specs.declared.refusal.Refusal.TheVariants.{UnknownCommand}
 use Rattle.tm_debug.specs.Commands.{command_of}
 use Rattle.tm_debug.specs.Words.{first_word}
 use Rattle.std.proofs.lemmas.Bool.{lt-ltb}
 use Rattle.tm_debug.specs.declared.interruption.Interruption.TheVariants as interruption
-use Rattle.tm_debug.specs.Session.{Ends, SessionValue, bye_line}
-use Rattle.tm_debug.specs.Serving.{IsLine, ReadsLine, Replies, RepliesPart, Serves, ServesBefore, ServesPart, WantsMemory, AnswersLines, first_request, request_by, request_of}
+use Rattle.tm_debug.specs.Session.{AnswersBroken, Ends, SessionValue, bye_line, is_run_length, run_broken_by}
+use Rattle.tm_debug.specs.Serving.{AnswersLines, BeginsLine, FailsToRead, FailsToWrite, FindsNoMemory, FirstLine, IsEnded, IsLine, LinesRead, Replies, RepliesBroken, ServesInput, WantsMemory, first_request, request_by, request_of}
 use Rattle.tm_debug.proofs.Bytewise.{GivesLine}
 
 went_more : (front : List (List ℕ)) (line : List ℕ) (p q s : SessionValue) (told answer : List ℕ) → AnswersLines front p told q → Replies (request_of line) q answer s → AnswersLines (front ++ line ∷ []) p (told ++ answer) s
@@ -37,6 +38,36 @@ went_more (first ∷ front) line p q s told answer h r = record {
   whole = ap (λ l. l ++ answer) h.whole ∙ append_assoc h.answer h.others answer;
 }
 
+-- the lines of these bytes, whatever follows; or nothing follows
+abbrev pub Closed : List ℕ → List (List ℕ) → List ℕ → Type 0
+Closed bytes front rest = ((rest ≡ []) × (lines_of bytes ≡ front)) ⊎ ((zs : List ℕ) → lines_of (bytes ++ zs) ≡ front ++ lines_of zs)
+
+closed_lines : (bytes : List ℕ) (front : List (List ℕ)) (rest : List ℕ) → Closed bytes front rest → lines_of bytes ≡ front
+closed_lines bytes front rest (inl end) = end.1
+closed_lines bytes front rest (inr more) = ap lines_of (sym (append-nil bytes)) ∙ more [] ∙ append-nil front
+
+closed_split : (bytes : List ℕ) (front : List (List ℕ)) (rest : List ℕ) → Closed bytes front rest → lines_of (bytes ++ rest) ≡ front ++ lines_of rest
+closed_split bytes front rest (inl end) =
+    ap (λ l. lines_of (bytes ++ l)) end.0 ∙ ap lines_of (append-nil bytes) ∙ end.1 ∙ sym (append-nil front) ∙ ap (λ l. front ++ lines_of l) (sym end.0)
+closed_split bytes front rest (inr more) = more rest
+
+first_split : (text xs ys bytes : List ℕ) → xs ≡ bytes ++ ys → IsEnded bytes text ys → lines_of xs ≡ text ∷ lines_of ys
+first_split text xs ys bytes split (inl end) =
+    ap lines_of split ∙ ap (λ l. lines_of (bytes ++ l)) end.0 ∙ ap lines_of (append-nil bytes) ∙ end.1 ∙ ap (λ l. text ∷ lines_of l) (sym end.0)
+first_split text xs ys bytes split (inr more) = ap lines_of split ∙ more ys
+
+some_line : {X : Type 0} (text xs : List ℕ) (more : List (List ℕ)) → lines_of xs ≡ text ∷ more → xs ≡ [] → X
+some_line text xs more lines none = let e : lines_of [] ≡ text ∷ more = ap lines_of (sym none) ∙ lines in cc
+
+closed_ended : (bytes : List ℕ) (front : List (List ℕ)) (line ys next : List ℕ) → ((zs : List ℕ) → lines_of (bytes ++ zs) ≡ front ++ lines_of zs) → IsEnded next line ys → Closed (bytes ++ next) (front ++ line ∷ []) ys
+closed_ended bytes front line ys next more (inl end) = inl (end.0, more next ∙ ap (λ l. front ++ l) end.1)
+closed_ended bytes front line ys next more (inr after) =
+    inr (λ zs. ap lines_of (append_assoc bytes next zs) ∙ more (next ++ zs) ∙ ap (λ l. front ++ l) (after zs) ∙ sym (append_assoc front (line ∷ []) (lines_of zs)))
+
+closed_more : (bytes : List ℕ) (front : List (List ℕ)) (rest line ys : List ℕ) → Closed bytes front rest → (first : FirstLine line rest ys) → Closed (bytes ++ first.bytes) (front ++ line ∷ []) ys
+closed_more bytes front rest line ys (inl end) first = some_line line rest (lines_of ys) (first_split line rest ys first.bytes first.split first.ended) end.0
+closed_more bytes front rest line ys (inr more) first = closed_ended bytes front line ys first.bytes more first.ended
+
 -- of a known input these lines were answered
 pub record Known (xs : List ℕ) (left : Option (List ℕ)) (p q : SessionValue) (old new : Device) : Type 0 where
   pub front : List (List ℕ)
@@ -46,6 +77,9 @@ pub record Known (xs : List ℕ) (left : Option (List ℕ)) (p q : SessionValue)
   pub wrote : Wrote old new told
   pub is_left : left ≡ Some rest
   pub split : lines_of xs ≡ front ++ lines_of rest
+  pub bytes : List ℕ
+  pub parted : xs ≡ bytes ++ rest
+  pub closed : Closed bytes front rest
 
 pub record Serving (given left : Option (List ℕ)) (failed_old failed_new : ℕ) (p q : SessionValue) (old new : Device) : Type 0 where
   pub failed : failed_new ≡ failed_old
@@ -56,7 +90,7 @@ pub serving_new : (given : Option (List ℕ)) (failed : ℕ) (p : SessionValue) 
 serving_new given failed p d = record {
   failed = refl;
   failures = refl;
-  known = λ xs e. record { front = []; told = []; rest = xs; went = (refl, refl); wrote = wrote_none d; is_left = e; split = refl };
+  known = λ xs e. record { front = []; told = []; rest = xs; went = (refl, refl); wrote = wrote_none d; is_left = e; split = refl; bytes = []; parted = refl; closed = inr (λ zs. refl) };
 }
 
 abbrev pub Requests : Request → Line → Type 0
@@ -79,98 +113,136 @@ serving_more p q s line request so_far gives same requests stays done = record {
           went = went_more k.front one.0 p q s k.told done.0 k.went (subst (λ (w : Request). Replies w q done.0 s) (requests.0 one.0 one.1) done.1);
           wrote = wrote_then k.wrote done.2;
           is_left = next.1;
-          split = k.split ∙ ap (λ l. k.front ++ l) one.2 ∙ sym (append_assoc k.front (one.0 ∷ []) (lines_of next.0));
+          split = k.split ∙ ap (λ l. k.front ++ l) (first_split one.0 k.rest next.0 one.2.bytes one.2.split one.2.ended) ∙ sym (append_assoc k.front (one.0 ∷ []) (lines_of next.0));
+          bytes = k.bytes ++ one.2.bytes;
+          parted = k.parted ∙ ap (λ l. k.bytes ++ l) one.2.split ∙ sym (append_assoc k.bytes one.2.bytes next.0);
+          closed = closed_more k.bytes k.front k.rest one.0 next.0 k.closed one.2;
         }
       ];
 }
 
--- the lines that are left begin with this request
-left_request : (xs ys : List ℕ) (line : Line) (request : Request) → ReadsLine line xs ys → Requests request line → first_request (lines_of xs) ≡ request
-left_request xs ys line request (inl end) requests = ap (λ l. first_request (lines_of l)) end.1 ∙ sym (requests.1 end.0)
-left_request xs ys line request (inr one) requests = ap first_request one.2 ∙ sym (requests.0 one.0 one.1)
+-- the lines that were answered, and the one that was read then
+record Taken (xs : List ℕ) (left : Option (List ℕ)) (front : List (List ℕ)) (request : Request) : Type 0 where
+  rest : List ℕ
+  is_left : left ≡ Some rest
+  last : List (List ℕ)
+  taken : LinesRead xs rest front last
+  asks : first_request last ≡ request
+
+taken_end : {left : Option (List ℕ)} (xs ys bytes : List ℕ) (front : List (List ℕ)) (before : List ℕ) (line : Line) (request : Request) → left ≡ Some ys → xs ≡ bytes ++ before → Closed bytes front before →
+    lines_of xs ≡ front ++ lines_of before → Requests request line → line ≡ read.End → before ≡ [] → ys ≡ [] → Taken xs left front request
+taken_end xs ys bytes front before line request is_left parted closed split requests end none left =
+    let same = closed_lines bytes front before closed in
+    record {
+      rest = ys;
+      is_left = is_left;
+      last = [];
+      taken = record {
+        read = bytes;
+        whole = parted ∙ ap (λ l. bytes ++ l) (none ∙ sym left);
+        lines = split ∙ ap (λ l. l ++ lines_of before) (sym same) ∙ ap (λ l. lines_of bytes ++ lines_of l) (none ∙ sym left);
+        split = same ∙ sym (append-nil front);
+        one = inr (refl, left);
+      };
+      asks = sym (requests.1 end);
+    }
+
+taken_line : {left : Option (List ℕ)} (xs ys bytes : List ℕ) (front : List (List ℕ)) (before text : List ℕ) (line : Line) (request : Request) → left ≡ Some ys → xs ≡ bytes ++ before → Closed bytes front before →
+    Requests request line → IsLine text line → (one : FirstLine text before ys) → Taken xs left front request
+taken_line xs ys bytes front before text line request is_left parted closed requests is_line one =
+    let now = closed_more bytes front before text ys closed one in
+    let taken = bytes ++ one.bytes in
+    let lines = front ++ text ∷ [] in
+    let whole : xs ≡ taken ++ ys = parted ∙ ap (λ l. bytes ++ l) one.split ∙ sym (append_assoc bytes one.bytes ys) in
+    let same : lines_of taken ≡ lines = closed_lines taken lines ys now in
+    record {
+      rest = ys;
+      is_left = is_left;
+      last = text ∷ [];
+      taken = record {
+        read = taken;
+        whole = whole;
+        lines = ap lines_of whole ∙ closed_split taken lines ys now ∙ ap (λ l. l ++ lines_of ys) (sym same);
+        split = same;
+        one = inl refl;
+      };
+      asks = sym (requests.0 text is_line);
+    }
+
+takes : {b c : Option (List ℕ)} (xs : List ℕ) (p q : SessionValue) (d0 d1 : Device) (line : Line) (request : Request) → (k : Known xs b p q d0 d1) → GivesLine b c line → Requests request line → Taken xs c k.front request
+takes xs p q d0 d1 line request k gives requests =
+    let next = gives k.rest k.is_left in
+    elim (next.2) [
+      | inl end ↦ taken_end xs next.0 k.bytes k.front k.rest line request next.1 k.parted k.closed k.split requests end.0 end.1 end.2
+      | inr one ↦ taken_line xs next.0 k.bytes k.front k.rest one.0 line request next.1 k.parted k.closed requests one.1 one.2
+    ]
 
 pub serving_ends : {a b c : Option (List ℕ)} {f g : ℕ} {d0 d1 d2 : Device} (p q : SessionValue) (line : Line) (request : Request) → Serving a b f g p q d0 d1 → GivesLine b c line → Requests request line → request ≡ Leave → Wrote d1 d2 bye_line →
-    (xs : List ℕ) → a ≡ Some xs → (text : List ℕ) × Serves (lines_of xs) p text q × Wrote d0 d2 text
-serving_ends p q line request so_far gives requests leave wrote xs e =
+    ServesInput a c p d0 d2 q.board
+serving_ends {a} {b} {c} {f} {g} {d0} {d1} {d2} p q line request so_far gives requests leave wrote xs e =
     let k = so_far.known xs e in
-    let next = gives k.rest k.is_left in (
+    let t = takes xs p q d0 d1 line request k gives requests in (
+      t.rest,
       k.told ++ bye_line,
+      q,
+      t.is_left,
       record {
         front = k.front;
-        left = lines_of k.rest;
-        split = k.split;
+        last = t.last;
+        taken = t.taken;
         told = k.told;
         went = k.went;
-        ends = left_request k.rest next.0 line request next.2 requests ∙ leave;
+        ends = t.asks ∙ leave;
         whole = refl;
       },
+      refl,
       wrote_then k.wrote wrote,
     )
 
-whole_front : (a b : Option (List ℕ)) (text : List ℕ) → Appends a b text → AppendsFront a b text
-whole_front a b text h = (text, [], sym (append-nil text), h)
-
-abbrev pub Broken : Option (List ℕ) → SessionValue → SessionValue → Device → Device → Type 0
-Broken given p q old new = (xs : List ℕ) → given ≡ Some xs → (text : List ℕ) × ServesPart (lines_of xs) p text q × AppendsFront old.contents new.contents text
-
--- between two lines
-pub broken_between : {a b : Option (List ℕ)} {f g : ℕ} {d0 d1 : Device} (p q : SessionValue) → Serving a b f g p q d0 d1 → Broken a p q d0 d1
-broken_between {a} {b} {f} {g} {d0} {d1} p q so_far xs e =
-    let k = so_far.known xs e in (
+-- the input failed before a line was read to its end
+pub fails_to_read : {a b c : Option (List ℕ)} {f g : ℕ} {d0 d1 : Device} (p q : SessionValue) → Serving a b f g p q d0 d1 → ((xs : List ℕ) → b ≡ Some xs → (ys : List ℕ) × (c ≡ Some ys) × BeginsLine xs ys) →
+    FailsToRead a c p d0 d1 q.board
+fails_to_read p q so_far begins xs e =
+    let k = so_far.known xs e in
+    let next = begins k.rest k.is_left in
+    let same = closed_lines k.bytes k.front k.rest k.closed in (
+      next.0,
       k.told,
+      q,
+      next.1,
       record {
-        front = k.front;
-        left = lines_of k.rest;
-        split = k.split;
-        told = k.told;
-        between = q;
-        went = k.went;
-        last = [];
-        begins = inl (refl, refl);
-        whole = sym (append-nil k.told);
+        read = k.bytes;
+        begun = next.2.begun;
+        whole = k.parted ∙ ap (λ l. k.bytes ++ l) next.2.split;
+        lines = k.split ∙ ap (λ l. l ++ lines_of k.rest) (sym same) ∙ ap (λ l. lines_of k.bytes ++ lines_of l) next.2.split;
+        no_feed = next.2.no_feed;
+        went = subst (λ (l : List (List ℕ)). AnswersLines l p k.told q) (sym same) k.went;
       },
-      whole_front d0.contents d1.contents k.told k.wrote.bytes,
+      refl,
+      k.wrote,
     )
 
--- in the answer to a line
-pub broken_within : {a b c : Option (List ℕ)} {f g : ℕ} {d0 d1 d2 : Device} (p q s : SessionValue) (line : Line) (request : Request) → Serving a b f g p q d0 d1 → GivesLine b c line → Requests request line →
-    (text : List ℕ) × RepliesPart request q text s × Stopped d1 d2 text → Broken a p s d0 d2
-broken_within p q s line request so_far gives requests part xs e =
+-- the answer to the line that was read last was not written whole
+pub fails_to_write : {a b c : Option (List ℕ)} {f g : ℕ} {d0 d1 d2 : Device} (p q s : SessionValue) (line : Line) (request : Request) → Serving a b f g p q d0 d1 → GivesLine b c line → Requests request line →
+    RepliesBroken request q d1 d2 s → FailsToWrite a c p d0 d2 s.board
+fails_to_write {a} {b} {c} {f} {g} {d0} {d1} {d2} p q s line request so_far gives requests broken xs e =
     let k = so_far.known xs e in
-    let next = gives k.rest k.is_left in (
-      k.told ++ part.0,
+    let t = takes xs p q d0 d1 line request k gives requests in (
+      t.rest,
+      s,
+      t.is_left,
       record {
         front = k.front;
-        left = lines_of k.rest;
-        split = k.split;
+        last = t.last;
+        taken = t.taken;
         told = k.told;
-        between = q;
+        before = q;
+        between = d1;
         went = k.went;
-        last = part.0;
-        begins = inr (subst (λ (w : Request). RepliesPart w q part.0 s) (sym (left_request k.rest next.0 line request next.2 requests)) part.1);
-        whole = refl;
+        wrote = k.wrote;
+        broken = subst (λ (w : Request). RepliesBroken w q d1 d2 s) (sym t.asks) broken;
       },
-      (stopped_then k.wrote part.2).bytes,
-    )
-
--- for want of memory
-pub broken_memory : {a b : Option (List ℕ)} {f g : ℕ} {d0 d1 d2 : Device} (p q s : SessionValue) → Serving a b f g p q d0 d1 → (s ≡ q) × Wrote d1 d2 [] → Broken a p s d0 d2
-broken_memory {a} {b} {f} {g} {d0} {d1} {d2} p q s so_far done xs e =
-    let k = so_far.known xs e in
-    let wrote : Wrote d0 d2 k.told = subst (λ (l : List ℕ). Wrote d0 d2 l) (append-nil k.told) (wrote_then k.wrote done.1) in (
-      k.told,
-      record {
-        front = k.front;
-        left = lines_of k.rest;
-        split = k.split;
-        told = k.told;
-        between = q;
-        went = k.went;
-        last = [];
-        begins = inl (refl, done.0);
-        whole = sym (append-nil k.told);
-      },
-      whole_front d0.contents d2.contents k.told wrote.bytes,
+      refl,
     )
 
 pub rose_after : {a b c : ℕ} → b ≡ a → Rose b c → Rose a c
@@ -181,34 +253,59 @@ unfolding request_of
 long_request text h = ap (λ b. request_by b (length (first_word text) == 0) (command_of text)) (sym (lt-ltb 256 (length text) h))
 
 -- a line was not answered
-pub broken_reply : {a b c : Option (List ℕ)} {f g : ℕ} {d0 d1 : Device} (d2 : Device) (p q s : SessionValue) (line : Line) (request : Request) (t : Interruption) → Serving a b f g p q d0 d1 → GivesLine b c line → Requests request line →
-    Ends (Replies request q) (RepliesPart request q) d1 d2 q s (Err t) → Broken a p s d0 d2
-broken_reply d2 p q s line request interruption.Write so_far gives requests ends = broken_within p q s line request so_far gives requests ends
-broken_reply d2 p q s line request interruption.NoMemory so_far gives requests ends = broken_memory p q s so_far ends
-broken_reply d2 p q s line request interruption.Read so_far gives requests ends = absurd ends
+pub reply_written : {a b c : Option (List ℕ)} {f g : ℕ} {d0 d1 : Device} (d2 : Device) (p q s : SessionValue) (line : Line) (request : Request) (t : Interruption) → Serving a b f g p q d0 d1 → GivesLine b c line → Requests request line →
+    Ends (Replies request q) (RepliesBroken request q) d1 d2 q s (Err t) → t ≡ interruption.Write → FailsToWrite a c p d0 d2 s.board
+reply_written d2 p q s line request interruption.Write so_far gives requests ends e = fails_to_write p q s line request so_far gives requests ends
+reply_written d2 p q s line request interruption.NoMemory so_far gives requests ends e = cc
+reply_written d2 p q s line request interruption.Read so_far gives requests ends e = cc
 
 -- the session ends with the parting word
 pub left_ok : {a b c : Option (List ℕ)} {f g : ℕ} {d0 d1 : Device} (d2 : Device) (p q : SessionValue) (line : Line) (request : Request) (r : Result (Unit {0}) Interruption) → Serving a b f g p q d0 d1 → GivesLine b c line → Requests request line → request ≡ Leave →
     MatchResult r (λ _. Wrote d1 d2 bye_line) (λ fault. (fault ≡ interruption.Write) × Stopped d1 d2 bye_line) →
-    OnOk r ((xs : List ℕ) → a ≡ Some xs → (text : List ℕ) × Serves (lines_of xs) p text q × Wrote d0 d2 text)
+    OnOk r (ServesInput a c p d0 d2 q.board)
 left_ok d2 p q line request (Ok done) so_far gives requests leave told = serving_ends p q line request so_far gives requests leave told
 left_ok d2 p q line request (Err fault) so_far gives requests leave told = tt
 
-pub left_err : {a b c : Option (List ℕ)} {f g : ℕ} {d0 d1 : Device} (d2 : Device) (p q : SessionValue) (line : Line) (request : Request) (r : Result (Unit {0}) Interruption) → Serving a b f g p q d0 d1 → GivesLine b c line → Requests request line → request ≡ Leave →
-    MatchResult r (λ _. Wrote d1 d2 bye_line) (λ fault. (fault ≡ interruption.Write) × Stopped d1 d2 bye_line) → OnErr r (Broken a p q d0 d2)
-left_err d2 p q line request (Ok done) so_far gives requests leave told = tt
-left_err d2 p q line request (Err fault) so_far gives requests leave told =
-    broken_within p q q line request so_far gives requests (bye_line, subst (λ (w : Request). RepliesPart w q bye_line q) (sym leave) (refl, refl), told.1)
+pub left_written : {a b c : Option (List ℕ)} {f g : ℕ} {d0 d1 : Device} (d2 : Device) (p q : SessionValue) (line : Line) (request : Request) (r : Result (Unit {0}) Interruption) → Serving a b f g p q d0 d1 → GivesLine b c line → Requests request line → request ≡ Leave →
+    MatchResult r (λ _. Wrote d1 d2 bye_line) (λ fault. (fault ≡ interruption.Write) × Stopped d1 d2 bye_line) → r ≡ Err interruption.Write → FailsToWrite a c p d0 d2 q.board
+left_written d2 p q line request (Ok done) so_far gives requests leave told e = cc
+left_written {a} {b} {c} {f} {g} {d0} {d1} d2 p q line request (Err fault) so_far gives requests leave told e =
+    fails_to_write p q q line request so_far gives requests (subst (λ (w : Request). RepliesBroken w q d1 d2 q) (sym leave) (bye_line, (refl, refl), told.1))
+
+pub left_reads : {X : Type 0} (old new : Device) (r : Result (Unit {0}) Interruption) → MatchResult r (λ _. Wrote old new bye_line) (λ fault. (fault ≡ interruption.Write) × Stopped old new bye_line) → r ≡ Err interruption.Read → X
+left_reads old new (Ok done) told e = cc
+left_reads old new (Err fault) told e = let is = told.0 in cc
 
 -- no answer to a line reads
-pub never_read : {X : Type 0} (old new : Device) (whole part : List ℕ → SessionValue → Type 0) (p q : SessionValue) (t : Interruption)
-    → Ends whole part old new p q (Err t) → t ≡ interruption.Read → X
-never_read old new whole part p q interruption.Read ends e = absurd ends
-never_read old new whole part p q interruption.Write ends e = cc
-never_read old new whole part p q interruption.NoMemory ends e = cc
+pub never_read : {X : Type 0} (old new : Device) (whole : List ℕ → SessionValue → Type 0) (broken : Device → Device → SessionValue → Type 0) (p q : SessionValue) (t : Interruption)
+    → Ends whole broken old new p q (Err t) → t ≡ interruption.Read → X
+never_read old new whole broken p q interruption.Read ends e = absurd ends
+never_read old new whole broken p q interruption.Write ends e = cc
+never_read old new whole broken p q interruption.NoMemory ends e = cc
 
-pub reply_write : {a b : Option (List ℕ)} {f g : ℕ} {d0 d1 : Device} (d2 : Device) (p q s : SessionValue) (request : Request) (t : Interruption) → Serving a b f g p q d0 d1 → Ends (Replies request q) (RepliesPart request q) d1 d2 q s (Err t) → t ≡ interruption.Write → Rose d0.failures d2.failures
-reply_write d2 p q s request interruption.Write so_far ends e = rose_after so_far.failures ends.2.failures
+run_rose : (number : ℕ) (q s : SessionValue) (b : Bool) (d1 d2 : Device) → run_broken_by b number q d1 d2 s → Rose d1.failures d2.failures
+run_rose number q s true d1 d2 broken = rose_after broken.wrote.failures broken.stopped.failures
+run_rose number q s false d1 d2 broken = broken.2.failures
+
+broken_rose : (command : Command) (q s : SessionValue) (d1 d2 : Device) → AnswersBroken command q d1 d2 s → Rose d1.failures d2.failures
+broken_rose (command.Run number) q s d1 d2 broken = run_rose number q s (is_run_length number) d1 d2 broken
+broken_rose (command.Step core) q s d1 d2 broken = broken.2.failures
+broken_rose (command.Break address) q s d1 d2 broken = broken.2.failures
+broken_rose (command.Clear address) q s d1 d2 broken = broken.2.failures
+broken_rose (command.Regs core) q s d1 d2 broken = broken.2.failures
+broken_rose (command.Mem at number) q s d1 d2 broken = broken.2.failures
+broken_rose (command.Sets core) q s d1 d2 broken = broken.2.failures
+broken_rose (command.List at number) q s d1 d2 broken = broken.2.failures
+broken_rose command.Quit q s d1 d2 broken = broken.2.failures
+
+replied_rose : (request : Request) (q s : SessionValue) (d1 d2 : Device) → RepliesBroken request q d1 d2 s → Rose d1.failures d2.failures
+replied_rose Leave q s d1 d2 broken = broken.2.failures
+replied_rose Nothing q s d1 d2 broken = absurd broken
+replied_rose (Refuse refusal) q s d1 d2 broken = broken.2.failures
+replied_rose (Do command) q s d1 d2 broken = broken_rose command q s d1 d2 broken
+
+pub reply_write : {a b : Option (List ℕ)} {f g : ℕ} {d0 d1 : Device} (d2 : Device) (p q s : SessionValue) (request : Request) (t : Interruption) → Serving a b f g p q d0 d1 → Ends (Replies request q) (RepliesBroken request q) d1 d2 q s (Err t) → t ≡ interruption.Write → Rose d0.failures d2.failures
+reply_write {a} {b} {f} {g} {d0} {d1} d2 p q s request interruption.Write so_far ends e = rose_after so_far.failures (replied_rose request q s d1 d2 ends)
 reply_write d2 p q s request interruption.NoMemory so_far ends e = cc
 reply_write d2 p q s request interruption.Read so_far ends e = cc
 
@@ -221,20 +318,23 @@ leaves_without old new (Err interruption.NoMemory) told e = let is = told.0 in c
 
 -- the answer to a line wanted memory
 pub wanted : {a b c : Option (List ℕ)} {f g : ℕ} {d0 d1 : Device} (d2 : Device) (p q s : SessionValue) (line : Line) (request : Request) (t : Interruption) → Serving a b f g p q d0 d1 → GivesLine b c line → Requests request line →
-    (t ≡ interruption.NoMemory → WantsMemory request) → Ends (Replies request q) (RepliesPart request q) d1 d2 q s (Err t) → t ≡ interruption.NoMemory →
-    (xs : List ℕ) → a ≡ Some xs → (text : List ℕ) × ServesBefore (lines_of xs) p text s × Wrote d0 d2 text
+    (t ≡ interruption.NoMemory → WantsMemory request) → Ends (Replies request q) (RepliesBroken request q) d1 d2 q s (Err t) → t ≡ interruption.NoMemory → FindsNoMemory a c p d0 d2 s.board
 wanted d2 p q s line request interruption.Write so_far gives requests wants ends is xs e = cc
 wanted d2 p q s line request interruption.Read so_far gives requests wants ends is xs e = cc
 wanted {a} {b} {c} {f} {g} {d0} {d1} d2 p q s line request interruption.NoMemory so_far gives requests wants ends is xs e =
     let k = so_far.known xs e in
-    let next = gives k.rest k.is_left in (
+    let t = takes xs p q d0 d1 line request k gives requests in (
+      t.rest,
       k.told,
+      s,
+      t.is_left,
       record {
         front = k.front;
-        left = lines_of k.rest;
-        split = k.split;
+        last = t.last;
+        taken = t.taken;
         went = subst (λ (x : SessionValue). AnswersLines k.front p k.told x) (sym ends.0) k.went;
-        wants = subst (λ (w : Request). WantsMemory w) (sym (left_request k.rest next.0 line request next.2 requests)) (wants refl);
+        wants = subst (λ (w : Request). WantsMemory w) (sym t.asks) (wants refl);
       },
+      refl,
       subst (λ (l : List ℕ). Wrote d0 d2 l) (append-nil k.told) (wrote_then k.wrote ends.1),
     )

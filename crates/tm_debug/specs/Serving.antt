@@ -1,8 +1,10 @@
 -- What a session answers to all lines of its input, one after another (docs/FORMATS.md, "Debugger").
 use Rattle.std.specs.Prelude.{⊤, ◌≡◌, ◌⊎◌, ℕ, ◌==◌, ◌<◌, ◌≤◌, Bool, true, false, List, [], ◌∷◌, ◌++◌, length, nat_lt}
 use Rattle.std.specs.Prelude.{Option, Some, Result, Ok, Err}
+use Rattle.std.specs.List.{prefix_len}
+use Rattle.ia_lex.specs.Chars.{differs}
 use Rattle.ia_lex.specs.Lines.{lines_of}
-use Rattle.ia_text.specs.Writing.{AppendsFront, Device, Wrote}
+use Rattle.ia_text.specs.Writing.{Device, Wrote}
 use Rattle.tm_hist.specs.Board.{ShownBoard as Board}
 use Rattle.tm_debug.specs.declared.command.Command.{Command}
 use Rattle.tm_debug.specs.declared.command.Command.TheVariants.{Quit}
@@ -15,7 +17,7 @@ use Rattle.tm_debug.specs.declared.line.LineStart.{LineStart}
 use Rattle.tm_debug.specs.declared.session.Request.{Request}
 use Rattle.tm_debug.specs.declared.session.Request.TheVariants.{Leave, Nothing, Refuse, Do}
 use Rattle.tm_debug.specs.Commands.{command_of, refusal_line}
-use Rattle.tm_debug.specs.Session.{Answers, AnswersPart, SessionValue, bye_line}
+use Rattle.tm_debug.specs.Session.{Answers, AnswersBroken, AnswerStopped, SessionValue, bye_line}
 use Rattle.tm_debug.specs.Words.{first_word}
 
 -- what a command requests
@@ -52,12 +54,13 @@ Replies Nothing from text to = (text ≡ []) × (to ≡ from)
 Replies (Refuse refusal) from text to = (text ≡ refusal_line refusal) × (to ≡ from)
 Replies (Do command) from text to = Answers command from text to
 
--- the answer to a line as far as it came
-abbrev pub RepliesPart : Request → SessionValue → List ℕ → SessionValue → Type 0
-RepliesPart Leave from text to = (text ≡ bye_line) × (to ≡ from)
-RepliesPart Nothing from text to = (text ≡ []) × (to ≡ from)
-RepliesPart (Refuse refusal) from text to = (text ≡ refusal_line refusal) × (to ≡ from)
-RepliesPart (Do command) from text to = AnswersPart command from text to
+-- the same where the writing of it failed
+abbrev pub RepliesBroken : Request → SessionValue → Device → Device → SessionValue → Type 0
+RepliesBroken Leave from old new to = AnswerStopped (λ text after. (text ≡ bye_line) × (after ≡ from)) old new to
+RepliesBroken Nothing from old new to = ⊥
+RepliesBroken (Refuse refusal) from old new to =
+    AnswerStopped (λ text after. (text ≡ refusal_line refusal) × (after ≡ from)) old new to
+RepliesBroken (Do command) from old new to = AnswersBroken command from old new to
 
 -- the answers to lines, one after another
 pub record First (more : SessionValue → List ℕ → SessionValue → Type 0) (line : List ℕ) (from : SessionValue)
@@ -73,39 +76,69 @@ abbrev pub AnswersLines : List (List ℕ) → SessionValue → List ℕ → Sess
 AnswersLines [] from text to = (text ≡ []) × (to ≡ from)
 AnswersLines (line ∷ lines) from text to = First (AnswersLines lines) line from text to
 
--- a whole session: the lines up to the first that ends it, and the parting word
-pub record Serves (lines : List (List ℕ)) (from : SessionValue) (text : List ℕ) (to : SessionValue) : Type 0 where
+-- of an input all but the rest was read: these lines, and the last one, which is none at the end of the input
+pub record LinesRead (xs rest : List ℕ) (front last : List (List ℕ)) : Type 0 where
+  pub read : List ℕ
+  pub whole : xs ≡ read ++ rest
+  pub lines : lines_of xs ≡ lines_of read ++ lines_of rest
+  pub split : lines_of read ≡ front ++ last
+  pub one : (length last ≡ 1) ⊎ ((last ≡ []) × (rest ≡ []))
+
+-- a whole session: the lines up to the first that ends it, with the rest not read, and the parting word
+pub record Serves (xs rest : List ℕ) (from : SessionValue) (text : List ℕ) (to : SessionValue) : Type 0 where
   pub front : List (List ℕ)
-  pub left : List (List ℕ)
-  pub split : lines ≡ front ++ left
+  pub last : List (List ℕ)
+  pub taken : LinesRead xs rest front last
   pub told : List ℕ
   pub went : AnswersLines front from told to
-  pub ends : first_request left ≡ Leave
+  pub ends : first_request last ≡ Leave
   pub whole : text ≡ told ++ bye_line
 
--- a session that was broken off, between two lines or in the answer to one
-pub record ServesPart (lines : List (List ℕ)) (from : SessionValue) (text : List ℕ) (to : SessionValue) : Type 0 where
+-- no byte of these is a line feed
+abbrev pub HasNoFeed : List ℕ → Type 0
+HasNoFeed xs = prefix_len (differs 10) xs ≡ length xs
+
+-- a session whose input failed before the rest: the lines that were read whole were answered, and nothing more was done
+pub record ServesRead (xs rest : List ℕ) (from : SessionValue) (text : List ℕ) (to : SessionValue) : Type 0 where
+  -- the lines, and what was read of the next
+  pub read : List ℕ
+  pub begun : List ℕ
+  pub whole : xs ≡ read ++ (begun ++ rest)
+  pub lines : lines_of xs ≡ lines_of read ++ lines_of (begun ++ rest)
+  pub no_feed : HasNoFeed begun
+  pub went : AnswersLines (lines_of read) from text to
+
+-- a session that failed to write: the answers to the lines before the last that was read were written whole, and of its
+-- own what `RepliesBroken` says
+pub record ServesWrite (xs rest : List ℕ) (from : SessionValue) (old new : Device) (to : SessionValue) : Type 0 where
   pub front : List (List ℕ)
-  pub left : List (List ℕ)
-  pub split : lines ≡ front ++ left
+  pub last : List (List ℕ)
+  pub taken : LinesRead xs rest front last
   pub told : List ℕ
-  pub between : SessionValue
-  pub went : AnswersLines front from told between
-  pub last : List ℕ
-  pub begins : ((last ≡ []) × (to ≡ between)) ⊎ RepliesPart (first_request left) between last to
-  pub whole : text ≡ told ++ last
+  pub before : SessionValue
+  pub between : Device
+  pub went : AnswersLines front from told before
+  pub wrote : Wrote old between told
+  pub broken : RepliesBroken (first_request last) before between new to
 
--- a session that went to its end, where the input tells its bytes: the answers to all its lines were written, and this
--- board is the one after the steps that they tell
-abbrev pub ServesInput : Option (List ℕ) → SessionValue → Device → Device → Board → Type 0
-ServesInput input from old new board = (xs : List ℕ) → input ≡ Some xs → (text : List ℕ) × (to : SessionValue)
-    × Serves (lines_of xs) from text to × (to.board ≡ board) × Wrote old new text
+-- a session that went to its end, where the input tells its bytes: the answers to its lines up to the one that ends it
+-- were written, nothing behind that was read, and this board is the one after the steps that they tell
+abbrev pub ServesInput : Option (List ℕ) → Option (List ℕ) → SessionValue → Device → Device → Board → Type 0
+ServesInput input left from old new board = (xs : List ℕ) → input ≡ Some xs → (rest : List ℕ) × (text : List ℕ)
+    × (to : SessionValue) × (left ≡ Some rest) × Serves xs rest from text to × (to.board ≡ board) × Wrote old new text
 
--- the same of a session that was broken off: a beginning of the answers so far was written
-abbrev pub BreaksOff : Option (List ℕ) → SessionValue → Device → Device → Board → Type 0
-BreaksOff input from old new board =
-    (xs : List ℕ) → input ≡ Some xs → (text : List ℕ) × (to : SessionValue) × ServesPart (lines_of xs) from text to
-    × (to.board ≡ board) × AppendsFront old.contents new.contents text
+-- a session whose input failed: the answers to the lines that were read stand written, and the board has made their
+-- steps and no other
+abbrev pub FailsToRead : Option (List ℕ) → Option (List ℕ) → SessionValue → Device → Device → Board → Type 0
+FailsToRead input left from old new board = (xs : List ℕ) → input ≡ Some xs → (rest : List ℕ) × (text : List ℕ)
+    × (to : SessionValue) × (left ≡ Some rest) × ServesRead xs rest from text to × (to.board ≡ board)
+    × Wrote old new text
+
+-- a session that failed to write: at most a rest of the answer to the last line that was read is missing, and the board
+-- has made the steps of the lines before it and those that this answer tells
+abbrev pub FailsToWrite : Option (List ℕ) → Option (List ℕ) → SessionValue → Device → Device → Board → Type 0
+FailsToWrite input left from old new board = (xs : List ℕ) → input ≡ Some xs → (rest : List ℕ) × (to : SessionValue)
+    × (left ≡ Some rest) × ServesWrite xs rest from old new to × (to.board ≡ board)
 
 -- the commands whose answer takes memory: that of a core's sets alone does
 abbrev pub TakesMemory : Command → Type 0
@@ -125,18 +158,19 @@ WantsMemory Leave = ⊥
 WantsMemory Nothing = ⊥
 WantsMemory (Refuse refusal) = ⊥
 
--- the lines before one whose answer takes memory were answered
-pub record ServesBefore (lines : List (List ℕ)) (from : SessionValue) (text : List ℕ) (to : SessionValue) : Type 0 where
+-- the lines before the last that was read, whose answer takes memory, were answered
+pub record ServesBefore (xs rest : List ℕ) (from : SessionValue) (text : List ℕ) (to : SessionValue) : Type 0 where
   pub front : List (List ℕ)
-  pub left : List (List ℕ)
-  pub split : lines ≡ front ++ left
+  pub last : List (List ℕ)
+  pub taken : LinesRead xs rest front last
   pub went : AnswersLines front from text to
-  pub wants : WantsMemory (first_request left)
+  pub wants : WantsMemory (first_request last)
 
 -- a session that found no memory for the answer to a line: the answers to those before it were written
-abbrev pub FindsNoMemory : Option (List ℕ) → SessionValue → Device → Device → Board → Type 0
-FindsNoMemory input from old new board = (xs : List ℕ) → input ≡ Some xs → (text : List ℕ) × (to : SessionValue)
-    × ServesBefore (lines_of xs) from text to × (to.board ≡ board) × Wrote old new text
+abbrev pub FindsNoMemory : Option (List ℕ) → Option (List ℕ) → SessionValue → Device → Device → Board → Type 0
+FindsNoMemory input left from old new board = (xs : List ℕ) → input ≡ Some xs → (rest : List ℕ) × (text : List ℕ)
+    × (to : SessionValue) × (left ≡ Some rest) × ServesBefore xs rest from text to × (to.board ≡ board)
+    × Wrote old new text
 
 -- ---- lines as they are read
 
@@ -158,7 +192,24 @@ IsLine line read.Long = 256 < length line
 abbrev pub IsLast : List ℕ → Line → Type 0
 IsLast text line = ((line ≡ read.End) × (text ≡ [])) ⊎ ((0 < length text) × IsLine text line)
 
+-- these bytes are one line, whatever follows; or nothing follows
+abbrev pub IsEnded : List ℕ → List ℕ → List ℕ → Type 0
+IsEnded bytes text rest = ((rest ≡ []) × (lines_of bytes ≡ text ∷ []))
+    ⊎ ((zs : List ℕ) → lines_of (bytes ++ zs) ≡ text ∷ lines_of zs)
+
+-- the first line of xs has this text, and ys are behind it
+pub record FirstLine (text xs ys : List ℕ) : Type 0 where
+  pub bytes : List ℕ
+  pub split : xs ≡ bytes ++ ys
+  pub ended : IsEnded bytes text ys
+
 -- the first line of xs was read, and ys are left
 abbrev pub ReadsLine : Line → List ℕ → List ℕ → Type 0
-ReadsLine line xs ys = ((line ≡ read.End) × (xs ≡ []))
-    ⊎ ((text : List ℕ) × IsLine text line × (lines_of xs ≡ text ∷ lines_of ys))
+ReadsLine line xs ys = ((line ≡ read.End) × (xs ≡ []) × (ys ≡ []))
+    ⊎ ((text : List ℕ) × IsLine text line × FirstLine text xs ys)
+
+-- no line of xs was read to its end, and ys are left
+pub record BeginsLine (xs ys : List ℕ) : Type 0 where
+  pub begun : List ℕ
+  pub split : xs ≡ begun ++ ys
+  pub no_feed : HasNoFeed begun

@@ -1,5 +1,5 @@
 -- What a session answers to the lines of its input, by cases on one line at a time (docs/FORMATS.md, "Debugger").
-use Rattle.std.specs.Prelude.{◌≡◌, ◌⊎◌, ℕ, zero, suc, ◌+◌, ◌-◌, ◌%◌, ◌^◌, ◌<◌, ◌≤◌, ◌==◌, ◌&&◌, ◌||◌, Bool, true, false}
+use Rattle.std.specs.Prelude.{◌≡◌, ◌⊎◌, ℕ, zero, suc, ◌+◌, ◌-◌, ◌%◌, ◌^◌, ◌<◌, ◌==◌, ◌&&◌, ◌||◌, Bool, true, false}
 use Rattle.std.specs.Prelude.{not, if◌then◌else◌, List, [], ◌∷◌, ◌++◌, codes, drop, take, length, nat_eq, nat_le}
 use Rattle.std.specs.Prelude.{nat_lt, Option, Some, None, is_some, Result, Ok, Err}
 use Rattle.std.specs.List.{flat_map, list_any, position, remove}
@@ -142,16 +142,6 @@ abbrev pub IsRunOf : ℕ → SessionValue → List ℕ → SessionValue → Type
 IsRunOf zero from text to = (text ≡ []) × (to ≡ from)
 IsRunOf (suc number) from text to = LastStep (λ lines before. IsRunOf number from lines before) (number == 0) text to
 
--- a run of at most n steps, up to one of its ends or, where it was broken off, before
-pub record RunPart (number : ℕ) (from : SessionValue) (text : List ℕ) (to : SessionValue) : Type 0 where
-  pub count : ℕ
-  pub lines : List ℕ
-  pub tail : List ℕ
-  pub few : count ≤ number
-  pub ran : IsRunOf count from lines to
-  pub tail_is : (tail ≡ []) ⊎ (tail ≡ run_ending (run_check to (count == 0)))
-  pub whole : text ≡ lines ++ tail
-
 -- a run of n steps, or up to a test that ends it
 pub record RunWhole (number : ℕ) (from : SessionValue) (text : List ℕ) (to : SessionValue) : Type 0 where
   pub count : ℕ
@@ -185,18 +175,43 @@ abbrev pub run_by : Bool → ℕ → SessionValue → List ℕ → SessionValue 
 run_by true number from text to = RunWhole number from text to
 run_by false number from text to = (text ≡ refusal_line OutOfRange) × (to ≡ from)
 
-abbrev pub run_part_by : Bool → ℕ → SessionValue → List ℕ → SessionValue → Type 0
-run_part_by true number from text to = RunPart number from text to
-run_part_by false number from text to = (text ≡ refusal_line OutOfRange) × (to ≡ from)
-
 abbrev pub is_run_length : ℕ → Bool
 is_run_length number = nat_le 1 number && nat_le number 100000
 
 abbrev pub RunAnswer : ℕ → SessionValue → List ℕ → SessionValue → Type 0
 RunAnswer number from text to = run_by (is_run_length number) number from text to
 
-abbrev pub RunAnswerPart : ℕ → SessionValue → List ℕ → SessionValue → Type 0
-RunAnswerPart number from text to = run_part_by (is_run_length number) number from text to
+-- the line behind some steps of a run: that of one more step, or the one that a test ends the run with
+abbrev pub NextLine : RunCheck → SessionValue → List ℕ → SessionValue → Type 0
+NextLine (Go core) from line to = GoAnswer from core line to
+NextLine AllStopped from line to = (line ≡ run_ending AllStopped) × (to ≡ from)
+NextLine Full from line to = (line ≡ run_ending Full) × (to ≡ from)
+NextLine (AtBreakpoint core address) from line to = (line ≡ run_ending (AtBreakpoint core address)) × (to ≡ from)
+
+-- a run of n steps that was broken off: the lines of some steps were written, and a beginning of the next line
+pub record RunBroken (number : ℕ) (from : SessionValue) (old new : Device) (to : SessionValue) : Type 0 where
+  pub count : ℕ
+  pub below : count < number
+  pub lines : List ℕ
+  pub before : SessionValue
+  pub ran : IsRunOf count from lines before
+  pub between : Device
+  pub wrote : Wrote old between lines
+  pub last : List ℕ
+  pub next_line : NextLine (run_check before (count == 0)) before last to
+  pub stopped : Stopped between new last
+
+-- a beginning of an answer was written
+abbrev pub AnswerStopped : (List ℕ → SessionValue → Type 0) → Device → Device → SessionValue → Type 0
+AnswerStopped answer old new to = (text : List ℕ) × answer text to × Stopped old new text
+
+abbrev pub run_broken_by : Bool → ℕ → SessionValue → Device → Device → SessionValue → Type 0
+run_broken_by true number from old new to = RunBroken number from old new to
+run_broken_by false number from old new to =
+    AnswerStopped (λ text after. (text ≡ refusal_line OutOfRange) × (after ≡ from)) old new to
+
+abbrev pub RunAnswerBroken : ℕ → SessionValue → Device → Device → SessionValue → Type 0
+RunAnswerBroken number from old new to = run_broken_by (is_run_length number) number from old new to
 
 -- ok, or the refusal
 abbrev pub done_line : Result (Unit {0}) Refusal → List ℕ
@@ -279,25 +294,25 @@ Answers (Sets core) from text to = SetsAnswer from core text to
 Answers (Listing at number) from text to = (text ≡ list_answer from.board.program at number) × (to ≡ from)
 Answers Quit from text to = (text ≡ bye_line) × (to ≡ from)
 
--- the same where it was broken off
-abbrev pub AnswersPart : Command → SessionValue → List ℕ → SessionValue → Type 0
-AnswersPart (Run number) from text to = RunAnswerPart number from text to
-AnswersPart (Step core) from text to = Answers (Step core) from text to
-AnswersPart (Break address) from text to = Answers (Break address) from text to
-AnswersPart (Clear address) from text to = Answers (Clear address) from text to
-AnswersPart (Regs core) from text to = Answers (Regs core) from text to
-AnswersPart (Mem at number) from text to = Answers (Mem at number) from text to
-AnswersPart (Sets core) from text to = Answers (Sets core) from text to
-AnswersPart (Listing at number) from text to = Answers (Listing at number) from text to
-AnswersPart Quit from text to = Answers Quit from text to
+-- the same where the writing of it failed
+abbrev pub AnswersBroken : Command → SessionValue → Device → Device → SessionValue → Type 0
+AnswersBroken (Run number) from old new to = RunAnswerBroken number from old new to
+AnswersBroken (Step core) from old new to = AnswerStopped (Answers (Step core) from) old new to
+AnswersBroken (Break address) from old new to = AnswerStopped (Answers (Break address) from) old new to
+AnswersBroken (Clear address) from old new to = AnswerStopped (Answers (Clear address) from) old new to
+AnswersBroken (Regs core) from old new to = AnswerStopped (Answers (Regs core) from) old new to
+AnswersBroken (Mem at number) from old new to = AnswerStopped (Answers (Mem at number) from) old new to
+AnswersBroken (Sets core) from old new to = AnswerStopped (Answers (Sets core) from) old new to
+AnswersBroken (Listing at number) from old new to = AnswerStopped (Answers (Listing at number) from) old new to
+AnswersBroken Quit from old new to = AnswerStopped (Answers Quit from) old new to
 
--- what ended a call: its text was written; a beginning of a part of it; or, for want of memory, nothing
-abbrev pub Ends : (List ℕ → SessionValue → Type 0) → (List ℕ → SessionValue → Type 0) → Device → Device → SessionValue
-    → SessionValue → Result (Unit {0}) Interruption → Type 0
-Ends whole part old new from to (Ok done) = (text : List ℕ) × whole text to × Wrote old new text
-Ends whole part old new from to (Err interruption.Write) = (text : List ℕ) × part text to × Stopped old new text
-Ends whole part old new from to (Err interruption.NoMemory) = (to ≡ from) × Wrote old new []
-Ends whole part old new from to (Err interruption.Read) = ⊥
+-- what ended a call: its text was written; it was broken off; or, for want of memory, nothing was written
+abbrev pub Ends : (List ℕ → SessionValue → Type 0) → (Device → Device → SessionValue → Type 0) → Device → Device
+    → SessionValue → SessionValue → Result (Unit {0}) Interruption → Type 0
+Ends whole broken old new from to (Ok done) = (text : List ℕ) × whole text to × Wrote old new text
+Ends whole broken old new from to (Err interruption.Write) = broken old new to
+Ends whole broken old new from to (Err interruption.NoMemory) = (to ≡ from) × Wrote old new []
+Ends whole broken old new from to (Err interruption.Read) = ⊥
 
 abbrev pub answer_result : Result (Unit {0}) WriteFault → Result (Unit {0}) Interruption
 answer_result (Ok done) = Ok done

@@ -1,9 +1,10 @@
 //! A debugger: a session of commands over a board, and the devices that commands are read from.
 //!
 //! Promised: where the input tells its bytes, what `serve` writes is the answer to each line up to `quit` or the
-//! input's end, and the board that comes back has made the steps that these answers tell; where a device fails or
-//! memory is wanting, a beginning of the answers was written, and the fault gives the board back. It waits for its
-//! input only.
+//! input's end, and the board that comes back has made the steps that these answers tell. Where the input fails, or
+//! memory is wanting, the answers to the lines before stand whole; where the output fails, at most a rest of the last
+//! answer is missing, of a run a rest of its last line. The fault gives the board back, after the steps that the
+//! answers tell. It waits for its input only.
 //!
 //! It stands on `tm_hist` (boards, and the texts of outcomes, states and dumps), on `ia_text` (listings, and devices
 //! that are written to) and on `ia_lex` (lines and numbers).

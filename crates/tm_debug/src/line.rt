@@ -4,7 +4,8 @@ ghost use Rattle.std.specs.Prelude.{◌≡◌, ◌++◌, ◌∷◌, ℕ, List, [
 ghost use Rattle.std.specs.Prelude.{option_to_list};
 ghost use Rattle.ia_lex.specs.Lines.{without_cr};
 ghost use Rattle.ia_text.specs.Writing.{Rose};
-ghost use Rattle.tm_debug.specs.Serving.{IsKept, IsLast, IsLine, ReadsLine};
+ghost use Rattle.std.specs.Io.KnownBytes.{Keeps};
+ghost use Rattle.tm_debug.specs.Serving.{BeginsLine, IsKept, IsLast, IsLine, ReadsLine};
 
 use crate::input::In;
 use arrayvec::ArrayVec;
@@ -101,6 +102,7 @@ fn next_byte<I: In>(input: &mut I) -> Result<Option<u8>, Failed>
         × (I.remaining input.new ≡ Some ys) × (xs ≡ option_to_list byte ++ ys) × (byte ≡ None → ys ≡ [])) }
     ensures kept { OnOk result (I.failed input.new ≡ I.failed input.old) }
     ensures err { OnErr result (Rose (I.failed input.old) (I.failed input.new)) }
+    ensures stays { OnErr result (Keeps (I.remaining input.old) (I.remaining input.new)) }
 {
     let mut byte = [0];
     let count = input.get(&mut byte)?;
@@ -113,6 +115,8 @@ pub fn read_line<W: Wait, I: In>(rt: &W, input: &mut I) -> Result<Line, Failed>
         × (I.remaining input.new ≡ Some ys) × ReadsLine line xs ys) }
     ensures kept { OnOk result (I.failed input.new ≡ I.failed input.old) }
     ensures err { OnErr result (Rose (I.failed input.old) (I.failed input.new)) }
+    ensures begun { OnErr result ((xs : List ℕ) → I.remaining input.old ≡ Some xs → (ys : List ℕ)
+        × (I.remaining input.new ≡ Some ys) × BeginsLine xs ys) }
 {
     let mut start = LineStart::new();
     'bytes: for _ in rt.forever() {

@@ -1,9 +1,10 @@
 //! Steps of a run, round by round.
 
 ghost use Rattle.std.specs.Prelude.{◌≡◌, ◌<◌, ◌≤◌, List, ℕ, OnErr, OnOk, length};
-ghost use Rattle.ia_text.specs.Writing.{Stopped, Wrote};
+ghost use Rattle.ia_text.specs.Writing.{Wrote};
 ghost use Rattle.tm_hist.specs.Board.{IsFull};
-ghost use Rattle.tm_debug.specs.Session.{GoAnswer, RunAnswer, RunAnswerPart, RunPart, RunWhole, TellsAnswer, value_of};
+ghost use Rattle.tm_debug.specs.Session.{GoAnswer, RunAnswer, RunAnswerBroken, RunBroken, RunWhole, TellsAnswer};
+ghost use Rattle.tm_debug.specs.Session.{value_of};
 
 use crate::answer::{end_run, refuse};
 use crate::refusal::Refusal;
@@ -27,8 +28,8 @@ fn go<O: Out>(state: &mut SessionState, core: u8, out: &mut O) -> Result<(), Wri
 fn run_steps<O: Out>(state: &mut SessionState, count: u64, out: &mut O) -> Result<(), WriteFault>
     ensures ok { OnOk result ((text : List ℕ) × RunWhole count (value_of state.old) text (value_of state.new)
         × Wrote (O.device out.old) (O.device out.new) text) }
-    ensures err { OnErr result ((text : List ℕ) × RunPart count (value_of state.old) text (value_of state.new)
-        × Stopped (O.device out.old) (O.device out.new) text) }
+    ensures err { OnErr result (RunBroken count (value_of state.old) (O.device out.old) (O.device out.new)
+        (value_of state.new)) }
 {
     'steps: for done in 0..count {
         let check = state.check_run(done == 0);
@@ -46,8 +47,8 @@ fn run_steps<O: Out>(state: &mut SessionState, count: u64, out: &mut O) -> Resul
 pub fn run<O: Out>(state: &mut SessionState, count: u64, out: &mut O) -> Result<(), WriteFault>
     ensures ok { OnOk result ((text : List ℕ) × RunAnswer count (value_of state.old) text (value_of state.new)
         × Wrote (O.device out.old) (O.device out.new) text) }
-    ensures err { OnErr result ((text : List ℕ) × RunAnswerPart count (value_of state.old) text (value_of state.new)
-        × Stopped (O.device out.old) (O.device out.new) text) }
+    ensures err { OnErr result (RunAnswerBroken count (value_of state.old) (O.device out.old) (O.device out.new)
+        (value_of state.new)) }
 {
     if (1..=100_000).contains(&count) {
         run_steps(state, count, out)

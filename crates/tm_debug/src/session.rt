@@ -1,12 +1,10 @@
 //! A session: lines are read and answered one after another.
 
-ghost use Rattle.std.specs.Prelude.{◌≡◌, ◌⊎◌, ◌≤◌, length, [], List, ℕ, Err, IfErr, IfOk, OnErr, OnOk, MatchResult};
-ghost use Rattle.std.specs.Prelude.{Some};
-ghost use Rattle.ia_lex.specs.Lines.{lines_of};
-ghost use Rattle.ia_text.specs.Writing.{AppendsFront, Rose, Stopped, Writes, Wrote};
-ghost use Rattle.tm_debug.specs.Session.{Answers, AnswersPart, Ends, SessionValue, bye_line, value_of, start};
-ghost use Rattle.tm_debug.specs.Serving.{BreaksOff, FindsNoMemory, IsLine, Replies, RepliesPart, ServesInput, Serves};
-ghost use Rattle.tm_debug.specs.Serving.{ServesBefore, ServesPart, TakesMemory, WantsMemory, request_of};
+ghost use Rattle.std.specs.Prelude.{◌≡◌, ℕ, List, Err, IfErr, IfOk, MatchResult, OnOk};
+ghost use Rattle.ia_text.specs.Writing.{Rose, Stopped, Writes, Wrote};
+ghost use Rattle.tm_debug.specs.Session.{Answers, AnswersBroken, Ends, SessionValue, bye_line, value_of, start};
+ghost use Rattle.tm_debug.specs.Serving.{FailsToRead, FailsToWrite, FindsNoMemory, IsLine, Replies, RepliesBroken};
+ghost use Rattle.tm_debug.specs.Serving.{ServesInput, TakesMemory, WantsMemory, request_of};
 ghost use Rattle.tm_debug.specs.Faults.{session_board, session_code};
 
 use crate::answer::{clear_breakpoint, list, mem, refuse, regs, set_breakpoint, step};
@@ -29,10 +27,12 @@ use tm_hist::Board;
 /// Why a session ended before its input did. Each gives the board back, after the steps that were made.
 #[derive(Drop, Error)]
 pub enum SessionFault {
-    /// The device that commands come from failed (76).
+    /// The device that commands come from failed (76). The lines that were read stand answered, and nothing more was
+    /// done.
     #[error("Read")]
     Read(Board),
-    /// The device that answers go to failed (77). A beginning of the answers was written.
+    /// The device that answers go to failed (77). At most a rest of the answer to the last line that was read is
+    /// missing; of a run, a rest of the outcome line of its last step.
     #[error("Write")]
     Write(Board),
     /// There was no memory for the answer to `sets` (78). The answers before it were written.
@@ -114,7 +114,7 @@ fn act<O: Out>(
     command: Command,
     out: &mut O,
 ) -> Result<(), Interruption>
-    ensures answer { Ends (Answers command (value_of state.old)) (AnswersPart command (value_of state.old))
+    ensures answer { Ends (Answers command (value_of state.old)) (AnswersBroken command (value_of state.old))
         (O.device out.old) (O.device out.new) (value_of state.old) (value_of state.new) result }
     ensures memory { result ≡ Err Interruption.NoMemory → TakesMemory command }
 {
@@ -147,7 +147,7 @@ fn reply<O: Out>(
     out: &mut O,
 ) -> Result<(), Interruption>
     requires { request ≡ Request.Leave → ⊥ }
-    ensures answer { Ends (Replies request (value_of state.old)) (RepliesPart request (value_of state.old))
+    ensures answer { Ends (Replies request (value_of state.old)) (RepliesBroken request (value_of state.old))
         (O.device out.old) (O.device out.new) (value_of state.old) (value_of state.new) result }
     ensures memory { result ≡ Err Interruption.NoMemory → WantsMemory request }
 {
@@ -190,17 +190,16 @@ fn serve_lines<W: Wait, I: In, O: Out>(
     input: &mut I,
     out: &mut O,
 ) -> Result<(), Interruption>
-    ensures ok { OnOk result ((xs : List ℕ) → I.remaining input.old ≡ Some xs → (text : List ℕ)
-        × Serves (lines_of xs) (value_of state.old) text (value_of state.new)
-        × Wrote (O.device out.old) (O.device out.new) text) }
-    ensures err { OnErr result ((xs : List ℕ) → I.remaining input.old ≡ Some xs → (text : List ℕ)
-        × ServesPart (lines_of xs) (value_of state.old) text (value_of state.new)
-        × AppendsFront (O.device out.old).contents (O.device out.new).contents text) }
+    ensures ok { OnOk result (ServesInput (I.remaining input.old) (I.remaining input.new) (value_of state.old)
+        (O.device out.old) (O.device out.new) state.new.board) }
     ensures read { result ≡ Err Interruption.Read → Rose (I.failed input.old) (I.failed input.new) }
+    ensures read_lines { result ≡ Err Interruption.Read → FailsToRead (I.remaining input.old) (I.remaining input.new)
+        (value_of state.old) (O.device out.old) (O.device out.new) state.new.board }
     ensures write { result ≡ Err Interruption.Write → Rose (O.device out.old).failures (O.device out.new).failures }
-    ensures memory { result ≡ Err Interruption.NoMemory → (xs : List ℕ) → I.remaining input.old ≡ Some xs
-        → (text : List ℕ) × ServesBefore (lines_of xs) (value_of state.old) text (value_of state.new)
-        × Wrote (O.device out.old) (O.device out.new) text }
+    ensures written { result ≡ Err Interruption.Write → FailsToWrite (I.remaining input.old) (I.remaining input.new)
+        (value_of state.old) (O.device out.old) (O.device out.new) state.new.board }
+    ensures memory { result ≡ Err Interruption.NoMemory → FindsNoMemory (I.remaining input.old)
+        (I.remaining input.new) (value_of state.old) (O.device out.old) (O.device out.new) state.new.board }
 {
     'lines: for _ in rt.forever() {
         let line = match read_line(rt, input) {
@@ -228,16 +227,20 @@ fn serve_from<W: Wait, I: In, O: Out>(
     input: &mut I,
     out: &mut O,
 ) -> Result<Board, SessionFault>
-    ensures ok { IfOk result (ServesInput (I.remaining input.old) (value_of state) (O.device out.old)
-        (O.device out.new)) }
-    ensures err { IfErr result (λ fault. BreaksOff (I.remaining input.old) (value_of state) (O.device out.old)
-        (O.device out.new) (session_board fault)) }
+    ensures ok { IfOk result (ServesInput (I.remaining input.old) (I.remaining input.new) (value_of state)
+        (O.device out.old) (O.device out.new)) }
     ensures read { IfErr result (λ fault. session_code fault ≡ 76 → Rose (I.failed input.old) (I.failed input.new)) }
+    ensures read_lines { IfErr result (λ fault. session_code fault ≡ 76
+        → FailsToRead (I.remaining input.old) (I.remaining input.new) (value_of state) (O.device out.old)
+        (O.device out.new) (session_board fault)) }
     ensures write { IfErr result (λ fault. session_code fault ≡ 77
         → Rose (O.device out.old).failures (O.device out.new).failures) }
+    ensures written { IfErr result (λ fault. session_code fault ≡ 77
+        → FailsToWrite (I.remaining input.old) (I.remaining input.new) (value_of state) (O.device out.old)
+        (O.device out.new) (session_board fault)) }
     ensures memory { IfErr result (λ fault. session_code fault ≡ 78
-        → FindsNoMemory (I.remaining input.old) (value_of state) (O.device out.old) (O.device out.new)
-        (session_board fault)) }
+        → FindsNoMemory (I.remaining input.old) (I.remaining input.new) (value_of state) (O.device out.old)
+        (O.device out.new) (session_board fault)) }
 {
     let mut state = state;
     match serve_lines(rt, alloc, &mut state, input, out) {
@@ -270,21 +273,26 @@ impl<'a, I: In, O: Out> Session<'a, I, O> {
     /// Answers the lines of the input, up to `quit` or the input's end, and gives the board back after the steps that
     /// were made. Waits for its input only.
     ///
-    /// [`SessionFault`] tells what ended the session before: then a beginning of the answers was written, and the board
-    /// has made the steps that these tell, the last of which may not stand there whole.
+    /// Nothing behind the line that ends the session is read. [`SessionFault`] tells what ended it before, and how much
+    /// of the answers was written: the board has made the steps that they tell, the last of which may not stand there
+    /// whole.
     // `self.exit.0` is the input that the call left, and `self.exit.1.0` the device for answers.
     pub fn serve<W: Wait>(self, rt: &W, alloc: Global) -> Result<Board, SessionFault>
-        ensures ok { IfOk result (ServesInput (I.remaining self.entry.input.now) (start self.entry.board)
-            (O.device self.entry.out.now) (O.device self.exit.1.0.now)) }
-        ensures err { IfErr result (λ fault. BreaksOff (I.remaining self.entry.input.now) (start self.entry.board)
-            (O.device self.entry.out.now) (O.device self.exit.1.0.now) (session_board fault)) }
+        ensures ok { IfOk result (ServesInput (I.remaining self.entry.input.now) (I.remaining self.exit.0.now)
+            (start self.entry.board) (O.device self.entry.out.now) (O.device self.exit.1.0.now)) }
         ensures read { IfErr result (λ fault. session_code fault ≡ 76
             → Rose (I.failed self.entry.input.now) (I.failed self.exit.0.now)) }
+        ensures read_lines { IfErr result (λ fault. session_code fault ≡ 76
+            → FailsToRead (I.remaining self.entry.input.now) (I.remaining self.exit.0.now) (start self.entry.board)
+            (O.device self.entry.out.now) (O.device self.exit.1.0.now) (session_board fault)) }
         ensures write { IfErr result (λ fault. session_code fault ≡ 77
             → Rose (O.device self.entry.out.now).failures (O.device self.exit.1.0.now).failures) }
+        ensures written { IfErr result (λ fault. session_code fault ≡ 77
+            → FailsToWrite (I.remaining self.entry.input.now) (I.remaining self.exit.0.now) (start self.entry.board)
+            (O.device self.entry.out.now) (O.device self.exit.1.0.now) (session_board fault)) }
         ensures memory { IfErr result (λ fault. session_code fault ≡ 78
-            → FindsNoMemory (I.remaining self.entry.input.now) (start self.entry.board) (O.device self.entry.out.now)
-            (O.device self.exit.1.0.now) (session_board fault)) }
+            → FindsNoMemory (I.remaining self.entry.input.now) (I.remaining self.exit.0.now) (start self.entry.board)
+            (O.device self.entry.out.now) (O.device self.exit.1.0.now) (session_board fault)) }
     {
         let Session { input, out, board } = self;
         serve_from(rt, alloc, SessionState::new(board), input, out)
@@ -299,15 +307,20 @@ pub fn serve<W: Wait, I: In, O: Out>(
     input: &mut I,
     out: &mut O,
 ) -> Result<Board, SessionFault>
-    ensures ok { IfOk result (ServesInput (I.remaining input.old) (start board) (O.device out.old) (O.device out.new)) }
-    ensures err { IfErr result (λ fault. BreaksOff (I.remaining input.old) (start board) (O.device out.old)
-        (O.device out.new) (session_board fault)) }
+    ensures ok { IfOk result (ServesInput (I.remaining input.old) (I.remaining input.new) (start board)
+        (O.device out.old) (O.device out.new)) }
     ensures read { IfErr result (λ fault. session_code fault ≡ 76 → Rose (I.failed input.old) (I.failed input.new)) }
+    ensures read_lines { IfErr result (λ fault. session_code fault ≡ 76
+        → FailsToRead (I.remaining input.old) (I.remaining input.new) (start board) (O.device out.old)
+        (O.device out.new) (session_board fault)) }
     ensures write { IfErr result (λ fault. session_code fault ≡ 77
         → Rose (O.device out.old).failures (O.device out.new).failures) }
+    ensures written { IfErr result (λ fault. session_code fault ≡ 77
+        → FailsToWrite (I.remaining input.old) (I.remaining input.new) (start board) (O.device out.old)
+        (O.device out.new) (session_board fault)) }
     ensures memory { IfErr result (λ fault. session_code fault ≡ 78
-        → FindsNoMemory (I.remaining input.old) (start board) (O.device out.old) (O.device out.new)
-        (session_board fault)) }
+        → FindsNoMemory (I.remaining input.old) (I.remaining input.new) (start board) (O.device out.old)
+        (O.device out.new) (session_board fault)) }
 {
     Session::new(board, input, out).serve(rt, alloc)
 }
