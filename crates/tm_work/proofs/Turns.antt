@@ -14,7 +14,7 @@ use Rattle.tm_model.specs.declared.outcome.Outcome.TheVariants.{Idle}
 use Rattle.tm_hist.specs.Board.{ShownBoard, IsStopped, IsFull}
 use Rattle.tm_work.specs.declared.progress.Progress.{Progress}
 use Rattle.tm_work.specs.declared.progress.Receipt.{Receipt}
-use Rattle.tm_work.specs.Seats.{SeatProgress, seat_with, SeatTells, no_progress, HaveNoProgress, AreSeats, IsStepMade, progress_of, progress_after_step, progress_at_end, count, new_part, GoesOn, Tells, LedgerAgrees}
+use Rattle.tm_work.specs.Seats.{SeatProgress, seat_with, SeatTells, no_progress, HaveNoProgress, AreSeats, IsStepMade, progress_of, progress_after_step, progress_at_end, count, new_part, GoesOn, Tells, LedgerAgrees, AreStepsMade}
 
 count_snoc : (c : ℕ) (h : List (ℕ × Outcome)) (x : ℕ × Outcome) → count c (h ++ x ∷ []) ≡ count c h + cond (eqb x.0 c) 1 0
 count_snoc c h x = omega (arith, sum_by-append (λ (y : ℕ × Outcome). cond (eqb y.0 c) 1 0) h (x ∷ []))
@@ -122,6 +122,47 @@ no_wrap given b ledger c m a was room fits =
 
 pub progress_of_turn : (m : Progress) (s : ℕ) (r : Receipt) (e : Bool) → s ≡ m.steps → e ≡ m.ended → (m.steps + 1) % 18446744073709551616 ≡ m.steps + 1 → progress_of ((s + 1) % 18446744073709551616) (Some r) e ≡ progress_after_step m r
 progress_of_turn m s r e steps ended fits = λ i. progress_of ((ap (λ n. (n + 1) % 18446744073709551616) steps ∙ fits) i) (Some r) (ended i)
+
+set_twice : (xs : List Progress) (k : ℕ) (x y : Progress) → slice_set (slice_set xs k x) k y ≡ slice_set xs k y
+set_twice [] k x y = refl
+set_twice (z ∷ zs) zero x y = refl
+set_twice (z ∷ zs) (suc k) x y = ap (λ (l : List Progress). z ∷ l) (set_twice zs k x y)
+
+-- before the first step
+pub none_made : (b : ShownBoard) (c : ℕ) (m : Progress) → AreStepsMade b b c m m 0
+none_made b c m = record {
+  agrees = λ given ledger a was. same_agrees given b ledger c m a was;
+  steps = λ given ledger a was. omega arith;
+}
+
+-- one step more
+pub one_more : (b0 b1 b2 : ShownBoard) (c : ℕ) (m0 m1 : Progress) (n : ℕ) (r : Receipt) → AreStepsMade b0 b1 c m0 m1 n → IsStepMade b1 b2 c r
+    → AreStepsMade b0 b2 c m0 (progress_of ((m1.steps + 1) % 18446744073709551616) (Some r) m1.ended) (n + 1)
+one_more b0 b1 b2 c m0 m1 n r before made =
+    let here : (ledger : List Progress) → slice_get ledger c ≡ Some m0 → slice_get (slice_set ledger c m1) c ≡ Some m1 =
+    λ ledger was. slice_get_same ledger c m1 (slice_get_within ledger c m0 was) in
+    let fits : (given : ShownBoard) (ledger : List Progress) → LedgerAgrees given b0 ledger → slice_get ledger c ≡ Some m0 → (m1.steps + 1) % 18446744073709551616 ≡ m1.steps + 1 =
+    λ given ledger a was. no_wrap given b1 (slice_set ledger c m1) c m1 (before.agrees given ledger a was) (here ledger was) made.room made.limited in
+    record {
+      agrees = λ given ledger a was.
+          let next : LedgerAgrees given b2 (slice_set (slice_set ledger c m1) c (progress_after_step m1 r)) =
+          step_agrees given b1 b2 (slice_set ledger c m1) c r m1 (before.agrees given ledger a was) made (here ledger was) in
+          let same : slice_set (slice_set ledger c m1) c (progress_after_step m1 r) ≡ slice_set ledger c (progress_of ((m1.steps + 1) % 18446744073709551616) (Some r) m1.ended) =
+          set_twice ledger c m1 (progress_after_step m1 r) ∙ ap (λ (s : ℕ). slice_set ledger c (progress_of s (Some r) m1.ended)) (sym (fits given ledger a was)) in
+          subst (λ (l : List Progress). LedgerAgrees given b2 l) same next;
+      steps = λ given ledger a was. let f = fits given ledger a was in let s = before.steps given ledger a was in omega (arith, f, s);
+    }
+
+-- a look that made none
+pub none_more : (b0 b1 b2 : ShownBoard) (c : ℕ) (m0 m1 : Progress) (n : ℕ) → AreStepsMade b0 b1 c m0 m1 n → b2 ≡ b1 → IsStopped b1 c ⊎ IsFull b1
+    → AreStepsMade b0 b2 c m0 (progress_at_end m1) n
+none_more b0 b1 b2 c m0 m1 n before board end = subst (λ (b : ShownBoard). AreStepsMade b0 b c m0 (progress_at_end m1) n) (sym board) record {
+  agrees = λ given ledger a was.
+      let next : LedgerAgrees given b1 (slice_set (slice_set ledger c m1) c (progress_at_end m1)) =
+      look_agrees given b1 (slice_set ledger c m1) c m1 (before.agrees given ledger a was) end (slice_get_same ledger c m1 (slice_get_within ledger c m0 was)) in
+      subst (λ (l : List Progress). LedgerAgrees given b1 l) (set_twice ledger c m1 (progress_at_end m1)) next;
+  steps = before.steps;
+}
 
 pub last_before : (given b : ShownBoard) (ledger : List Progress) (c : ℕ) (m : Progress) (n : ℕ) → LedgerAgrees given b ledger → slice_get ledger c ≡ Some m → n ≡ length b.history → IfSome m.last (λ q. q.index < n)
 last_before given b ledger c m n a was here = if_some_map m.last _ _ (λ q h. let k = slice_get_within b.history q.index (c, q.outcome) h.1 in omega arith) (a.lines c m was).last

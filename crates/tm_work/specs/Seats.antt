@@ -1,6 +1,6 @@
 -- What seats know of a board, and when a ledger of that agrees with the board (docs/MACHINE.md, "Threads").
 use Rattle.std.specs.Prelude.{◌≡◌, ◌≢◌, ◌⊎◌, ℕ, ◌+◌, ◌<◌, ◌≤◌, ◌==◌, Bool, true, false, List, [], ◌∷◌, ◌++◌, length}
-use Rattle.std.specs.Prelude.{All, count_by, drop, Option, Some, None, IfSome, slice_get}
+use Rattle.std.specs.Prelude.{All, count_by, drop, Option, Some, None, IfSome, slice_get, slice_set}
 use Rattle.tm_model.specs.declared.outcome.Outcome.{Outcome}
 use Rattle.tm_model.specs.declared.outcome.Outcome.TheVariants.{Idle}
 use Rattle.tm_hist.specs.Board.{ShownBoard, SameBoard, IsStopped, IsFull}
@@ -76,6 +76,14 @@ pub record IsStepMade (before after : ShownBoard) (core : ℕ) (receipt : Receip
   pub stopped : ¬ (IsStopped before core)
   pub room : length before.history < before.limit
   pub limited : before.limit ≤ 16777216
+
+-- so many steps of this core led from one board to the other, and its progress from the one to the other: in any ledger that
+-- agrees with the first board and has the first progress of this core, the second one agrees with the second board
+pub record AreStepsMade (before after : ShownBoard) (core : ℕ) (was now : Progress) (made : ℕ) : Type 0 where
+  pub agrees : (given : ShownBoard) (ledger : List Progress) → LedgerAgrees given before ledger →
+      slice_get ledger core ≡ Some was → LedgerAgrees given after (slice_set ledger core now)
+  pub steps : (given : ShownBoard) (ledger : List Progress) → LedgerAgrees given before ledger →
+      slice_get ledger core ≡ Some was → now.steps ≡ was.steps + made
 
 -- no seat had a turn
 abbrev pub HaveNoProgress : List Progress → Type 0

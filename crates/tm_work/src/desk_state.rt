@@ -3,7 +3,7 @@
 ghost use Rattle.std.specs.Prelude.{◌≡◌, ◌≢◌, ◌+◌, ◌<◌, ◌≤◌, ◌⊎◌, true, length, All, IfSome, IfNone};
 ghost use Rattle.tm_model.specs.declared.outcome.Outcome.{Outcome};
 ghost use Rattle.tm_hist.specs.Board.{IsFull, IsHistory, IsStopped};
-ghost use Rattle.tm_work.specs.Seats.{GoesOn, HaveNoProgress, IsStepMade, SeatTells, Tells};
+ghost use Rattle.tm_work.specs.Seats.{AreStepsMade, GoesOn, HaveNoProgress, IsStepMade, SeatTells, Tells};
 ghost use Rattle.tm_work.specs.Seats.{progress_after_step, progress_at_end};
 
 use crate::progress::{Progress, Receipt};
@@ -86,7 +86,8 @@ impl<J: DeskIdentity> DeskState<J> {
         Some(receipt)
     }
 
-    // Up to so many turns of a seat, and how many made a step: fewer where one made none.
+    // Up to so many turns of a seat, and how many made a step: fewer where one made none. The ledger hears of them once, at
+    // the end.
     pub(crate) fn turns(&mut self, seat: &mut Seat<J>, most: u32) -> u32
         ensures core { seat.new.core ≡ seat.old.core }
         ensures most { result ≤ most }
@@ -94,12 +95,11 @@ impl<J: DeskIdentity> DeskState<J> {
         ensures fewer { result < most → seat.new.progress.ended ≡ true }
         ensures all { result ≡ most → seat.new.progress.ended ≡ seat.old.progress.ended }
     {
-        for made in 0..most {
-            if self.turn(seat).is_none() {
-                return made;
-            }
-        }
-        most
+        let DeskState { board, ledger } = self;
+        let mut progress = seat.progress();
+        let made = make_steps(board, seat.core(), &mut progress, most);
+        seat.note(ledger, progress);
+        made
     }
 
     // Compares a seat with the ledger, where it changes nothing.
@@ -133,6 +133,27 @@ impl<J: DeskIdentity> DeskState<J> {
             self.settle(seat);
         }
     }
+}
+
+// Up to so many steps of a core with this progress, which goes on with them, and how many were made: fewer where the core
+// is stopped or the history full.
+fn make_steps(board: &mut Board, core: u8, progress: &mut Progress, most: u32) -> u32
+    requires { core < length board.old.program.entries }
+    ensures most { result ≤ most }
+    ensures made { AreStepsMade board.old board.new core progress.old progress.new result }
+    ensures fewer { result < most → progress.new.ended ≡ true }
+    ensures all { result ≡ most → progress.new.ended ≡ progress.old.ended }
+{
+    for made in 0..most {
+        let Some(receipt) = try_step(board, core) else {
+            progress.ended = true;
+            return made;
+        };
+        progress.last = Some(receipt);
+        // The ledger tells that this does not wrap.
+        progress.steps = progress.steps.wrapping_add(1);
+    }
+    most
 }
 
 // One step of the core, and its receipt. There is none where the core is stopped or the history full.

@@ -75,6 +75,13 @@ impl<J: DeskIdentity> Seat<J> {
         self.core
     }
 
+    // What its turns came to.
+    pub(crate) fn progress(&self) -> Progress
+        ensures { result ≡ self.now.progress }
+    {
+        self.progress
+    }
+
     /// How many steps its turns made.
     pub fn steps(&self) -> u64
         ensures { result ≡ self.now.progress.steps }
