@@ -1,0 +1,89 @@
+//! What is asked of a search.
+
+use elide_args::HuntOptions;
+use elide_program::number_of;
+use elide_setup::{Refusal, limit_of};
+use std::thread::{Threads, available_parallelism};
+use tm_pick::Method;
+
+/// The most threads.
+const MOST_JOBS: u32 = 1024;
+
+/// What is asked of a search.
+#[derive(Clone, Copy, Debug)]
+pub struct Orders {
+    /// The seed.
+    pub seed: u32,
+    /// How the core of each step is drawn.
+    pub method: Method,
+    /// The most steps of a run.
+    pub most: u32,
+    /// The number of the first run.
+    pub first: u32,
+    /// The number behind that of the last run.
+    pub end: u32,
+    /// How many threads make runs, 1 or more.
+    pub jobs: usize,
+}
+
+impl Orders {
+    /// Reads the options in the order in which their misuse is told.
+    pub fn read<R: Threads>(rt: &R, options: &HuntOptions<'_>) -> Result<Orders, Refusal> {
+        let (first, end) = runs_of(options.runs)?;
+        let seed = number_of(options.seed, "--seed")?;
+        let method = method_of(options.method)?;
+        let most = limit_of(options.limit)?;
+        let jobs = jobs_of(rt, options.jobs)?;
+        Ok(Orders {
+            seed,
+            method,
+            most,
+            first,
+            end,
+            jobs,
+        })
+    }
+}
+
+// A count of runs, or the numbers from the first one up to the end.
+fn runs_of(text: Option<&str>) -> Result<(u32, u32), Refusal> {
+    let Some(text) = text else {
+        return Err(Refusal::Usage("--runs"));
+    };
+    match text.split_once("..") {
+        None => Ok((0, number_of(Some(text), "--runs")?)),
+        Some((first, end)) => {
+            let first = number_of(Some(first), "--runs")?;
+            let end = number_of(Some(end), "--runs")?;
+            if first > end {
+                return Err(Refusal::Usage("--runs"));
+            }
+            Ok((first, end))
+        }
+    }
+}
+
+fn method_of(text: Option<&str>) -> Result<Method, Refusal> {
+    match text {
+        Some("mix") => Ok(Method::Mix),
+        Some("uniform") => Ok(Method::Uniform),
+        Some("bursts") => Ok(Method::Bursts),
+        Some("pct") => Ok(Method::Priorities),
+        _ => Err(Refusal::Usage("--method")),
+    }
+}
+
+// The threads that are asked for, or one a processor.
+fn jobs_of<R: Threads>(rt: &R, text: Option<&str>) -> Result<usize, Refusal> {
+    if text.is_some() {
+        return match number_of(text, "--jobs")? {
+            0 => Err(Refusal::Usage("--jobs")),
+            jobs if jobs > MOST_JOBS => Err(Refusal::Usage("--jobs")),
+            jobs => Ok(jobs as usize),
+        };
+    }
+    match available_parallelism(rt) {
+        Ok(processors) => Ok(processors.get().min(MOST_JOBS as usize)),
+        Err(_) => Ok(1),
+    }
+}

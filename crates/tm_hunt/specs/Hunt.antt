@@ -1,0 +1,44 @@
+-- What a search for a failing schedule comes to.
+use Rattle.std.specs.Prelude.{◌≡◌, ◌⊎◌, ℕ, List, All, length, map}
+use Rattle.tm_hist.specs.Board.{IsFull, IsHistory, ShownBoard as Board}
+use Rattle.tm_hunt.specs.Checks.{HasEnded, IsViolatedAt, NoneViolated}
+use Rattle.tm_hunt.specs.declared.trial.Trial.{Trial}
+
+-- a board of what is tried: its program, its limits, and at most so many steps
+pub record IsTrialOf (trial : Trial) (board : Board) : Type 0 where
+  pub program : board.program ≡ trial.program.now
+  pub limits : board.limits ≡ trial.limits
+  pub most : board.limit ≡ trial.most
+
+-- the board after exactly these steps from the program's opening state
+pub record RunsTo (trial : Trial) (cores : List ℕ) (board : Board) : Type 0 where
+  pub of_trial : IsTrialOf trial board
+  pub steps : map (λ step. step.0) board.history ≡ cores
+  pub is_run : IsHistory board
+
+-- the run of this schedule violates the check with this index
+pub record Fails (trial : Trial) (cores : List ℕ) (check : ℕ) : Type 0 where
+  pub board : Board
+  pub run : RunsTo trial cores board
+  pub violates : IsViolatedAt board trial.checks.now check
+
+-- some check is violated
+abbrev pub SomeViolated : Trial → Board → Type 0
+SomeViolated trial board = (index : ℕ) × IsViolatedAt board trial.checks.now index
+
+-- a run goes on until each core has stopped, the limit is reached, or a check is violated
+abbrev pub IsOver : Trial → Board → Type 0
+IsOver trial board = (HasEnded board ⊎ IsFull board) ⊎ SomeViolated trial board
+
+-- the run of this schedule comes to its end, and violates none
+pub record Passes (trial : Trial) (cores : List ℕ) : Type 0 where
+  pub board : Board
+  pub run : RunsTo trial cores board
+  pub is_over : HasEnded board ⊎ IsFull board
+  pub keeps : NoneViolated board trial.checks.now
+
+-- so many runs were made, and each violated no check
+pub record HavePassed (trial : Trial) (count : ℕ) : Type 0 where
+  pub schedules : List (List ℕ)
+  pub counted : length schedules ≡ count
+  pub each : All (Passes trial) schedules

@@ -1,0 +1,4 @@
+pub mod Checks
+pub mod Hunt
+pub mod Attempts
+pub mod Cost

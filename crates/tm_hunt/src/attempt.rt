@@ -1,0 +1,114 @@
+//! Runs, and whether they failed.
+
+ghost use Rattle.std.specs.Prelude.{◌≡◌, ◌≤◌, IfErr, IfOk, map};
+ghost use Rattle.tm_hist.specs.History.{pairs_of};
+ghost use Rattle.tm_hunt.specs.declared.attempt.HuntFault.TheVariants.{Board as OfBoard, NoMemory};
+ghost use Rattle.tm_hunt.specs.Attempts.{IsAttempt, IsRefusal};
+ghost use Rattle.tm_hunt.specs.Hunt.{IsOver, IsTrialOf};
+
+use crate::check::{first_violated, has_ended};
+use crate::one_run::run;
+use crate::trial::Trial;
+use std::alloc::{AllocError, Global};
+use thiserror::Error;
+use tm_hist::{Board, BoardFault, History};
+use tm_pick::Picker;
+
+/// Why a search was not made to its end.
+#[derive(Clone, Copy, PartialEq, Eq, Debug, Drop, Error)]
+pub enum HuntFault {
+    /// A machine was not made.
+    #[error("{0}")]
+    Board(BoardFault),
+    /// There is no memory for a schedule.
+    #[error("NoMemory")]
+    NoMemory,
+}
+
+impl From<BoardFault> for HuntFault {
+    ghost from_gives = { λ fault e. e ≡ OfBoard fault };
+
+    fn from(fault: BoardFault) -> HuntFault {
+        HuntFault::Board(fault)
+    }
+}
+
+impl From<AllocError> for HuntFault {
+    ghost from_gives = { λ _ e. e ≡ NoMemory };
+
+    fn from(_refused: AllocError) -> HuntFault {
+        HuntFault::NoMemory
+    }
+}
+
+/// A run that violates a check.
+#[derive(Debug, Drop)]
+pub struct Failure {
+    /// The core of each step.
+    pub cores: Vec<u8>,
+    /// The index of the first check that it violates.
+    pub check: usize,
+}
+
+/// What a run came to.
+#[derive(Debug, Drop)]
+pub enum Attempt {
+    /// It violates no check, and each core has stopped.
+    Ended,
+    /// It violates no check, and reached the limit on steps.
+    Cut,
+    /// It violates a check.
+    Failed(Failure),
+}
+
+/// Makes the run of these picks.
+pub fn try_run(
+    alloc: Global,
+    trial: &Trial<'_>,
+    picker: &mut Picker<'_>,
+) -> Result<Attempt, HuntFault>
+    ensures ok { IfOk result (IsAttempt trial.now) }
+    ensures err { IfErr result (IsRefusal trial.now) }
+{
+    let board = run(alloc, trial, picker)?;
+    judged(alloc, trial, &board)
+}
+
+/// How many steps a uniform run takes: the length by which priorities fall.
+pub fn usual_length(alloc: Global, trial: &Trial<'_>) -> Result<u32, HuntFault>
+    ensures most { IfOk result (λ length. length ≤ trial.now.most) }
+    ensures err { IfErr result (IsRefusal trial.now) }
+{
+    let board = run(alloc, trial, &mut Picker::random(0))?;
+    Ok(u32::try_from(board.made()).unwrap_or(u32::MAX))
+}
+
+// What the run of a board came to.
+fn judged(alloc: Global, trial: &Trial<'_>, board: &Board) -> Result<Attempt, HuntFault>
+    requires of_trial { IsTrialOf trial.now board.now }
+    requires over { IsOver trial.now board.now }
+    ensures ok { IfOk result (IsAttempt trial.now) }
+    ensures err { IfErr result (IsRefusal trial.now) }
+{
+    board.is_run();
+    match first_violated(trial.checks, board) {
+        Some(check) => {
+            let cores = cores_of(alloc, board.history())?;
+            Ok(Attempt::Failed(Failure { cores, check }))
+        }
+        None if has_ended(board) => Ok(Attempt::Ended),
+        None => Ok(Attempt::Cut),
+    }
+}
+
+// The core of each step.
+fn cores_of(alloc: Global, history: History<'_>) -> Result<Vec<u8>, AllocError>
+    ensures { IfOk result (λ cores. cores.items ≡ map (λ step. step.0) (pairs_of history.entry)) }
+{
+    let mut cores = Vec::with_capacity(alloc, history.len())?;
+    for index in 0..history.len() {
+        let (core, _outcome) = history.get(index).unwrap();
+        cores.push(core)?;
+    }
+    Ok(cores)
+}

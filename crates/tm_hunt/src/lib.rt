@@ -1,0 +1,24 @@
+//! The search for a schedule that breaks a program.
+//!
+//! A [`Trial`] is a program with checks on the end of its runs. [`first_failing`] makes runs by chance ([`tm_pick`])
+//! until one violates a check, and [`shorten`] finds a shorter schedule that violates the same check. Promised: a
+//! schedule that is answered, run from the program's opening state, violates the check that it is answered with; and as
+//! many runs as are counted were made and violated none. The words for it stand in `specs/Checks.antt` and
+//! `specs/Hunt.antt`, over the boards of `tm_hist`, whose machine is the run of their history.
+#![tactic(auto)]
+
+mod attempt;
+mod check;
+mod cost;
+mod cuts;
+mod one_run;
+mod searching;
+mod shortening;
+mod trial;
+
+pub use attempt::{Failure, HuntFault, usual_length};
+pub use check::{Check, Comparison};
+pub use cost::switches;
+pub use searching::{Found, Search, first_failing};
+pub use shortening::shorten;
+pub use trial::Trial;

@@ -1,0 +1,9 @@
+use Rattle.std.proofs.Common.{◌≡◌, ◌<◌, length}
+use Rattle.std.specs.Prelude.{All}
+use Rattle.tm_pick.proofs.going.Going.all.Given as goal
+
+abbrev pub invariant-loop-core : goal.invariant-loop-core
+invariant-loop-core l = record {
+  count : length l.cores.items ≡ l.core;
+  below : All (λ core. core < l.count) l.cores.items;
+}

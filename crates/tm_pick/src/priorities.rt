@@ -1,0 +1,93 @@
+//! Random priorities (PCT).
+
+ghost use Rattle.std.specs.Prelude.{◌≤◌, ◌<◌, Contains, length};
+
+use crate::chance::Chance;
+use crate::going::{Going, index_of};
+use crate::tail::MOST_IN_A_ROW;
+use arrayvec::ArrayVec;
+
+/// The most steps at which a core falls behind.
+const MOST_FALLS: usize = 3;
+
+/// Probabilistic concurrency testing, after Burckhardt, Kothari, Musuvathi and Nagarakatte (ASPLOS 2010): each core has
+/// a priority by chance, and the step is that of the highest one. At some steps by chance, 1 to 3 of them, the core
+/// that ran falls behind all others; it falls too where it is at a PAUSE, and after 400 steps in a row, or a core that
+/// waits for another one would never let go.
+#[derive(Debug, Drop)]
+pub struct Priorities {
+    // The highest first.
+    order: ArrayVec<u8, 64>,
+    falls: ArrayVec<u32, MOST_FALLS>,
+    made: u32,
+    last: u8,
+    in_a_row: u32,
+}
+
+impl Priorities {
+    /// Priorities of these cores, in a run that takes about so many steps.
+    pub fn new(mut chance: Chance, going: &Going, length: u32) -> Priorities {
+        let order = shuffled(&mut chance, going);
+        let mut falls = ArrayVec::new();
+        for _ in 0..1 + chance.below(MOST_FALLS as u32) {
+            // There is room for three.
+            let _ = falls.try_push(1 + chance.below(length.max(1)));
+        }
+        Priorities {
+            order,
+            falls,
+            made: 0,
+            last: u8::MAX,
+            in_a_row: 0,
+        }
+    }
+
+    /// The core of the next step. It is told whether the core of the step before is at a PAUSE.
+    pub fn next(&mut self, going: &Going, waits: bool) -> u8
+        requires { 0 < length going.now }
+        ensures { Contains going.now result }
+    {
+        if waits || self.in_a_row >= MOST_IN_A_ROW || self.falls.as_slice().contains(&self.made) {
+            self.fall();
+        }
+        let core = going.from(self.highest(going));
+        self.made = self.made.saturating_add(1);
+        self.in_a_row = if core == self.last {
+            self.in_a_row.saturating_add(1)
+        } else {
+            1
+        };
+        self.last = core;
+        core
+    }
+
+    // The core of the highest priority that has not stopped.
+    fn highest(&self, going: &Going) -> u8 {
+        for core in self.order.as_slice() {
+            if going.contains(*core) {
+                return *core;
+            }
+        }
+        0
+    }
+
+    // The core of the step before falls behind all others.
+    fn fall(&mut self) {
+        self.in_a_row = 0;
+        if let Some(index) = index_of(self.order.as_slice(), self.last) {
+            let core = self.order.remove(index);
+            let _ = self.order.try_push(core);
+        }
+    }
+}
+
+// The cores in an order by chance.
+fn shuffled(chance: &mut Chance, going: &Going) -> ArrayVec<u8, 64> {
+    let mut order = ArrayVec::new();
+    for index in 0..going.len() {
+        // There is room for all.
+        let _ = order.try_push(going.at(index));
+    }
+    chance.shuffle(order.as_mut_slice());
+    order
+}
