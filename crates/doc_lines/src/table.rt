@@ -13,6 +13,8 @@ pub enum PartHead<'a> {
     Bytes(&'a str),
     /// A folder of the row: what can neither be read nor written as a file.
     Folder(&'a str),
+    /// A file of the row that is larger than memory, with the count of its bytes below.
+    Large(&'a str),
     /// A command of the row, with what it comes to below.
     Command(&'a str),
 }
@@ -63,6 +65,7 @@ fn head_of(line: &str) -> Option<PartHead<'_>> {
         "--" => Some(PartHead::Text(name)),
         "-x" => Some(PartHead::Bytes(name)),
         "-/" => Some(PartHead::Folder(name)),
+        "-n" => Some(PartHead::Large(name)),
         "$" => Some(PartHead::Command(name)),
         _ => None,
     }

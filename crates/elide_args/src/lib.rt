@@ -1,13 +1,17 @@
 //! The command line of `elide`: words to plain subcommands.
 //!
-//! Promises no more than safety: which words are taken, and each text of help and refusal, are compared by `doc_tests`. Alone in
-//! this repository it stands on `clap`, and no type of `clap` leaves it. Stands on `ia_text` for the devices that texts go to.
+//! That each option of a subcommand is the value that `clap` found under its name is proved where they are taken; which words are
+//! taken, and each text of help and refusal, are compared by `doc_tests`. Alone in this repository it stands on `clap`, and no type
+//! of `clap` leaves it. Stands on `ia_text` for the devices that texts go to.
 #![tactic(auto)]
 
+mod hunt_line;
+mod hunt_options;
 mod line;
 mod subcommand;
 mod words;
 
+pub use hunt_options::HuntOptions;
 pub use subcommand::{
     AsmOptions, DebugOptions, DisOptions, MachineOptions, ReplayOptions, RunOptions,
     ScheduleOptions, Subcommand, ThreadsOptions,

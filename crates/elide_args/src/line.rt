@@ -1,5 +1,6 @@
 //! The command line.
 
+use crate::hunt_line::{drawn, expect_halt, hunt_line};
 use clap::{Arg, ArgAction, Command};
 use std::alloc::{AllocError, Global};
 
@@ -19,7 +20,8 @@ pub fn command_line<'a>(alloc: Global) -> Result<Command<'a>, AllocError> {
         .subcommand(run_line(alloc)?)?
         .subcommand(threads_line(alloc)?)?
         .subcommand(replay_line(alloc)?)?
-        .subcommand(debug_line(alloc)?)
+        .subcommand(debug_line(alloc)?)?
+        .subcommand(hunt_line(alloc)?)
 }
 
 // A subcommand on a file.
@@ -27,8 +29,8 @@ fn file_line<'a>(alloc: Global, name: &'a str, help: &'a str) -> Result<Command<
     Command::new(alloc, name).arg(Arg::new(alloc, "FILE").required(true).help(help))
 }
 
-// A subcommand on a program.
-fn program_line<'a>(alloc: Global, name: &'a str) -> Result<Command<'a>, AllocError> {
+/// A subcommand on a program.
+pub fn program_line<'a>(alloc: Global, name: &'a str) -> Result<Command<'a>, AllocError> {
     file_line(
         alloc,
         name,
@@ -66,33 +68,36 @@ fn machine_line<'a>(alloc: Global, name: &'a str) -> Result<Command<'a>, AllocEr
         .arg(dump(alloc))
 }
 
-fn cores<'a>(alloc: Global) -> Arg<'a> {
-    option(alloc, "cores", "N")
-        .default_value("1")
-        .help("Number of cores, 1 to 64")
+/// `--cores`.
+pub fn cores<'a>(alloc: Global) -> Arg<'a> {
+    option(alloc, "cores", "N").help("Number of cores, 1 to 64 [default: 1]")
 }
 
-fn mem<'a>(alloc: Global) -> Arg<'a> {
-    option(alloc, "mem", "BYTES").default_value("65536").help(
-        "Memory size: a multiple of 4096, at least 4096 * (cores + 1), at most 268435456",
+/// `--mem`.
+pub fn mem<'a>(alloc: Global) -> Arg<'a> {
+    option(alloc, "mem", "BYTES").help(
+        "Memory size: a multiple of 4096, at least 4096 * (cores + 1), at most 268435456 [default: 65536]",
     )
 }
 
-fn entry<'a>(alloc: Global) -> Arg<'a> {
+/// `--entry`.
+pub fn entry<'a>(alloc: Global) -> Arg<'a> {
     option(alloc, "entry", "AT[,AT..]").help(
         "Where the cores begin: an address or a source's symbol, one for all or one a core [default: the base]",
     )
 }
 
-fn reads<'a>(alloc: Global) -> Arg<'a> {
-    option(alloc, "reads", "LINES")
-        .default_value("512")
-        .help("Lines of 64 bytes that a transaction can read, 1 to 4096")
+/// `--reads`.
+pub fn reads<'a>(alloc: Global) -> Arg<'a> {
+    option(alloc, "reads", "LINES").help(
+        "Lines of 64 bytes that a transaction can read, 1 to 4096 [default: 512]",
+    )
 }
 
-fn writes<'a>(alloc: Global) -> Arg<'a> {
-    option(alloc, "writes", "LINES").default_value("512").help(
-        "Lines of 64 bytes that a transaction can write, 1 to 4096",
+/// `--writes`.
+pub fn writes<'a>(alloc: Global) -> Arg<'a> {
+    option(alloc, "writes", "LINES").help(
+        "Lines of 64 bytes that a transaction can write, 1 to 4096 [default: 512]",
     )
 }
 
@@ -115,14 +120,16 @@ fn run_line<'a>(alloc: Global) -> Result<Command<'a>, AllocError> {
         .long("trace")
         .action(ArgAction::SetTrue)
         .help("Prints the outcome of each step before the state");
-    machine_line(alloc, "run")?
+    let line = machine_line(alloc, "run")?
         .about("Runs a schedule of core steps and prints the state")
         .after_help(
             "Example: elide run examples/increment.img --cores 2 --steps \"0 1 0 1 0 1 0 1\" --dump 0x1000:4",
         )
         .arg(steps(alloc))?
         .arg(schedule(alloc))?
-        .arg(trace)
+        .arg(trace)?
+        .arg(expect_halt(alloc))?;
+    drawn(alloc, line)
 }
 
 fn threads_line<'a>(alloc: Global) -> Result<Command<'a>, AllocError> {
@@ -146,7 +153,7 @@ fn threads_line<'a>(alloc: Global) -> Result<Command<'a>, AllocError> {
 }
 
 fn replay_line<'a>(alloc: Global) -> Result<Command<'a>, AllocError> {
-    machine_line(alloc, "replay")?
+    let line = machine_line(alloc, "replay")?
         .about(
             "Runs a schedule, compares it with a serial run on one memory, and prints the state and `agree` or `differ`",
         )
@@ -154,7 +161,8 @@ fn replay_line<'a>(alloc: Global) -> Result<Command<'a>, AllocError> {
             "Example: elide replay examples/conflict.img --cores 2 --steps \"0 0 1 1 0 0 0 1\"",
         )
         .arg(steps(alloc))?
-        .arg(schedule(alloc))
+        .arg(schedule(alloc))?;
+    drawn(alloc, line)
 }
 
 fn debug_line<'a>(alloc: Global) -> Result<Command<'a>, AllocError> {
@@ -167,8 +175,8 @@ fn debug_line<'a>(alloc: Global) -> Result<Command<'a>, AllocError> {
     )
 }
 
-// An option with a value.
-fn option<'a>(alloc: Global, name: &'a str, value: &'a str) -> Arg<'a> {
+/// An option with a value.
+pub fn option<'a>(alloc: Global, name: &'a str, value: &'a str) -> Arg<'a> {
     Arg::new(alloc, name)
         .long(name)
         .value_name(value)

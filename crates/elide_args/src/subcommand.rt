@@ -1,7 +1,9 @@
-//! What the words of a command line ask for. The values are texts of the words, or clap's defaults; no one has read them yet.
+//! What the words of a command line ask for. The values are texts of the words, and no one has read them yet.
+
+use crate::hunt_options::HuntOptions;
 
 /// A subcommand with its options.
-#[derive(Clone, Copy, Debug)]
+#[derive(Debug, Drop)]
 pub enum Subcommand<'a> {
     /// `asm`.
     Asm(AsmOptions<'a>),
@@ -15,6 +17,8 @@ pub enum Subcommand<'a> {
     Replay(ReplayOptions<'a>),
     /// `debug`.
     Debug(DebugOptions<'a>),
+    /// `hunt`.
+    Hunt(HuntOptions<'a>),
 }
 
 /// The options of `asm`.
@@ -42,6 +46,10 @@ pub struct RunOptions<'a> {
     pub schedule: ScheduleOptions<'a>,
     /// Whether the outcome of each step is printed.
     pub traces: bool,
+    /// Whether a core that has not stopped at the end is a failure.
+    pub expects_halt: bool,
+    /// `--record`: the path that the schedule is written to.
+    pub record: Option<&'a str>,
 }
 
 /// The options of `threads`.
@@ -64,6 +72,8 @@ pub struct ReplayOptions<'a> {
     pub machine: MachineOptions<'a>,
     /// The schedule.
     pub schedule: ScheduleOptions<'a>,
+    /// `--record`: the path that the schedule is written to.
+    pub record: Option<&'a str>,
 }
 
 /// The options of `debug`.
@@ -73,7 +83,7 @@ pub struct DebugOptions<'a> {
     pub machine: MachineOptions<'a>,
 }
 
-/// The options of each command that makes a machine.
+/// The options of each command that makes a machine, of which only FILE is there for certain.
 #[derive(Clone, Copy, Debug)]
 pub struct MachineOptions<'a> {
     /// The path of the program.
@@ -99,4 +109,10 @@ pub struct ScheduleOptions<'a> {
     pub steps: Option<&'a str>,
     /// `--schedule`: the path of a schedule text.
     pub path: Option<&'a str>,
+    /// `--in-turn`: round by round.
+    pub in_turn: bool,
+    /// `--random`: the seed of a schedule by chance.
+    pub random: Option<&'a str>,
+    /// `--limit`: the most steps of a schedule that is no list.
+    pub limit: Option<&'a str>,
 }

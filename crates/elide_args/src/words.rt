@@ -1,5 +1,10 @@
 //! The subcommand that words make.
 
+ghost use Rattle.std.specs.Prelude.{◌≡◌, IfSome, Some, codes};
+ghost use Rattle.clap.specs.Matches.{first_value, found_of};
+ghost use Rattle.elide_args.specs.Asked.{Asks, IsMachine, IsSchedule};
+
+use crate::hunt_options::HuntOptions;
 use crate::line::command_line;
 use crate::subcommand::{
     AsmOptions, DebugOptions, DisOptions, MachineOptions, ReplayOptions, RunOptions,
@@ -8,7 +13,7 @@ use crate::subcommand::{
 use clap::error::ErrorKind;
 use clap::{ArgMatches, Error};
 use ia_text::Out;
-use std::alloc::Global;
+use std::alloc::{AllocError, Global};
 use std::fmt;
 use std::fmt::Write;
 
@@ -37,7 +42,7 @@ pub fn subcommand_of<'a, O: Out, E: Out>(
         return Err(NotASubcommand::NoMemory);
     };
     match line.try_get_matches_from(words) {
-        Ok(matches) => asked(&matches).ok_or(NotASubcommand::NoMemory),
+        Ok(matches) => asked(alloc, &matches).ok_or(NotASubcommand::NoMemory),
         Err(error) => Err(told(&error, out, err)),
     }
 }
@@ -77,12 +82,20 @@ impl<O: Out> fmt::Write for Device<'_, O> {
 }
 
 // The subcommand that was met.
-fn asked<'a>(matches: &ArgMatches<'a>) -> Option<Subcommand<'a>> {
+fn asked<'a>(alloc: Global, matches: &ArgMatches<'a>) -> Option<Subcommand<'a>> {
     let (name, options) = matches.subcommand()?;
+    if name == "hunt" {
+        return match hunt_of(alloc, options) {
+            Ok(hunt) => hunt.map(Subcommand::Hunt),
+            Err(_) => None,
+        };
+    }
     subcommand_named(name, options)
 }
 
-fn subcommand_named<'a>(name: &str, options: &ArgMatches<'a>) -> Option<Subcommand<'a>> {
+fn subcommand_named<'a>(name: &str, options: &ArgMatches<'a>) -> Option<Subcommand<'a>>
+    ensures { IfSome result (Asks (found_of options.now) name.now) }
+{
     let file = options.get_str("FILE")?;
     match name {
         "asm" => Some(Subcommand::Asm(AsmOptions {
@@ -94,6 +107,8 @@ fn subcommand_named<'a>(name: &str, options: &ArgMatches<'a>) -> Option<Subcomma
             machine: machine_of(file, options),
             schedule: schedule_of(options),
             traces: options.get_flag("trace"),
+            expects_halt: options.get_flag("expect-halt"),
+            record: options.get_str("record"),
         })),
         "threads" => Some(Subcommand::Threads(ThreadsOptions {
             machine: machine_of(file, options),
@@ -104,6 +119,7 @@ fn subcommand_named<'a>(name: &str, options: &ArgMatches<'a>) -> Option<Subcomma
         "replay" => Some(Subcommand::Replay(ReplayOptions {
             machine: machine_of(file, options),
             schedule: schedule_of(options),
+            record: options.get_str("record"),
         })),
         "debug" => Some(Subcommand::Debug(DebugOptions {
             machine: machine_of(file, options),
@@ -112,7 +128,44 @@ fn subcommand_named<'a>(name: &str, options: &ArgMatches<'a>) -> Option<Subcomma
     }
 }
 
-fn machine_of<'a>(file: &'a str, options: &ArgMatches<'a>) -> MachineOptions<'a> {
+// The options of `hunt`, where there is memory for those that are given several times.
+fn hunt_of<'a>(
+    alloc: Global,
+    options: &ArgMatches<'a>,
+) -> Result<Option<HuntOptions<'a>>, AllocError> {
+    let Some(file) = options.get_str("FILE") else {
+        return Ok(None);
+    };
+    Ok(Some(HuntOptions {
+        machine: machine_of(file, options),
+        checks: several_of(alloc, options, "check")?,
+        stops: several_of(alloc, options, "stop")?,
+        expects_halt: options.get_flag("expect-halt"),
+        runs: options.get_str("runs"),
+        seed: options.get_str("seed"),
+        method: options.get_str("method"),
+        limit: options.get_str("limit"),
+        jobs: options.get_str("jobs"),
+        record: options.get_str("record"),
+    }))
+}
+
+// The values of an option that is given several times.
+fn several_of<'a>(
+    alloc: Global,
+    options: &ArgMatches<'a>,
+    name: &str,
+) -> Result<Vec<&'a str>, AllocError> {
+    match options.get_strs(name) {
+        Some(values) => Vec::from_slice(alloc, values),
+        None => Ok(Vec::new(alloc)),
+    }
+}
+
+fn machine_of<'a>(file: &'a str, options: &ArgMatches<'a>) -> MachineOptions<'a>
+    requires { first_value (found_of options.now) (codes "FILE") ≡ Some file.now }
+    ensures { IsMachine (found_of options.now) result }
+{
     MachineOptions {
         file,
         cores: options.get_str("cores"),
@@ -124,9 +177,14 @@ fn machine_of<'a>(file: &'a str, options: &ArgMatches<'a>) -> MachineOptions<'a>
     }
 }
 
-fn schedule_of<'a>(options: &ArgMatches<'a>) -> ScheduleOptions<'a> {
+fn schedule_of<'a>(options: &ArgMatches<'a>) -> ScheduleOptions<'a>
+    ensures { IsSchedule (found_of options.now) result }
+{
     ScheduleOptions {
         steps: options.get_str("steps"),
         path: options.get_str("schedule"),
+        in_turn: options.get_flag("in-turn"),
+        random: options.get_str("random"),
+        limit: options.get_str("limit"),
     }
 }

@@ -6,8 +6,9 @@ use crate::telling::tell;
 use elide_args::{NotASubcommand, Subcommand, subcommand_of};
 use elide_asm::{asm, dis};
 use elide_debug::debug;
+use elide_hunt::{Answer as Hunted, hunt};
 use elide_program::Paths;
-use elide_run::{Agreement, replay, run};
+use elide_run::{Agreement, Ending, replay, run};
 use elide_setup::{Fault, Refusal};
 use elide_threads::threads;
 use ia_text::Out;
@@ -15,7 +16,8 @@ use std::sync::Wait;
 use std::thread::Threads;
 use tm_debug::In;
 
-/// Does what the words say, and gives the exit status: 0, 1 for a fault, 2 for a misused command line.
+/// Does what the words say, and gives the exit status: 0, 1 for a fault, 2 for a misused command line, 3 where a run failed what
+/// was asked of it.
 ///
 /// The words are the arguments without the program's name. A fault is one line on `err`, as `fault 23 BadCores`, or with the
 /// line of a text as `fault 27 BadImageText line 3`; a misused option is `usage: ` and its name. Nothing is written on
@@ -28,12 +30,13 @@ pub fn command<R: Threads + Wait + Sync + AllocGlobal, P: Paths, I: In, O: Out, 
     out: &mut O,
     err: &mut E,
 ) -> u8
-    ensures { result ≤ 2 }
+    ensures { result ≤ 3 }
 {
     match subcommand_of(rt.alloc(), words, out, err) {
         Ok(subcommand) => match obey(rt, &subcommand, paths, input, out) {
             Ok(Answer::Done) => 0,
             Ok(Answer::Differs) => 1,
+            Ok(Answer::Fails) => 3,
             Err(refusal) => tell(refusal, err),
         },
         Err(NotASubcommand::Helped) => 0,
@@ -50,6 +53,8 @@ enum Answer {
     Done,
     // A history that was run again ended otherwise.
     Differs,
+    // A run failed what was asked of it.
+    Fails,
 }
 
 // Does what is asked for.
@@ -64,9 +69,18 @@ fn obey<R: Threads + Wait + Sync + AllocGlobal, P: Paths, I: In, O: Out>(
     match subcommand {
         Subcommand::Asm(options) => asm(alloc, options, paths, out)?,
         Subcommand::Dis(options) => dis(alloc, options, paths, out)?,
-        Subcommand::Run(options) => run(alloc, options, paths, out)?,
         Subcommand::Threads(options) => threads(rt, options, paths, out)?,
         Subcommand::Debug(options) => debug(rt, alloc, options, paths, input, out)?,
+        Subcommand::Run(options) => {
+            if run(alloc, options, paths, out)? == Ending::RunsOn {
+                return Ok(Answer::Fails);
+            }
+        }
+        Subcommand::Hunt(options) => {
+            if hunt(rt, options, paths, out)? == Hunted::Failed {
+                return Ok(Answer::Fails);
+            }
+        }
         Subcommand::Replay(options) => {
             if replay(alloc, options, paths, out)? == Agreement::Differs {
                 return Ok(Answer::Differs);

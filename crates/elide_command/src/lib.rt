@@ -1,8 +1,9 @@
 //! The commands of `elide`, over files and devices that are handed in.
 //!
-//! [`command`] promises the exit status, 0, 1 or 2; what it writes is compared by `doc_tests`. The words become a plain subcommand
-//! in `elide_args`; each command is a crate of its own, `elide_asm`, `elide_run`, `elide_threads` and `elide_debug`, and this one
-//! chooses among them and tells how they ended.
+//! [`command`] promises the exit status, 0 to 3. That a refusal is told with its number, its line and its status is proved where
+//! it is told; what else is written is compared by `doc_tests`. The words become a plain subcommand in `elide_args`; each command
+//! is a crate of its own, `elide_asm`, `elide_run`, `elide_threads`, `elide_hunt` and `elide_debug`, and this one chooses among
+//! them and tells how they ended.
 #![tactic(auto)]
 
 mod dispatch;

@@ -1,42 +1,70 @@
 //! How a command's end is told. Takes no memory.
 
-ghost use Rattle.std.specs.Prelude.{◌≤◌};
+ghost use Rattle.std.specs.Prelude.{◌≡◌, ◌≤◌, ◌+◌, ◌++◌, ◌∷◌, [], ℕ, List, codes};
+ghost use Rattle.ia_text.specs.Writing.{Writes};
+ghost use Rattle.arrayvec.specs.ArrayVec.{array_vec_len};
+ghost use Rattle.elide_command.specs.Telling.{refusal_text};
+ghost use Rattle.elide_setup.specs.Faults.{refusal_status};
+ghost use Rattle.elide_setup.specs.Told.{fault_back, fault_front};
 
-use arrayvec::ArrayString;
-use elide_setup::{Fault, Refusal};
-use ia_text::Out;
-use std::fmt;
+use arrayvec::{ArrayString, ArrayVec};
+use elide_setup::{Fault, Refusal, push_back, push_front};
+use ia_text::page::push;
+use ia_text::{Failed, Out};
 use std::fmt::Write;
 
-// A line that tells a fault or a misused option. The longest has some 60 bytes.
-type Line = ArrayString<128>;
+// The line that tells a fault.
+type Line = ArrayVec<u8, 160>;
+
+// A fault's name. The longest has some 20 bytes.
+type Name = ArrayString<64>;
 
 /// Tells why a command ended, and gives its status.
 pub fn tell<E: Out>(refusal: Refusal, err: &mut E) -> u8
-    ensures { result ≤ 2 }
+    ensures status { result ≡ refusal_status refusal }
+    ensures most { result ≤ 2 }
+{
+    // A line that is not written whole has no further place to be told.
+    let _ = write_refusal(refusal, err);
+    refusal.status()
+}
+
+fn write_refusal<E: Out>(refusal: Refusal, err: &mut E) -> Result<(), Failed>
+    ensures { (name : List ℕ) × Writes (E.device err.old) (E.device err.new) (refusal_text refusal name) result }
+{
+    match refusal {
+        Refusal::Fault(fault) => write_fault(fault, err),
+        Refusal::Usage(name) => write_usage(name, err),
+    }
+}
+
+// `fault`, its number, its name, and the line of a text that it is told of.
+fn write_fault<E: Out>(fault: Fault, err: &mut E) -> Result<(), Failed>
+    ensures { (name : List ℕ) × Writes (E.device err.old) (E.device err.new)
+        (fault_front fault ++ name ++ fault_back fault) result }
 {
     let mut line = Line::new();
-    // A line that is cut short, and one that is not written whole, have no further place to be told.
-    let _ = write_refusal(refusal, &mut line);
-    let _ = err.put(line.as_str().as_bytes());
-    match refusal {
-        Refusal::Fault(_) => 1,
-        Refusal::Usage(_) => 2,
-    }
+    push_front(&mut line, fault);
+    push_name(&mut line, fault);
+    push_back(&mut line, fault);
+    err.put(line.as_slice())
 }
 
-fn write_refusal(refusal: Refusal, line: &mut Line) -> fmt::Result {
-    match refusal {
-        Refusal::Fault(fault) => write_fault(fault, line),
-        Refusal::Usage(name) => writeln!(line, "usage: {name}"),
-    }
+fn push_name(line: &mut Line, fault: Fault)
+    requires { array_vec_len line.old + 64 ≤ 160 }
+    ensures text { (name : List ℕ) × (line.new.items ≡ line.old.items ++ name) }
+    ensures len { array_vec_len line.new ≤ array_vec_len line.old + 64 }
+{
+    let mut name = Name::new();
+    // A name that is longer is cut short.
+    let _ = write!(name, "{fault}");
+    push(line, name.as_str().as_bytes());
 }
 
-// The line that tells a fault.
-fn write_fault(fault: Fault, line: &mut Line) -> fmt::Result {
-    let code = fault.code();
-    match fault.line() {
-        None => writeln!(line, "fault {code} {fault}"),
-        Some(number) => writeln!(line, "fault {code} {fault} line {number}"),
-    }
+fn write_usage<E: Out>(name: &str, err: &mut E) -> Result<(), Failed>
+    ensures { Writes (E.device err.old) (E.device err.new) (codes "usage: " ++ name.now ++ 10 ∷ []) result }
+{
+    err.put(b"usage: ")?;
+    err.put(name.as_bytes())?;
+    err.put(b"\n")
 }

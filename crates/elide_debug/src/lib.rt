@@ -1,7 +1,13 @@
 //! `elide debug`.
 //!
-//! Promises no more than safety: what a session answers is proved of `tm_debug`. Stands on `elide_setup` and `tm_debug`.
+//! Promised: what [`debug`] writes are the answers of a session (`tm_debug`) to the input, with the machine that the options say and
+//! room for 1,000,000 steps. Stands on `elide_setup` and `tm_debug`.
 #![tactic(auto)]
+
+ghost use Rattle.std.specs.Prelude.{◌≡◌, IfOk, OnOk};
+ghost use Rattle.elide_debug.specs.Served.{IsOpened, IsServed};
+ghost use Rattle.elide_setup.specs.Faults.{fault_number};
+ghost use Rattle.tm_debug.specs.Faults.{session_code};
 
 use elide_args::DebugOptions;
 use elide_program::{Paths, Settings};
@@ -10,11 +16,12 @@ use ia_text::Out;
 use std::alloc::Global;
 use std::sync::Wait;
 use tm_debug::{In, SessionFault, serve};
+use tm_hist::Board;
 
 /// How many steps a session can make.
 const MOST_STEPS: u64 = 1_000_000;
 
-/// Answers the commands of the input.
+/// Answers the commands of the input. The machine is that of the options, and the session can make 1,000,000 steps.
 pub fn debug<R: Wait, P: Paths, I: In, O: Out>(
     rt: &R,
     alloc: Global,
@@ -22,18 +29,34 @@ pub fn debug<R: Wait, P: Paths, I: In, O: Out>(
     paths: &mut P,
     input: &mut I,
     out: &mut O,
-) -> Result<(), Refusal> {
-    let settings = Settings::read(&options.machine)?;
-    let setup = prepared(alloc, options.machine.file, &settings, paths)?;
-    let board = new_board(alloc, &setup, MOST_STEPS)?;
+) -> Result<(), Refusal>
+    ensures { OnOk result (IsServed options.now (I.remaining input.old) (I.remaining input.new) (O.device out.old)
+        (O.device out.new)) }
+{
+    let board = opened(alloc, options, paths)?;
     match serve(rt, alloc, board, input, out) {
         Ok(_board) => Ok(()),
         Err(fault) => Err(Refusal::Fault(fault_of(&fault))),
     }
 }
 
+// A board before its first step.
+fn opened<P: Paths>(
+    alloc: Global,
+    options: &DebugOptions<'_>,
+    paths: &mut P,
+) -> Result<Board, Refusal>
+    ensures { IfOk result (λ board. IsOpened options.now board) }
+{
+    let settings = Settings::read(&options.machine)?;
+    let setup = prepared(alloc, options.machine.file, &settings, paths)?;
+    new_board(alloc, &setup, MOST_STEPS)
+}
+
 // Why a session ended early. The board that comes with it is not asked for.
-fn fault_of(fault: &SessionFault) -> Fault {
+fn fault_of(fault: &SessionFault) -> Fault
+    ensures { fault_number result ≡ session_code fault.now }
+{
     match fault {
         SessionFault::Read(_) => Fault::SessionRead,
         SessionFault::Write(_) => Fault::SessionWrite,

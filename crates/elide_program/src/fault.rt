@@ -1,5 +1,8 @@
 //! Why there is no program.
 
+ghost use Rattle.std.specs.Prelude.{◌≡◌};
+ghost use Rattle.elide_program.specs.Faults.{program_line, program_number, unread};
+
 use crate::paths::ReadFault;
 use ia_asm::AsmFault;
 use ia_image::{ImageFault, LoadFault};
@@ -32,7 +35,9 @@ pub enum ProgramFault {
 
 impl ProgramFault {
     /// The fault's number.
-    pub fn code(self) -> u8 {
+    pub fn code(self) -> u8
+        ensures { result ≡ program_number self }
+    {
         match self {
             ProgramFault::Write(fault) => fault.code(),
             ProgramFault::Assemble(fault) => fault.code(),
@@ -44,7 +49,9 @@ impl ProgramFault {
     }
 
     /// The line of the text that is at fault, from 1.
-    pub fn line(self) -> Option<usize> {
+    pub fn line(self) -> Option<usize>
+        ensures { result ≡ program_line self }
+    {
         match self {
             ProgramFault::Assemble(fault) => fault.line().map(|line| line as usize),
             ProgramFault::Image(fault) => fault.line(),
@@ -54,6 +61,8 @@ impl ProgramFault {
 }
 
 impl From<ReadFault> for ProgramFault {
+    ghost from_gives = { λ fault given. given ≡ unread fault };
+
     fn from(fault: ReadFault) -> ProgramFault {
         match fault {
             ReadFault::Failed => ProgramFault::Input,
@@ -73,12 +82,22 @@ pub enum ProgramRefusal {
 }
 
 impl From<ProgramFault> for ProgramRefusal {
+    ghost use Rattle.elide_program.specs.declared.fault.ProgramRefusal.TheVariants.{Fault};
+
+    ghost from_gives = { λ fault given. given ≡ Fault fault };
+
     fn from(fault: ProgramFault) -> ProgramRefusal {
         ProgramRefusal::Fault(fault)
     }
 }
 
 impl From<AllocError> for ProgramRefusal {
+    ghost use Rattle.elide_program.specs.declared.fault.ProgramFault.TheVariants.{Load};
+    ghost use Rattle.elide_program.specs.declared.fault.ProgramRefusal.TheVariants.{Fault};
+    ghost use Rattle.ia_image.specs.declared.fault.LoadFault.TheVariants as want;
+
+    ghost from_gives = { λ _ given. given ≡ Fault (Load want.NoMemory) };
+
     fn from(_refused: AllocError) -> ProgramRefusal {
         ProgramRefusal::Fault(ProgramFault::Load(LoadFault::NoMemory))
     }

@@ -1,5 +1,9 @@
 //! FILE as a program: image text, or a source that is assembled.
 
+ghost use Rattle.std.specs.Prelude.{◌≡◌, ◌≤◌, IfOk, MatchResult, length, min, replicate};
+ghost use Rattle.elide_program.specs.Faults.{unread, unread_source};
+ghost use Rattle.elide_program.specs.Files.{Gives, Tells, most_bytes};
+
 use crate::entries::EntryList;
 use crate::fault::{ProgramFault, ProgramRefusal};
 use crate::paths::{Paths, ReadFault};
@@ -20,16 +24,24 @@ pub enum ProgramFile<'a> {
 /// The most bytes of a file that is read: 640 MiB, more than the image text of the greatest memory takes.
 pub const MOST_BYTES: usize = 671_088_640;
 
-/// The content of a program's file.
-pub fn read_file<P: Paths>(path: &str, paths: &mut P) -> Result<Vec<u8>, ProgramRefusal> {
+/// The content of a program's file, of at most [`MOST_BYTES`].
+pub fn read_file<P: Paths>(path: &str, paths: &mut P) -> Result<Vec<u8>, ProgramRefusal>
+    ensures { MatchResult result
+        (λ bytes. Gives (P.content paths.old path.now) most_bytes bytes.items)
+        (λ refusal. Tells unread (P.content paths.old path.now) refusal) }
+{
     match paths.read(path, MOST_BYTES) {
         Ok(text) => Ok(text),
         Err(fault) => Err(ProgramRefusal::Fault(ProgramFault::from(fault))),
     }
 }
 
-/// The content of a source's file. Want of memory is the assembler's fault.
-pub fn read_source<P: Paths>(path: &str, paths: &mut P) -> Result<Vec<u8>, ProgramRefusal> {
+/// The content of a source's file, of at most [`MOST_BYTES`]. Want of memory is the assembler's fault.
+pub fn read_source<P: Paths>(path: &str, paths: &mut P) -> Result<Vec<u8>, ProgramRefusal>
+    ensures { MatchResult result
+        (λ bytes. Gives (P.content paths.old path.now) most_bytes bytes.items)
+        (λ refusal. Tells unread_source (P.content paths.old path.now) refusal) }
+{
     match paths.read(path, MOST_BYTES) {
         Ok(text) => Ok(text),
         Err(ReadFault::NoMemory) => {
@@ -40,8 +52,13 @@ pub fn read_source<P: Paths>(path: &str, paths: &mut P) -> Result<Vec<u8>, Progr
 }
 
 impl<'a> ProgramFile<'a> {
+    ghost use Rattle.elide_program.specs.ProgramFile.{IsFile, file_base, file_bytes, file_code_len, file_symbol};
+    ghost use Rattle.elide_program.specs.ProgramFile.{loaded};
+
     /// A text as a program: image text where it begins with `image 1 `, else a source.
-    pub fn read(alloc: Global, text: &'a [u8]) -> Result<ProgramFile<'a>, ProgramRefusal> {
+    pub fn read(alloc: Global, text: &'a [u8]) -> Result<ProgramFile<'a>, ProgramRefusal>
+        ensures { IfOk result (λ file. IsFile text.now file) }
+    {
         if text.starts_with(b"image 1 ") {
             match read_image(alloc, text) {
                 Ok(image) => Ok(ProgramFile::Image(image)),
@@ -56,7 +73,9 @@ impl<'a> ProgramFile<'a> {
     }
 
     /// The image.
-    pub fn bytes(&self) -> &[u8] {
+    pub fn bytes(&self) -> &[u8]
+        ensures { result.now ≡ file_bytes self.now }
+    {
         match self {
             ProgramFile::Image(image) => image.bytes.as_slice(),
             ProgramFile::Source(program) => program.image.as_slice(),
@@ -64,7 +83,9 @@ impl<'a> ProgramFile<'a> {
     }
 
     /// The address of the image's first byte.
-    pub fn base(&self) -> u32 {
+    pub fn base(&self) -> u32
+        ensures { result ≡ file_base self.now }
+    {
         match self {
             ProgramFile::Image(image) => image.base,
             ProgramFile::Source(program) => program.base,
@@ -72,7 +93,9 @@ impl<'a> ProgramFile<'a> {
     }
 
     /// How many bytes of the image are code, as the file says.
-    pub fn code_len(&self) -> u32 {
+    pub fn code_len(&self) -> u32
+        ensures { result ≡ file_code_len self.now }
+    {
         match self {
             ProgramFile::Image(image) => image.code_len,
             ProgramFile::Source(program) => program.code_len,
@@ -80,7 +103,9 @@ impl<'a> ProgramFile<'a> {
     }
 
     /// The address of a symbol of the source.
-    pub fn symbol(&self, name: &str) -> Option<u32> {
+    pub fn symbol(&self, name: &str) -> Option<u32>
+        ensures { result ≡ file_symbol self.now name.now }
+    {
         match self {
             ProgramFile::Image(_) => None,
             ProgramFile::Source(program) => program.address(name.as_bytes()),
@@ -88,11 +113,9 @@ impl<'a> ProgramFile<'a> {
     }
 
     /// Where each core starts.
-    pub fn starts(
-        &self,
-        alloc: Global,
-        settings: &Settings<'_>,
-    ) -> Result<Vec<u32>, ProgramRefusal> {
+    pub fn starts(&self, alloc: Global, settings: &Settings<'_>) -> Result<Vec<u32>, ProgramRefusal>
+        ensures { IfOk result (λ starts. length starts.items ≤ 64 → length starts.items ≡ settings.now.cores) }
+    {
         match settings.entries {
             Some(list) => starts_of(alloc, list, settings.cores, self),
             None => same_start(alloc, self.base(), settings.cores),
@@ -105,7 +128,10 @@ impl<'a> ProgramFile<'a> {
         alloc: Global,
         settings: &Settings<'_>,
         starts: &[u32],
-    ) -> Result<Program, ProgramRefusal> {
+    ) -> Result<Program, ProgramRefusal>
+        ensures program { IfOk result (λ program. program ≡ loaded self.now settings.now.memory starts.now) }
+        ensures few { IfOk result (λ program. length program.entries ≤ 64) }
+    {
         let loaded = load(
             alloc,
             self.bytes(),
@@ -115,7 +141,10 @@ impl<'a> ProgramFile<'a> {
             starts,
         );
         match loaded {
-            Ok(program) => Ok(program),
+            Ok(program) => {
+                let _cores = program.cores();
+                Ok(program)
+            }
             Err(fault) => Err(ProgramRefusal::Fault(ProgramFault::Load(fault))),
         }
     }
@@ -127,15 +156,20 @@ fn starts_of(
     list: EntryList<'_>,
     cores: u32,
     file: &ProgramFile<'_>,
-) -> Result<Vec<u32>, ProgramRefusal> {
+) -> Result<Vec<u32>, ProgramRefusal>
+    ensures { IfOk result (λ starts. length starts.items ≤ 64 → length starts.items ≡ cores) }
+{
     let addresses = list.addresses(alloc, file)?;
     match addresses.as_slice() {
         [alone] => same_start(alloc, *alone, cores),
-        _ => Ok(addresses),
+        all if all.len() == cores as usize => Ok(addresses),
+        _ => Err(ProgramRefusal::Usage("--entry")),
     }
 }
 
 // One address for all cores. One more than the most cores is refused as any greater number is.
-fn same_start(alloc: Global, address: u32, cores: u32) -> Result<Vec<u32>, ProgramRefusal> {
+fn same_start(alloc: Global, address: u32, cores: u32) -> Result<Vec<u32>, ProgramRefusal>
+    ensures { IfOk result (λ starts. starts.items ≡ replicate (min cores 65) address) }
+{
     Ok(vec![in alloc; address; cores.min(65) as usize]?)
 }

@@ -1,6 +1,6 @@
 //! The files of the system.
 
-ghost use Rattle.std.specs.Prelude.{◌≤◌, IfOk, length};
+ghost use Rattle.std.specs.Prelude.{◌≤◌, IfOk, None, length};
 
 use crate::paths::{Paths, ReadFault, Text};
 use crate::replacing::replace;
@@ -25,6 +25,9 @@ impl<'a, R: Files + AllocGlobal> HostPaths<'a, R> {
 }
 
 impl<R: Files + AllocGlobal> Paths for HostPaths<'_, R> {
+    // What the system's files hold no contract can say.
+    ghost content = { λ _ _. None };
+
     fn read(&mut self, path: &str, most: usize) -> Result<Vec<u8>, ReadFault> {
         let mut file = match File::open(self.rt, path) {
             Ok(file) => file,

@@ -1,10 +1,15 @@
 //! Numbers and names of the command line.
 
+ghost use Rattle.std.specs.Prelude.{◌≡◌};
+ghost use Rattle.elide_program.specs.Settings.{word32};
+
 use ia_lex::word_number;
 
 /// The number that a word writes, where it is one below 2^32: decimal, hex after `0x`, hex with a leading digit and a
 /// final `h`, or binary with a final `b`.
-pub fn word32(word: &str) -> Option<u32> {
+pub fn word32(word: &str) -> Option<u32>
+    ensures { result ≡ word32 word.now }
+{
     u32::try_from(word_number(word.as_bytes())?).ok()
 }
 

@@ -1,6 +1,7 @@
 //! Files by their paths.
 
-ghost use Rattle.std.specs.Prelude.{◌≤◌, IfOk, length};
+ghost use Rattle.std.specs.Prelude.{◌≤◌, ℕ, IfOk, List, MatchResult, Option, length};
+ghost use Rattle.elide_program.specs.Files.{Gives, Refuses};
 
 use ia_text::{Failed, Out, WriteFault};
 
@@ -23,9 +24,15 @@ pub trait Text {
 
 /// The files that a command reads and writes.
 pub trait Paths {
-    /// The whole content of a file of at most so many bytes.
+    // The content of the file at a path, where it is known.
+    ghost content: { Self → List ℕ → Option (List ℕ) };
+
+    /// The whole content of a file of at most so many bytes. A longer one is [`ReadFault::TooLong`], and no other is.
     fn read(&mut self, path: &str, most: usize) -> Result<Vec<u8>, ReadFault>
-        ensures { IfOk result (λ bytes. length bytes.items ≤ most) };
+        ensures few { IfOk result (λ bytes. length bytes.items ≤ most) }
+        ensures content { MatchResult result
+            (λ bytes. Gives (content self.old path.now) most bytes.items)
+            (λ fault. Refuses (content self.old path.now) most fault) };
 
     /// Makes a file with this text, or replaces one that is there. Where that fails, a file that was there stays as it was.
     /// What is no regular file, such as a device, is written as it is.

@@ -1,26 +1,64 @@
 //! `elide run`.
 
+use crate::drawn::run_drawn;
+use crate::halting::{Ending, ending_of};
 use elide_args::RunOptions;
 use elide_program::Paths;
-use elide_setup::{Fault, Gathered, Refusal, Setup, part_of, scheduled, show};
+use elide_setup::{
+    Course, Fault, Gathered, Refusal, Setup, part_of, record, record_path, scheduled, show,
+};
 use ia_text::{Out, WriteFault};
 use std::alloc::Global;
 use tm_core::{Machine, Outcome};
 use tm_hist::write_outcome;
 
-/// Runs a schedule of core steps, and prints the outcomes where they are asked for, the state, and the dump.
+/// Runs a schedule of core steps, and prints the outcomes where they are asked for, the state, and the dump; and where it is
+/// expected that all cores stop, those that did not.
 pub fn run<P: Paths, O: Out>(
     alloc: Global,
     options: &RunOptions<'_>,
     paths: &mut P,
     out: &mut O,
-) -> Result<(), Refusal> {
-    let (setup, steps) = scheduled(alloc, &options.machine, &options.schedule, paths)?;
-    let ran = Ran::of(alloc, &setup, steps.as_slice())?;
-    ran.tell(&setup, options.traces, steps.as_slice(), out)
+) -> Result<Ending, Refusal> {
+    let path = record_path(options.record, options.machine.file, paths)?;
+    let (setup, course) = scheduled(alloc, &options.machine, &options.schedule, paths)?;
+    let mut page = Gathered::new(out);
+    let machine = match course {
+        Course::Listed(steps) => {
+            let ran = Ran::of(alloc, &setup, steps.as_slice())?;
+            part_of(ran.machine.view(), setup.dump)?;
+            record(path, steps.as_slice(), paths)?;
+            if options.traces {
+                write_trace(steps.as_slice(), ran.outcomes.as_slice(), &mut page)?;
+            }
+            ran.machine
+        }
+        Course::Drawn(drawn) => {
+            run_drawn(alloc, &setup, drawn, options.traces, path, paths, &mut page)?
+        }
+    };
+    tell(&machine, &setup, options.expects_halt, &mut page)
 }
 
-// A machine after a schedule, and what came of each step.
+// Prints the state and the dump, and the cores that have not stopped where they are asked for.
+fn tell<O: Out>(
+    machine: &Machine,
+    setup: &Setup,
+    expects_halt: bool,
+    page: &mut Gathered<'_, O>,
+) -> Result<Ending, Refusal> {
+    let part = part_of(machine.view(), setup.dump)?;
+    show(machine, part, page)?;
+    let ending = if expects_halt {
+        ending_of(machine, page)?
+    } else {
+        Ending::AsAsked
+    };
+    page.finish()?;
+    Ok(ending)
+}
+
+// A machine after a list of steps, and what came of each.
 #[derive(Drop)]
 struct Ran {
     machine: Machine,
@@ -33,24 +71,6 @@ impl Ran {
         let mut machine = machine.map_err(Fault::Machine)?;
         let outcomes = machine.run(alloc, steps).map_err(Fault::Run)?;
         Ok(Ran { machine, outcomes })
-    }
-
-    // Prints the outcomes where they are asked for, the state and the dump.
-    fn tell<O: Out>(
-        &self,
-        setup: &Setup,
-        traces: bool,
-        steps: &[u8],
-        out: &mut O,
-    ) -> Result<(), Refusal> {
-        let part = part_of(self.machine.view(), setup.dump)?;
-        let mut page = Gathered::new(out);
-        if traces {
-            write_trace(steps, self.outcomes.as_slice(), &mut page)?;
-        }
-        show(&self.machine, part, &mut page)?;
-        page.finish()?;
-        Ok(())
     }
 }
 

@@ -1,5 +1,8 @@
 //! Why a command ends without its answer.
 
+ghost use Rattle.std.specs.Prelude.{◌≡◌, ◌≤◌};
+ghost use Rattle.elide_setup.specs.Faults.{fault_line, fault_number, refusal_status};
+
 use elide_program::{ProgramFault, ProgramRefusal};
 use ia_image::LoadFault;
 use ia_text::{Failed, WriteFault};
@@ -60,7 +63,9 @@ pub enum Fault {
 
 impl Fault {
     /// The fault's number.
-    pub fn code(self) -> u8 {
+    pub fn code(self) -> u8
+        ensures { result ≡ fault_number self }
+    {
         match self {
             Fault::Program(fault) => fault.code(),
             Fault::Machine(fault) => fault.code(),
@@ -81,7 +86,9 @@ impl Fault {
     }
 
     /// The line of the text that is at fault, from 1.
-    pub fn line(self) -> Option<usize> {
+    pub fn line(self) -> Option<usize>
+        ensures { result ≡ fault_line self }
+    {
         match self {
             Fault::Program(fault) => fault.line(),
             Fault::Schedule(ScheduleFault::BadSchedule(line)) => Some(line),
@@ -98,6 +105,19 @@ pub enum Refusal {
     Fault(Fault),
     /// The option of this name is misused.
     Usage(&'static str),
+}
+
+impl Refusal {
+    /// The exit status: 1 for a fault, 2 for a misused option.
+    pub fn status(self) -> u8
+        ensures kind { result ≡ refusal_status self }
+        ensures most { result ≤ 2 }
+    {
+        match self {
+            Refusal::Fault(_) => 1,
+            Refusal::Usage(_) => 2,
+        }
+    }
 }
 
 impl From<Fault> for Refusal {

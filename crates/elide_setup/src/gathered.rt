@@ -1,61 +1,120 @@
 //! Text that is gathered in a row of fixed room before it is handed on, so that a line costs no system call, and printing no
 //! memory.
 
-ghost use Rattle.std.specs.Prelude.{◌≡◌, MatchResult, None};
-ghost use Rattle.ia_text.specs.Writing.{Rose};
+ghost use Rattle.std.specs.Prelude.{◌≡◌, [], OnErr, OnOk};
+ghost use Rattle.ia_text.specs.Writing.{Writes};
+ghost use Rattle.elide_setup.specs.Gathering.{told};
 
 use arrayvec::ArrayVec;
 use ia_text::{Failed, Out};
+use std::snapshot::Snapshot;
 
 /// How many bytes are gathered before they are handed on.
 const ROOM: usize = 16384;
 
-/// A device that gathers text for another one. It hands the text on where its room is full, and at [`Gathered::finish`]; a
-/// failure of the other device is its own. Takes no memory.
+/// A device that gathers text for another one. It hands the text on where its room is full, and at [`Gathered::finish`]; once
+/// the other device fails, each further call is a failure of this one. Takes no memory.
 #[derive(Drop)]
 pub struct Gathered<'o, O> {
     out: &'o mut O,
     row: ArrayVec<u8, ROOM>,
+    // How often this device failed. At 0 the other one holds what was handed on, and the row stands behind it.
+    failures: u64,
+    // The other device before the row was last handed on, which clauses alone see: the row stands behind what it held.
+    before: Snapshot<O>,
 }
 
 impl<'o, O: Out> Gathered<'o, O> {
     /// Gathers for this device.
     pub fn new(out: &'o mut O) -> Gathered<'o, O>
-        ensures { result.out ≡ out.entry }
+        ensures out { result.out ≡ out.entry }
+        ensures row { result.row.items ≡ [] }
+        ensures failures { result.failures ≡ 0 }
     {
+        let before = Snapshot::of(&*out);
         Gathered {
             out,
             row: ArrayVec::new(),
+            failures: 0,
+            before,
         }
     }
 
-    /// Hands on what was gathered.
+    /// Hands on what was gathered. A beginning of it, where the other device fails.
     pub fn finish(&mut self) -> Result<(), Failed>
-        ensures { MatchResult result
-            (λ _. (O.device self.new.out.now).failures ≡ (O.device self.old.out.now).failures)
-            (λ _. Rose (O.device self.old.out.now).failures (O.device self.new.out.now).failures) }
+        ensures ok { OnOk result (self.old.failures ≡ 0) }
+        ensures handed { self.old.failures ≡ 0
+            → Writes (O.device self.old.out.now) (O.device self.new.out.now) self.old.row.items result }
     {
-        let handed = self.out.put(self.row.as_slice());
-        self.row.clear();
-        handed
+        if self.failures != 0 {
+            return Err(Failed);
+        }
+        self.hand_on()
+    }
+
+    // Hands the row on, which is empty then. Where the other device fails it is kept.
+    fn hand_on(&mut self) -> Result<(), Failed>
+        requires { self.old.failures ≡ 0 }
+        ensures handed { Writes (O.device self.old.out.now) (O.device self.new.out.now) self.old.row.items result }
+        ensures ok { OnOk result ((self.new.row.items ≡ []) × (self.new.failures ≡ 0)) }
+        ensures err { OnErr result ((self.new.row.items ≡ self.old.row.items) × (self.new.failures ≡ 1)
+            × (O.device self.new.before.value ≡ O.device self.old.out.now)) }
+    {
+        self.before = Snapshot::of(&*self.out);
+        match self.out.put(self.row.as_slice()) {
+            Ok(()) => {
+                self.row.clear();
+                Ok(())
+            }
+            Err(_) => {
+                self.failures = 1;
+                Err(Failed)
+            }
+        }
+    }
+
+    // Hands on bytes that the row has no room for, and which is empty.
+    fn pass(&mut self, bytes: &[u8]) -> Result<(), Failed>
+        requires { self.old.failures ≡ 0 }
+        ensures handed { Writes (O.device self.old.out.now) (O.device self.new.out.now) bytes.now result }
+        ensures row { self.new.row.items ≡ self.old.row.items }
+        ensures ok { OnOk result (self.new.failures ≡ 0) }
+        ensures err { OnErr result ((self.new.failures ≡ 1)
+            × (O.device self.new.before.value ≡ O.device self.old.out.now)) }
+    {
+        self.before = Snapshot::of(&*self.out);
+        match self.out.put(bytes) {
+            Ok(()) => Ok(()),
+            Err(_) => {
+                self.failures = 1;
+                Err(Failed)
+            }
+        }
     }
 }
 
 impl<O: Out> Out for Gathered<'_, O> {
-    ghost device = { λ g. record { contents = None; failures = (O.device g.out.now).failures } };
+    // What was handed on, and the row behind it.
+    ghost device = { λ g. record {
+      contents = told (O.device g.out.now).contents (O.device g.before.value).contents g.failures g.row.items;
+      failures = g.failures;
+    } };
 
     fn put(&mut self, bytes: &[u8]) -> Result<(), Failed> {
+        if self.failures != 0 {
+            self.failures = self.failures.saturating_add(1);
+            return Err(Failed);
+        }
         if bytes.len() > self.row.remaining_capacity() {
-            self.finish()?;
+            self.hand_on()?;
         }
         match self.row.try_extend_from_slice(bytes) {
             Ok(()) => Ok(()),
-            // They are more than the row has room for, which is empty then.
-            Err(_) => self.out.put(bytes),
+            Err(_) => self.pass(bytes),
         }
     }
 
     fn failures(&self) -> u64 {
-        self.out.failures()
+        self.failures
     }
 }

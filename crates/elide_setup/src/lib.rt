@@ -1,16 +1,23 @@
 //! What the commands that make a machine have in common: its program, its schedule, a board, and how they are shown.
 //!
-//! Promises no more than safety: the order of faults and what is printed are compared by `doc_tests`. Stands on `elide_program`,
-//! and on the machine and its history (`tm_core`, `tm_hist`), whose clauses say what a machine comes to.
+//! Promised: the number and line of each fault and the exit status of a refusal; that the machine of a command has the cores, the
+//! memory and the limits of its options; what `show` writes of a machine; and that text which is gathered is handed on. The order
+//! of faults is compared by `doc_tests`. Stands on `elide_program`, and on the machine and its history (`tm_core`, `tm_hist`),
+//! whose clauses say what a machine comes to.
 #![tactic(auto)]
 
 mod fault;
 mod gathered;
 mod machine;
 mod plan;
+mod recorded;
 mod shown;
+mod told;
 
 pub use fault::{Fault, Refusal};
 pub use gathered::Gathered;
 pub use machine::{Setup, new_board, prepared, scheduled};
-pub use shown::{MemoryPart, part_of, show};
+pub use plan::{Course, Drawn, limit_of};
+pub use recorded::{record, record_path};
+pub use shown::{MemoryPart, part_of, print, show};
+pub use told::{push_back, push_front};

@@ -1,7 +1,11 @@
 //! What the commands that make a machine begin with.
 
+ghost use Rattle.std.specs.Prelude.{◌≡◌, ◌≤◌, IfOk, length};
+ghost use Rattle.tm_hist.specs.Board.{IsNew};
+ghost use Rattle.elide_setup.specs.Setup.{IsAsked, IsSetup};
+
 use crate::fault::{Fault, Refusal};
-use crate::plan::Plan;
+use crate::plan::{Course, Plan};
 use crate::shown::part_of;
 use elide_args::{MachineOptions, ScheduleOptions};
 use elide_program::{Dump, Paths, ProgramFile, Settings, read_file};
@@ -28,7 +32,10 @@ impl Setup {
         settings: &Settings<'_>,
         file: &ProgramFile<'_>,
         starts: &[u32],
-    ) -> Result<Setup, Refusal> {
+    ) -> Result<Setup, Refusal>
+        ensures { IfOk result (λ setup. (length starts.now ≤ 64 → length starts.now ≡ settings.now.cores)
+            → IsSetup settings.now setup) }
+    {
         let program = file.load(alloc, settings, starts)?;
         Ok(Setup {
             program,
@@ -37,15 +44,22 @@ impl Setup {
         })
     }
 
-    // The program of a text by the options.
-    fn read(alloc: Global, settings: &Settings<'_>, text: &[u8]) -> Result<Setup, Refusal> {
-        let file = ProgramFile::read(alloc, text)?;
+    /// The program of a file by the options.
+    pub fn of_file(
+        alloc: Global,
+        settings: &Settings<'_>,
+        file: &ProgramFile<'_>,
+    ) -> Result<Setup, Refusal>
+        ensures { IfOk result (λ setup. IsSetup settings.now setup) }
+    {
         let starts = file.starts(alloc, settings)?;
-        Setup::load(alloc, settings, &file, starts.as_slice())
+        Setup::load(alloc, settings, file, starts.as_slice())
     }
 }
 
-fn limits_of(settings: &Settings<'_>) -> Limits {
+fn limits_of(settings: &Settings<'_>) -> Limits
+    ensures { result ≡ record { read_lines = settings.now.reads; write_lines = settings.now.writes } }
+{
     Limits {
         read_lines: settings.reads,
         write_lines: settings.writes,
@@ -58,41 +72,50 @@ pub fn prepared<P: Paths>(
     path: &str,
     settings: &Settings<'_>,
     paths: &mut P,
-) -> Result<Setup, Refusal> {
+) -> Result<Setup, Refusal>
+    ensures { IfOk result (λ setup. IsSetup settings.now setup) }
+{
     let text = read_file(path, paths)?;
-    Setup::read(alloc, settings, text.as_slice())
+    let file = ProgramFile::read(alloc, text.as_slice())?;
+    Setup::of_file(alloc, settings, &file)
 }
 
-/// The same for a command with a schedule, whose core numbers are answered beside. It is read before the program is loaded.
+/// The same for a command with a schedule, which is answered beside. It is read before the program is loaded.
 pub fn scheduled<P: Paths>(
     alloc: Global,
     machine: &MachineOptions<'_>,
     schedule: &ScheduleOptions<'_>,
     paths: &mut P,
-) -> Result<(Setup, Vec<u8>), Refusal> {
+) -> Result<(Setup, Course), Refusal>
+    ensures setup { IfOk result (λ r. IsAsked machine.now r.0) }
+{
     let settings = Settings::read(machine)?;
     let plan = Plan::read(alloc, schedule)?;
     let text = read_file(machine.file, paths)?;
     planned(alloc, &settings, plan, text.as_slice(), paths)
 }
 
-// A program by the text of FILE, and its steps.
+// A program by the text of FILE, and its schedule.
 fn planned<P: Paths>(
     alloc: Global,
     settings: &Settings<'_>,
     plan: Plan<'_>,
     text: &[u8],
     paths: &mut P,
-) -> Result<(Setup, Vec<u8>), Refusal> {
+) -> Result<(Setup, Course), Refusal>
+    ensures { IfOk result (λ r. IsSetup settings.now r.0) }
+{
     let file = ProgramFile::read(alloc, text)?;
     let starts = file.starts(alloc, settings)?;
-    let steps = plan.steps(alloc, paths)?;
+    let course = plan.course(alloc, paths)?;
     let setup = Setup::load(alloc, settings, &file, starts.as_slice())?;
-    Ok((setup, steps))
+    Ok((setup, course))
 }
 
 /// A board of the program with room for so many steps, where what is to be printed of memory is there.
-pub fn new_board(alloc: Global, setup: &Setup, limit: u64) -> Result<Board, Refusal> {
+pub fn new_board(alloc: Global, setup: &Setup, limit: u64) -> Result<Board, Refusal>
+    ensures { IfOk result (λ board. IsNew setup.now.program setup.now.limits limit board) }
+{
     match Board::new(alloc, &setup.program, setup.limits, limit) {
         Ok(board) => {
             part_of(board.machine().view(), setup.dump)?;

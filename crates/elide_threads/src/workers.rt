@@ -1,9 +1,17 @@
 //! The workers of a command.
 
+ghost use Rattle.std.specs.Prelude.{◌≡◌, ◌*◌, ℕ, IfOk, List, MatchResult, None, Some, length, replicate};
+ghost use Rattle.std.specs.Option.{option_copied};
+ghost use Rattle.elide_setup.specs.Faults.{fault_number};
+ghost use Rattle.elide_threads.specs.Burst.{burst_said};
+ghost use Rattle.tm_hist.specs.Board.{IsNew};
+ghost use Rattle.tm_work.specs.Faults.{work_number};
+ghost use Rattle.tm_work.specs.Workers.{IsReport};
+
 use crate::record::Record;
 use elide_args::ThreadsOptions;
 use elide_program::{Paths, ProgramRefusal, Settings, number_of};
-use elide_setup::{Fault, Gathered, Refusal, Setup, new_board, part_of, prepared, show};
+use elide_setup::{Fault, Refusal, Setup, new_board, part_of, prepared, print};
 use ia_text::Out;
 use std::alloc::Global;
 use std::sync::Wait;
@@ -35,7 +43,11 @@ pub fn threads<R: Threads + Wait + Sync + AllocGlobal, P: Paths, O: Out>(
 }
 
 // How many steps a core makes before another can come between.
-fn burst_of(text: Option<&str>) -> Result<Burst, ProgramRefusal> {
+fn burst_of(text: Option<&str>) -> Result<Burst, ProgramRefusal>
+    ensures { MatchResult result
+        (λ burst. burst_said (option_copied text.entry) ≡ Some burst)
+        (λ _. burst_said (option_copied text.entry) ≡ None) }
+{
     if text.is_none() {
         return Ok(Burst::Varying);
     }
@@ -74,7 +86,10 @@ fn record_of<'a>(
 }
 
 // A board with room for so many steps of each core.
-fn opened(alloc: Global, setup: &Setup, budget: u32) -> Result<Board, Refusal> {
+fn opened(alloc: Global, setup: &Setup, budget: u32) -> Result<Board, Refusal>
+    ensures { IfOk result (λ board.
+        IsNew setup.now.program setup.now.limits (length setup.now.program.entries * budget) board) }
+{
     let limit = u64::from(setup.program.cores()) * u64::from(budget);
     new_board(alloc, setup, limit)
 }
@@ -85,7 +100,10 @@ fn worked<R: Threads + Wait + Sync + AllocGlobal>(
     board: Board,
     budget: u32,
     burst: Burst,
-) -> Result<Board, Refusal> {
+) -> Result<Board, Refusal>
+    ensures { IfOk result (λ last. (steps : List ℕ)
+        × IsReport board (replicate (length board.program.entries) budget) last steps) }
+{
     let alloc = rt.alloc();
     let Ok(budgets) = vec![in alloc; budget; usize::from(board.cores())] else {
         return Err(Refusal::Fault(Fault::NoWorkers));
@@ -97,7 +115,9 @@ fn worked<R: Threads + Wait + Sync + AllocGlobal>(
 }
 
 // Why the workers did not all run. The board that comes with it is not asked for.
-fn fault_of(fault: &WorkFault) -> Fault {
+fn fault_of(fault: &WorkFault) -> Fault
+    ensures { fault_number result ≡ work_number fault.now }
+{
     match fault {
         WorkFault::SpawnRefused(_, _) => Fault::SpawnRefused,
         WorkFault::NoMemory(_) => Fault::NoWorkers,
@@ -106,9 +126,8 @@ fn fault_of(fault: &WorkFault) -> Fault {
 
 // Prints the state and the dump.
 fn tell<O: Out>(board: &Board, setup: &Setup, out: &mut O) -> Result<(), Refusal> {
-    let part = part_of(board.machine().view(), setup.dump)?;
-    let mut page = Gathered::new(out);
-    show(board.machine(), part, &mut page)?;
-    page.finish()?;
+    let machine = board.machine();
+    let part = part_of(machine.view(), setup.dump)?;
+    print(machine, part, b"", out)?;
     Ok(())
 }

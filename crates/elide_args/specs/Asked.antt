@@ -1,0 +1,44 @@
+-- What a subcommand asks for, by the values that were found of its options. The names are those of the command line
+-- (docs/FORMATS.md, "Options of the command line").
+use Rattle.std.specs.Prelude.{◌≡◌, ℕ, List, Some, codes}
+use Rattle.std.specs.Option.{option_copied}
+use Rattle.clap.specs.Matches.{first_value}
+use Rattle.clap.specs.declared.parser.matches.Found.{Found}
+use Rattle.elide_args.specs.declared.subcommand.MachineOptions.{MachineOptions}
+use Rattle.elide_args.specs.declared.subcommand.ScheduleOptions.{ScheduleOptions}
+use Rattle.elide_args.specs.declared.subcommand.Subcommand.{Subcommand}
+use Rattle.elide_args.specs.declared.subcommand.ThreadsOptions.{ThreadsOptions}
+use Rattle.elide_args.specs.declared.subcommand.Subcommand.TheVariants.{Asm, Dis, Run, Threads, Replay, Debug, Hunt}
+
+pub record IsMachine (found : Found) (options : MachineOptions) : Type 0 where
+  pub file : first_value found (codes "FILE") ≡ Some options.file.now
+  pub cores : first_value found (codes "cores") ≡ option_copied options.cores
+  pub memory : first_value found (codes "mem") ≡ option_copied options.memory
+  pub entry : first_value found (codes "entry") ≡ option_copied options.entry
+  pub reads : first_value found (codes "reads") ≡ option_copied options.reads
+  pub writes : first_value found (codes "writes") ≡ option_copied options.writes
+  pub dump : first_value found (codes "dump") ≡ option_copied options.dump
+
+pub record IsSchedule (found : Found) (options : ScheduleOptions) : Type 0 where
+  pub steps : first_value found (codes "steps") ≡ option_copied options.steps
+  pub path : first_value found (codes "schedule") ≡ option_copied options.path
+  pub random : first_value found (codes "random") ≡ option_copied options.random
+  pub limit : first_value found (codes "limit") ≡ option_copied options.limit
+
+pub record IsWork (found : Found) (options : ThreadsOptions) : Type 0 where
+  pub machine : IsMachine found options.machine
+  pub budget : first_value found (codes "budget") ≡ option_copied options.budget
+  pub burst : first_value found (codes "burst") ≡ option_copied options.burst
+  pub path : first_value found (codes "record") ≡ option_copied options.«record»
+
+-- the subcommand of this name, with these values
+abbrev pub Asks : Found → List ℕ → Subcommand → Type 0
+Asks found name (Asm options) = (name ≡ codes "asm") × (first_value found (codes "FILE") ≡ Some options.file.now)
+Asks found name (Dis options) = (name ≡ codes "dis") × (first_value found (codes "FILE") ≡ Some options.file.now)
+Asks found name (Run options) =
+    (name ≡ codes "run") × IsMachine found options.machine × IsSchedule found options.schedule
+Asks found name (Threads options) = (name ≡ codes "threads") × IsWork found options
+Asks found name (Replay options) =
+    (name ≡ codes "replay") × IsMachine found options.machine × IsSchedule found options.schedule
+Asks found name (Debug options) = (name ≡ codes "debug") × IsMachine found options.machine
+Asks found name (Hunt options) = (name ≡ codes "hunt") × IsMachine found options.machine

@@ -1,0 +1,28 @@
+//! The options of `hunt`.
+
+use crate::subcommand::MachineOptions;
+
+/// The options of `hunt`.
+#[derive(Debug, Drop)]
+pub struct HuntOptions<'a> {
+    /// The machine.
+    pub machine: MachineOptions<'a>,
+    /// `--check`: what memory holds at the end.
+    pub checks: Vec<&'a str>,
+    /// `--stop`: what no core stops for.
+    pub stops: Vec<&'a str>,
+    /// Whether a run that reaches the limit fails.
+    pub expects_halt: bool,
+    /// `--runs`: how many runs are made, or their numbers.
+    pub runs: Option<&'a str>,
+    /// `--seed`: what the schedules are drawn from.
+    pub seed: Option<&'a str>,
+    /// `--method`: how the core of each step is drawn.
+    pub method: Option<&'a str>,
+    /// `--limit`: the most steps of a run.
+    pub limit: Option<&'a str>,
+    /// `--jobs`: how many threads make runs.
+    pub jobs: Option<&'a str>,
+    /// `--record`: the path that the schedule is written to.
+    pub record: Option<&'a str>,
+}

@@ -1,0 +1,28 @@
+-- What a file gives that is read.
+use Rattle.std.specs.Prelude.{◌≡◌, ◌≤◌, ◌<◌, ⊤, ℕ, List, length, Option, Some, None}
+use Rattle.elide_program.specs.declared.fault.ProgramFault.{ProgramFault}
+use Rattle.elide_program.specs.declared.fault.ProgramRefusal.{ProgramRefusal}
+use Rattle.elide_program.specs.declared.fault.ProgramRefusal.TheVariants.{Fault}
+use Rattle.elide_program.specs.declared.paths.ReadFault.{ReadFault}
+use Rattle.elide_program.specs.declared.paths.ReadFault.TheVariants.{Failed, TooLong, NoMemory}
+
+-- of a file whose content is known, these bytes are the content, which is no longer than asked for
+abbrev pub Gives : Option (List ℕ) → ℕ → List ℕ → Type 0
+Gives None most bytes = ⊤
+Gives (Some content) most bytes = (bytes ≡ content) × (length content ≤ most)
+
+-- it is too long only where its content is longer
+abbrev pub Refuses : Option (List ℕ) → ℕ → ReadFault → Type 0
+Refuses None most fault = ⊤
+Refuses (Some content) most Failed = ⊤
+Refuses (Some content) most TooLong = most < length content
+Refuses (Some content) most NoMemory = ⊤
+
+-- 640 MiB
+abbrev pub most_bytes : ℕ
+most_bytes = 671088640
+
+-- the refusal tells why a file of at most 640 MiB was not read
+abbrev pub Tells : (ReadFault → ProgramFault) → Option (List ℕ) → ProgramRefusal → Type 0
+Tells told content refusal =
+    (fault : ReadFault) × (refusal ≡ Fault (told fault)) × Refuses content most_bytes fault

@@ -1,0 +1,15 @@
+-- The board of a schedule.
+use Rattle.std.specs.Prelude.{◌≡◌, ℕ, List, length, map, max}
+use Rattle.tm_hist.specs.Board.{ShownBoard as Board}
+use Rattle.elide_setup.specs.declared.machine.Setup.{Setup}
+
+-- the cores that made a board's steps, in order
+abbrev pub cores_stepped : Board → List ℕ
+cores_stepped board = map (λ step. step.0) board.history
+
+-- the board of this program and these limits made these steps, for which it has just the room
+pub record IsReplayed (setup : Setup) (steps : List ℕ) (board : Board) : Type 0 where
+  pub program : board.program ≡ setup.program
+  pub limits : board.limits ≡ setup.limits
+  pub limit : board.limit ≡ max (length steps) 1
+  pub stepped : cores_stepped board ≡ steps

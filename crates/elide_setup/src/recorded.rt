@@ -1,0 +1,43 @@
+//! Schedules that are written to a file.
+
+use crate::fault::{Fault, Refusal};
+use crate::gathered::Gathered;
+use elide_program::{Paths, Text};
+use ia_text::{Out, WriteFault};
+use tm_hist::write_schedule;
+
+/// The path that `--record` gives, which is not that of the program.
+pub fn record_path<'a, P: Paths>(
+    path: Option<&'a str>,
+    file: &str,
+    paths: &mut P,
+) -> Result<Option<&'a str>, Refusal> {
+    match path {
+        Some(path) if paths.is_same_file(path, file) => Err(Refusal::Usage("--record")),
+        path => Ok(path),
+    }
+}
+
+/// Writes the schedule of these cores to a file, where there is a path.
+pub fn record<P: Paths>(path: Option<&str>, cores: &[u8], paths: &mut P) -> Result<(), Refusal> {
+    let Some(path) = path else {
+        return Ok(());
+    };
+    match paths.write(path, &Schedule(cores)) {
+        Ok(()) => Ok(()),
+        Err(_) => Err(Refusal::Fault(Fault::Output)),
+    }
+}
+
+// The text of a schedule of these cores.
+#[derive(Clone, Copy, Debug)]
+struct Schedule<'a>(&'a [u8]);
+
+impl Text for Schedule<'_> {
+    fn write_to<O: Out>(&self, out: &mut O) -> Result<(), WriteFault> {
+        let mut page = Gathered::new(out);
+        write_schedule(self.0, &mut page)?;
+        page.finish()?;
+        Ok(())
+    }
+}

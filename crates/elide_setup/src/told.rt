@@ -1,0 +1,56 @@
+//! The parts of the line that tells a fault, around its name.
+
+ghost use Rattle.std.specs.Prelude.{◌≡◌, ◌+◌, ◌≤◌, ◌++◌, length};
+ghost use Rattle.std.specs.Fmt.{decimal};
+ghost use Rattle.arrayvec.specs.ArrayVec.{array_vec_len};
+ghost use Rattle.elide_setup.specs.Told.{fault_back, fault_front, line_words};
+
+use crate::fault::Fault;
+use ia_text::page::push;
+use tm_hist::text_line::{TextLine, push_number};
+
+/// Adds what stands before a fault's name: `fault` and its number.
+pub fn push_front(row: &mut TextLine, fault: Fault)
+    requires { array_vec_len row.old + 10 ≤ 160 }
+    ensures text { row.new.items ≡ row.old.items ++ fault_front fault }
+    ensures len { array_vec_len row.new ≤ array_vec_len row.old + 10 }
+{
+    push(row, b"fault ");
+    push_number(row, fault.code());
+    push(row, b" ");
+}
+
+/// Adds what stands behind a fault's name: the line of a text that it is told of, if any, and the line's end.
+pub fn push_back(row: &mut TextLine, fault: Fault)
+    requires { array_vec_len row.old + 27 ≤ 160 }
+    ensures text { row.new.items ≡ row.old.items ++ fault_back fault }
+{
+    push_place(row, fault.line());
+    push(row, b"\n");
+}
+
+// The line, if any.
+fn push_place(row: &mut TextLine, line: Option<usize>)
+    requires { array_vec_len row.old + 26 ≤ 160 }
+    ensures text { row.new.items ≡ row.old.items ++ line_words line }
+    ensures len { array_vec_len row.new ≤ array_vec_len row.old + 26 }
+{
+    if let Some(number) = line {
+        push(row, b" line ");
+        push_decimal(row, number);
+    }
+}
+
+// A number in decimal digits.
+fn push_decimal(row: &mut TextLine, number: usize)
+    requires { array_vec_len row.old + length (decimal number) ≤ 160 }
+    ensures text { row.new.items ≡ row.old.items ++ decimal number }
+    ensures len { array_vec_len row.new ≡ array_vec_len row.old + length (decimal number) }
+{
+    if number < 10 {
+        push(row, &[b'0' + number as u8]);
+    } else {
+        push_decimal(row, number / 10);
+        push(row, &[b'0' + (number % 10) as u8]);
+    }
+}
