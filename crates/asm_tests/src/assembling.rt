@@ -282,6 +282,7 @@ fn far_symbols(rt: HostRuntime) -> Result<(), Fail> {
 
 #[test]
 fn laws(_rt: HostRuntime) -> Result<(), Fail> {
+    ia_source::places_are_sums();
     ia_resolve::code_is_spelt();
     ia_resolve::sizes_need_no_symbol();
     Ok(())

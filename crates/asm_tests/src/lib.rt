@@ -8,6 +8,8 @@
 #[cfg(test)]
 mod assembling;
 #[cfg(test)]
+mod memory;
+#[cfg(test)]
 mod programs;
 #[cfg(test)]
 mod round_trips;

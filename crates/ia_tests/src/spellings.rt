@@ -1,5 +1,6 @@
 //! Bytes and instructions: read, printed and written again, and the faults of bytes that are none.
 
+mod short;
 mod table;
 
 ghost use Rattle.std.specs.Prelude.{IsTrue};

@@ -3,6 +3,7 @@
 mod refusals;
 mod rows;
 mod sets;
+mod usual;
 
 use ia_image::{Program, load};
 use std::alloc::Global;

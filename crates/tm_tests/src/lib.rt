@@ -7,6 +7,12 @@
 #[cfg(test)]
 mod boards;
 #[cfg(test)]
+mod doublewords;
+#[cfg(test)]
+mod hostile;
+#[cfg(test)]
+mod memory;
+#[cfg(test)]
 mod rules;
 #[cfg(test)]
 mod slots;
