@@ -1,17 +1,28 @@
 //! Files in memory.
 
-ghost use Rattle.std.specs.Prelude.{◌≤◌, IfOk, length};
+ghost use Rattle.std.specs.Prelude.{◌≤◌, IfOk, None, length};
 
 use elide_command::{Paths, ReadFault, Text};
 use ia_text::{Failed, ToVec};
 use std::alloc::{AllocError, Global};
 use std::collections::BTreeMap;
 
-/// The files of a row by their names; a folder has no content.
+/// What stands under a name.
+#[derive(Drop)]
+pub enum Content {
+    /// A file with these bytes.
+    Bytes(Vec<u8>),
+    /// A file of so many bytes, for which there is no memory.
+    Large(usize),
+    /// A folder.
+    Folder,
+}
+
+/// The files of a row by their names.
 #[derive(Drop)]
 pub struct Memory {
     alloc: Global,
-    files: BTreeMap<String, Option<Vec<u8>>>,
+    files: BTreeMap<String, Content>,
 }
 
 impl Memory {
@@ -24,7 +35,7 @@ impl Memory {
     }
 
     /// Puts a file or a folder there.
-    pub fn put(&mut self, name: &str, content: Option<Vec<u8>>) -> Result<(), AllocError> {
+    pub fn put(&mut self, name: &str, content: Content) -> Result<(), AllocError> {
         let name = name.to_owned(self.alloc)?;
         match self.files.insert(name, content) {
             Ok(_before) => Ok(()),
@@ -34,24 +45,30 @@ impl Memory {
 }
 
 impl Paths for Memory {
+    ghost content = { λ _ _. None };
+
     fn read(&mut self, path: &str, most: usize) -> Result<Vec<u8>, ReadFault> {
         match self.files.get(path) {
-            Some(Some(bytes)) if bytes.len() <= most => match bytes.as_slice().to_vec(self.alloc) {
-                Ok(bytes) => Ok(bytes),
-                Err(_) => Err(ReadFault::NoMemory),
-            },
-            Some(Some(_)) => Err(ReadFault::TooLong),
-            _ => Err(ReadFault::Failed),
+            Some(Content::Bytes(bytes)) if bytes.len() <= most => {
+                match bytes.as_slice().to_vec(self.alloc) {
+                    Ok(bytes) => Ok(bytes),
+                    Err(_) => Err(ReadFault::NoMemory),
+                }
+            }
+            Some(Content::Large(size)) if *size <= most => Err(ReadFault::NoMemory),
+            Some(Content::Bytes(_) | Content::Large(_)) => Err(ReadFault::TooLong),
+            Some(Content::Folder) | None => Err(ReadFault::Failed),
         }
     }
 
     fn write<T: Text>(&mut self, path: &str, text: &T) -> Result<(), Failed> {
-        if let Some(None) = self.files.get(path) {
+        if let Some(Content::Folder) = self.files.get(path) {
             return Err(Failed);
         }
         let mut content = ToVec::new(Vec::new(self.alloc));
         text.write_to(&mut content).map_err(|_| Failed)?;
-        self.put(path, Some(content.bytes)).map_err(|_| Failed)
+        self.put(path, Content::Bytes(content.bytes))
+            .map_err(|_| Failed)
     }
 
     fn is_same_file(&mut self, path: &str, other: &str) -> bool {

@@ -1,6 +1,6 @@
 //! The worked rows, run over files in memory.
 
-use crate::memory::Memory;
+use crate::memory::{Content, Memory};
 use crate::reply::{Reply, reply_to};
 use doc_lines::{PartHead, Room, TablePart, is_wanted, line_of, room_of};
 use elide_command::Paths;
@@ -46,13 +46,19 @@ impl<'a> Course<'a> {
     ) -> io::Result<()> {
         match part.head {
             PartHead::Row(title) => self.begin(rt.alloc(), title),
-            PartHead::Text(name) => self
-                .memory
-                .put(name, Some(text_of(rt.alloc(), &part.lines)?))?,
-            PartHead::Bytes(name) => self
-                .memory
-                .put(name, Some(bytes_of(rt.alloc(), &part.lines)?))?,
-            PartHead::Folder(name) => self.memory.put(name, None)?,
+            PartHead::Text(name) => {
+                let text = text_of(rt.alloc(), &part.lines)?;
+                self.memory.put(name, Content::Bytes(text))?;
+            }
+            PartHead::Bytes(name) => {
+                let bytes = bytes_of(rt.alloc(), &part.lines)?;
+                self.memory.put(name, Content::Bytes(bytes))?;
+            }
+            PartHead::Large(name) => {
+                let size = size_of(part.lines.as_slice());
+                self.memory.put(name, Content::Large(size))?;
+            }
+            PartHead::Folder(name) => self.memory.put(name, Content::Folder)?,
             PartHead::Command(command) => self.run(rt, command, part.lines.as_slice(), out)?,
         }
         Ok(())
@@ -84,7 +90,7 @@ impl<'a> Course<'a> {
     }
 }
 
-// What a command comes to over files in memory.
+// What a command comes to over files in memory: `elide` with its words, or `cat`, which prints a file.
 fn said<R: Threads + Wait + Sync + AllocGlobal>(
     rt: &R,
     command: &str,
@@ -99,8 +105,29 @@ fn said<R: Threads + Wait + Sync + AllocGlobal>(
             .map_err(|_| AllocError)?,
         None => Vec::new(alloc),
     };
-    let words = line.words.as_slice().get(1..).unwrap_or(&[]);
-    reply_to(rt, words, memory, given.as_slice(), room)
+    match line.words.as_slice() {
+        [first, name] if first.as_str() == "cat" => printed(alloc, name.as_str(), memory),
+        [_elide, words @ ..] => reply_to(rt, words, memory, given.as_slice(), room),
+        [] => reply_to(rt, &[], memory, given.as_slice(), room),
+    }
+}
+
+// The text of a file in memory.
+fn printed(alloc: Global, name: &str, memory: &mut Memory) -> Result<Reply, AllocError> {
+    let text = memory.read(name, usize::MAX).map_err(|_| AllocError)?;
+    Ok(Reply {
+        status: 0,
+        out: String::from_utf8_lossy(alloc, text.as_slice())?,
+        err: String::new(alloc),
+    })
+}
+
+// The count of bytes that the first line says.
+fn size_of(lines: &[&str]) -> usize {
+    match lines.first() {
+        Some(line) => line.parse::<usize>().unwrap_or(0),
+        None => 0,
+    }
 }
 
 // The lines of a file, each ended by LF.

@@ -1,0 +1,31 @@
+; WRONG: the transaction never reads the lock.
+;
+; So it commits while another core holds the lock: between that core's load of the counter and its store, and the increment is
+; lost. Each core adds 1 three times; the counter is 6 in the end on two cores, if none is lost. Its fixed form is
+; examples/fixed/elision.asm.
+;
+;   ./elide hunt examples/faulty/no-read.asm --cores 2 --check "count == 6"
+
+start:  mov esi, 3
+.next:  xbegin .fall
+        inc dword [count]
+        xend
+        jmp .done
+.fall:  mov eax, 1
+        xchg eax, [mutex]
+        test eax, eax
+        jz .own
+        pause
+        jmp .fall
+.own:   mov ebx, [count]
+        inc ebx
+        mov [count], ebx
+        mov dword [mutex], 0
+.done:  dec esi
+        jnz .next
+        hlt
+
+section .data
+mutex:  dd 0
+        align 64
+count:  dd 0
