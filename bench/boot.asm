@@ -1,4 +1,4 @@
-; The loop of bench/steps as a boot sector, in 32-bit protected mode. Ends by Bochs's power-off port.
+; A loop of bench/steps, `loop.inc`, as a boot sector, in 32-bit protected mode. Ends by Bochs's power-off port.
 bits 16
 org 0x7c00
         cli
@@ -12,10 +12,9 @@ bits 32
 protected:
         mov ax, 16
         mov ds, ax
-        mov ecx, TURNS
-.next:  inc dword [0x1000]
-        dec ecx
-        jnz .next
+        mov ss, ax
+        mov esp, 0x3000
+%include "loop.inc"
         mov dx, 0x8900
         mov esi, shutdown
 .off:   lodsb
