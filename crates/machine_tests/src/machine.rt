@@ -1,5 +1,6 @@
 //! Schedules over each call. Code lies from 100h on, in a memory of 65,536 bytes.
 
+mod both;
 mod refusals;
 mod rows;
 mod sets;
