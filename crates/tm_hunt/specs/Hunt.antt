@@ -37,7 +37,7 @@ pub record Passes (trial : Trial) (cores : List ℕ) : Type 0 where
   pub is_over : HasEnded board ⊎ IsFull board
   pub keeps : NoneViolated board trial.checks.now
 
--- so many runs were made, and each violated no check
+-- there are so many runs, which may be alike, and each violates no check
 pub record HavePassed (trial : Trial) (count : ℕ) : Type 0 where
   pub schedules : List (List ℕ)
   pub counted : length schedules ≡ count

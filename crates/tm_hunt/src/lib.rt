@@ -2,9 +2,9 @@
 //!
 //! A [`Trial`] is a program with checks on the end of its runs. [`first_failing`] makes runs by chance ([`tm_pick`])
 //! until one violates a check, and [`shorten`] finds a shorter schedule that violates the same check. Promised: a
-//! schedule that is answered, run from the program's opening state, violates the check that it is answered with; and as
-//! many runs as are counted were made and violated none. The words for it stand in `specs/Checks.antt` and
-//! `specs/Hunt.antt`, over the boards of `tm_hist`, whose machine is the run of their history.
+//! schedule that is answered, run from the program's opening state, violates the check that it is answered with; and
+//! there are as many runs as are counted, which may be alike, that violate none. The words for it stand in
+//! `specs/Checks.antt` and `specs/Hunt.antt`, over the boards of `tm_hist`, whose machine is the run of their history.
 #![tactic(auto)]
 
 mod attempt;
