@@ -1,10 +1,8 @@
-use Rattle.ia_word.specs.Line.{line}
-use Rattle.std.proofs.Common.{◌≡◌, ℕ, zero, suc, ◌+◌, ◌-◌, Bool, true, false, cond, eqb, ◌||◌, List, [], ◌++◌, map, length, Option, Some, None, refl, sym, ap, ◌∙◌, subst, arith}
+use Rattle.std.proofs.Common.{◌≡◌, ℕ, zero, suc, ◌+◌, ◌-◌, Bool, true, false, cond, eqb, List, [], ◌++◌, length, Option, Some, None, refl, sym, ap, ◌∙◌, subst, arith}
 use Rattle.std.proofs.lemmas.Bool.{eqb-true, eqb-false, eq-eqb, ne_eqb}
-use Rattle.std.specs.Prelude.{option_and_then, option_map}
+use Rattle.std.specs.Prelude.{option_and_then}
 use Rattle.std.proofs.lemmas.Option.{option_and_then_some, same_Some}
 use Rattle.std.proofs.lemmas.List.{map-append}
-use Rattle.std.specs.FinSet as finset
 use Rattle.tm_model.specs.Access.{Stores, lines_of, memory_after, stored_addresses, stores_of}
 use Rattle.tm_model.specs.Conflicts.{addresses_loaded_after, addresses_loaded_by, addresses_stored_by}
 use Rattle.tm_model.specs.Conflicts.{addresses_stored_inside, addresses_stored_outside, doom_after_own}

@@ -11,6 +11,7 @@
 //! `sets`.
 #![tactic(auto)]
 
+mod alone;
 mod boundary;
 mod conflict;
 mod cpu;

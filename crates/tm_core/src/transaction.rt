@@ -125,6 +125,7 @@ fn load<S: Sets>(memory: &[u8], cpu: &Cpu, sets: &S, c: u8, access: Option<Acces
 }
 
 // Adds a line to a core's set, or answers that there is no room.
+#[inline(always)]
 #[tactic(auto, using(crate::proofs::Rooms::room_told))]
 fn add_line<S: Sets>(sets: &mut S, c: u8, line: u32, kind: Kind) -> bool
     requires core { c < (S.content sets.old).fixed.cores }
@@ -143,6 +144,7 @@ fn add_line<S: Sets>(sets: &mut S, c: u8, line: u32, kind: Kind) -> bool
 }
 
 // Adds the lines of an access to a core's set, or answers that there is no room.
+#[inline(always)]
 fn add_lines<S: Sets>(sets: &mut S, c: u8, addr: u32, width: Width, kind: Kind) -> bool
     requires core { c < (S.content sets.old).fixed.cores }
     requires within { addr + bytes_of width ≤ (S.content sets.old).fixed.line_count * 64 }
@@ -164,6 +166,7 @@ fn add_lines<S: Sets>(sets: &mut S, c: u8, addr: u32, width: Width, kind: Kind) 
 }
 
 // Adds the lines of an instruction to a core's sets, or answers that there is no room.
+#[inline(always)]
 fn touch<S: Sets>(sets: &mut S, c: u8, access: Option<Access>, store: Option<Store>) -> bool
     requires core { c < (S.content sets.old).fixed.cores }
     requires access { IfSome access (λ a. (a.addr + bytes_of a.width ≤ (S.content sets.old).fixed.line_count * 64)
@@ -197,6 +200,7 @@ fn touch<S: Sets>(sets: &mut S, c: u8, access: Option<Access>, store: Option<Sto
 
 // One more instruction of a body, after which the registers are those of the core, or an answer that its lines have no
 // room.
+#[inline(always)]
 fn grow<S: Sets>(
     cpu: &mut Cpu,
     sets: &mut S,
@@ -354,6 +358,7 @@ fn step_line<S: Sets>(
 }
 
 /// A step of an open core, but for what it does to other cores, and what a commit does to memory.
+#[inline(always)]
 pub fn step_at<S: Sets>(
     lines: &[Line],
     code: &Code,
