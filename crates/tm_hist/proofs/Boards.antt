@@ -19,7 +19,7 @@ use Rattle.tm_hist.specs.Serial.{IsStuck, base_of, core_at, stop_of}
 use Rattle.tm_hist.proofs.Limits.{run_front, same_run}
 use Rattle.tm_model.specs.declared.outcome.Outcome.{Outcome}
 use Rattle.tm_model.specs.declared.outcome.CoreState.{CoreState}
-use Rattle.tm_model.specs.declared.outcome.CoreState.TheVariants.{Running, Mid, Condemned, Stopped as AtStop}
+use Rattle.tm_model.specs.declared.outcome.CoreState.TheVariants.{Running, Condemned, Stopped as AtStop}
 use Rattle.tm_rule.specs.declared.kinds.OutsideResult.{OutsideResult}
 use Rattle.tm_rule.specs.declared.kinds.OutsideResult.TheVariants.{Goes, Begins, Stops}
 use Rattle.tm_hist.specs.declared.pair.Pair.{Pair}

@@ -11,7 +11,7 @@ use Rattle.tm_model.specs.Shown.{View, view_inside, view_of, view_outside}
 use Rattle.tm_model.specs.State.{Closed, Core, Halted, Midway, Opened, State}
 use Rattle.tm_model.specs.declared.outcome.CoreState.TheVariants.{Stopped as AtStop}
 use Rattle.tm_model.specs.declared.outcome.Outcome.{Outcome}
-use Rattle.tm_model.specs.declared.outcome.Outcome.TheVariants.{Plain, Loaded, Idle, Begun, Inside, Committed, Aborted, Stopped}
+use Rattle.tm_model.specs.declared.outcome.Outcome.TheVariants.{Idle, Inside, Committed}
 use Rattle.tm_rule.specs.declared.kinds.OutsideResult.{OutsideResult}
 use Rattle.tm_rule.specs.declared.kinds.OutsideResult.TheVariants.{Goes, Begins, Stops}
 use Rattle.tm_rule.specs.declared.kinds.InsideResult.{InsideResult}
@@ -19,7 +19,7 @@ use Rattle.tm_rule.specs.declared.kinds.InsideResult.TheVariants.{GoesOn, Nests,
 use Rattle.tm_status.specs.declared.cause.Cause.TheVariants.{Capacity}
 use Rattle.tm_core.specs.Theorem.{ShownMachine as Machine, StandsFor, TakesStep, machine_setting, view_at}
 use Rattle.tm_hist.specs.Board.{stop_shown}
-use Rattle.tm_hist.proofs.Stops.{IsHalted, is_halted, is_there}
+use Rattle.tm_hist.proofs.Stops.{IsHalted, is_halted}
 
 outside_moves : (two : Bool) (r : OutsideResult) → owed_outside two r ≡ Idle → ⊥
 outside_moves two (Stops x) e = cc

@@ -14,3 +14,4 @@ pub mod Limits
 pub mod Stops
 pub mod Idles
 pub mod Boards
+pub mod Pushes

@@ -3,8 +3,8 @@ use Rattle.std.proofs.Common.{◌≡◌, ℕ, zero, suc, ◌+◌, ◌-◌, ◌<�
 use Rattle.std.proofs.lemmas.Bool.{ltb-true, lt-ltb, le-ltb, eqb-true, eqb-false}
 use Rattle.std.proofs.lemmas.List.{length-set, length-map, map-set, get_or-map, get_or-set_same, get_or-set_other, take_more}
 use Rattle.std.specs.List.{AllByRecursion, range_with_len, slice_get}
-use Rattle.std.proofs.lemmas.Option.{get_or_from_slice_get, slice_get_within}
-use Rattle.std.proofs.lemmas.List.{length-append, length-replicate, take_at}
+use Rattle.std.proofs.lemmas.Option.{get_or_from_slice_get, slice_get-get_or, slice_get-map, slice_get_within}
+use Rattle.std.proofs.lemmas.List.{length-append, length-replicate, take_all, take_at}
 use Rattle.std.proofs.lemmas.List.FromFn.{map-range_with_len_more, length-map-range_with_len, get_or-map-range_with_len}
 use Rattle.ia_image.specs.Program.{ProgramValue as Program, code_of, opening_memory, IsSound}
 use Rattle.std.specs.Prelude.{⊤}
@@ -15,6 +15,9 @@ use Rattle.tm_model.specs.State.{Core, State, opening_state}
 use Rattle.tm_model.specs.Steps.{after_step_of, run, state_with, step}
 use Rattle.tm_hist.specs.Serial.{Agrees, EndsWith, IsStuck, ListStuck, core_at, core_of, first_core, list_run}
 use Rattle.tm_hist.specs.Serial.{list_step, steps_of, with_core}
+use Rattle.tm_hist.specs.History.{pair_of}
+use Rattle.tm_hist.specs.declared.pair.PackedOutcome.TheVariants as packed
+use Rattle.tm_hist.specs.declared.pair.Pair.{Pair}
 use Rattle.tm_hist.specs.declared.serial_core.SerialCore.{SerialCore}
 use Rattle.tm_hist.specs.declared.serial_core.SerialCore.TheVariants as serial_core
 
@@ -259,3 +262,21 @@ opening_size p h =
     ∙ ap (λ k. k + length rest) (length-append front p.bytes ∙ ap (λ k. k + length p.bytes) (length-replicate p.base 0))
     ∙ ap (λ k. p.base + length p.bytes + k) (length-replicate (p.mem_size - (p.base + length p.bytes)) 0)
     ∙ whole_size p.base (length p.bytes) p.mem_size fits
+
+-- whether the rules allow the step or not
+pub step_either : (k : Setting) (m now : List ℕ) (serial_cores : List SerialCore) (i c : ℕ) (o : Outcome) (x d next : SerialCore) (b : Bool) → i ≡ c → i < length serial_cores → x ≡ get_or serial_cores i d →
+    after_step_of k m (core_of x) o ≡ (if b then Some (now, core_of next) else None) → list_step k m (map core_of serial_cores) c o ≡ (if b then Some (now, map core_of (slice_set serial_cores i next)) else None)
+step_either k m now serial_cores i c o x d next true at l e done = step_some k m now serial_cores i c o x d next at l e done
+step_either k m now serial_cores i c o x d next false at l e done = step_none k m serial_cores i c o x d at l e done
+
+-- where no pair is kept
+abbrev pub no_pair : Pair
+no_pair = record { core = 0; outcome = packed.Plain }
+
+-- the pair that a kept one stands for
+pub kept_at : (pairs : List Pair) (i : ℕ) (p d : Pair) → i < length pairs → p ≡ get_or pairs i d → slice_get (map pair_of pairs) i ≡ Some (pair_of p)
+kept_at pairs i p d l e = slice_get-map pair_of pairs i ∙ ap (option_map pair_of) (slice_get-get_or pairs i d l ∙ ap Some (sym e))
+
+-- all of them
+pub take_kept : (pairs : List Pair) (n : ℕ) → n ≡ length pairs → take n (map pair_of pairs) ≡ map pair_of pairs
+take_kept pairs n e = let size = length-map pairs pair_of in take_all n (map pair_of pairs) (omega arith)

@@ -1,5 +1,5 @@
 -- A word of one digit at the front of a text.
-use Rattle.std.proofs.Common.{◌≡◌, ℕ, ◌+◌, ◌-◌, ◌*◌, ◌<◌, ◌==◌, Bool, true, false, List, [], ◌∷◌, ◌++◌, refl, sym, ◌∙◌, ap, arith, length, Option, Some, None}
+use Rattle.std.proofs.Common.{◌≡◌, ℕ, ◌+◌, ◌<◌, Bool, true, false, List, [], ◌∷◌, ◌++◌, refl, ◌∙◌, ap, arith, length, Option, Some, None}
 use Rattle.std.specs.Int.{from_bool}
 use Rattle.std.specs.Prelude.{◌≤◌, if◌then◌else◌, unwrap_or}
 use Rattle.std.specs.List.{flat_map}

@@ -1,5 +1,6 @@
 -- A machine with the history of its steps.
-use Rattle.std.specs.Prelude.{◌≡◌, ℕ, ◌≤◌, Bool, ◌||◌, List, [], Option, Some, None, length, nat_lt, refl}
+use Rattle.std.specs.Prelude.{◌≡◌, ◌≢◌, ℕ, ◌≤◌, Bool, ◌||◌, List, [], ◌++◌, All, Option, Some, None, drop, length, nat_lt}
+use Rattle.std.specs.Prelude.{refl}
 use Rattle.std.specs.Coded.{Coded, code_by, coded×, coded_ℕ, coded_list}
 use Rattle.ia_image.specs.Program.{ProgramValue as Program}
 use Rattle.tm_rule.specs.declared.kinds.Stop.{Stop}
@@ -7,6 +8,7 @@ use Rattle.tm_core.specs.declared.limits.Limits.{Limits}
 use Rattle.tm_model.specs.declared.outcome.CoreState.{CoreState}
 use Rattle.tm_model.specs.declared.outcome.CoreState.TheVariants as state
 use Rattle.tm_model.specs.declared.outcome.Outcome.{Outcome}
+use Rattle.tm_model.specs.declared.outcome.Outcome.TheVariants.{Idle}
 use Rattle.tm_model.specs.Runs.{AreOwed, doomed_at_end}
 use Rattle.tm_model.specs.Setting.{Setting, program_setting}
 use Rattle.tm_model.specs.State.{State, opening_state}
@@ -109,3 +111,16 @@ IsStopped b core = (why : Stop) × (stop_shown (shown_state b.machine core) ≡ 
 -- the history has no room
 abbrev pub IsFull : ShownBoard → Type 0
 IsFull b = length b.history ≡ b.limit
+
+-- the pairs of a board's history behind those of an earlier one's
+abbrev pub pairs_behind : ShownBoard → ShownBoard → List (ℕ × Outcome)
+pairs_behind old new = drop (length old.history) new.history
+
+-- so many steps of a core led from one board to the other, none of them idle, and none where the core had stopped
+pub record AreSteps (old new : ShownBoard) (core made : ℕ) : Type 0 where
+  pub same : SameBoard old new
+  pub history : new.history ≡ old.history ++ pairs_behind old new
+  pub count : length (pairs_behind old new) ≡ made
+  pub own : All (λ (pair : ℕ × Outcome). (pair.0 ≡ core) × (pair.1 ≢ Idle)) (pairs_behind old new)
+  pub stops : (other : ℕ) → IsStopped old other → IsStopped new other
+  pub stopped : IsStopped old core → made ≡ 0

@@ -1,9 +1,9 @@
 //! A machine with the history of its steps.
 
-ghost use Rattle.std.specs.Prelude.{◌≡◌, ◌↔◌, ◌<◌, ◌≤◌, ℕ, List, [], ◌∷◌, ◌++◌, Err, IfErr, IfOk, IsTrue, OnErr};
+ghost use Rattle.std.specs.Prelude.{◌≡◌, ◌↔◌, ◌⊎◌, ◌<◌, ◌≤◌, ℕ, List, [], ◌∷◌, ◌++◌, Err, IfErr, IfOk, IsTrue, OnErr};
 ghost use Rattle.std.specs.Prelude.{false, length, true};
 ghost use Rattle.tm_core.specs.Machine.{bad_limits};
-ghost use Rattle.tm_hist.specs.Board.{IsFull, IsHistory, IsNew, IsStopped, SameBoard, bad_limit};
+ghost use Rattle.tm_hist.specs.Board.{AreSteps, IsFull, IsHistory, IsNew, IsStopped, SameBoard, bad_limit};
 ghost use Rattle.tm_hist.specs.BoardFaults.{board_code, step_code};
 ghost use Rattle.tm_hist.specs.History.{pairs_of};
 ghost use Rattle.tm_hist.specs.Replay.{Replays};
@@ -170,6 +170,7 @@ impl Board {
     ///
     /// [`StepFault::NoSuchCore`], where the program has no core of this number; for one that it has,
     /// [`StepFault::LimitReached`] exactly where the history is full. Then the board is as before. Takes no memory.
+    #[inline(always)]
     pub fn step(&mut self, core: u8) -> Result<Outcome, StepFault>
         ensures none { result ≡ Err StepFault.NoSuchCore ↔ (length self.old.program.entries ≤ core) }
         ensures full { result ≡ Err StepFault.LimitReached
@@ -193,6 +194,27 @@ impl Board {
             }
             Err(NoSuchCore) => Err(StepFault::NoSuchCore),
         }
+    }
+
+    /// Up to so many steps of a core, each of them one more pair of the history, and how many they were: fewer only where
+    /// the core has stopped or the history is full. So none of them is idle. Takes no memory.
+    pub fn steps(&mut self, core: u8, most: u32) -> u32
+        requires { core < length self.old.program.entries }
+        ensures most { result ≤ most }
+        ensures made { AreSteps self.old self.new core result }
+        ensures fewer { result < most → IsStopped self.new core ⊎ IsFull self.new }
+    {
+        for made in 0..most {
+            if self.is_stopped(core) {
+                return made;
+            }
+            match self.step(core) {
+                Ok(_outcome) => {}
+                Err(StepFault::LimitReached) => return made,
+                Err(StepFault::NoSuchCore) => unreachable!(),
+            }
+        }
+        most
     }
 
     /// The machine.
@@ -231,10 +253,11 @@ impl Board {
         self.limit
     }
 
-    /// How many steps were made.
+    /// How many steps were made, at most 16,777,216.
     pub fn made(&self) -> u64
         ensures made { result ≡ length self.now.history }
         ensures most { result ≤ self.now.limit }
+        ensures few { result ≤ 16777216 }
     {
         self.made.as_slice().len() as u64
     }

@@ -2,7 +2,7 @@
 
 ghost use Rattle.std.specs.Prelude.{◌≡◌, ◌==◌, length, map};
 ghost use Rattle.std.specs.List.{slice_get};
-ghost use Rattle.tm_hist.specs.History.{pair_of, pairs_of};
+ghost use Rattle.tm_hist.specs.History.{pair_of, pairs_in, pairs_of};
 
 use crate::pair::Pair;
 use tm_core::Outcome;
@@ -13,10 +13,12 @@ pub struct History<'a> {
     steps: Steps<'a>,
 }
 
-// How the steps are kept.
+/// How the steps are kept.
 #[derive(Clone, Copy, Debug)]
-enum Steps<'a> {
+pub enum Steps<'a> {
+    /// Those that a caller has.
     Given(&'a [(u8, Outcome)]),
+    /// Those of a board.
     Made(&'a [Pair]),
 }
 
@@ -37,6 +39,13 @@ impl<'a> History<'a> {
         History {
             steps: Steps::Made(pairs),
         }
+    }
+
+    // How they are kept.
+    pub(crate) fn steps(self) -> Steps<'a>
+        ensures { pairs_in result ≡ pairs_of self.entry }
+    {
+        self.steps
     }
 
     /// How many steps there are.

@@ -6,19 +6,71 @@ ghost use Rattle.std.specs.List.{AllByRecursion, range_with_len};
 ghost use Rattle.ia_image.specs.Program.{opening_memory};
 ghost use Rattle.ia_row.specs.Lines.{AreLines};
 ghost use Rattle.tm_model.specs.Setting.{setting_of};
-ghost use Rattle.tm_hist.specs.History.{pairs_of};
+ghost use Rattle.tm_hist.specs.History.{pair_of, pairs_of};
 ghost use Rattle.tm_hist.specs.Replay.{IsRefused, IsReplay};
 ghost use Rattle.tm_hist.specs.Serial.{ListStuck, core_of, first_core, list_run, steps_of};
 
-use crate::history::History;
+use crate::history::{History, Steps};
+use crate::pair::Pair;
 use crate::replay::{Serial, SerialFault};
 use crate::serial_core::SerialCore;
 use crate::step::step;
 use ia_image::Program;
 use ia_row::Line;
 use std::alloc::Global;
-use tm_core::start_regs;
+use tm_core::{Outcome, start_regs};
 use tm_rule::Code;
+
+// Runs the steps of a board; where that fails, the index of the first at which they are no run.
+fn run_made(
+    lines: &[Line],
+    code: &Code<'_>,
+    size: u32,
+    memory: &mut [u8],
+    cores: &mut [SerialCore],
+    pairs: &[Pair],
+) -> Result<(), usize>
+    requires lines { AreLines code.now.bytes.now lines.now }
+    requires size { length memory.old ≡ size }
+    requires closed { AllByRecursion (λ c. steps_of c ≤ 0) cores.old }
+    ensures ok { OnOk result (list_run (setting_of code.now.bytes.now code.now.base size 0 0) memory.old
+        (map core_of cores.old) (map pair_of pairs.now) ≡ Some (memory.new, map core_of cores.new)) }
+    ensures err { IfErr result (λ i. ListStuck (setting_of code.now.bytes.now code.now.base size 0 0) memory.old
+        (map core_of cores.old) (map pair_of pairs.now) i) }
+{
+    'pairs: for index in 0..pairs.len() {
+        if !step(lines, code, size, memory, cores, &pairs[index]) {
+            return Err(index);
+        }
+    }
+    Ok(())
+}
+
+// The same of steps that were given.
+fn run_given(
+    lines: &[Line],
+    code: &Code<'_>,
+    size: u32,
+    memory: &mut [u8],
+    cores: &mut [SerialCore],
+    pairs: &[(u8, Outcome)],
+) -> Result<(), usize>
+    requires lines { AreLines code.now.bytes.now lines.now }
+    requires size { length memory.old ≡ size }
+    requires closed { AllByRecursion (λ c. steps_of c ≤ 0) cores.old }
+    ensures ok { OnOk result (list_run (setting_of code.now.bytes.now code.now.base size 0 0) memory.old
+        (map core_of cores.old) pairs.now ≡ Some (memory.new, map core_of cores.new)) }
+    ensures err { IfErr result (λ i. ListStuck (setting_of code.now.bytes.now code.now.base size 0 0) memory.old
+        (map core_of cores.old) pairs.now i) }
+{
+    'pairs: for index in 0..pairs.len() {
+        let (core, outcome) = pairs[index];
+        if !step(lines, code, size, memory, cores, &Pair::new(core, outcome)) {
+            return Err(index);
+        }
+    }
+    Ok(())
+}
 
 // Runs a history; where that fails, the index of the first pair at which it is no run.
 fn run_history(
@@ -37,13 +89,10 @@ fn run_history(
     ensures err { IfErr result (λ i. ListStuck (setting_of code.now.bytes.now code.now.base size 0 0) memory.old
         (map core_of cores.old) (pairs_of history.entry) i) }
 {
-    'pairs: for index in 0..history.len() {
-        let (core, outcome) = history.get(index).unwrap();
-        if !step(lines, code, size, memory, cores, core, &outcome) {
-            return Err(index);
-        }
+    match history.steps() {
+        Steps::Given(pairs) => run_given(lines, code, size, memory, cores, pairs),
+        Steps::Made(pairs) => run_made(lines, code, size, memory, cores, pairs),
     }
-    Ok(())
 }
 
 // Memory before the first step.

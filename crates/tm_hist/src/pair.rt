@@ -41,6 +41,24 @@ fn pack(outcome: Outcome) -> PackedOutcome
     }
 }
 
+impl PackedOutcome {
+    /// The outcome.
+    pub fn unpacked(&self) -> Outcome
+        ensures { result ≡ outcome_of self.now }
+    {
+        match self {
+            PackedOutcome::Plain => Outcome::Plain,
+            PackedOutcome::Loaded => Outcome::Loaded,
+            PackedOutcome::Stopped(stop) => Outcome::Stopped(*stop),
+            PackedOutcome::Idle => Outcome::Idle,
+            PackedOutcome::Begun => Outcome::Begun,
+            PackedOutcome::Inside => Outcome::Inside,
+            PackedOutcome::Committed => Outcome::Committed,
+            PackedOutcome::Aborted(status) => Outcome::Aborted(from_le(*status)),
+        }
+    }
+}
+
 impl Pair {
     /// Keeps a step.
     pub fn new(core: u8, outcome: Outcome) -> Pair
@@ -56,15 +74,6 @@ impl Pair {
     pub fn outcome(&self) -> Outcome
         ensures { result ≡ outcome_of self.now.outcome }
     {
-        match self.outcome {
-            PackedOutcome::Plain => Outcome::Plain,
-            PackedOutcome::Loaded => Outcome::Loaded,
-            PackedOutcome::Stopped(stop) => Outcome::Stopped(stop),
-            PackedOutcome::Idle => Outcome::Idle,
-            PackedOutcome::Begun => Outcome::Begun,
-            PackedOutcome::Inside => Outcome::Inside,
-            PackedOutcome::Committed => Outcome::Committed,
-            PackedOutcome::Aborted(status) => Outcome::Aborted(from_le(status)),
-        }
+        self.outcome.unpacked()
     }
 }

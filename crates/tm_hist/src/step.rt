@@ -10,9 +10,11 @@ ghost use Rattle.tm_rule.specs.Rule.{StandsAt, outside_of};
 ghost use Rattle.tm_model.specs.Steps.{after_load, after_begin, after_plain, after_step_of, after_stop};
 ghost use Rattle.tm_model.specs.Steps.{registers_after_abort};
 ghost use Rattle.tm_model.specs.Steps.{stop_number};
+ghost use Rattle.tm_hist.specs.History.{outcome_of, pair_of};
 ghost use Rattle.tm_hist.specs.Serial.{core_of, list_step, steps_of};
 
 use crate::flat::{outside_on, outside_with, run_body, value_on};
+use crate::pair::{PackedOutcome, Pair};
 use crate::serial_core::SerialCore;
 use crate::usual::usual_step;
 use ia_regs::Regs;
@@ -255,9 +257,8 @@ fn open_step(
     }
 }
 
-/// The core after its step of this outcome, where the rules of a run allow that; memory changes with it.
-#[inline(never)]
-pub fn core_step(
+// The core after its step of this outcome, where the rules of a run allow that; memory changes with it.
+fn core_step(
     lines: &[Line],
     code: &Code<'_>,
     size: u32,
@@ -291,6 +292,33 @@ pub fn core_step(
     }
 }
 
+// The step of this outcome of a core, where the rules of a run allow that. False where they do not; memory and the core are
+// then of no use.
+#[inline(never)]
+fn other_step(
+    lines: &[Line],
+    code: &Code<'_>,
+    size: u32,
+    memory: &mut [u8],
+    core: &mut SerialCore,
+    outcome: &PackedOutcome,
+) -> bool
+    requires lines { AreLines code.now.bytes.now lines.now }
+    requires size { length memory.old ≡ size }
+    requires few { steps_of core.old + 1 < 2 ^ 64 }
+    ensures step { after_step_of (setting_of code.now.bytes.now code.now.base size 0 0) memory.old (core_of core.old)
+        (outcome_of outcome.now) ≡ (if result then Some (memory.new, core_of core.new) else None) }
+    ensures growth { steps_of core.new ≤ steps_of core.old + 1 }
+{
+    match core_step(lines, code, size, memory, core, &outcome.unpacked()) {
+        Some(next) => {
+            *core = next;
+            true
+        }
+        None => false,
+    }
+}
+
 /// One step of a run: the pair of a core and its outcome. False where the rules of a run do not allow it.
 #[inline(always)]
 pub fn step(
@@ -299,30 +327,31 @@ pub fn step(
     size: u32,
     memory: &mut [u8],
     cores: &mut [SerialCore],
-    core: u8,
-    outcome: &Outcome,
+    pair: &Pair,
 ) -> bool
     requires lines { AreLines code.now.bytes.now lines.now }
     requires size { length memory.old ≡ size }
     requires few { AllByRecursion (λ c. steps_of c + 1 < 2 ^ 64) cores.old }
     ensures step { list_step (setting_of code.now.bytes.now code.now.base size 0 0) memory.old (map core_of cores.old)
-        core outcome.now ≡ (if result then Some (memory.new, map core_of cores.new) else None) }
+        (pair_of pair.now).0 (pair_of pair.now).1
+        ≡ (if result then Some (memory.new, map core_of cores.new) else None) }
     ensures growth { (most : ℕ) → AllByRecursion (λ c. steps_of c ≤ most) cores.old →
         AllByRecursion (λ c. steps_of c ≤ most + 1) cores.new }
 {
-    let index = usize::from(core);
+    let index = usize::from(pair.core);
     if index >= cores.len() {
         return false;
     }
     let stepping = &mut cores[index];
-    if usual_step(lines, code.bytes, code.base, memory, stepping, outcome) {
+    if usual_step(
+        lines,
+        code.bytes,
+        code.base,
+        memory,
+        stepping,
+        &pair.outcome,
+    ) {
         return true;
     }
-    match core_step(lines, code, size, memory, stepping, outcome) {
-        Some(next) => {
-            *stepping = next;
-            true
-        }
-        None => false,
-    }
+    other_step(lines, code, size, memory, stepping, &pair.outcome)
 }

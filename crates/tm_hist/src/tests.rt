@@ -1,4 +1,4 @@
-//! How many bytes a step takes, which is no public thing. All other tests stand in `tm_tests`.
+//! How many bytes a step takes, which is no public thing. All other tests stand in `hist_tests`.
 
 use crate::pair::Pair;
 use tm_core::Outcome::Aborted;

@@ -1,20 +1,20 @@
 -- A turn keeps the ledger in agreement with the board.
-use Rattle.std.proofs.Common.{◌≡◌, ◌≢◌, ◌⊎◌, ℕ, zero, suc, ◌+◌, ◌%◌, ◌<◌, ◌≤◌, List, [], ◌∷◌, ◌++◌, length, drop, Some, None, Option, Bool, cond, eqb, refl, sym, ap, ◌∙◌, subst, ⊎_elim, inl, arith, eq-eqb, ne_eqb, length-append}
+use Rattle.std.proofs.Common.{◌≡◌, ◌≢◌, ◌⊎◌, ℕ, zero, suc, ◌+◌, ◌-◌, ◌%◌, ◌<◌, ◌≤◌, List, [], ◌∷◌, ◌++◌, length, drop, Some, None, Option, Bool, true, cond, eqb, refl, sym, ap, ◌∙◌, subst, ⊎_elim, inl, inr, arith, eq-eqb, ne_eqb, length-append}
 use Rattle.std.specs.Prelude.{slice_get, slice_set, IfSome, All}
-use Rattle.std.proofs.lemmas.List.Elements.{All-append}
+use Rattle.std.proofs.lemmas.List.Elements.{All-append, All-head, All-tail}
 use mathlib.Core.Logic.{dite}
 use native.Mathlib.Decide.{ℕ_discrete}
 use Rattle.std.proofs.Math.Seq.{drop-append_seam, drop-length}
 use Rattle.std.proofs.lemmas.List.{append_assoc, append-nil}
-use Rattle.std.proofs.lemmas.List.Sums.{sum_by-append, count_by-le-length}
-use Rattle.std.proofs.lemmas.Option.{slice_get_within}
+use Rattle.std.proofs.lemmas.List.Sums.{sum_by-append, sum_by-cons, count_by-le-length}
+use Rattle.std.proofs.lemmas.Option.{get_or_from_slice_get, slice_get_within}
 use Rattle.tm_ledger.proofs.Moves.{slice_get_front, slice_get_last, slice_get_same, slice_get_other}
 use Rattle.tm_model.specs.declared.outcome.Outcome.{Outcome}
 use Rattle.tm_model.specs.declared.outcome.Outcome.TheVariants.{Idle}
-use Rattle.tm_hist.specs.Board.{ShownBoard, IsStopped, IsFull}
+use Rattle.tm_hist.specs.Board.{AreSteps, ShownBoard, IsStopped, IsFull, pairs_behind}
 use Rattle.tm_work.specs.declared.progress.Progress.{Progress}
 use Rattle.tm_work.specs.declared.progress.Receipt.{Receipt}
-use Rattle.tm_work.specs.Seats.{SeatProgress, seat_with, SeatTells, no_progress, HaveNoProgress, AreSeats, IsStepMade, progress_of, progress_after_step, progress_at_end, count, new_part, GoesOn, Tells, LedgerAgrees, AreStepsMade}
+use Rattle.tm_work.specs.Seats.{SeatProgress, seat_with, SeatTells, no_progress, HaveNoProgress, AreSeats, IsLast, IsLater, IsReceipt, IsStepMade, progress_of, progress_after_step, progress_at_end, count, new_part, GoesOn, Tells, LedgerAgrees, AreStepsMade}
 
 count_snoc : (c : ℕ) (h : List (ℕ × Outcome)) (x : ℕ × Outcome) → count c (h ++ x ∷ []) ≡ count c h + cond (eqb x.0 c) 1 0
 count_snoc c h x = omega (arith, sum_by-append (λ (y : ℕ × Outcome). cond (eqb y.0 c) 1 0) h (x ∷ []))
@@ -25,10 +25,10 @@ count_same c h o = count_snoc c h (c, o) ∙ ap (λ b. count c h + cond b 1 0) (
 count_other : (c k : ℕ) (h : List (ℕ × Outcome)) (o : Outcome) → c ≢ k → count k (h ++ (c, o) ∷ []) ≡ count k h
 count_other c k h o n = let e = count_snoc k h (c, o) ∙ ap (λ b. count k h + cond b 1 0) (ne_eqb c k n) in omega arith
 
-part_step : (g xs : List (ℕ × Outcome)) (x : ℕ × Outcome) → xs ≡ g ++ drop (length g) xs → drop (length g) (xs ++ x ∷ []) ≡ drop (length g) xs ++ x ∷ []
-part_step g xs x e =
+part_more : (g xs ys : List (ℕ × Outcome)) → xs ≡ g ++ drop (length g) xs → drop (length g) (xs ++ ys) ≡ drop (length g) xs ++ ys
+part_more g xs ys e =
     let h : List (ℕ × Outcome) = drop (length g) xs in
-    ap (λ l. drop (length g) (l ++ x ∷ [])) e ∙ ap (λ l. drop (length g) l) (append_assoc g h (x ∷ [])) ∙ drop-append_seam g (h ++ x ∷ [])
+    ap (λ l. drop (length g) (l ++ ys)) e ∙ ap (λ l. drop (length g) l) (append_assoc g h ys) ∙ drop-append_seam g (h ++ ys)
 
 if_some_map : {A : Type 0} (o : Option A) (P Q : A → Type 0) → ((a : A) → P a → Q a) → IfSome o P → IfSome o Q
 if_some_map (Some a) P Q f h = f a h
@@ -39,7 +39,7 @@ All_one P x h zero d below = h
 All_one P x h (suc k) d below = absurd (omega arith)
 
 part_next : (given b b' : ShownBoard) (c : ℕ) (r : Receipt) → GoesOn given b → IsStepMade b b' c r → new_part given b' ≡ new_part given b ++ (c, r.outcome) ∷ []
-part_next given b b' c r g made = ap (λ l. drop (length given.history) l) made.history ∙ part_step given.history b.history (c, r.outcome) g.history
+part_next given b b' c r g made = ap (λ l. drop (length given.history) l) made.history ∙ part_more given.history b.history ((c, r.outcome) ∷ []) g.history
 
 goes_on_step : (given b b' : ShownBoard) (c : ℕ) (r : Receipt) → GoesOn given b → IsStepMade b b' c r → GoesOn given b'
 goes_on_step given b b' c r g made = record {
@@ -123,45 +123,131 @@ no_wrap given b ledger c m a was room fits =
 pub progress_of_turn : (m : Progress) (s : ℕ) (r : Receipt) (e : Bool) → s ≡ m.steps → e ≡ m.ended → (m.steps + 1) % 18446744073709551616 ≡ m.steps + 1 → progress_of ((s + 1) % 18446744073709551616) (Some r) e ≡ progress_after_step m r
 progress_of_turn m s r e steps ended fits = λ i. progress_of ((ap (λ n. (n + 1) % 18446744073709551616) steps ∙ fits) i) (Some r) (ended i)
 
-set_twice : (xs : List Progress) (k : ℕ) (x y : Progress) → slice_set (slice_set xs k x) k y ≡ slice_set xs k y
-set_twice [] k x y = refl
-set_twice (z ∷ zs) zero x y = refl
-set_twice (z ∷ zs) (suc k) x y = ap (λ (l : List Progress). z ∷ l) (set_twice zs k x y)
+-- ---- several steps of one core
 
--- before the first step
-pub none_made : (b : ShownBoard) (c : ℕ) (m : Progress) → AreStepsMade b b c m m 0
-none_made b c m = record {
-  agrees = λ given ledger a was. same_agrees given b ledger c m a was;
-  steps = λ given ledger a was. omega arith;
-}
+abbrev IsOwn : ℕ → ℕ × Outcome → Type 0
+IsOwn core step = (step.0 ≡ core) × (step.1 ≢ Idle)
 
--- one step more
-pub one_more : (b0 b1 b2 : ShownBoard) (c : ℕ) (m0 m1 : Progress) (n : ℕ) (r : Receipt) → AreStepsMade b0 b1 c m0 m1 n → IsStepMade b1 b2 c r
-    → AreStepsMade b0 b2 c m0 (progress_of ((m1.steps + 1) % 18446744073709551616) (Some r) m1.ended) (n + 1)
-one_more b0 b1 b2 c m0 m1 n r before made =
-    let here : (ledger : List Progress) → slice_get ledger c ≡ Some m0 → slice_get (slice_set ledger c m1) c ≡ Some m1 =
-    λ ledger was. slice_get_same ledger c m1 (slice_get_within ledger c m0 was) in
-    let fits : (given : ShownBoard) (ledger : List Progress) → LedgerAgrees given b0 ledger → slice_get ledger c ≡ Some m0 → (m1.steps + 1) % 18446744073709551616 ≡ m1.steps + 1 =
-    λ given ledger a was. no_wrap given b1 (slice_set ledger c m1) c m1 (before.agrees given ledger a was) (here ledger was) made.room made.limited in
-    record {
-      agrees = λ given ledger a was.
-          let next : LedgerAgrees given b2 (slice_set (slice_set ledger c m1) c (progress_after_step m1 r)) =
-          step_agrees given b1 b2 (slice_set ledger c m1) c r m1 (before.agrees given ledger a was) made (here ledger was) in
-          let same : slice_set (slice_set ledger c m1) c (progress_after_step m1 r) ≡ slice_set ledger c (progress_of ((m1.steps + 1) % 18446744073709551616) (Some r) m1.ended) =
-          set_twice ledger c m1 (progress_after_step m1 r) ∙ ap (λ (s : ℕ). slice_set ledger c (progress_of s (Some r) m1.ended)) (sym (fits given ledger a was)) in
-          subst (λ (l : List Progress). LedgerAgrees given b2 l) same next;
-      steps = λ given ledger a was. let f = fits given ledger a was in let s = before.steps given ledger a was in omega (arith, f, s);
-    }
+count_own : (c : ℕ) (xs : List (ℕ × Outcome)) → All (IsOwn c) xs → count c xs ≡ length xs
+count_own c [] h = refl
+count_own c (x ∷ xs) h =
+    let e : count c (x ∷ xs) ≡ cond (eqb x.0 c) 1 0 + count c xs = sum_by-cons (λ (y : ℕ × Outcome). cond (eqb y.0 c) 1 0) x xs in
+    let one : cond {A = ℕ} (eqb x.0 c) 1 0 ≡ 1 = ap (λ b. cond {A = ℕ} b 1 0) (eq-eqb x.0 c (All-head (IsOwn c) x xs h).0) in
+    let rest = count_own c xs (All-tail (IsOwn c) x xs h) in
+    omega arith
 
--- a look that made none
-pub none_more : (b0 b1 b2 : ShownBoard) (c : ℕ) (m0 m1 : Progress) (n : ℕ) → AreStepsMade b0 b1 c m0 m1 n → b2 ≡ b1 → IsStopped b1 c ⊎ IsFull b1
-    → AreStepsMade b0 b2 c m0 (progress_at_end m1) n
-none_more b0 b1 b2 c m0 m1 n before board end = subst (λ (b : ShownBoard). AreStepsMade b0 b c m0 (progress_at_end m1) n) (sym board) record {
-  agrees = λ given ledger a was.
-      let next : LedgerAgrees given b1 (slice_set (slice_set ledger c m1) c (progress_at_end m1)) =
-      look_agrees given b1 (slice_set ledger c m1) c m1 (before.agrees given ledger a was) end (slice_get_same ledger c m1 (slice_get_within ledger c m0 was)) in
-      subst (λ (l : List Progress). LedgerAgrees given b1 l) (set_twice ledger c m1 (progress_at_end m1)) next;
-  steps = before.steps;
+count_apart : (c k : ℕ) (xs : List (ℕ × Outcome)) → c ≢ k → All (IsOwn c) xs → count k xs ≡ 0
+count_apart c k [] n h = refl
+count_apart c k (x ∷ xs) n h =
+    let e : count k (x ∷ xs) ≡ cond (eqb x.0 k) 1 0 + count k xs = sum_by-cons (λ (y : ℕ × Outcome). cond (eqb y.0 k) 1 0) x xs in
+    let none : cond {A = ℕ} (eqb x.0 k) 1 0 ≡ 0 = ap (λ b. cond {A = ℕ} b 1 0) (ne_eqb x.0 k (λ same. n (sym (All-head (IsOwn c) x xs h).0 ∙ same))) in
+    let rest = count_apart c k xs n (All-tail (IsOwn c) x xs h) in
+    omega arith
+
+slice_get_behind : (xs ys : List (ℕ × Outcome)) (k : ℕ) → slice_get (xs ++ ys) (length xs + k) ≡ slice_get ys k
+slice_get_behind [] ys k = let e : 0 + k ≡ k = omega arith in ap (slice_get ys) e
+slice_get_behind (x ∷ xs) ys k = let e : suc (length xs) + k ≡ suc (length xs + k) = omega arith in ap (slice_get (x ∷ (xs ++ ys))) e ∙ slice_get_behind xs ys k
+
+module _ (given b b' : ShownBoard) (c n : ℕ) (g : GoesOn given b) (s : AreSteps b b' c n) (room : length b'.history ≤ b'.limit) where
+  abbrev more : List (ℕ × Outcome)
+  more = pairs_behind b b'
+
+  part_steps : new_part given b' ≡ new_part given b ++ more
+  part_steps = ap (λ l. drop (length given.history) l) s.history ∙ part_more given.history b.history more g.history
+
+  pub longer : length b'.history ≡ length b.history + n
+  longer = ap length s.history ∙ length-append b.history more ∙ ap (λ k. length b.history + k) s.count
+
+  goes_on_steps : GoesOn given b'
+  goes_on_steps = record {
+    same = record { program = s.same.program ∙ g.same.program; limits = s.same.limits ∙ g.same.limits; limit = s.same.limit ∙ g.same.limit };
+    history = s.history ∙ ap (λ l. l ++ more) g.history ∙ append_assoc given.history (new_part given b) more ∙ ap (λ l. given.history ++ l) (sym part_steps);
+    none_idle =
+        subst (All (λ (step : ℕ × Outcome). step.1 ≢ Idle)) (sym part_steps)
+        (All-append (λ (step : ℕ × Outcome). step.1 ≢ Idle) (new_part given b) more g.none_idle (λ k d below. (s.own k d below).1));
+  }
+
+  still_full : IsFull b → IsFull b'
+  still_full full = let l = longer in let same = s.same.limit in omega arith
+
+  counted : (k : ℕ) → count k (new_part given b') ≡ count k (new_part given b) + count k more
+  counted k = ap (λ l. count k l) part_steps ∙ sum_by-append (λ (y : ℕ × Outcome). cond (eqb y.0 k) 1 0) (new_part given b) more
+
+  -- a receipt of the board before is one of the board after
+  kept_receipt : (k : ℕ) (last : Option Receipt) → IfSome last (IsReceipt given b k) → IfSome last (IsReceipt given b' k)
+  kept_receipt k last h =
+      if_some_map last _ _ (λ q r. (r.0, ap (λ l. slice_get l q.index) s.history ∙ slice_get_front b.history more q.index (k, q.outcome) r.1)) h
+
+  others_steps : (k : ℕ) (m : Progress) → k ≢ c → Tells given b k m → Tells given b' k m
+  others_steps k m apart t = record {
+    steps = let all = counted k in let none = count_apart c k more (λ e. apart (sym e)) s.own in let was = t.steps in omega arith;
+    last = kept_receipt k m.last t.last;
+    ended = λ e. ⊎_elim (λ (stopped : IsStopped b k). inl (s.stops k stopped)) (λ (full : IsFull b). inr (still_full full)) (t.ended e);
+  }
+
+  last_own : (r : Receipt) (core : ℕ) → 0 < n → r.index + 1 ≡ length b'.history → slice_get b'.history r.index ≡ Some (core, r.outcome) → IsReceipt given b' c r
+  last_own r core some index is =
+      let l = longer in
+      let at : r.index ≡ length b.history + (n - 1) = omega arith in
+      let step : slice_get more (n - 1) ≡ Some (core, r.outcome) =
+      sym (slice_get_behind b.history more (n - 1)) ∙ ap (λ x. slice_get (b.history ++ more) x) (sym at) ∙ ap (λ x. slice_get x r.index) (sym s.history) ∙ is in
+      let within : n - 1 < length more = slice_get_within more (n - 1) (core, r.outcome) step in
+      let own : core ≡ c = ap (λ (x : ℕ × Outcome). x.0) (sym (get_or_from_slice_get more (n - 1) (core, r.outcome) (core, r.outcome) step)) ∙ (s.own (n - 1) (core, r.outcome) within).0 in
+      let old = ap length g.history in
+      (omega (arith, old, length-append given.history (new_part given b)), is ∙ ap (λ x. Some (x, r.outcome)) own)
+
+  last_steps : (m : Progress) (last : Option Receipt) → Tells given b c m → (n ≡ 0 → last ≡ m.last) → (0 < n → 0 < length b'.history → IsLast b' last) → IfSome last (IsReceipt given b' c)
+  last_steps m last t none some =
+      dite (ℕ_discrete n 0)
+      (λ (e : n ≡ 0). subst (λ (x : Option Receipt). IfSome x (IsReceipt given b' c)) (sym (none e)) (kept_receipt c m.last t.last))
+      (λ ne. let going : 0 < n = omega arith in let l = longer in
+      let h : IsLast b' last = some going (omega arith) in
+      subst (λ (x : Option Receipt). IfSome x (IsReceipt given b' c)) (sym h.is) (last_own h.receipt h.core going h.index h.step))
+
+  later_than : (was : Option Receipt) (r : Receipt) → IfSome was (IsReceipt given b c) → 0 < n → r.index + 1 ≡ length b'.history → IsLater was (Some r)
+  later_than None r h some index = tt
+  later_than (Some q) r h some index = let within = slice_get_within b.history q.index (c, q.outcome) h.1 in let l = longer in omega arith
+
+  later_steps : (m : Progress) (last : Option Receipt) → Tells given b c m → 0 < n → (0 < n → 0 < length b'.history → IsLast b' last) → IsLater m.last last
+  later_steps m last t some is =
+      let l = longer in
+      let h : IsLast b' last = is some (omega arith) in
+      subst (λ (x : Option Receipt). IsLater m.last x) (sym h.is) (later_than m.last h.receipt t.last some h.index)
+
+  fits_steps : (m : Progress) → Tells given b c m → length b'.history ≤ 16777216 → (m.steps + n) % 18446744073709551616 ≡ m.steps + n
+  fits_steps m t few =
+      let was = t.steps in
+      let k = count_by-le-length (λ (x : ℕ × Outcome). eqb x.0 c) (new_part given b) in
+      let e = ap length g.history in
+      let l = longer in
+      omega (arith, was, k, e, length-append given.history (new_part given b))
+
+  own_steps : (m : Progress) (last : Option Receipt) (ended : Bool) → Tells given b c m → length b'.history ≤ 16777216 →
+      (n ≡ 0 → last ≡ m.last) → (0 < n → 0 < length b'.history → IsLast b' last) → (ended ≡ true → (m.ended ≡ true) ⊎ (IsStopped b' c ⊎ IsFull b')) →
+      Tells given b' c (progress_of ((m.steps + n) % 18446744073709551616) last ended)
+  own_steps m last ended t few none some ends = record {
+    steps = let all = counted c in let own = count_own c more s.own in let long = s.count in let was = t.steps in fits_steps m t few ∙ omega arith;
+    last = last_steps m last t none some;
+    ended = λ e. ⊎_elim
+        (λ (was : m.ended ≡ true). ⊎_elim (λ (stopped : IsStopped b c). inl (s.stops c stopped)) (λ (full : IsFull b). inr (still_full full)) (t.ended was))
+        (λ (now : IsStopped b' c ⊎ IsFull b'). now)
+        (ends e);
+  }
+
+-- the progress of the core that made the steps, in any ledger that agrees
+pub steps_made : (b b' : ShownBoard) (c n : ℕ) (m : Progress) (last : Option Receipt) (ended : Bool) → AreSteps b b' c n → length b'.history ≤ b'.limit → length b'.history ≤ 16777216 →
+    (n ≡ 0 → last ≡ m.last) → (0 < n → 0 < length b'.history → IsLast b' last) → (ended ≡ true → (m.ended ≡ true) ⊎ (IsStopped b' c ⊎ IsFull b')) →
+    AreStepsMade b b' c m (progress_of ((m.steps + n) % 18446744073709551616) last ended) n
+steps_made b b' c n m last ended s room few none some ends = record {
+  agrees = λ given ledger a was. record {
+    goes_on = goes_on_steps given b b' c n a.goes_on s room;
+    lines = line_cases ledger c m _ (Tells given b') was
+        (own_steps given b b' c n a.goes_on s room m last ended (a.lines c m was) few none some ends)
+        (λ k x apart is. others_steps given b b' c n a.goes_on s room k x apart (a.lines k x is));
+  };
+  steps = λ given ledger a was. fits_steps given b b' c n a.goes_on s room m (a.lines c m was) few;
+  later = λ given ledger a was going. later_steps given b b' c n a.goes_on s room m last (a.lines c m was) going some;
+  same = none;
 }
 
 pub last_before : (given b : ShownBoard) (ledger : List Progress) (c : ℕ) (m : Progress) (n : ℕ) → LedgerAgrees given b ledger → slice_get ledger c ≡ Some m → n ≡ length b.history → IfSome m.last (λ q. q.index < n)

@@ -1,5 +1,5 @@
 -- What seats know of a board, and when a ledger of that agrees with the board (docs/MACHINE.md, "Threads").
-use Rattle.std.specs.Prelude.{◌≡◌, ◌≢◌, ◌⊎◌, ℕ, ◌+◌, ◌<◌, ◌≤◌, ◌==◌, Bool, true, false, List, [], ◌∷◌, ◌++◌, length}
+use Rattle.std.specs.Prelude.{◌≡◌, ◌≢◌, ◌⊎◌, ⊤, ℕ, ◌+◌, ◌<◌, ◌≤◌, ◌==◌, Bool, true, false, List, [], ◌∷◌, ◌++◌, length}
 use Rattle.std.specs.Prelude.{All, count_by, drop, Option, Some, None, IfSome, slice_get, slice_set}
 use Rattle.tm_model.specs.declared.outcome.Outcome.{Outcome}
 use Rattle.tm_model.specs.declared.outcome.Outcome.TheVariants.{Idle}
@@ -77,6 +77,20 @@ pub record IsStepMade (before after : ShownBoard) (core : ℕ) (receipt : Receip
   pub room : length before.history < before.limit
   pub limited : before.limit ≤ 16777216
 
+-- the receipt is that of the last step of the board
+pub record IsLast (board : ShownBoard) (last : Option Receipt) : Type 0 where
+  pub receipt : Receipt
+  pub is : last ≡ Some receipt
+  pub index : receipt.index + 1 ≡ length board.history
+  pub core : ℕ
+  pub step : slice_get board.history receipt.index ≡ Some (core, receipt.outcome)
+
+-- a receipt, and of a later step than the one before, where there was one
+abbrev pub IsLater : Option Receipt → Option Receipt → Type 0
+IsLater before None = ⊥
+IsLater None (Some now) = ⊤
+IsLater (Some before) (Some now) = before.index < now.index
+
 -- so many steps of this core led from one board to the other, and its progress from the one to the other: in any ledger that
 -- agrees with the first board and has the first progress of this core, the second one agrees with the second board
 pub record AreStepsMade (before after : ShownBoard) (core : ℕ) (was now : Progress) (made : ℕ) : Type 0 where
@@ -84,6 +98,9 @@ pub record AreStepsMade (before after : ShownBoard) (core : ℕ) (was now : Prog
       slice_get ledger core ≡ Some was → LedgerAgrees given after (slice_set ledger core now)
   pub steps : (given : ShownBoard) (ledger : List Progress) → LedgerAgrees given before ledger →
       slice_get ledger core ≡ Some was → now.steps ≡ was.steps + made
+  pub later : (given : ShownBoard) (ledger : List Progress) → LedgerAgrees given before ledger →
+      slice_get ledger core ≡ Some was → 0 < made → IsLater was.last now.last
+  pub same : made ≡ 0 → now.last ≡ was.last
 
 -- no seat had a turn
 abbrev pub HaveNoProgress : List Progress → Type 0

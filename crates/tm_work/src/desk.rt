@@ -3,7 +3,7 @@
 ghost use Rattle.std.specs.Prelude.{◌≡◌, ◌≢◌, ◌+◌, ◌<◌, ◌≤◌, true, ◌++◌, ◌∷◌, [], length, All, IfOk, IfErr, IfSome, IfNone};
 ghost use Rattle.tm_model.specs.declared.outcome.Outcome.{Outcome};
 ghost use Rattle.tm_hist.specs.Board.{IsHistory};
-ghost use Rattle.tm_work.specs.Seats.{AreSeats, GoesOn, SeatTells};
+ghost use Rattle.tm_work.specs.Seats.{AreSeats, GoesOn, IsLater, SeatTells};
 ghost use Rattle.tm_work.specs.Seats.{no_progress, seat_with, progress_after_step, progress_at_end};
 ghost use Rattle.tm_work.specs.Faults.{board_in, IsNoMemory};
 
@@ -59,11 +59,13 @@ impl<J: DeskIdentity> Desk<J> {
     }
 
     /// Up to so many turns of the seat's core under one lock, and how many steps they made: fewer only where the core
-    /// stopped or the history is full, as `turn` finds it.
+    /// stopped or the history is full, as `turn` finds it. The receipt of the last of these steps is then the seat's.
     pub fn turns(&self, rt: &impl Wait, seat: &mut Seat<J>, most: u32) -> u32
         ensures core { seat.new.core ≡ seat.old.core }
         ensures most { result ≤ most }
         ensures steps { seat.new.progress.steps ≡ seat.old.progress.steps + result }
+        ensures later { 0 < result → IsLater seat.old.progress.last seat.new.progress.last }
+        ensures none { result ≡ 0 → seat.new.progress.last ≡ seat.old.progress.last }
         ensures fewer { result < most → seat.new.progress.ended ≡ true }
         ensures all { result ≡ most → seat.new.progress.ended ≡ seat.old.progress.ended }
     {

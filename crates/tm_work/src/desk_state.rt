@@ -3,7 +3,7 @@
 ghost use Rattle.std.specs.Prelude.{◌≡◌, ◌≢◌, ◌+◌, ◌<◌, ◌≤◌, ◌⊎◌, true, length, All, IfSome, IfNone};
 ghost use Rattle.tm_model.specs.declared.outcome.Outcome.{Outcome};
 ghost use Rattle.tm_hist.specs.Board.{IsFull, IsHistory, IsStopped};
-ghost use Rattle.tm_work.specs.Seats.{AreStepsMade, GoesOn, HaveNoProgress, IsStepMade, SeatTells, Tells};
+ghost use Rattle.tm_work.specs.Seats.{AreStepsMade, GoesOn, HaveNoProgress, IsLast, IsLater, IsStepMade, SeatTells, Tells};
 ghost use Rattle.tm_work.specs.Seats.{progress_after_step, progress_at_end};
 
 use crate::progress::{Progress, Receipt};
@@ -92,6 +92,8 @@ impl<J: DeskIdentity> DeskState<J> {
         ensures core { seat.new.core ≡ seat.old.core }
         ensures most { result ≤ most }
         ensures steps { seat.new.progress.steps ≡ seat.old.progress.steps + result }
+        ensures later { 0 < result → IsLater seat.old.progress.last seat.new.progress.last }
+        ensures none { result ≡ 0 → seat.new.progress.last ≡ seat.old.progress.last }
         ensures fewer { result < most → seat.new.progress.ended ≡ true }
         ensures all { result ≡ most → seat.new.progress.ended ≡ seat.old.progress.ended }
     {
@@ -144,16 +146,31 @@ fn make_steps(board: &mut Board, core: u8, progress: &mut Progress, most: u32) -
     ensures fewer { result < most → progress.new.ended ≡ true }
     ensures all { result ≡ most → progress.new.ended ≡ progress.old.ended }
 {
-    for made in 0..most {
-        let Some(receipt) = try_step(board, core) else {
-            progress.ended = true;
-            return made;
-        };
-        progress.last = Some(receipt);
+    let made = board.steps(core, most);
+    let last = last_of(board, made, progress.last);
+    *progress = Progress {
         // The ledger tells that this does not wrap.
-        progress.steps = progress.steps.wrapping_add(1);
+        steps: progress.steps.wrapping_add(u64::from(made)),
+        last,
+        ended: progress.ended || made < most,
+    };
+    made
+}
+
+// The receipt of the last step, where so many were made; without any, what it was before.
+fn last_of(board: &Board, made: u32, before: Option<Receipt>) -> Option<Receipt>
+    ensures few { length board.now.history ≤ board.now.limit }
+    ensures limited { length board.now.history ≤ 16777216 }
+    ensures none { made ≡ 0 → result ≡ before }
+    ensures last { 0 < made → 0 < length board.now.history → IsLast board.now result }
+{
+    let steps = board.made();
+    if made == 0 || steps == 0 {
+        return before;
     }
-    most
+    let index = (steps - 1) as usize;
+    let (_core, outcome) = board.history().get(index).unwrap();
+    Some(Receipt { index, outcome })
 }
 
 // One step of the core, and its receipt. There is none where the core is stopped or the history full.
