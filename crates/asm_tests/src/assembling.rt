@@ -118,6 +118,22 @@ fn directives(rt: HostRuntime) -> Result<(), Fail> {
     assert!(rt;
         gives(
             alloc,
+            b"x equ 3\ndb 1, 2, 'a', 255, 256 - 1, -1, 0\ndd 1, 12345678h, x, 0ffffffffh\n",
+            0x100,
+            b"\x01\x02a\xff\xff\xff\x00\x01\x00\x00\x00\x78\x56\x34\x12\x03\x00\x00\x00\xff\xff\xff\xff",
+            23
+        )
+    );
+    assert!(rt;
+        lists(
+            alloc,
+            b"x equ 3\ndb 1, 2, x, 4\ndb 5\ndd 258, x\n",
+            b"00000100  01020304\n00000104  05\n00000105  0201000003000000\n"
+        )
+    );
+    assert!(rt;
+        gives(
+            alloc,
             b"section .data\nalign 4\ndb 1\nalign 4\nsection .text\nnop\n",
             0x100,
             b"\x90",

@@ -75,6 +75,8 @@ fn directives(rt: HostRuntime) -> Result<(), Fail> {
         Ok(4)
     );
     assert_eq!(rt; count(alloc, b"db 'ab', 'c', '', 1 - x\ndd -1, y\n"), Ok(6));
+    assert_eq!(rt; count(alloc, b"db 1, 2, 'a', 255, 256 - 1, -1, 0\n"), Ok(6));
+    assert_eq!(rt; count(alloc, b"dd 1, 0ffffffffh, y\ndd 2\n"), Ok(3));
     assert_eq!(rt; count(alloc, b"x equ 5\ny: equ x + 1\n.z equ 1\n"), Ok(3));
     assert_eq!(rt;
         count(alloc, b"s:\n.a:\ne equ 1\n.b:\nt:\n.a:\ns.c:\n"),

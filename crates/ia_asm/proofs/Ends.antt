@@ -76,6 +76,7 @@ ends env base p (item.Equ n x) s e = inl s
 ends env base p (item.Code t) s e = inr (end_none base (p.at + p.size) (first_none (template_fault env p.at t) (end_fault base (p.at + p.size)) e))
 ends env base p (item.Byte x) s e = inr (end_none base (p.at + p.size) (first_none (field_fault env p.at field.Byte x) (end_fault base (p.at + p.size)) e))
 ends env base p (item.Text b) s e = inr (end_none base (p.at + p.size) e)
+ends env base p (item.Numbers b) s e = inr (end_none base (p.at + p.size) e)
 ends env base p (item.Long x) s e = inr (end_none base (p.at + p.size) (first_none (field_fault env p.at field.Long x) (end_fault base (p.at + p.size)) e))
 ends env base p (item.Reserve x) s e = inr (end_none base (p.at + p.size) (first_none p.fault (end_fault base (p.at + p.size)) e))
 ends env base p (item.Align n) s e = inr (end_none base (p.at + p.size) e)

@@ -1,15 +1,12 @@
 -- Fault after fault.
-use Rattle.std.proofs.Common.{◌≡◌, ℕ, ◌+◌, ◌<◌, Bool, true, false, cond, List, ◌∷◌, Option, Some, None, refl, sym, ◌∙◌, ap, length, drop, get_or, map}
+use Rattle.std.proofs.Common.{◌≡◌, ℕ, Bool, true, false, cond, List, [], ◌∷◌, Option, Some, None, refl, sym, ◌∙◌, ap}
 use Rattle.std.specs.Prelude.{option_map, ◌==◌}
-use Rattle.std.proofs.lemmas.List.{drop_more}
 use Rattle.ia_item.specs.Expressions.{Env}
-use Rattle.ia_layout.specs.declared.layout.PlacedEntry.{PlacedEntry}
 use Rattle.ia_resolve.specs.declared.place_fault.PlaceFault.{PlaceFault}
 use Rattle.ia_resolve.specs.declared.place_fault.PlaceFault.TheVariants.{UnknownSymbol, Range, ShortJumpTooFar}
 use Rattle.ia_resolve.specs.PlaceFaults.{first_of}
 use Rattle.ia_layout.specs.Placement.{EntryPlace, place_fault, fault_on, by_first, first_fault}
-use Rattle.ia_layout.specs.Contents.{entry_place}
-use Rattle.ia_asm.specs.Faults.{with_next}
+use Rattle.ia_asm.specs.Faults.{with_next, fault_from}
 
 in_turn : (a b c : Option PlaceFault) → first_of (first_of a b) c ≡ first_of a (first_of b c)
 in_turn None b c = refl
@@ -44,12 +41,7 @@ first_some Range (Some ShortJumpTooFar) = (Range, refl)
 first_some ShortJumpTooFar None = (ShortJumpTooFar, refl)
 first_some ShortJumpTooFar (Some f) = (f, refl)
 
--- what is told, of what is found so far and of the places behind
-abbrev pub fault_from : Env → ℕ → Option (PlaceFault × ℕ) → List EntryPlace → Option (PlaceFault × ℕ)
-fault_from env base None ps = first_fault env base ps
-fault_from env base (Some (f, l)) ps = option_map (λ g. (g, l)) (first_of (Some f) (fault_on l env base ps))
-
-step : (env : Env) (base : ℕ) (found : Option (PlaceFault × ℕ)) (p : EntryPlace) (ps : List EntryPlace) (g : Option PlaceFault) → place_fault env base p ≡ g →
+pub step : (env : Env) (base : ℕ) (found : Option (PlaceFault × ℕ)) (p : EntryPlace) (ps : List EntryPlace) (g : Option PlaceFault) → place_fault env base p ≡ g →
     fault_from env base (with_next found g p.entry.line) ps ≡ fault_from env base found (p ∷ ps)
 step env base None p ps None e = sym (ap (λ g. by_first g p.entry.line (fault_on p.entry.line env base ps) (first_fault env base ps)) e)
 step env base None p ps (Some f) e = sym (ap (λ g. by_first g p.entry.line (fault_on p.entry.line env base ps) (first_fault env base ps)) e)
@@ -71,9 +63,9 @@ step env base (Some (f, l)) p ps g e = by (p.entry.line == l) refl
     by true same = rw same (goes (first_some f g).0 (first_some f g).1)
     by false other = rw other refl
 
-pub telling_step : (env : Env) (base : ℕ) (found : Option (PlaceFault × ℕ)) (spots : List PlacedEntry) (i : ℕ) (d : PlacedEntry) → i < length spots →
-    fault_from env base (with_next found (place_fault env base (entry_place (get_or spots i d))) (get_or spots i d).entry.now.line) (map entry_place (drop (i + 1) spots))
-    ≡ fault_from env base found (map entry_place (drop i spots))
-telling_step env base found spots i d h =
-    step env base found (entry_place (get_or spots i d)) (map entry_place (drop (i + 1) spots)) (place_fault env base (entry_place (get_or spots i d))) refl
-    ∙ sym (ap (λ l. fault_from env base found (map entry_place l)) (drop_more spots i d h))
+-- behind the last place stands what is told
+pub ended : (env : Env) (base : ℕ) (found : Option (PlaceFault × ℕ)) → fault_from env base found [] ≡ found
+ended env base None = refl
+ended env base (Some (UnknownSymbol, l)) = refl
+ended env base (Some (Range, l)) = refl
+ended env base (Some (ShortJumpTooFar, l)) = refl

@@ -1,6 +1,8 @@
 -- The faults that assembling tells, and their numbers.
-use Rattle.std.specs.Prelude.{ℕ, ◌==◌, if◌then◌else◌, Option, Some, None, option_map}
+use Rattle.std.specs.Prelude.{ℕ, ◌==◌, if◌then◌else◌, Option, Some, None, option_map, List}
+use Rattle.ia_item.specs.Expressions.{Env}
 use Rattle.ia_resolve.specs.PlaceFaults.{first_of}
+use Rattle.ia_layout.specs.Placement.{EntryPlace, fault_on, first_fault}
 use Rattle.ia_asm.specs.declared.fault.AsmFault.{AsmFault}
 use Rattle.ia_asm.specs.declared.fault.AsmFault.TheVariants as asm
 use Rattle.ia_resolve.specs.declared.place_fault.PlaceFault.{PlaceFault}
@@ -36,3 +38,8 @@ abbrev pub with_next : Option (PlaceFault × ℕ) → Option PlaceFault → ℕ 
 with_next None None line = None
 with_next None (Some f) line = Some (f, line)
 with_next (Some (f, at)) g line = if line == at then option_map (λ h. (h, at)) (first_of (Some f) g) else Some (f, at)
+
+-- what is told, of what is found so far and of the places behind
+abbrev pub fault_from : Env → ℕ → Option (PlaceFault × ℕ) → List EntryPlace → Option (PlaceFault × ℕ)
+fault_from env base None ps = first_fault env base ps
+fault_from env base (Some (f, l)) ps = option_map (λ g. (g, l)) (first_of (Some f) (fault_on l env base ps))

@@ -18,6 +18,7 @@ bytes_line at bytes = eight_digits (at % 2 ^ 32) ++ codes "  " ++ encode_lower (
 unfoldable pub is_datum : Item → Bool
 is_datum (item.Byte s) = true
 is_datum (item.Text b) = true
+is_datum (item.Numbers b) = true
 is_datum (item.Long s) = true
 is_datum _ = false
 

@@ -1,15 +1,16 @@
 //! The faults of items, and which of them is told.
 
-ghost use Rattle.std.specs.Prelude.{◌≡◌, ◌≤◌, ◌+◌, ◌^◌, map, All};
-ghost use Rattle.ia_item.specs.Fits.{FitsEntry};
+ghost use Rattle.std.specs.Prelude.{◌≡◌, ◌≤◌, ◌<◌, ◌^◌, length, IfOk};
+ghost use Rattle.ia_item.specs.Fits.{AllFit};
 ghost use Rattle.ia_resolve.specs.Symbols.{known};
-ghost use Rattle.ia_layout.specs.Placement.{end_fault, org_fault, item_fault, place_fault, first_fault};
+ghost use Rattle.ia_layout.specs.Placement.{end_fault, org_fault, item_fault, place_fault, first_fault, places, start};
 ghost use Rattle.ia_layout.specs.Contents.{entry_place, IsBounded};
 ghost use Rattle.ia_asm.specs.Faults.{with_next};
 
-use ia_item::{Field, Item};
-use ia_layout::PlacedEntry;
+use ia_item::{Entry, Field, Item};
+use ia_layout::{Layout, PlacedEntry};
 use ia_resolve::{PlaceFault, Table, first_of, resolve_field, resolve_template};
+use std::alloc::{AllocError, Global};
 
 /// Whether an item ends more than 2^28 bytes from the base, or past 2^32.
 fn end_fault(base: u32, end: u128) -> Option<PlaceFault>
@@ -53,6 +54,7 @@ fn place_fault(symbols: &Table, base: u32, spot: &PlacedEntry) -> Option<PlaceFa
             end,
         ),
         Item::Text(_) => end,
+        Item::Numbers(_) => end,
         Item::Long(expression) => first_of(
             resolve_field(symbols, spot.at, Field::Long, expression).fault,
             end,
@@ -88,15 +90,26 @@ fn with_next(
     }
 }
 
-/// The first line that has a fault, and its first fault.
-pub fn first_fault(symbols: &Table, base: u32, spots: &[PlacedEntry]) -> Option<(PlaceFault, u32)>
-    requires { All IsBounded spots.now }
-    ensures { result ≡ first_fault (known symbols.now.values.entries) base (map entry_place spots.now) }
+/// The first line that has a fault, and its first fault, where the code goes to the base and the data there.
+pub fn first_fault(
+    alloc: Global,
+    symbols: &Table,
+    base: u32,
+    tail: u128,
+    entries: &[Entry],
+) -> Result<Option<(PlaceFault, u32)>, AllocError>
+    requires fits { AllFit entries.now }
+    requires few { length entries.now < 2 ^ 58 }
+    requires near { tail ≤ 2 ^ 124 }
+    ensures { IfOk result (λ found. found
+        ≡ first_fault (known symbols.now.values.entries) base (places (start base tail) entries.now)) }
 {
+    let mut walk = Layout::new(alloc, u128::from(base), tail);
     let mut found = None;
-    for spot in spots {
-        let fault = place_fault(symbols, base, spot);
-        found = with_next(found, fault, spot.entry.line);
+    for entry in entries {
+        let spot = walk.place(entry)?;
+        let fault = place_fault(symbols, base, &spot);
+        found = with_next(found, fault, entry.line);
     }
-    found
+    Ok(found)
 }

@@ -14,6 +14,7 @@ mod fault;
 mod faults;
 mod from_source;
 mod listing;
+mod output;
 
 pub use assembly::{ProgramImage, Unit, place_all, place_image};
 pub use fault::AsmFault;

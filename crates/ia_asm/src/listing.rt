@@ -1,16 +1,16 @@
 //! The listing.
 
-ghost use Rattle.std.specs.Prelude.{◌≡◌, ◌≤◌, ◌+◌, ◌%◌, ◌^◌, ◌++◌, ◌∷◌, [], false, IsTrue, List, map, length, IfOk};
-ghost use Rattle.std.specs.Prelude.{OnOk, All};
+ghost use Rattle.std.specs.Prelude.{◌≡◌, ◌≤◌, ◌<◌, ◌%◌, ◌^◌, ◌++◌, ◌∷◌, [], false, IsTrue, List, length, IfOk, OnOk};
+ghost use Rattle.ia_item.specs.Fits.{AllFit};
 ghost use Rattle.ia_text.specs.Listing.{listing_line};
 ghost use Rattle.ia_resolve.specs.Symbols.{known};
-ghost use Rattle.ia_layout.specs.Placement.{item_bytes, EntryPlace};
+ghost use Rattle.ia_layout.specs.Placement.{EntryPlace, places, start};
 ghost use Rattle.ia_asm.specs.ListingText.{bytes_line, is_datum, own_line, goes_on, listing_text};
 ghost use Rattle.ia_layout.specs.Contents.{entry_place, IsBounded};
 ghost use Rattle.ia_asm.specs.Lister.{row_text, row_line, listing_with};
 
-use ia_item::Item;
-use ia_layout::{PlacedEntry, push_bytes, push_item};
+use ia_item::{Entry, Item};
+use ia_layout::{Layout, PlacedEntry, push_bytes, push_item};
 use ia_resolve::Table;
 use ia_text::page::{Page, push, push_bytes as push_hex_bytes, push_eight};
 use ia_text::{ToVec, write_line};
@@ -39,6 +39,7 @@ fn is_datum(item: &Item) -> bool
     match item {
         Item::Byte(_) => true,
         Item::Text(_) => true,
+        Item::Numbers(_) => true,
         Item::Long(_) => true,
         _ => false,
     }
@@ -169,28 +170,47 @@ impl Lister {
 }
 
 /// The lines of all items.
-fn list_all(alloc: Global, symbols: &Table, spots: &[PlacedEntry]) -> Result<Lister, AllocError>
-    requires { All IsBounded spots.now }
+fn list_all(
+    alloc: Global,
+    symbols: &Table,
+    base: u32,
+    tail: u128,
+    entries: &[Entry],
+) -> Result<Lister, AllocError>
+    requires fits { AllFit entries.now }
+    requires few { length entries.now < 2 ^ 58 }
+    requires near { tail ≤ 2 ^ 124 }
     ensures { IfOk result (λ l. listing_with (known symbols.now.values.entries) l []
-        ≡ listing_text (known symbols.now.values.entries) (map entry_place spots.now)) }
+        ≡ listing_text (known symbols.now.values.entries) (places (start base tail) entries.now)) }
 {
     let mut lister = Lister {
         out: ToVec::new(Vec::new(alloc)),
         row: None,
         bytes: Vec::new(alloc),
     };
-    for spot in spots {
-        lister.list(symbols, spot)?;
+    let mut walk = Layout::new(alloc, u128::from(base), tail);
+    for entry in entries {
+        let spot = walk.place(entry)?;
+        lister.list(symbols, &spot)?;
     }
     Ok(lister)
 }
 
 /// The listing: a line for each instruction, each line of `db` or `dd`, each `resb` and each `align`.
-pub fn listing(alloc: Global, symbols: &Table, spots: &[PlacedEntry]) -> Result<Vec<u8>, AllocError>
-    requires { All IsBounded spots.now }
-    ensures { IfOk result (λ v. v.items ≡ listing_text (known symbols.now.values.entries) (map entry_place spots.now)) }
+pub fn listing(
+    alloc: Global,
+    symbols: &Table,
+    base: u32,
+    tail: u128,
+    entries: &[Entry],
+) -> Result<Vec<u8>, AllocError>
+    requires fits { AllFit entries.now }
+    requires few { length entries.now < 2 ^ 58 }
+    requires near { tail ≤ 2 ^ 124 }
+    ensures { IfOk result (λ v. v.items
+        ≡ listing_text (known symbols.now.values.entries) (places (start base tail) entries.now)) }
 {
-    let mut lister = list_all(alloc, symbols, spots)?;
+    let mut lister = list_all(alloc, symbols, base, tail, entries)?;
     lister.finish()?;
     Ok(lister.out.bytes)
 }

@@ -29,6 +29,7 @@ FitsItem (item.Equ name s) = FitsExpression s
 FitsItem (item.Code t) = Fits t
 FitsItem (item.Byte s) = FitsExpression s
 FitsItem (item.Text b) = Unit {0}
+FitsItem (item.Numbers b) = Unit {0}
 FitsItem (item.Long s) = FitsExpression s
 FitsItem (item.Reserve s) = FitsExpression s
 FitsItem (item.Align n) = IsPower n

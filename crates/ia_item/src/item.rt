@@ -45,6 +45,8 @@ pub enum Item<'a> {
     Byte(ScopedExpression<'a>),
     /// Bytes between quotes.
     Text(&'a [u8]),
+    /// The bytes of numbers that stand one behind the other on a line of `db` or `dd`.
+    Numbers(Vec<u8>),
     /// 32 bits.
     Long(ScopedExpression<'a>),
     /// So many bytes that are 0.

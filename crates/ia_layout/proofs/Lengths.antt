@@ -21,6 +21,7 @@ bytes_length env at v s (item.Equ n e) = refl
 bytes_length env at v s (item.Code t) = code_length env nowhere at t
 bytes_length env at v s (item.Byte e) = refl
 bytes_length env at v s (item.Text b) = refl
+bytes_length env at v s (item.Numbers b) = refl
 bytes_length env at v s (item.Long e) = long_length (field_value env at field.Long e)
 bytes_length env at v s (item.Reserve e) = length-replicate (modulo_long v) 0
 bytes_length env at v s (item.Align n) = length-replicate (gap n at) (pad s)

@@ -57,6 +57,7 @@ GivesItem env x xs (item.Equ name s) = x.bytes ≡ []
 GivesItem env x xs (item.Code t) = Spells x.bytes (resolved_insn env x.at t)
 GivesItem env x xs (item.Byte s) = x.bytes ≡ field_value env x.at field.Byte s ∷ []
 GivesItem env x xs (item.Text text) = x.bytes ≡ text.now
+GivesItem env x xs (item.Numbers b) = x.bytes ≡ b.items
 GivesItem env x xs (item.Long s) = x.bytes ≡ long_bytes (field_value env x.at field.Long s)
 GivesItem env x xs (item.Reserve s) = x.bytes ≡ replicate (length x.bytes) 0
 GivesItem env x xs (item.Align n) =

@@ -1,11 +1,11 @@
 //! The bytes of items.
 
-ghost use Rattle.std.specs.Prelude.{◌≡◌, ◌≤◌, ◌+◌, ◌^◌, ◌++◌, ◌∷◌, [], map, replicate, length, IfOk, OnOk, All};
+ghost use Rattle.std.specs.Prelude.{◌≡◌, ◌≤◌, ◌^◌, ◌++◌, replicate, IfOk, OnOk};
 ghost use Rattle.ia_word.specs.Bytes.{long_bytes};
-ghost use Rattle.ia_item.specs.Fits.{Fits, FitsEntry};
+ghost use Rattle.ia_item.specs.Fits.{Fits};
 ghost use Rattle.ia_resolve.specs.Symbols.{known};
 ghost use Rattle.ia_resolve.specs.Items.{code_bytes};
-ghost use Rattle.ia_layout.specs.Placement.{pad, bytes_at, item_bytes, in_section, part_of, section_bytes};
+ghost use Rattle.ia_layout.specs.Placement.{pad, bytes_at, item_bytes, in_section, part_of};
 ghost use Rattle.ia_layout.specs.Placement.{code_and_data};
 ghost use Rattle.ia_layout.specs.Contents.{entry_place, IsBounded};
 
@@ -13,7 +13,7 @@ use crate::layout::{PlacedEntry, gap};
 use ia_encode::encode_with;
 use ia_item::{Field, Item, Section, Template};
 use ia_resolve::{Table, modulo_long, resolve_field, resolve_template, wide};
-use std::alloc::{AllocError, Global};
+use std::alloc::AllocError;
 
 pub fn push_bytes(out: &mut Vec<u8>, bytes: &[u8]) -> Result<(), AllocError>
     ensures { OnOk result (out.new.items ≡ out.old.items ++ bytes.now) }
@@ -82,6 +82,7 @@ pub fn push_item(out: &mut Vec<u8>, symbols: &Table, spot: &PlacedEntry) -> Resu
             push_bytes(out, &[found.number as u8])
         }
         Item::Text(bytes) => push_bytes(out, bytes),
+        Item::Numbers(bytes) => push_bytes(out, bytes.as_slice()),
         Item::Long(expression) => {
             let found = resolve_field(symbols, spot.at, Field::Long, expression);
             push_bytes(out, &found.number.to_le_bytes())
@@ -103,7 +104,7 @@ fn in_section(a: Section, b: Section) -> bool
 }
 
 /// Adds the bytes of an item of a section.
-fn push_part(
+pub fn push_part(
     out: &mut Vec<u8>,
     symbols: &Table,
     section: Section,
@@ -118,24 +119,6 @@ fn push_part(
     } else {
         Ok(())
     }
-}
-
-/// The bytes of a section: each item's, one after the other.
-pub fn section_bytes(
-    alloc: Global,
-    symbols: &Table,
-    section: Section,
-    spots: &[PlacedEntry],
-) -> Result<Vec<u8>, AllocError>
-    requires { All IsBounded spots.now }
-    ensures { IfOk result (λ v. v.items ≡ section_bytes section (known symbols.now.values.entries)
-        (map entry_place spots.now)) }
-{
-    let mut out = Vec::new(alloc);
-    for spot in spots {
-        push_part(&mut out, symbols, section, spot)?;
-    }
-    Ok(out)
 }
 
 /// The code, and zeros up to the data where there is any.

@@ -102,6 +102,7 @@ fn size_of(at: u128, value: i64, item: &Item) -> u64
         Item::Code(template) => code_size(at, template),
         Item::Byte(_) => 1,
         Item::Text(bytes) => bytes.len() as u64,
+        Item::Numbers(bytes) => bytes.as_slice().len() as u64,
         Item::Long(_) => 4,
         Item::Reserve(_) => u64::from(modulo_long(value)),
         Item::Align(multiple) => gap(*multiple, at),

@@ -1,6 +1,6 @@
 //! The place of each entry, and the symbols.
 
-ghost use Rattle.std.specs.Prelude.{◌≡◌, ℕ, ◌≤◌, ◌<◌, ◌+◌, ◌^◌, [], ◌∷◌, ◌++◌, map, length, IfOk, OnOk, All};
+ghost use Rattle.std.specs.Prelude.{◌≡◌, ℕ, ◌≤◌, ◌<◌, ◌+◌, ◌^◌, length, IfOk, OnOk};
 ghost use Rattle.indexmap.specs.IndexMap.{insert_all};
 ghost use Rattle.ia_item.specs.Names.{same_name};
 ghost use Rattle.ia_item.specs.Fits.{AllFit};
@@ -78,38 +78,6 @@ pub fn tail_base(text_end: u128) -> u128
     text_end + u128::from(gap(64, text_end))
 }
 
-fn push<T: Drop>(items: &mut Vec<T>, item: T) -> Result<(), AllocError>
-    ensures { OnOk result (items.new.items ≡ items.old.items ++ (item ∷ [])) }
-{
-    match items.push(item) {
-        Ok(()) => Ok(()),
-        Err(_) => Err(AllocError),
-    }
-}
-
-/// The place of each entry.
-pub fn placed_entries<'a, 'b>(
-    alloc: Global,
-    base: u32,
-    tail: u128,
-    count: usize,
-    entries: &'b [Entry<'a>],
-) -> Result<Vec<PlacedEntry<'a, 'b>>, AllocError>
-    requires fits { AllFit entries.now }
-    requires few { length entries.now < 2 ^ 58 }
-    requires near { tail ≤ 2 ^ 124 }
-    ensures places { IfOk result (λ v. map entry_place v.items ≡ places (start base tail) entries.now) }
-    ensures good { IfOk result (λ v. All IsBounded v.items) }
-{
-    let mut spots = Vec::with_capacity(alloc, count)?;
-    let mut walk = Layout::new(alloc, u128::from(base), tail);
-    for entry in entries {
-        let spot = walk.place(entry)?;
-        push(&mut spots, spot)?;
-    }
-    Ok(spots)
-}
-
 /// Takes in a label or `equ`.
 #[tactic(auto, unfolding(crate::specs::Placement::item_definition))]
 fn define<'a>(table: &mut Table<'a>, spot: &PlacedEntry<'a, '_>) -> Result<(), AllocError>
@@ -131,15 +99,24 @@ fn define<'a>(table: &mut Table<'a>, spot: &PlacedEntry<'a, '_>) -> Result<(), A
 }
 
 /// The symbols, in the order of the source.
-pub fn symbols<'a>(alloc: Global, spots: &[PlacedEntry<'a, '_>]) -> Result<Table<'a>, AllocError>
-    requires { All IsBounded spots.now }
-    ensures { IfOk result (λ t. t.values.entries ≡ symbols (map entry_place spots.now)) }
+pub fn symbols<'a>(
+    alloc: Global,
+    base: u32,
+    tail: u128,
+    entries: &[Entry<'a>],
+) -> Result<Table<'a>, AllocError>
+    requires fits { AllFit entries.now }
+    requires few { length entries.now < 2 ^ 58 }
+    requires near { tail ≤ 2 ^ 124 }
+    ensures { IfOk result (λ t. t.values.entries ≡ symbols (places (start base tail) entries.now)) }
 {
     let mut table = Table {
         values: IndexMap::new(alloc),
     };
-    for spot in spots {
-        define(&mut table, spot)?;
+    let mut walk = Layout::new(alloc, u128::from(base), tail);
+    for entry in entries {
+        let spot = walk.place(entry)?;
+        define(&mut table, &spot)?;
     }
     Ok(table)
 }

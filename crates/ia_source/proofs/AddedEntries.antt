@@ -7,7 +7,7 @@ use Rattle.ia_lex.specs.declared.token.Token.{Token}
 use Rattle.ia_lex.specs.Tokens.{Lexeme, lexeme_of}
 use Rattle.ia_source.specs.Contents.{EntryContent, entry_content}
 use Rattle.ia_source.specs.Commas.{goes_on, pieces_from}
-use Rattle.ia_source.specs.Statements.{StateContent, add_some, value_item, by_entries, values_onto, IsBad}
+use Rattle.ia_source.specs.Statements.{StateContent, Values, value_onto, by_value, values_onto, IsBad}
 use Rattle.ia_source.specs.declared.fault.SourceFault.{SourceFault}
 use Rattle.ia_source.specs.declared.fault.SourceFault.TheVariants as fault
 use Rattle.ia_source.proofs.Commas.{pieces_step}
@@ -24,17 +24,17 @@ piece_is xs place end h e w =
     ∙ ap (λ (l : List Token). map lexeme_of (take end l) ∷ pieces_from (place + (end + 1)) xs) (sym same)
 
 -- one more value is read
-pub value_read : (long : Bool) (at : StateContent) (es new : List EntryContent) (p : List Lexeme) (all ps : List (List Lexeme)) → all ≡ p ∷ ps → add_some es at (value_item long at p) ≡ Some new
-    → values_onto long at new ps ≡ values_onto long at es all
-value_read long at es new p all ps a e =
-    sym (ap (values_onto long at es) a ∙ ap (λ f. by_entries f (λ more. values_onto long at more ps)) e)
+pub value_read : (long : Bool) (at : StateContent) (v new : Values) (p : List Lexeme) (all ps : List (List Lexeme)) → all ≡ p ∷ ps → value_onto long at v p ≡ Some new
+    → values_onto long at new ps ≡ values_onto long at v all
+value_read long at v new p all ps a e =
+    sym (ap (values_onto long at v) a ∙ ap (λ f. by_value f (λ more. values_onto long at more ps)) e)
 
-pub value_unread : (long : Bool) (at : StateContent) (es : List EntryContent) (p : List Lexeme) (all ps : List (List Lexeme)) → all ≡ p ∷ ps → add_some es at (value_item long at p) ≡ None
-    → values_onto long at es all ≡ None
-value_unread long at es p all ps a e =
-    ap (values_onto long at es) a ∙ ap (λ f. by_entries f (λ more. values_onto long at more ps)) e
+pub value_unread : (long : Bool) (at : StateContent) (v : Values) (p : List Lexeme) (all ps : List (List Lexeme)) → all ≡ p ∷ ps → value_onto long at v p ≡ None
+    → values_onto long at v all ≡ None
+value_unread long at v p all ps a e =
+    ap (values_onto long at v) a ∙ ap (λ f. by_value f (λ more. values_onto long at more ps)) e
 
 -- what was not added with one reading was not added with another
-pub bad_too : (found other : Option (List EntryContent)) (line : ℕ) (f : SourceFault) → (found ≡ None → other ≡ None) → IsBad found line f → IsBad other line f
+pub bad_too : (found : Option Values) (other : Option (List EntryContent)) (line : ℕ) (f : SourceFault) → (found ≡ None → other ≡ None) → IsBad found line f → IsBad other line f
 bad_too found other line (fault.Line l why) same h = (same h.0, h.1, h.2)
 bad_too found other line fault.NoMemory same h = tt

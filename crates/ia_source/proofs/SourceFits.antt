@@ -19,14 +19,14 @@ use Rattle.ia_source.specs.declared.directive.Directive.TheVariants as directive
 use Rattle.ia_source.specs.declared.head.Statement.{Statement}
 use Rattle.ia_source.specs.declared.head.Statement.TheVariants as statement
 use Rattle.ia_source.specs.declared.fault.Why.{Why}
-use Rattle.ia_source.specs.Contents.{ItemContent, EntryContent, Label, Equ, Code, Byte, Text, Long, Reserve, Align, Org, scoped_term_content, expression_content, item_content, entry_content}
+use Rattle.ia_source.specs.Contents.{ItemContent, EntryContent, Label, Equ, Code, Byte, Text, Numbers, Long, Reserve, Align, Org, scoped_term_content, expression_content, item_content, entry_content}
 use Rattle.ia_source.specs.Fits.{FitsTerms, FitsAnyTerms, FitsContent}
 use Rattle.ia_source.specs.Symbols.{term_in_scope, terms_in_scope, whole_of}
 use Rattle.ia_source.specs.Commas.{between_commas}
 use Rattle.ia_source.specs.Forms.{op_of, by_op, instruction_of}
 use Rattle.ia_source.specs.Operands.{Operands, operands_of, expression_of}
 use Rattle.ia_source.specs.Heads.{Head, head_of}
-use Rattle.ia_source.specs.Statements.{StateContent, add, add_some, expression_in, code_item, byte_item, value_item, by_entries, values_onto, named_section, only_number, is_32, is_symbol, is_power, align_item, org_item, equ_item, if_fits, directive_onto, statement_onto, with_label, behind}
+use Rattle.ia_source.specs.Statements.{StateContent, add, add_some, expression_in, code_item, byte_item, value_item, Values, plain_number, number_bytes, with_run, with_entries, by_number, value_onto, by_value, no_value, values_onto, named_section, only_number, is_32, is_symbol, is_power, align_item, org_item, equ_item, if_fits, directive_onto, statement_onto, with_label, behind}
 use Rattle.ia_source.specs.Source.{SourceContent, is_twice, with_name, add_label, label_onto, or_bad, head_onto, tokens_onto, line_onto, by_line, lines_onto, first_content, entries_of}
 use Rattle.ia_source.proofs.FormsFit.{ReadsSum, sum_fits, mapped_fits, FitOperands, ReadsOperands, operands_fit}
 
@@ -151,14 +151,37 @@ added_fit : (es : List EntryContent) (at : StateContent) (r : Option ItemContent
 added_fit es at None h f = no_entries
 added_fit es at (Some i) h f = just_entries (add es at i) (one_fits es (record { line = at.line; section = at.section; item = i }) h (f i refl))
 
-by_entries_fit : (r : Option (List EntryContent)) (next : List EntryContent → Option (List EntryContent)) → ReadsEntries r → ((es : List EntryContent) → EachFits es → ReadsEntries (next es)) → ReadsEntries (by_entries r next)
-by_entries_fit None next f g = no_entries
-by_entries_fit (Some es) next f g = g es (f es refl)
+run_fits : (es : List EntryContent) (at : StateContent) (run : List ℕ) → EachFits es → EachFits (with_run es at run)
+run_fits es at [] h = h
+run_fits es at (b ∷ run) h = one_fits es (record { line = at.line; section = at.section; item = Numbers (b ∷ run) }) h tt
 
-values_fit : (long : Bool) (at : StateContent) (es : List EntryContent) (ps : List (List Lexeme)) → EachFits es → ReadsEntries (values_onto long at es ps)
-values_fit long at es [] h = just_entries es h
-values_fit long at es (p ∷ ps) h = by_entries_fit (add_some es at (value_item long at p)) (λ more. values_onto long at more ps)
-    (added_fit es at (value_item long at p) h (value_fits long at p)) (λ more fit. values_fit long at more ps fit)
+abbrev ReadsValues : Option Values → Type 0
+ReadsValues r = (v : Values) → r ≡ Some v → EachFits v.entries
+
+entries_fit : (r : Option (List EntryContent)) → ReadsEntries r → ReadsValues (with_entries r)
+entries_fit None f v e = absurd (cc)
+entries_fit (Some es) f v e =
+    let k : record { entries = es; run = [] } ≡ v = cc in
+    subst (λ (v : Values). EachFits v.entries) k (f es refl)
+
+number_fits : (r : Option ℕ) (long : Bool) (v : Values) (other : Option Values) → EachFits v.entries → ReadsValues other → ReadsValues (by_number r long v other)
+number_fits None long v other h f w e = f w e
+number_fits (Some n) long v other h f w e =
+    let k : record { entries = v.entries; run = v.run ++ number_bytes long n } ≡ w = cc in
+    subst (λ (v : Values). EachFits v.entries) k h
+
+value_onto_fits : (long : Bool) (at : StateContent) (v : Values) (p : List Lexeme) → EachFits v.entries → ReadsValues (value_onto long at v p)
+value_onto_fits long at v p h = number_fits (plain_number long p) long v _ h
+    (entries_fit _ (added_fit (with_run v.entries at v.run) at (value_item long at p) (run_fits v.entries at v.run h) (value_fits long at p)))
+
+by_value_fit : (r : Option Values) (next : Values → Option (List EntryContent)) → ReadsValues r → ((v : Values) → EachFits v.entries → ReadsEntries (next v)) → ReadsEntries (by_value r next)
+by_value_fit None next f g = no_entries
+by_value_fit (Some v) next f g = g v (f v refl)
+
+values_fit : (long : Bool) (at : StateContent) (v : Values) (ps : List (List Lexeme)) → EachFits v.entries → ReadsEntries (values_onto long at v ps)
+values_fit long at v [] h = just_entries (with_run v.entries at v.run) (run_fits v.entries at v.run h)
+values_fit long at v (p ∷ ps) h = by_value_fit (value_onto long at v p) (λ more. values_onto long at more ps)
+    (value_onto_fits long at v p h) (λ more fit. values_fit long at more ps fit)
 
 if_fits_fit : (b : Bool) (es : List EntryContent) → EachFits es → ReadsEntries (if_fits b es)
 if_fits_fit true es h = just_entries es h
@@ -170,8 +193,8 @@ directive_fits es at label directive.Section ts h = if_fits_fit (is_some (named_
 directive_fits es at label directive.Org ts h = added_fit es at (org_item at ts) h (org_item_fits (at.based || at.placed) (only_number ts))
 directive_fits es at label directive.Bits ts h = if_fits_fit (is_32 (only_number ts)) es h
 directive_fits es at label directive.Global ts h = if_fits_fit (is_symbol ts) es h
-directive_fits es at label directive.Db ts h = values_fit false at es (between_commas ts) h
-directive_fits es at label directive.Dd ts h = values_fit true at es (between_commas ts) h
+directive_fits es at label directive.Db ts h = values_fit false at (no_value es) (between_commas ts) h
+directive_fits es at label directive.Dd ts h = values_fit true at (no_value es) (between_commas ts) h
 directive_fits es at label directive.Resb ts h = added_fit es at (option_map Reserve (expression_in at ts)) h (of_sum Reserve (expression_in at ts) (λ ps h. h) (sum_in_fits at ts))
 directive_fits es at label directive.Align ts h = added_fit es at (align_item (only_number ts)) h (align_fits (only_number ts))
 directive_fits es at label directive.Equ ts h = added_fit es at (equ_item at label ts) h (equ_fits at label ts)
@@ -258,6 +281,7 @@ item_too (item.Equ name s) h = sum_too s h
 item_too (item.Code t) h = (h.0, any_too t.number h.1, any_too t.displacement h.2)
 item_too (item.Byte s) h = sum_too s h
 item_too (item.Text b) h = tt
+item_too (item.Numbers b) h = tt
 item_too (item.Long s) h = sum_too s h
 item_too (item.Reserve s) h = sum_too s h
 item_too (item.Align n) h = h

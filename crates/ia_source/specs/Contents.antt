@@ -19,6 +19,7 @@ pub data ItemContent : Type 0 where
   Code : Insn → Option (List TermContent) → Option (List TermContent) → ItemContent
   Byte : List TermContent → ItemContent
   Text : List ℕ → ItemContent
+  Numbers : List ℕ → ItemContent
   Long : List TermContent → ItemContent
   Reserve : List TermContent → ItemContent
   Align : ℕ → ItemContent
@@ -47,6 +48,7 @@ item_content (item.Code t) = Code t.insn (option_map expression_content t.number
     (option_map expression_content t.displacement)
 item_content (item.Byte s) = Byte (expression_content s)
 item_content (item.Text bytes) = Text bytes.now
+item_content (item.Numbers bytes) = Numbers bytes.items
 item_content (item.Long s) = Long (expression_content s)
 item_content (item.Reserve s) = Reserve (expression_content s)
 item_content (item.Align n) = Align n

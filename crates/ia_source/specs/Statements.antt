@@ -17,7 +17,10 @@ use Rattle.ia_source.specs.declared.state.SourceState.{SourceState}
 use Rattle.ia_source.specs.declared.fault.Why.TheVariants.{BadOperand}
 use Rattle.ia_source.specs.declared.fault.SourceFault.{SourceFault}
 use Rattle.ia_source.specs.declared.fault.SourceFault.TheVariants as fault
-use Rattle.ia_source.specs.Contents.{ItemContent, EntryContent, Equ, Code, Byte, Text, Long, Reserve, Align, Org}
+use Rattle.ia_word.specs.Bytes.{long_bytes}
+use Rattle.ia_item.specs.declared.item.Entry.{Entry}
+use Rattle.ia_source.specs.Contents.{ItemContent, EntryContent, Equ, Code, Byte, Text, Numbers, Long, Reserve, Align}
+use Rattle.ia_source.specs.Contents.{Org, entry_content}
 use Rattle.ia_source.specs.Symbols.{is_local, whole_of, term_in_scope, terms_in_scope}
 use Rattle.ia_source.specs.Commas.{between_commas}
 use Rattle.ia_source.specs.Forms.{instruction_of}
@@ -65,15 +68,48 @@ abbrev pub value_item : Bool → StateContent → List Lexeme → Option ItemCon
 value_item false at ts = byte_item at ts
 value_item true at ts = option_map Long (expression_in at ts)
 
-abbrev pub by_entries : Option (List EntryContent) → (List EntryContent → Option (List EntryContent))
-    → Option (List EntryContent)
-by_entries None next = None
-by_entries (Some es) next = next es
+-- the number that a value of db or dd is, where it stands without a sign and has a place there
+abbrev pub plain_number : Bool → List Lexeme → Option ℕ
+plain_number long (Number (Some n) ∷ []) = if nat_lt n (if long then 2 ^ 32 else 256) then Some n else None
+plain_number long ts = None
 
-abbrev pub values_onto : Bool → StateContent → List EntryContent → List (List Lexeme) → Option (List EntryContent)
-values_onto long at es [] = Some es
-values_onto long at es (p ∷ ps) = by_entries (add_some es at (value_item long at p))
-    (λ more. values_onto long at more ps)
+abbrev pub number_bytes : Bool → ℕ → List ℕ
+number_bytes false n = n ∷ []
+number_bytes true n = long_bytes n
+
+-- the entries of a line of db or dd, and the bytes of the numbers that stand one behind the other behind them
+pub record Values : Type 0 where
+  pub entries : List EntryContent
+  pub run : List ℕ
+
+-- numbers that stand one behind the other are one item
+abbrev pub with_run : List EntryContent → StateContent → List ℕ → List EntryContent
+with_run es at [] = es
+with_run es at (b ∷ run) = add es at (Numbers (b ∷ run))
+
+abbrev pub with_entries : Option (List EntryContent) → Option Values
+with_entries es = option_map (λ more. record { entries = more; run = [] }) es
+
+abbrev pub by_number : Option ℕ → Bool → Values → Option Values → Option Values
+by_number None long v other = other
+by_number (Some n) long v other = Some (record { entries = v.entries; run = v.run ++ number_bytes long n })
+
+-- one more value of db, or of dd
+abbrev pub value_onto : Bool → StateContent → Values → List Lexeme → Option Values
+value_onto long at v p = by_number (plain_number long p) long v
+    (with_entries (add_some (with_run v.entries at v.run) at (value_item long at p)))
+
+abbrev pub by_value : Option Values → (Values → Option (List EntryContent)) → Option (List EntryContent)
+by_value None next = None
+by_value (Some v) next = next v
+
+abbrev pub values_onto : Bool → StateContent → Values → List (List Lexeme) → Option (List EntryContent)
+values_onto long at v [] = Some (with_run v.entries at v.run)
+values_onto long at v (p ∷ ps) = by_value (value_onto long at v p) (λ more. values_onto long at more ps)
+
+-- before the first value of a line
+abbrev pub no_value : List EntryContent → Values
+no_value es = record { entries = es; run = [] }
 
 -- ---- directives
 
@@ -123,8 +159,8 @@ directive_onto es at label directive.Section ts = if_fits (is_some (named_sectio
 directive_onto es at label directive.Org ts = add_some es at (org_item at ts)
 directive_onto es at label directive.Bits ts = if_fits (is_32 (only_number ts)) es
 directive_onto es at label directive.Global ts = if_fits (is_symbol ts) es
-directive_onto es at label directive.Db ts = values_onto false at es (between_commas ts)
-directive_onto es at label directive.Dd ts = values_onto true at es (between_commas ts)
+directive_onto es at label directive.Db ts = values_onto false at (no_value es) (between_commas ts)
+directive_onto es at label directive.Dd ts = values_onto true at (no_value es) (between_commas ts)
 directive_onto es at label directive.Resb ts = add_some es at (option_map Reserve (expression_in at ts))
 directive_onto es at label directive.Align ts = add_some es at (align_item (only_number ts))
 directive_onto es at label directive.Equ ts = add_some es at (equ_item at label ts)
@@ -205,10 +241,13 @@ abbrev pub state_content : SourceState → StateContent
 state_content s = record { line = s.line; scope = s.scope.text.now; section = s.section; based = s.based; placed = s.placed }
 
 -- a call that adds entries told why it did not
-abbrev pub IsBad : Option (List EntryContent) → ℕ → SourceFault → Type 0
+abbrev pub IsBad : {X : Type 0} → Option X → ℕ → SourceFault → Type 0
 IsBad found line (fault.Line l why) = (found ≡ None) × (l ≡ line) × (why ≡ BadOperand)
 IsBad found line fault.NoMemory = Unit {0}
 
 abbrev pub IsUnfit : Bool → ℕ → SourceFault → Type 0
 IsUnfit fits line (fault.Line l why) = (fits ≡ false) × (l ≡ line) × (why ≡ BadOperand)
 IsUnfit fits line fault.NoMemory = Unit {0}
+
+abbrev pub values_content : List Entry → List ℕ → Values
+values_content es run = record { entries = map entry_content es; run = run }

@@ -24,6 +24,7 @@ mod source;
 mod state;
 mod statement;
 mod sum;
+mod values;
 
 pub use fault::{SourceFault, Why};
 pub use laws::places_are_sums;

@@ -3,14 +3,12 @@
 ghost use Rattle.std.specs.Prelude.{◌≡◌, Some, None, true, false, map, option_map, MatchResult, IfOk};
 ghost use Rattle.ia_lex.specs.Tokens.{lexeme_of};
 ghost use Rattle.ia_source.specs.Contents.{Reserve, item_content, entry_content, expression_content};
-ghost use Rattle.ia_source.specs.Commas.{between_commas};
 ghost use Rattle.ia_source.specs.Operands.{operands_of};
 ghost use Rattle.ia_source.specs.Statements.{add_some, if_fits, expression_in, code_item, byte_item, value_item};
-ghost use Rattle.ia_source.specs.Statements.{values_onto, only_number, is_32, is_symbol, is_power, align_item};
+ghost use Rattle.ia_source.specs.Statements.{only_number, is_32, is_symbol, is_power, align_item};
 ghost use Rattle.ia_source.specs.Statements.{org_item, equ_item, directive_onto, statement_onto, state_content, IsBad};
 ghost use Rattle.ia_source.specs.Statements.{IsUnfit};
 
-use crate::comma::comma_index;
 use crate::directive::Directive;
 use crate::expression::{expression_in, name_in, some_expression};
 use crate::fault::{SourceFault, Why};
@@ -19,6 +17,7 @@ use crate::head::Statement;
 use crate::operand::{Operands, read_operands};
 use crate::state::{SourceState, named_section, only_number};
 use crate::sum::whole_expression;
+use crate::values::push_values;
 use ia_insn::Mnemonic;
 use ia_item::{Entry, Item, ScopedExpression, Template};
 use ia_lex::{Expression, Token, register_of};
@@ -92,7 +91,7 @@ fn read_byte<'a>(
 }
 
 /// A value of `dd`, or of `db`.
-fn read_value<'a>(
+pub fn read_value<'a>(
     alloc: Global,
     terms: &mut Expression<'a>,
     state: SourceState<'a>,
@@ -238,52 +237,6 @@ pub fn push_some<'a>(
             Ok(())
         }
     }
-}
-
-fn push_value<'a>(
-    alloc: Global,
-    terms: &mut Expression<'a>,
-    entries: &mut Vec<Entry<'a>>,
-    state: SourceState<'a>,
-    long: bool,
-    tokens: &[Token<'a>],
-) -> Result<(), SourceFault>
-    ensures { MatchResult result (λ _. add_some (map entry_content entries.old.items) (state_content state.entry)
-        (value_item long (state_content state.entry) (map lexeme_of tokens.now))
-        ≡ Some (map entry_content entries.new.items))
-        (IsBad (add_some (map entry_content entries.old.items) (state_content state.entry) (value_item long
-        (state_content state.entry) (map lexeme_of tokens.now))) state.entry.line) }
-{
-    let item = read_value(alloc, terms, state, long, tokens)?;
-    push_some(entries, state, item)
-}
-
-/// Adds the values of `dd`, or of `db`.
-fn push_values<'a>(
-    alloc: Global,
-    terms: &mut Expression<'a>,
-    entries: &mut Vec<Entry<'a>>,
-    state: SourceState<'a>,
-    long: bool,
-    tokens: &[Token<'a>],
-) -> Result<(), SourceFault>
-    ensures { MatchResult result (λ _. values_onto long (state_content state.entry)
-        (map entry_content entries.old.items) (between_commas (map lexeme_of tokens.now))
-        ≡ Some (map entry_content entries.new.items))
-        (IsBad (values_onto long (state_content state.entry) (map entry_content entries.old.items) (between_commas
-        (map lexeme_of tokens.now))) state.entry.line) }
-{
-    let mut place = 0;
-    while place <= tokens.len() {
-        let left = &tokens[place..];
-        let end = comma_index(left);
-        match push_value(alloc, terms, entries, state, long, &left[..end]) {
-            Ok(()) => {}
-            Err(fault) => return Err(fault),
-        }
-        place += end + 1;
-    }
-    Ok(())
 }
 
 fn if_fits(fits: bool, state: SourceState) -> Result<(), SourceFault>

@@ -1,12 +1,6 @@
-use Rattle.std.proofs.Common.{◌∙◌, ap, map}
-use Rattle.ia_asm.specs.ListingText.{listing_text}
-use Rattle.ia_layout.specs.Contents.{entry_place}
-use Rattle.ia_resolve.specs.Symbols.{known}
+use Rattle.std.proofs.Common.{◌∙◌}
 use Rattle.ia_asm.proofs.ProgramLayouts.{begins_before_end, ends_near, image_is, listing_is}
 use Rattle.ia_asm.proofs.assembly.place_all.Goals as goal
-
-pub image_of-requires-clause-bounded : goal.image_of-requires-clause-bounded
-image_of-requires-clause-bounded c = c.in_ok-layout.ensures.bounded
 
 pub image_of-requires-clause-begins : goal.image_of-requires-clause-begins
 image_of-requires-clause-begins c = begins_before_end c.args.entries.now c.in_ok-layout.layout c.in_ok-layout.ensures
@@ -29,5 +23,8 @@ returns c =
       end = i.end;
       placement = i.placement;
       symbols = i.symbols;
-      listing = c.in_ok-listing.ensures ∙ ap (λ x. listing_text (known l.table.values.entries) (map entry_place x)) c.as_slice.ensures.value ∙ listing_is es l s;
+      listing = c.in_ok-listing.ensures ∙ listing_is es l s;
     }
+
+pub listing-requires-clause-near : goal.listing-requires-clause-near
+listing-requires-clause-near c = c.in_ok-layout.ensures.near

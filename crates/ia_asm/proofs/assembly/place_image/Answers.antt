@@ -1,9 +1,6 @@
 use Rattle.ia_asm.proofs.ProgramLayouts.{begins_before_end, ends_near, image_is}
 use Rattle.ia_asm.proofs.assembly.place_image.Goals as goal
 
-pub image_of-requires-clause-bounded : goal.image_of-requires-clause-bounded
-image_of-requires-clause-bounded c = c.in_ok-layout.ensures.bounded
-
 pub image_of-requires-clause-begins : goal.image_of-requires-clause-begins
 image_of-requires-clause-begins c = begins_before_end c.args.entries.now c.in_ok-layout.layout c.in_ok-layout.ensures
 

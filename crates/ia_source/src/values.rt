@@ -1,0 +1,140 @@
+//! The values of `db` and `dd`.
+
+ghost use Rattle.std.specs.Prelude.{◌≡◌, ◌<◌, ◌^◌, ◌++◌, [], Some, map, option_map, if◌then◌else◌, MatchResult, IfSome};
+ghost use Rattle.std.specs.Prelude.{IfOk, OnOk};
+ghost use Rattle.ia_lex.specs.Tokens.{lexeme_of};
+ghost use Rattle.ia_source.specs.Contents.{entry_content};
+ghost use Rattle.ia_source.specs.Commas.{between_commas};
+ghost use Rattle.ia_source.specs.Statements.{plain_number, number_bytes, with_run, values_content, value_onto, no_value};
+ghost use Rattle.ia_source.specs.Statements.{values_onto, state_content, IsBad};
+
+use crate::comma::comma_index;
+use crate::fault::SourceFault;
+use crate::state::SourceState;
+use crate::statement::{push_some, read_value};
+use ia_item::{Entry, Item};
+use ia_lex::{Expression, Token};
+use std::alloc::{AllocError, Global};
+
+/// The number that a value is, where it stands without a sign and has a place there.
+fn plain_number(long: bool, tokens: &[Token]) -> Option<u32>
+    ensures number { result ≡ plain_number long (map lexeme_of tokens.now) }
+    ensures small { IfSome result (λ n. n < (if long then 2 ^ 32 else 256)) }
+{
+    match tokens {
+        [Token::Number(Some(number))] => {
+            let end: u64 = if long { 1 << 32 } else { 256 };
+            if *number < end {
+                Some(*number as u32)
+            } else {
+                None
+            }
+        }
+        _ => None,
+    }
+}
+
+/// Adds the bytes of a number.
+fn push_number(run: &mut Vec<u8>, long: bool, number: u32) -> Result<(), AllocError>
+    requires { number < (if long then 2 ^ 32 else 256) }
+    ensures { OnOk result (run.new.items ≡ run.old.items ++ number_bytes long number) }
+{
+    if long {
+        run.extend_from_slice(&number.to_le_bytes())?;
+    } else {
+        run.push(number as u8)?;
+    }
+    Ok(())
+}
+
+/// A copy that takes no more than its bytes.
+fn copy(alloc: Global, bytes: &[u8]) -> Result<Vec<u8>, AllocError>
+    ensures { IfOk result (λ v. v.items ≡ bytes.now) }
+{
+    let mut copied = Vec::with_capacity(alloc, bytes.len())?;
+    copied.extend_from_slice(bytes)?;
+    Ok(copied)
+}
+
+/// Adds the entry of the numbers so far, if there are any.
+fn push_run<'a>(
+    alloc: Global,
+    entries: &mut Vec<Entry<'a>>,
+    run: &mut Vec<u8>,
+    state: SourceState<'a>,
+) -> Result<(), AllocError>
+    ensures entries { OnOk result (map entry_content entries.new.items
+        ≡ with_run (map entry_content entries.old.items) (state_content state.entry) run.old.items) }
+    ensures run { OnOk result (run.new.items ≡ []) }
+{
+    if run.is_empty() {
+        return Ok(());
+    }
+    let numbers = copy(alloc, run.as_slice())?;
+    entries.push(Entry {
+        line: state.line,
+        section: state.section,
+        item: Item::Numbers(numbers),
+    })?;
+    run.clear();
+    Ok(())
+}
+
+/// Takes in one more value.
+fn push_value<'a>(
+    alloc: Global,
+    terms: &mut Expression<'a>,
+    entries: &mut Vec<Entry<'a>>,
+    run: &mut Vec<u8>,
+    state: SourceState<'a>,
+    long: bool,
+    tokens: &[Token<'a>],
+) -> Result<(), SourceFault>
+    ensures { MatchResult result (λ _. value_onto long (state_content state.entry)
+        (values_content entries.old.items run.old.items) (map lexeme_of tokens.now)
+        ≡ Some (values_content entries.new.items run.new.items))
+        (IsBad (value_onto long (state_content state.entry) (values_content entries.old.items run.old.items)
+        (map lexeme_of tokens.now)) state.entry.line) }
+{
+    match plain_number(long, tokens) {
+        Some(number) => {
+            push_number(run, long, number)?;
+            Ok(())
+        }
+        None => {
+            push_run(alloc, entries, run, state)?;
+            let item = read_value(alloc, terms, state, long, tokens)?;
+            push_some(entries, state, item)
+        }
+    }
+}
+
+/// Adds the values of `dd`, or of `db`.
+pub fn push_values<'a>(
+    alloc: Global,
+    terms: &mut Expression<'a>,
+    entries: &mut Vec<Entry<'a>>,
+    state: SourceState<'a>,
+    long: bool,
+    tokens: &[Token<'a>],
+) -> Result<(), SourceFault>
+    ensures { MatchResult result (λ _. values_onto long (state_content state.entry)
+        (no_value (map entry_content entries.old.items)) (between_commas (map lexeme_of tokens.now))
+        ≡ Some (map entry_content entries.new.items))
+        (IsBad (values_onto long (state_content state.entry) (no_value (map entry_content entries.old.items))
+        (between_commas (map lexeme_of tokens.now))) state.entry.line) }
+{
+    let mut run = Vec::new(alloc);
+    let mut place = 0;
+    while place <= tokens.len() {
+        let left = &tokens[place..];
+        let end = comma_index(left);
+        match push_value(alloc, terms, entries, &mut run, state, long, &left[..end]) {
+            Ok(()) => {}
+            Err(fault) => return Err(fault),
+        }
+        place += end + 1;
+    }
+    push_run(alloc, entries, &mut run, state)?;
+    Ok(())
+}
