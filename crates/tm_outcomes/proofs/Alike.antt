@@ -1,0 +1,138 @@
+-- Places that are alike stand for the same situations.
+use Rattle.std.proofs.Common.{◌≡◌, ℕ, Bool, true, false, cond, List, Option, Some, None, refl, sym, ap, ◌∙◌, subst}
+use Rattle.std.specs.Prelude.{option_and_then, nat_eq}
+use Rattle.tm_outcomes.proofs.Somes.{same_in}
+use Rattle.ia_regs.specs.declared.Regs.{Regs}
+use Rattle.tm_rule.specs.declared.kinds.OutsideResult.{OutsideResult}
+use Rattle.tm_rule.specs.declared.kinds.OutsideResult.TheVariants.{Goes, Begins, Stops}
+use Rattle.tm_rule.specs.declared.kinds.Stop.{Stop}
+use Rattle.std.proofs.lemmas.Bool.{false≢true}
+use Rattle.tm_model.specs.Isolated.{Body, isolated_body}
+use Rattle.tm_model.specs.Setting.{Setting}
+use Rattle.tm_model.specs.Shown.{View, view_inside, view_midway, view_of, view_of_body, view_outside}
+use Rattle.tm_model.specs.State.{Closed, Core, Halted, Midway, Opened}
+use Rattle.tm_model.specs.declared.outcome.CoreState.{CoreState}
+use Rattle.tm_model.specs.declared.outcome.CoreState.TheVariants.{Running, Mid, Open, Condemned, Stopped as AtStop}
+use Rattle.tm_outcomes.specs.Outcomes.{regs_of}
+use Rattle.tm_outcomes.specs.Places.{detail_of, has_detail, has_stopped}
+
+-- what is shown of a core, by what a place knows of it
+abbrev pub view_from : Setting → List ℕ → CoreState → Regs → ℕ → Option View
+view_from setting memory Running base detail = Some (view_outside Running base)
+view_from setting memory Mid base detail = view_midway base detail (setting.outside base detail)
+view_from setting memory (Open depth) base detail = option_and_then (view_inside base) (isolated_body setting base memory detail)
+view_from setting memory (Condemned depth) base detail = Some (view_outside (Condemned depth) base)
+view_from setting memory (AtStop stop) base detail = Some (view_outside (AtStop stop) base)
+
+-- ---- each core's registers
+
+base_midway : (regs : Regs) (value : ℕ) (result : OutsideResult) (view : View) → view_midway regs value result ≡ Some view → (view.base ≡ regs) × (view.mode ≡ Mid)
+base_midway regs value (Goes next store) view e =
+    subst (λ (v : View). (v.base ≡ regs) × (v.mode ≡ Mid)) (same_in e) (refl, refl)
+base_midway regs value (Begins next) view e = absurd (cc)
+base_midway regs value (Stops stop) view e = absurd (cc)
+
+inside : (regs : Regs) (body : Body) (ended : Bool) (view : View) → cond ended None (Some (view_of_body regs body)) ≡ Some view → (view.base ≡ regs) × ((depth : ℕ) × (view.mode ≡ Open depth))
+inside regs body true view e = absurd (cc)
+inside regs body false view e =
+    subst (λ (v : View). (v.base ≡ regs) × ((depth : ℕ) × (v.mode ≡ Open depth))) (same_in e) (refl, (body.depth, refl))
+
+base_inside : (regs : Regs) (body : Option Body) (view : View) → option_and_then (view_inside regs) body ≡ Some view → (view.base ≡ regs) × ((depth : ℕ) × (view.mode ≡ Open depth))
+base_inside regs (Some body) view e = inside regs body (nat_eq body.depth 0) view e
+base_inside regs None view e = absurd (cc)
+
+base_outside : (mode : CoreState) (regs : Regs) (view : View) → Some (view_outside mode regs) ≡ Some view → view.base ≡ regs
+base_outside mode regs view e = subst (λ (v : View). v.base ≡ regs) (same_in e) refl
+
+pub base_is : (setting : Setting) (memory : List ℕ) (core : Core) (doom : Option ℕ) (view : View) →
+    view_of setting memory core doom ≡ Some view → view.base ≡ regs_of core
+base_is setting memory (Closed regs) None view e = base_outside Running regs view e
+base_is setting memory (Midway regs value) None view e = (base_midway regs value (setting.outside regs value) view e).0
+base_is setting memory (Halted regs stop) None view e = base_outside (AtStop stop) regs view e
+base_is setting memory (Opened regs steps) None view e = (base_inside regs (isolated_body setting regs memory steps) view e).0
+base_is setting memory (Opened regs steps) (Some depth) view e = base_outside (Condemned depth) regs view e
+base_is setting memory (Closed regs) (Some depth) view e = cc
+base_is setting memory (Midway regs value) (Some depth) view e = cc
+base_is setting memory (Halted regs stop) (Some depth) view e = cc
+
+-- ---- what is known of a core decides what is shown
+
+from_outside : (setting : Setting) (memory : List ℕ) (mode : CoreState) (regs : Regs) (detail : ℕ) (view : View) →
+    view_from setting memory mode regs detail ≡ Some (view_outside mode regs) → Some (view_outside mode regs) ≡ Some view →
+    view_from setting memory view.mode view.base detail ≡ Some view
+from_outside setting memory mode regs detail view from e =
+    subst (λ (v : View). view_from setting memory v.mode v.base detail ≡ Some v) (same_in e) from
+
+from : (setting : Setting) (memory : List ℕ) (mode : CoreState) (regs : Regs) (detail : ℕ) (view : View) →
+    view.mode ≡ mode → view.base ≡ regs → view_from setting memory mode regs detail ≡ Some view →
+    view_from setting memory view.mode view.base detail ≡ Some view
+from setting memory mode regs detail view mode_is base e =
+    subst (λ (m : CoreState). view_from setting memory m view.base detail ≡ Some view) (sym mode_is)
+    (subst (λ (r : Regs). view_from setting memory mode r detail ≡ Some view) (sym base) e)
+
+pub shown_by : (setting : Setting) (memory : List ℕ) (core : Core) (doom : Option ℕ) (view : View) →
+    view_of setting memory core doom ≡ Some view → view_from setting memory view.mode view.base (detail_of core) ≡ Some view
+shown_by setting memory (Closed regs) None view e = from_outside setting memory Running regs 0 view refl e
+shown_by setting memory (Midway regs value) None view e =
+    let known = base_midway regs value (setting.outside regs value) view e in
+    from setting memory Mid regs value view known.1 known.0 e
+shown_by setting memory (Halted regs stop) None view e = from_outside setting memory (AtStop stop) regs 0 view refl e
+shown_by setting memory (Opened regs steps) None view e =
+    let known = base_inside regs (isolated_body setting regs memory steps) view e in
+    from setting memory (Open known.1.0) regs steps view known.1.1 known.0 e
+shown_by setting memory (Opened regs steps) (Some depth) view e = from_outside setting memory (Condemned depth) regs steps view refl e
+shown_by setting memory (Closed regs) (Some depth) view e = cc
+shown_by setting memory (Midway regs value) (Some depth) view e = cc
+shown_by setting memory (Halted regs stop) (Some depth) view e = cc
+
+same_from : (setting : Setting) (memory : List ℕ) (mode : CoreState) (base : Regs) (a b : ℕ) → (has_detail mode ≡ true → a ≡ b) →
+    view_from setting memory mode base a ≡ view_from setting memory mode base b
+same_from setting memory Running base a b same = refl
+same_from setting memory Mid base a b same = ap (view_from setting memory Mid base) (same refl)
+same_from setting memory (Open depth) base a b same = ap (view_from setting memory (Open depth) base) (same refl)
+same_from setting memory (Condemned depth) base a b same = refl
+same_from setting memory (AtStop stop) base a b same = refl
+
+-- two cores of which the same is known are shown alike
+pub same_views : (setting : Setting) (memory : List ℕ) (a b : Core) (doom other : Option ℕ) (v w : View) →
+    view_of setting memory a doom ≡ Some v → view_of setting memory b other ≡ Some w →
+    v.mode ≡ w.mode → v.base ≡ w.base → (has_detail v.mode ≡ true → detail_of a ≡ detail_of b) → v ≡ w
+same_views setting memory a b doom other v w first second mode base detail =
+    same_in (sym (shown_by setting memory a doom v first)
+    ∙ (same_from setting memory v.mode v.base (detail_of a) (detail_of b) detail
+    ∙ (ap (λ (m : CoreState). view_from setting memory m v.base (detail_of b)) mode
+    ∙ (ap (λ (r : Regs). view_from setting memory w.mode r (detail_of b)) base
+    ∙ shown_by setting memory b other w second))))
+
+-- ---- cores that have stopped
+
+abbrev pub IsHalted : Core → Type 0
+IsHalted core = (regs : Regs) × ((stop : Stop) × (core ≡ Halted regs stop))
+
+not_stopped : (core : Core) (mode : CoreState) (view : View) → has_stopped mode ≡ false → view.mode ≡ mode → has_stopped view.mode ≡ true → IsHalted core
+not_stopped core mode view goes is stopped = absurd (false≢true (sym goes ∙ (ap has_stopped (sym is) ∙ stopped)))
+
+outside_mode : (mode : CoreState) (regs : Regs) (view : View) → Some (view_outside mode regs) ≡ Some view → view.mode ≡ mode
+outside_mode mode regs view e = subst (λ (v : View). v.mode ≡ mode) (same_in e) refl
+
+pub halted_is : (setting : Setting) (memory : List ℕ) (core : Core) (doom : Option ℕ) (view : View) →
+    view_of setting memory core doom ≡ Some view → has_stopped view.mode ≡ true → IsHalted core
+halted_is setting memory (Halted regs stop) None view e stopped = (regs, (stop, refl))
+halted_is setting memory (Closed regs) None view e stopped = not_stopped _ Running view refl (outside_mode Running regs view e) stopped
+halted_is setting memory (Midway regs value) None view e stopped =
+    not_stopped _ Mid view refl (base_midway regs value (setting.outside regs value) view e).1 stopped
+halted_is setting memory (Opened regs steps) None view e stopped =
+    let known = base_inside regs (isolated_body setting regs memory steps) view e in
+    not_stopped _ (Open known.1.0) view refl known.1.1 stopped
+halted_is setting memory (Opened regs steps) (Some depth) view e stopped = not_stopped _ (Condemned depth) view refl (outside_mode (Condemned depth) regs view e) stopped
+halted_is setting memory (Closed regs) (Some depth) view e stopped = absurd (cc)
+halted_is setting memory (Midway regs value) (Some depth) view e stopped = absurd (cc)
+halted_is setting memory (Halted regs stop) (Some depth) view e stopped = absurd (cc)
+
+pub stopped_is : (setting : Setting) (memory : List ℕ) (core : Core) (doom : Option ℕ) (view : View) →
+    view_of setting memory core doom ≡ Some view → IsHalted core → has_stopped view.mode ≡ true
+stopped_is setting memory (Halted regs stop) None view e halted = ap has_stopped (outside_mode (AtStop stop) regs view e)
+stopped_is setting memory (Halted regs stop) (Some depth) view e halted = absurd (cc)
+stopped_is setting memory (Closed regs) doom view e halted = absurd (let h : Closed regs ≡ Halted halted.0 halted.1.0 = halted.1.1 in cc)
+stopped_is setting memory (Midway regs value) doom view e halted = absurd (let h : Midway regs value ≡ Halted halted.0 halted.1.0 = halted.1.1 in cc)
+stopped_is setting memory (Opened regs steps) doom view e halted = absurd (let h : Opened regs steps ≡ Halted halted.0 halted.1.0 = halted.1.1 in cc)

@@ -1,0 +1,78 @@
+-- Nodes, and the situations that their schedules lead to.
+use Rattle.std.proofs.Common.{◌≡◌, ℕ, ◌<◌, List, Some, length, sym, ap, ◌∙◌, subst, arith}
+use Rattle.tm_core.specs.Theorem.{ShownMachine, StandsFor, machine_setting, view_at}
+use Rattle.tm_model.specs.Setting.{Setting}
+use Rattle.tm_model.specs.Shown.{view_of}
+use Rattle.tm_outcomes.specs.Nodes.{AreSame, LeadsTo, schedule_at}
+use Rattle.tm_outcomes.specs.Outcomes.{trial_setting}
+use Rattle.tm_outcomes.specs.Places.{AreAlike, IsAt}
+use Rattle.tm_outcomes.specs.Schedules.{Situation}
+use Rattle.tm_outcomes.specs.declared.place.Place.{Place}
+use Rattle.tm_outcomes.specs.declared.trial.Trial.{Trial}
+use Rattle.tm_outcomes.proofs.Alike.{same_views}
+use Rattle.tm_outcomes.proofs.Somes.{same_in}
+
+-- what a machine shows, under the rules of its trial
+shows : (machine : ShownMachine) (setting : Setting) (now : Situation) → machine_setting machine ≡ setting → StandsFor machine now.state now.doomed →
+    (core : ℕ) → core < length machine.views → view_of setting now.state.memory (now.state.cores core) (now.doomed core) ≡ Some (view_at machine core)
+shows machine setting now rules stands core below =
+    subst (λ (s : Setting). view_of s now.state.memory (now.state.cores core) (now.doomed core) ≡ Some (view_at machine core)) rules (stands.each core below)
+
+stands_by : (machine : ShownMachine) (setting : Setting) (now : Situation) → machine_setting machine ≡ setting →
+    machine.memory ≡ now.state.memory → length machine.views ≡ now.state.count →
+    ((core : ℕ) → core < length machine.views → view_of setting now.state.memory (now.state.cores core) (now.doomed core) ≡ Some (view_at machine core)) →
+    StandsFor machine now.state now.doomed
+stands_by machine setting now rules memory count each = record {
+  same_memory = memory;
+  same_count = count;
+  each = λ core below. subst (λ (s : Setting). view_of s now.state.memory (now.state.cores core) (now.doomed core) ≡ Some (view_at machine core)) (sym rules) (each core below);
+}
+
+-- a machine at a node's end stands for what the node leads to
+pub stands_leads : (trial : Trial) (schedules : List (List ℕ)) (index : ℕ) (place : Place) (now : Situation) → index < length schedules →
+    IsAt trial place (schedule_at schedules index) → StandsFor place.machine now.state now.doomed → LeadsTo trial schedules index now
+stands_leads trial schedules index place now within at stands = record {
+  within = within;
+  end = at.now;
+  is_run = at.is_run;
+  count = sym stands.same_count ∙ at.count;
+  same = record {
+    memory = sym at.stands.same_memory ∙ stands.same_memory;
+    count = sym at.stands.same_count ∙ stands.same_count;
+    each = λ core below.
+        let here : core < length place.machine.views = (let e = at.stands.same_count in omega arith) in
+        shows place.machine (trial_setting trial) at.now at.rules at.stands core here
+        ∙ sym (shows place.machine (trial_setting trial) now at.rules stands core here);
+  };
+}
+
+-- and for all that it leads to
+pub leads_stands : (trial : Trial) (schedules : List (List ℕ)) (index : ℕ) (place : Place) (now : Situation) →
+    IsAt trial place (schedule_at schedules index) → LeadsTo trial schedules index now → StandsFor place.machine now.state now.doomed
+leads_stands trial schedules index place now at leads =
+    let end : at.now ≡ leads.end = same_in (sym at.is_run ∙ leads.is_run) in
+    let same : AreSame trial at.now now = subst (λ (x : Situation). AreSame trial x now) (sym end) leads.same in
+    stands_by place.machine (trial_setting trial) now at.rules (at.stands.same_memory ∙ same.memory) (at.stands.same_count ∙ same.count)
+    (λ core below.
+    sym (same.each core (let e = at.stands.same_count in omega arith))
+    ∙ shows place.machine (trial_setting trial) at.now at.rules at.stands core below)
+
+-- places that are alike stand for the same
+pub alike_stands : (trial : Trial) (a b : Place) (s t : List ℕ) (now : Situation) → IsAt trial a s → IsAt trial b t → AreAlike a b →
+    StandsFor a.machine now.state now.doomed → StandsFor b.machine now.state now.doomed
+alike_stands trial a b s t now at other alike stands =
+    let setting : Setting = trial_setting trial in
+    let memory : other.now.state.memory ≡ at.now.state.memory = sym other.stands.same_memory ∙ (sym alike.memory ∙ at.stands.same_memory) in
+    stands_by b.machine setting now other.rules (sym alike.memory ∙ stands.same_memory) (sym alike.count ∙ stands.same_count)
+    (λ core below.
+    let here : core < length a.machine.views = (let e = alike.count in omega arith) in
+    let entry : core < length trial.program.now.entries = (let e = at.count in omega arith) in
+    let one = alike.each core here in
+    let theirs : view_of setting at.now.state.memory (other.now.state.cores core) (other.now.doomed core) ≡ Some (view_at b.machine core) =
+    subst (λ m. view_of setting m (other.now.state.cores core) (other.now.doomed core) ≡ Some (view_at b.machine core)) memory
+    (shows b.machine setting other.now other.rules other.stands core below) in
+    shows a.machine setting now at.rules stands core here
+    ∙ ap Some (same_views setting at.now.state.memory (at.now.state.cores core) (other.now.state.cores core) (at.now.doomed core) (other.now.doomed core)
+    (view_at a.machine core) (view_at b.machine core)
+    (shows a.machine setting at.now at.rules at.stands core here) theirs one.mode one.base
+    (λ counts. sym (at.details core entry) ∙ (one.detail counts ∙ other.details core entry))))

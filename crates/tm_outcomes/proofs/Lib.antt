@@ -1,0 +1,10 @@
+pub mod Somes
+pub mod Runs
+pub mod Details
+pub mod Alike
+pub mod Leads
+pub mod Tables
+pub mod Trees
+pub mod Follows
+pub mod Complete
+pub mod Underway

@@ -1,0 +1,17 @@
+use Rattle.std.proofs.Common.{sym, ap, arith}
+use Rattle.tm_outcomes.proofs.Underway.{begins, ends, goes_on}
+use Rattle.tm_outcomes.proofs.searching.Searching.expand.Goals as goal
+
+pub loop-core-init : goal.loop-core-init
+loop-core-init c =
+    begins c.args.trial.now c.args.most c.args.index c.args.self.now c.show.new.self (sym (ap (λ v. v.items) c.in_ok-show.ensures.nodes)) c.requires.within
+    c.in_ok-show.ensures.told c.in_ok-show.ensures.kept c.in_ok-show.ensures.shown c.requires.done
+
+pub loop-core-preserved : goal.loop-core-preserved
+loop-core-preserved c =
+    goes_on c.args.trial.now c.args.most c.args.index c.loop-core.core c.loop-core.self c.follow.new.self (sym (ap (λ v. v.items) c.in_ok-follow.ensures.outcomes))
+    (c.in_ok-follow.ensures.followed c.in-GoesOn.is) c.loop-core.invariant
+
+pub returns-clause-goes_on : goal.returns-clause-goes_on
+returns-clause-goes_on c = λ _.
+    ends c.args.trial.now c.args.most c.args.index c.loop-core.core c.loop-core.self (let n = c.cores-core-end.ensures.number in omega arith) c.loop-core.invariant

@@ -1,0 +1,5 @@
+use Rattle.tm_outcomes.specs.Searching.{IsUnderway}
+use Rattle.tm_outcomes.proofs.searching.Searching.expand.Given as goal
+
+abbrev pub invariant-loop-core : goal.invariant-loop-core
+invariant-loop-core l = IsUnderway l.trial l.most l.self l.index l.core

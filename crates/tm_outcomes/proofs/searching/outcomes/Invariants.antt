@@ -1,0 +1,5 @@
+use Rattle.tm_outcomes.specs.Searching.{HaveDone}
+use Rattle.tm_outcomes.proofs.searching.outcomes.Given as goal
+
+abbrev pub invariant-loop-index : goal.invariant-loop-index
+invariant-loop-index l = HaveDone l.trial l.most l.search l.index

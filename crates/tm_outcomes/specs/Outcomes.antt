@@ -1,0 +1,77 @@
+-- What is shown of a state in which each core has stopped, and what a search over all schedules tells.
+use Rattle.std.specs.Prelude.{◌≡◌, ⊤, ◌⊎◌, ℕ, ◌+◌, ◌<◌, ◌≤◌, true, false, List, [], ◌∷◌, Some, All, length, map}
+use Rattle.std.specs.Prelude.{slice_index}
+use Rattle.ia_word.specs.Operand.{operand_of}
+use Rattle.ia_word.specs.declared.width.Width.TheVariants.{D}
+use Rattle.tm_core.specs.Machine.{bad_limits}
+use Rattle.tm_model.specs.Access.{addresses_of, bytes_at}
+use Rattle.tm_model.specs.Setting.{Setting, program_setting}
+use Rattle.tm_model.specs.State.{Closed, Core, Halted, Midway, Opened, State}
+use Rattle.ia_regs.specs.declared.Regs.{Regs}
+use Rattle.tm_outcomes.specs.Schedules.{HasEnded, Situation, after_schedule, opening}
+use Rattle.tm_outcomes.specs.declared.trial.Item.{Item}
+use Rattle.tm_outcomes.specs.declared.trial.Item.TheVariants.{Register, Memory}
+use Rattle.tm_outcomes.specs.declared.trial.Trial.{Trial}
+use Rattle.tm_outcomes.specs.declared.fault.SearchFault.{SearchFault}
+use Rattle.tm_outcomes.specs.declared.fault.SearchFault.TheVariants.{BadLimits, NoMemory}
+use Rattle.tm_outcomes.specs.declared.table.Told.{Told}
+use Rattle.tm_outcomes.specs.declared.searching.Search.{Search}
+
+-- ---- what is shown
+
+-- the registers of a core outside of transactions
+abbrev pub regs_of : Core → Regs
+regs_of (Closed regs) = regs
+regs_of (Midway regs value) = regs
+regs_of (Halted regs stop) = regs
+regs_of (Opened regs steps) = regs
+
+-- a register of a core, or the doubleword at an address
+abbrev pub value_of : State → Item → ℕ
+value_of state (Register core register) = slice_index (regs_of (state.cores core)).gpr register
+value_of state (Memory address) = operand_of D (bytes_at state.memory (addresses_of address D))
+
+-- the core is there, or the doubleword
+abbrev pub IsThere : Trial → Item → Type 0
+IsThere trial (Register core register) = (core < length trial.program.now.entries) × (register < 8)
+IsThere trial (Memory address) = address + 4 ≤ trial.program.now.mem_size
+
+abbrev pub AreThere : Trial → Type 0
+AreThere trial = All (IsThere trial) trial.items.now
+
+-- ---- outcomes
+
+abbrev pub trial_setting : Trial → Setting
+trial_setting trial = program_setting trial.program.now trial.limits.read_lines trial.limits.write_lines
+
+abbrev pub trial_opening : Trial → Situation
+trial_opening trial = opening trial.program.now
+
+-- this schedule, run from the program's opening state, ends with each core stopped, and these values are shown then
+pub record IsOutcome (trial : Trial) (schedule values : List ℕ) : Type 0 where
+  pub end : Situation
+  pub is_run : after_schedule (trial_setting trial) (trial_opening trial) schedule ≡ Some end
+  pub has_ended : HasEnded end.state
+  pub shown : values ≡ map (value_of end.state) trial.items.now
+
+abbrev pub IsTold : Trial → Told → Type 0
+IsTold trial told = IsOutcome trial told.schedule.items told.values.items
+
+-- these values are among the outcomes
+abbrev pub AreTold : List Told → List ℕ → Type 0
+AreTold [] values = ⊥
+AreTold (told ∷ all) values = (told.values.items ≡ values) ⊎ AreTold all values
+
+-- No outcome is told that is not one; and where the search was not cut, whatever the schedule and its length, its
+-- outcome is told. It is cut at the limit on states alone.
+pub record IsSearch (trial : Trial) (most : ℕ) (search : Search) : Type 0 where
+  pub told : All (IsTold trial) search.outcomes.items
+  pub whole : search.is_cut ≡ false → (schedule values : List ℕ) → IsOutcome trial schedule values →
+      AreTold search.outcomes.items values
+  pub limit : search.is_cut ≡ true → search.states ≡ most
+  pub few : search.states ≤ most
+
+-- a limit on lines is out of range, or memory was refused
+abbrev pub IsRefusal : Trial → SearchFault → Type 0
+IsRefusal trial BadLimits = bad_limits trial.limits ≡ true
+IsRefusal trial NoMemory = ⊤

@@ -1,0 +1,24 @@
+//! Every outcome of a small program: all schedules, each state once.
+//!
+//! A [`Trial`] is a program, and what is shown of it where each core has stopped. [`outcomes`] searches the states that
+//! its schedules lead to, breadth first, and goes on from each but once. Promised: each outcome that is told is that of
+//! the schedule beside it, run from the program's opening state; and where the search is not cut at its limit on states,
+//! no schedule of any length has another. The words for it stand in `specs/Schedules.antt` and `specs/Outcomes.antt`,
+//! over the machine's definitions in `tm_model` alone.
+//!
+//! Two states count as one where memory and what is shown of each core are the same: the machine's steps are a function
+//! of these. A state is kept as the last step of a schedule that leads there; its machine is made anew by a run of that
+//! schedule. A digest only says which states may be the same: they are compared before one is dropped.
+#![tactic(auto)]
+
+mod fault;
+mod nodes;
+mod place;
+mod searching;
+mod table;
+mod trial;
+
+pub use fault::SearchFault;
+pub use searching::{Search, outcomes};
+pub use table::Told;
+pub use trial::{Item, Trial};

@@ -1,0 +1,260 @@
+//! A machine at the end of a schedule.
+
+ghost use Rattle.std.specs.Prelude.{◌≡◌, ◌↔◌, ◌<◌, ◌≤◌, ◌+◌, ◌++◌, ◌∷◌, ◌^◌, [], ℕ, All, List, Option, Some, IfErr, IfOk, IsTrue};
+ghost use Rattle.std.specs.Prelude.{length, map, slice_index};
+ghost use Rattle.tm_core.specs.Theorem.{StandsFor, view_at};
+ghost use Rattle.tm_model.specs.State.{State};
+ghost use Rattle.tm_model.specs.Setting.{program_setting, value_at};
+ghost use Rattle.tm_outcomes.specs.Outcomes.{AreThere, IsRefusal, IsThere, trial_setting, value_of};
+ghost use Rattle.tm_outcomes.specs.Places.{AreAlike, GoesTo, IsAt, IsCoreAlike, detail_after, has_detail, has_stopped};
+ghost use Rattle.tm_outcomes.specs.Schedules.{HasEnded, Situation};
+
+use crate::fault::SearchFault;
+use crate::trial::{Item, Trial};
+use ia_image::Program;
+use ia_regs::Regs;
+use ia_word::Width;
+use std::alloc::{AllocError, Global};
+use std::hash::{FoldHasher, Hasher};
+use tm_core::memory::{load, read};
+use tm_core::{CoreState, Machine, MachineFault, Outcome};
+use tm_rule::{Code, fetch, load_at};
+
+/// A machine, and of each core what the machine does not show: the value that the first of two steps has loaded, or how
+/// many steps the open transaction has made.
+#[derive(Drop)]
+pub struct Place {
+    pub machine: Machine,
+    pub details: Vec<u64>,
+}
+
+// The value that the instruction at these registers loads.
+fn value_on(program: &Program, regs: &Regs, memory: &[u8]) -> u32
+    requires { length memory.now ≡ program.now.mem_size }
+    ensures { (reads writes : ℕ) → result ≡ value_at (program_setting program.now reads writes) regs.now memory.now }
+{
+    let code = Code {
+        bytes: program.code(),
+        base: program.base(),
+        rows: program.rows(),
+    };
+    let row = fetch(&code, regs.eip);
+    load(memory, load_at(&row, regs, program.mem_size()))
+}
+
+impl Place {
+    /// Before the first step.
+    pub fn opening(alloc: Global, trial: &Trial<'_>) -> Result<Place, SearchFault>
+        ensures ok { IfOk result (λ place. IsAt trial.now place []) }
+        ensures err { IfErr result (IsRefusal trial.now) }
+    {
+        let machine = match Machine::new(alloc, trial.program, trial.limits) {
+            Ok(machine) => machine,
+            Err(MachineFault::BadLimits) => return Err(SearchFault::BadLimits),
+            Err(MachineFault::NoMemory) => return Err(SearchFault::NoMemory),
+        };
+        let details = vec![in alloc; 0; usize::from(machine.cores())]?;
+        Ok(Place { machine, details })
+    }
+}
+
+impl Place {
+    // The value that the instruction at a core's registers before its transaction loads.
+    fn loaded(&self, trial: &Trial<'_>, core: u8) -> u32
+        requires core { core < length self.now.machine.views }
+        requires size { length self.now.machine.memory ≡ trial.now.program.now.mem_size }
+        ensures value { result ≡ value_at (trial_setting trial.now) (view_at self.now.machine core).base
+            self.now.machine.memory }
+        ensures fits { result < 2 ^ 32 }
+    {
+        match self.machine.base_regs(core) {
+            Ok(regs) => value_on(trial.program, &regs, self.machine.view()),
+            Err(_) => unreachable!(),
+        }
+    }
+
+    // The detail of a core after its step.
+    fn next_detail(&self, trial: &Trial<'_>, core: u8, outcome: Outcome) -> u64
+        requires core { core < length self.now.machine.views }
+        requires size { length self.now.machine.memory ≡ trial.now.program.now.mem_size }
+        requires detail { core < length self.now.details.items }
+        requires small { slice_index self.now.details.items core < 2 ^ 40 }
+        ensures value { result ≡ detail_after outcome (slice_index self.now.details.items core)
+            (value_at (trial_setting trial.now) (view_at self.now.machine core).base self.now.machine.memory) }
+        ensures few { (n : ℕ) → slice_index self.now.details.items core ≤ 2 ^ 32 + n → result ≤ 2 ^ 32 + (n + 1) }
+    {
+        match outcome {
+            Outcome::Loaded => u64::from(self.loaded(trial, core)),
+            Outcome::Begun => 1,
+            Outcome::Inside => self.details[usize::from(core)] + 1,
+            _ => 0,
+        }
+    }
+
+    /// The next step of a core.
+    pub fn step(&mut self, trial: &Trial<'_>, core: u8)
+        requires core { core < length trial.now.program.now.entries }
+        requires at { (schedule : List ℕ) × (IsAt trial.now self.old schedule × (length schedule < 2 ^ 32)) }
+        ensures goes { GoesTo (trial_setting trial.now) self.old self.new core }
+        ensures at { (schedule : List ℕ) → IsAt trial.now self.old schedule →
+            IsAt trial.now self.new (schedule ++ core ∷ []) }
+    {
+        let Ok(outcome) = self.machine.step(core) else {
+            unreachable!();
+        };
+        let detail = self.next_detail(trial, core, outcome);
+        self.details[usize::from(core)] = detail;
+    }
+}
+
+/// The place at the end of a schedule.
+pub fn replay(alloc: Global, trial: &Trial<'_>, schedule: &[u8]) -> Result<Place, SearchFault>
+    requires cores { All (λ core. core < length trial.now.program.now.entries) schedule.now }
+    requires short { length schedule.now < 2 ^ 32 }
+    ensures ok { IfOk result (λ place. IsAt trial.now place schedule.now) }
+    ensures err { IfErr result (IsRefusal trial.now) }
+{
+    let mut place = Place::opening(alloc, trial)?;
+    for core in schedule {
+        place.step(trial, *core);
+    }
+    Ok(place)
+}
+
+// Whether the details of a core count in this.
+fn has_detail(state: CoreState) -> bool
+    ensures { result ≡ has_detail state }
+{
+    !matches!(state, CoreState::Condemned(_))
+}
+
+impl Place {
+    // Whether a core of another place goes on as that of this one does.
+    fn is_core_alike(&self, other: &Place, core: u8) -> bool
+        requires here { core < length self.now.machine.views }
+        requires there { core < length other.now.machine.views }
+        requires detail { core < length self.now.details.items }
+        requires detail_there { core < length other.now.details.items }
+        ensures { IsTrue result → IsCoreAlike self.now other.now core }
+    {
+        let (Ok(state), Ok(other_state)) = (self.machine.state(core), other.machine.state(core))
+        else {
+            return false;
+        };
+        let (Ok(base), Ok(other_base)) = (
+            self.machine.base_regs(core),
+            other.machine.base_regs(core),
+        ) else {
+            return false;
+        };
+        let index = usize::from(core);
+        state == other_state
+            && base == other_base
+            && (!has_detail(state) || self.details[index] == other.details[index])
+    }
+
+    /// Whether another place goes on as this one does.
+    pub fn is_alike(&self, other: &Place) -> bool
+        requires here { length self.now.machine.views ≤ length self.now.details.items }
+        requires there { length other.now.machine.views ≤ length other.now.details.items }
+        ensures { IsTrue result → AreAlike self.now other.now }
+    {
+        if self.machine.cores() != other.machine.cores() {
+            return false;
+        }
+        for core in 0..self.machine.cores() {
+            if !self.is_core_alike(other, core) {
+                return false;
+            }
+        }
+        self.machine.view() == other.machine.view()
+    }
+}
+
+impl Place {
+    // Whether a core has stopped.
+    fn has_stopped(&self, core: u8) -> bool
+        requires { core < length self.now.machine.views }
+        ensures { result ≡ has_stopped (view_at self.now.machine core).mode }
+    {
+        match self.machine.state(core) {
+            Ok(state) => matches!(state, CoreState::Stopped(_)),
+            Err(_) => unreachable!(),
+        }
+    }
+
+    /// Whether each core has stopped.
+    pub fn has_ended(&self) -> bool
+        ensures { (now : Situation) → StandsFor self.now.machine now.state now.doomed →
+            (IsTrue result ↔ HasEnded now.state) }
+    {
+        for core in 0..self.machine.cores() {
+            if !self.has_stopped(core) {
+                return false;
+            }
+        }
+        true
+    }
+
+    // The value of an item.
+    fn value(&self, trial: &Trial<'_>, item: Item) -> u32
+        requires is_there { IsThere trial.now item }
+        requires at { (schedule : List ℕ) × IsAt trial.now self.now schedule }
+        ensures { (now : Situation) → StandsFor self.now.machine now.state now.doomed →
+            result ≡ value_of now.state item }
+    {
+        match item {
+            Item::Register(core, register) => match self.machine.base_regs(core) {
+                Ok(regs) => regs.get(register),
+                Err(_) => unreachable!(),
+            },
+            Item::Memory(address) => read(self.machine.view(), address, Width::D),
+        }
+    }
+
+    /// The value of each item.
+    pub fn values(&self, alloc: Global, trial: &Trial<'_>) -> Result<Vec<u32>, AllocError>
+        requires are_there { AreThere trial.now }
+        requires at { (schedule : List ℕ) × IsAt trial.now self.now schedule }
+        ensures { IfOk result (λ values. (now : Situation) → StandsFor self.now.machine now.state now.doomed →
+            values.items ≡ map (value_of now.state) trial.now.items.now) }
+    {
+        let mut values = Vec::with_capacity(alloc, trial.items.len())?;
+        for item in trial.items {
+            values.push(self.value(trial, *item))?;
+        }
+        Ok(values)
+    }
+
+    /// A number that is the same for places that are alike.
+    pub fn digest(&self) -> u64 {
+        let mut hasher = FoldHasher::default();
+        hasher.write(self.machine.view());
+        for core in 0..self.machine.cores() {
+            self.digest_core(core, &mut hasher);
+        }
+        hasher.finish()
+    }
+
+    // Adds what is known of a core.
+    fn digest_core(&self, core: u8, hasher: &mut FoldHasher) {
+        let (Ok(state), Ok(base)) = (self.machine.state(core), self.machine.base_regs(core)) else {
+            return;
+        };
+        let kind: u8 = match state {
+            CoreState::Running => 0,
+            CoreState::Mid => 1,
+            CoreState::Open(depth) => 2 + depth % 8,
+            CoreState::Condemned(depth) => 10 + depth % 8,
+            CoreState::Stopped(_) => 18,
+        };
+        hasher.write_u8(kind);
+        hasher.write_u32(base.eip);
+        for register in base.gpr {
+            hasher.write_u32(register);
+        }
+        if has_detail(state) && usize::from(core) < self.details.len() {
+            hasher.write_u64(self.details[usize::from(core)]);
+        }
+    }
+}

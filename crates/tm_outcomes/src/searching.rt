@@ -1,0 +1,202 @@
+//! The search.
+
+ghost use Rattle.std.specs.Prelude.{◌≡◌, ◌<◌, ◌≤◌, ◌+◌, ◌++◌, ◌∷◌, ◌^◌, [], ℕ, All, IfErr, IfOk, List, true, false, length};
+ghost use Rattle.tm_outcomes.specs.Nodes.{HasGrown, HaveSchedules, IsFollowed, IsShown, IsTree};
+ghost use Rattle.tm_outcomes.specs.Outcomes.{AreThere, AreTold, IsRefusal, IsSearch, IsTold};
+ghost use Rattle.tm_outcomes.specs.Searching.{HaveDone, IsFollowedIn, IsUnderway};
+
+use crate::fault::SearchFault;
+use crate::nodes::{Node, find, place_of, schedule_of};
+use crate::place::Place;
+use crate::table::{Told, take_up};
+use crate::trial::Trial;
+use std::alloc::{AllocError, Global};
+use std::collections::HashMap;
+
+/// What a search came to.
+#[derive(Debug, Drop)]
+pub struct Search {
+    /// The outcomes, in the order in which they were found.
+    pub outcomes: Vec<Told>,
+    /// How many states were found.
+    pub states: u32,
+    /// Whether the search ended at its limit on states.
+    pub is_cut: bool,
+}
+
+/// The states and the outcomes that were found so far.
+#[derive(Drop)]
+pub struct Searching {
+    pub nodes: Vec<Node>,
+    pub newest: HashMap<u64, u32>,
+    pub outcomes: Vec<Told>,
+}
+
+/// Whether a search goes on.
+#[derive(Clone, Copy, PartialEq, Eq, Debug)]
+pub enum Progress {
+    /// It goes on.
+    GoesOn,
+    /// There is a state more than the limit.
+    IsCut,
+}
+
+impl Searching {
+    // The opening state.
+    fn opening(alloc: Global, trial: &Trial<'_>) -> Result<Searching, SearchFault>
+        ensures ok { IfOk result (λ search. HaveDone trial.now 1 search 0) }
+        ensures err { IfErr result (IsRefusal trial.now) }
+    {
+        let digest = Place::opening(alloc, trial)?.digest();
+        let mut search = Searching {
+            nodes: Vec::new(alloc),
+            newest: HashMap::new(alloc),
+            outcomes: Vec::new(alloc),
+        };
+        search.add(Node {
+            parent: 0,
+            core: 0,
+            digest,
+            older: None,
+        })?;
+        Ok(search)
+    }
+
+    // Adds a node, which is then the newest of its digest.
+    fn add(&mut self, node: Node) -> Result<(), AllocError>
+        requires { length self.old.nodes.items < 2 ^ 32 }
+        ensures nodes { IfOk result (λ _. self.new.nodes.items ≡ self.old.nodes.items ++ node ∷ []) }
+        ensures outcomes { self.new.outcomes ≡ self.old.outcomes }
+    {
+        let number = self.nodes.len() as u32;
+        self.nodes.push(node)?;
+        self.newest.insert(node.digest, number)?;
+        Ok(())
+    }
+
+    // Takes up the state after the next step of a core, where it is new.
+    fn follow(
+        &mut self,
+        alloc: Global,
+        trial: &Trial<'_>,
+        index: usize,
+        core: u8,
+        most: u32,
+    ) -> Result<Progress, SearchFault>
+        requires within { index < length self.old.nodes.items }
+        requires is_core { core < length trial.now.program.now.entries }
+        requires few { length self.old.nodes.items ≤ most }
+        requires tree { HaveSchedules (length trial.now.program.now.entries) self.old.nodes.items }
+        ensures outcomes { self.new.outcomes ≡ self.old.outcomes }
+        ensures followed { IfOk result (λ progress. progress ≡ Progress.GoesOn →
+            IsFollowedIn trial.now most self.old.nodes.items self.new.nodes.items index core) }
+        ensures cut { IfOk result (λ progress. progress ≡ Progress.IsCut → length self.new.nodes.items ≡ most) }
+        ensures err { IfErr result (IsRefusal trial.now) }
+    {
+        let mut place = place_of(alloc, trial, self.nodes.as_slice(), index)?;
+        place.step(trial, core);
+        let digest = place.digest();
+        let newest = self.newest.get(&digest).copied();
+        if let Some(_known) = find(alloc, trial, self.nodes.as_slice(), newest, &place)? {
+            return Ok(Progress::GoesOn);
+        }
+        if self.nodes.len() >= most as usize {
+            return Ok(Progress::IsCut);
+        }
+        self.add(Node {
+            parent: index as u32,
+            core,
+            digest,
+            older: newest,
+        })?;
+        Ok(Progress::GoesOn)
+    }
+}
+
+impl Searching {
+    // Takes up the outcome of a state, where each core has stopped.
+    fn show(&mut self, alloc: Global, trial: &Trial<'_>, index: usize) -> Result<(), SearchFault>
+        requires within { index < length self.old.nodes.items }
+        requires few { length self.old.nodes.items < 2 ^ 32 }
+        requires tree { HaveSchedules (length trial.now.program.now.entries) self.old.nodes.items }
+        requires there { AreThere trial.now }
+        requires told { All (IsTold trial.now) self.old.outcomes.items }
+        ensures nodes { self.new.nodes ≡ self.old.nodes }
+        ensures told { IfOk result (λ _. All (IsTold trial.now) self.new.outcomes.items) }
+        ensures kept { IfOk result (λ _. (values : List ℕ) → AreTold self.old.outcomes.items values →
+            AreTold self.new.outcomes.items values) }
+        ensures shown { IfOk result (λ _. (schedules : List (List ℕ)) →
+            IsTree (length trial.now.program.now.entries) self.old.nodes.items schedules →
+            IsShown trial.now schedules self.new.outcomes.items index) }
+        ensures err { IfErr result (IsRefusal trial.now) }
+    {
+        let place = place_of(alloc, trial, self.nodes.as_slice(), index)?;
+        if !place.has_ended() {
+            return Ok(());
+        }
+        let values = place.values(alloc, trial)?;
+        let schedule = schedule_of(alloc, self.nodes.as_slice(), index)?;
+        take_up(trial, &mut self.outcomes, values, schedule)?;
+        Ok(())
+    }
+
+    // Takes up what a state shows and the states after the next step of each core.
+    fn expand(
+        &mut self,
+        alloc: Global,
+        trial: &Trial<'_>,
+        index: usize,
+        most: u32,
+    ) -> Result<Progress, SearchFault>
+        requires within { index < length self.old.nodes.items }
+        requires there { AreThere trial.now }
+        requires done { HaveDone trial.now most self.old index }
+        ensures goes_on { IfOk result (λ progress. progress ≡ Progress.GoesOn →
+            HaveDone trial.now most self.new (index + 1)) }
+        ensures cut { IfOk result (λ progress. progress ≡ Progress.IsCut →
+            (length self.new.nodes.items ≡ most) × All (IsTold trial.now) self.new.outcomes.items) }
+        ensures err { IfErr result (IsRefusal trial.now) }
+    {
+        self.show(alloc, trial, index)?;
+        for core in 0..trial.program.cores() {
+            let Progress::GoesOn = self.follow(alloc, trial, index, core, most)? else {
+                return Ok(Progress::IsCut);
+            };
+        }
+        Ok(Progress::GoesOn)
+    }
+
+    // What it came to.
+    fn end(self, is_cut: bool) -> Search
+        requires { length self.nodes.items < 2 ^ 32 }
+        ensures outcomes { result.outcomes ≡ self.outcomes }
+        ensures states { result.states ≡ length self.nodes.items }
+        ensures is_cut { result.is_cut ≡ is_cut }
+    {
+        let states = self.nodes.len() as u32;
+        Search {
+            outcomes: self.outcomes,
+            states,
+            is_cut,
+        }
+    }
+}
+
+/// Searches all schedules, breadth first, each state once, up to a limit on states: 1 or more.
+pub fn outcomes(alloc: Global, trial: &Trial<'_>, most: u32) -> Result<Search, SearchFault>
+    requires there { AreThere trial.now }
+    requires some { 1 ≤ most }
+    ensures ok { IfOk result (IsSearch trial.now most) }
+    ensures err { IfErr result (IsRefusal trial.now) }
+{
+    let mut search = Searching::opening(alloc, trial)?;
+    for index in 0..most {
+        if index as usize >= search.nodes.len() {
+            return Ok(search.end(false));
+        }
+        let Progress::GoesOn = search.expand(alloc, trial, index as usize, most)? else {
+            return Ok(search.end(true));
+        };
+    }
+    Ok(search.end(false))
+}

@@ -1,0 +1,57 @@
+//! The outcomes that were found.
+
+ghost use Rattle.std.specs.Prelude.{◌≡◌, ◌<◌, ℕ, All, IfOk, IfSome, List, length, slice_index_or};
+ghost use Rattle.tm_outcomes.specs.Outcomes.{AreTold, IsOutcome, IsTold};
+
+use crate::trial::Trial;
+use std::alloc::AllocError;
+
+/// An outcome.
+#[derive(Debug, Drop)]
+pub struct Told {
+    /// The value of each item.
+    pub values: Vec<u32>,
+    /// The cores of the steps of a schedule that shows it: of those found, a shortest.
+    pub schedule: Vec<u8>,
+    /// How many states that were found show it.
+    pub ends: u32,
+}
+
+// The outcome with these values.
+fn index_of(table: &[Told], values: &[u32]) -> Option<usize>
+    ensures within { IfSome result (λ index. index < length table.now) }
+    ensures told { IfSome result (λ index. AreTold table.now values.now) }
+{
+    for index in 0..table.len() {
+        if table[index].values.as_slice() == values {
+            return Some(index);
+        }
+    }
+    None
+}
+
+/// Takes up an outcome, that of this schedule.
+pub fn take_up(
+    trial: &Trial<'_>,
+    table: &mut Vec<Told>,
+    values: Vec<u32>,
+    schedule: Vec<u8>,
+) -> Result<(), AllocError>
+    requires told { All (IsTold trial.now) table.old.items }
+    requires outcome { IsOutcome trial.now schedule.items values.items }
+    ensures told { IfOk result (λ _. All (IsTold trial.now) table.new.items) }
+    ensures here { IfOk result (λ _. AreTold table.new.items values.items) }
+    ensures kept { IfOk result (λ _. (other : List ℕ) → AreTold table.old.items other → AreTold table.new.items other) }
+{
+    if let Some(index) = index_of(table.as_slice(), values.as_slice()) {
+        let ends = table[index].ends;
+        table[index].ends = ends.saturating_add(1);
+        return Ok(());
+    }
+    table.push(Told {
+        values,
+        schedule,
+        ends: 1,
+    })?;
+    Ok(())
+}

@@ -1,0 +1,53 @@
+//! What is searched, and what is shown.
+
+ghost use Rattle.std.specs.Prelude.{◌↔◌, IsTrue};
+ghost use Rattle.tm_outcomes.specs.Outcomes.{AreThere, IsThere};
+
+use ia_image::Program;
+use tm_core::Limits;
+
+/// A part of what an outcome shows.
+#[derive(Clone, Copy, PartialEq, Eq, Debug)]
+pub enum Item {
+    /// A general register of a core: the core's number, and the register's, 0 to 7.
+    Register(u8, u8),
+    /// The doubleword at this address.
+    Memory(u32),
+}
+
+/// A program, and what is shown of it where each core has stopped.
+#[derive(Clone, Copy)]
+pub struct Trial<'a> {
+    /// The program.
+    pub program: &'a Program,
+    /// How many lines a transaction can touch.
+    pub limits: Limits,
+    /// What is shown, in order.
+    pub items: &'a [Item],
+}
+
+impl Trial<'_> {
+    /// Whether the program has the core, or its memory the doubleword.
+    pub fn has(&self, item: Item) -> bool
+        ensures { IsTrue result ↔ IsThere self.now item }
+    {
+        match item {
+            Item::Register(core, register) => core < self.program.cores() && register < 8,
+            Item::Memory(address) => u64::from(address) + 4 <= u64::from(self.program.mem_size()),
+        }
+    }
+}
+
+impl Trial<'_> {
+    /// Whether it has each item.
+    pub fn has_all(&self) -> bool
+        ensures { IsTrue result ↔ AreThere self.now }
+    {
+        for item in self.items {
+            if !self.has(*item) {
+                return false;
+            }
+        }
+        true
+    }
+}
