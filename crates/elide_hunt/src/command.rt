@@ -3,13 +3,12 @@
 ghost use Rattle.std.specs.Prelude.{IfOk, IfSome};
 ghost use Rattle.tm_hunt.specs.Attempts.{IsFailure};
 
-use crate::checks::Demands;
-use crate::orders::Orders;
 use crate::report::{Counts, tell_failure, tell_none};
 use crate::searching::{fault_of, searched};
 use elide_args::HuntOptions;
+use elide_checks::{Demands, Orders};
 use elide_program::{Paths, ProgramFile, Settings, read_file};
-use elide_setup::{Gathered, Refusal, Setup, record, record_path};
+use elide_setup::{Gathered, Progress, Refusal, Setup, record, record_path};
 use ia_text::Out;
 use std::alloc::Global;
 use std::thread::Threads;
@@ -27,20 +26,62 @@ pub enum Answer {
 
 /// Makes runs by chance until one fails, shortens its schedule, writes it where that is asked for, and prints what came
 /// about.
-pub fn hunt<R: Threads + Sync + AllocGlobal, P: Paths, O: Out>(
+pub fn hunt<R: Threads + Sync + AllocGlobal, P: Paths, O: Out, G: Progress>(
     rt: &R,
     options: &HuntOptions<'_>,
     paths: &mut P,
     out: &mut O,
+    progress: &mut G,
 ) -> Result<Answer, Refusal> {
-    let alloc = rt.alloc();
     let settings = Settings::read(&options.machine)?;
     let orders = Orders::read(rt, options)?;
     let path = record_path(options.record, options.machine.file, paths)?;
     let text = read_file(options.machine.file, paths)?;
-    let file = ProgramFile::read(alloc, text.as_slice())?;
+    let made = hunted(rt, options, &settings, &orders, text.as_slice(), progress);
+    progress.end();
+    let (search, before) = made?;
+    let Search { found, ended, cut } = search;
+    match found {
+        Some(found) => {
+            record(path, found.failure.cores.as_slice(), paths)?;
+            one_failed(options, &found, before, out)
+        }
+        None => none_failed(ended, cut, out),
+    }
+}
+
+fn one_failed<O: Out>(
+    options: &HuntOptions<'_>,
+    found: &Found,
+    before: Counts,
+    out: &mut O,
+) -> Result<Answer, Refusal> {
+    let mut page = Gathered::new(out);
+    tell_failure(options, found.run, &found.failure, before, &mut page)?;
+    page.finish()?;
+    Ok(Answer::Failed)
+}
+
+fn none_failed<O: Out>(ended: u32, cut: u32, out: &mut O) -> Result<Answer, Refusal> {
+    let mut page = Gathered::new(out);
+    tell_none(ended, cut, &mut page)?;
+    page.finish()?;
+    Ok(Answer::NoneFailed)
+}
+
+// Searches the program of a file, and shortens the schedule that is found; with how long that was before.
+fn hunted<R: Threads + Sync + AllocGlobal, G: Progress>(
+    rt: &R,
+    options: &HuntOptions<'_>,
+    settings: &Settings<'_>,
+    orders: &Orders,
+    text: &[u8],
+    progress: &mut G,
+) -> Result<(Search, Counts), Refusal> {
+    let alloc = rt.alloc();
+    let file = ProgramFile::read(alloc, text)?;
     let demands = Demands::read(alloc, options, &file)?;
-    let setup = Setup::of_file(alloc, &settings, &file)?;
+    let setup = Setup::of_file(alloc, settings, &file)?;
     let checks = demands.checks(alloc, setup.program.mem_size())?;
     let trial = Trial {
         program: &setup.program,
@@ -48,28 +89,39 @@ pub fn hunt<R: Threads + Sync + AllocGlobal, P: Paths, O: Out>(
         most: orders.most,
         checks: checks.as_slice(),
     };
-    let search = tried(rt, &trial, &orders)?;
-    let mut page = Gathered::new(out);
-    let Search { found, ended, cut } = search;
-    let Some(found) = found else {
-        tell_none(ended, cut, &mut page)?;
-        page.finish()?;
-        return Ok(Answer::NoneFailed);
-    };
-    let Found { run, mut failure } = found;
-    let before = counts_of(&failure);
-    shortened(alloc, &trial, &mut failure)?;
-    record(path, failure.cores.as_slice(), paths)?;
-    tell_failure(options, run, &failure, before, &mut page)?;
-    page.finish()?;
-    Ok(Answer::Failed)
+    shortest(rt, &trial, orders, progress)
 }
 
-// Makes the runs.
-fn tried<R: Threads + Sync + AllocGlobal>(
+// A search whose schedule is shortened, with how long it was before.
+fn shortest<R: Threads + Sync + AllocGlobal, G: Progress>(
     rt: &R,
     trial: &Trial<'_>,
     orders: &Orders,
+    progress: &mut G,
+) -> Result<(Search, Counts), Refusal>
+    ensures { IfOk result (λ made. IfSome made.0.found (λ found. IsFailure trial.now found.failure)) }
+{
+    let Search { found, ended, cut } = tried(rt, trial, orders, progress)?;
+    let Some(Found { run, mut failure }) = found else {
+        let none = Counts {
+            steps: 0,
+            switches: 0,
+        };
+        let found = None;
+        return Ok((Search { found, ended, cut }, none));
+    };
+    let before = counts_of(&failure);
+    shortened(rt.alloc(), trial, &mut failure)?;
+    let found = Some(Found { run, failure });
+    Ok((Search { found, ended, cut }, before))
+}
+
+// Makes the runs.
+fn tried<R: Threads + Sync + AllocGlobal, G: Progress>(
+    rt: &R,
+    trial: &Trial<'_>,
+    orders: &Orders,
+    progress: &mut G,
 ) -> Result<Search, Refusal>
     ensures { IfOk result (λ search. IfSome search.found (λ found. IsFailure trial.now found.failure)) }
 {
@@ -82,12 +134,13 @@ fn tried<R: Threads + Sync + AllocGlobal>(
         method: orders.method,
         length,
     };
-    searched(rt, trial, plan, orders)
+    searched(rt, trial, plan, orders, progress)
 }
 
 // Shortens a schedule.
 fn shortened(alloc: Global, trial: &Trial<'_>, failure: &mut Failure) -> Result<(), Refusal>
     requires { IsFailure trial.now failure.old }
+    ensures { IsFailure trial.now failure.new }
 {
     match shorten(alloc, trial, failure) {
         Ok(()) => Ok(()),

@@ -64,6 +64,32 @@ fn put<O: Out>(out: &mut O, text: &str) -> Result<(), WriteFault> {
     Ok(())
 }
 
+// A word of a command, as a POSIX shell reads it.
+fn put_word<O: Out>(out: &mut O, word: &str) -> Result<(), WriteFault> {
+    if !word.is_empty() && word.as_bytes().iter().all(is_plain) {
+        return put(out, word);
+    }
+    put(out, "'")?;
+    for byte in word.as_bytes() {
+        put_quoted(out, *byte)?;
+    }
+    put(out, "'")
+}
+
+// A byte between single quotes, of which a quote has to stand outside.
+fn put_quoted<O: Out>(out: &mut O, byte: u8) -> Result<(), WriteFault> {
+    if byte == b'\'' {
+        return put(out, "'\\''");
+    }
+    out.put(&[byte])?;
+    Ok(())
+}
+
+// Whether a byte stands for itself in a shell's word.
+fn is_plain(byte: &u8) -> bool {
+    byte.is_ascii_alphanumeric() || b"_./,:=@%+-".contains(byte)
+}
+
 // The option that says the check with this index.
 fn put_check<O: Out>(
     options: &HuntOptions<'_>,
@@ -91,11 +117,11 @@ fn put_command<O: Out>(
     out: &mut O,
 ) -> Result<(), WriteFault> {
     put(out, "elide replay ")?;
-    put(out, options.machine.file)?;
+    put_word(out, options.machine.file)?;
     put_machine(&options.machine, out)?;
     if let Some(path) = options.record {
         put(out, " --schedule ")?;
-        put(out, path)?;
+        put_word(out, path)?;
     } else if cores.len() > MOST_SHOWN {
         put(
             out,
@@ -125,7 +151,7 @@ fn put_option<O: Out>(
     match value {
         Some(value) if value != usual => {
             put(out, name)?;
-            put(out, value)
+            put_word(out, value)
         }
         _ => Ok(()),
     }

@@ -3,8 +3,8 @@
 ghost use Rattle.std.specs.Prelude.{◌<◌, IfOk, IfSome};
 ghost use Rattle.tm_hunt.specs.Attempts.{IsFailure};
 
-use crate::orders::Orders;
-use elide_setup::{Fault, Refusal};
+use elide_checks::Orders;
+use elide_setup::{Fault, Progress, Refusal};
 use std::thread;
 use std::thread::Threads;
 use tm_core::RunFault;
@@ -28,11 +28,12 @@ struct Share {
 /// Makes the runs that are asked for until one fails, each thread a share of runs side by side. Of the runs that fail
 /// the one with the lowest number is told, and those with a lower one are counted, so that the answer does not depend
 /// on the threads. What is told is what that run comes to when it is made once more.
-pub fn searched<R: Threads + Sync + AllocGlobal>(
+pub fn searched<R: Threads + Sync + AllocGlobal, G: Progress>(
     rt: &R,
     trial: &Trial<'_>,
     plan: Plan,
     orders: &Orders,
+    progress: &mut G,
 ) -> Result<Search, Refusal>
     ensures { IfOk result (λ search. IfSome search.found (λ found. IsFailure trial.now found.failure)) }
 {
@@ -41,6 +42,7 @@ pub fn searched<R: Threads + Sync + AllocGlobal>(
     let mut first = orders.first;
     let mut size = FIRST_SHARE;
     'turns: while first < orders.end {
+        tell(orders, first, progress);
         let end = block_end(first, size, orders);
         let share = block(rt, trial, plan, orders.jobs, first, end)?;
         ended = ended.saturating_add(share.ended);
@@ -62,6 +64,13 @@ pub fn searched<R: Threads + Sync + AllocGlobal>(
         ended,
         cut,
     })
+}
+
+// Tells that the runs below this number are made.
+fn tell<G: Progress>(orders: &Orders, first: u32, progress: &mut G) {
+    let done = first.saturating_sub(orders.first);
+    let most = orders.end.saturating_sub(orders.first);
+    progress.tell(u64::from(done), u64::from(most), "runs");
 }
 
 // The runs from one number on, on this thread.

@@ -1,11 +1,12 @@
 //! `elide run`.
 
-use crate::drawn::run_drawn;
+use crate::drawn::{Wanted, run_drawn};
 use crate::halting::{Ending, ending_of};
 use elide_args::RunOptions;
 use elide_program::Paths;
 use elide_setup::{
-    Course, Fault, Gathered, Refusal, Setup, part_of, record, record_path, scheduled, show,
+    Course, Fault, Gathered, Progress, Refusal, Setup, part_of, record, record_path, scheduled,
+    show,
 };
 use ia_text::{Out, WriteFault};
 use std::alloc::Global;
@@ -14,11 +15,12 @@ use tm_hist::write_outcome;
 
 /// Runs a schedule of core steps, and prints the outcomes where they are asked for, the state, and the dump; and where it is
 /// expected that all cores stop, those that did not.
-pub fn run<P: Paths, O: Out>(
+pub fn run<P: Paths, O: Out, G: Progress>(
     alloc: Global,
     options: &RunOptions<'_>,
     paths: &mut P,
     out: &mut O,
+    progress: &mut G,
 ) -> Result<Ending, Refusal> {
     let path = record_path(options.record, options.machine.file, paths)?;
     let (setup, course) = scheduled(alloc, &options.machine, &options.schedule, paths)?;
@@ -34,7 +36,12 @@ pub fn run<P: Paths, O: Out>(
             ran.machine
         }
         Course::Drawn(drawn) => {
-            run_drawn(alloc, &setup, drawn, options.traces, path, paths, &mut page)?
+            let wanted = Wanted {
+                drawn,
+                traces: options.traces,
+                path,
+            };
+            run_drawn(alloc, &setup, &wanted, paths, &mut page, progress)?
         }
     };
     tell(&machine, &setup, options.expects_halt, &mut page)

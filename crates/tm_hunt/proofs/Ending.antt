@@ -2,7 +2,7 @@
 use Rattle.std.proofs.Common.{◌⊎◌, inl, inr, ℕ, sym, subst}
 use Rattle.std.proofs.lemmas.Option.{get_or_from_slice_get, slice_get_within}
 use Rattle.tm_hist.specs.Board.{IsFull, ShownBoard as Board}
-use Rattle.tm_hunt.specs.Checks.{HasEnded, IsViolated, IsViolatedAt, NoneViolated}
+use Rattle.tm_check.specs.Checks.{HasEnded, IsViolated, IsViolatedAt, NoneViolated}
 use Rattle.tm_hunt.specs.Hunt.{IsOver}
 use Rattle.tm_hunt.specs.declared.trial.Trial.{Trial}
 

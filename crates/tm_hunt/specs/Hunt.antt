@@ -1,7 +1,7 @@
 -- What a search for a failing schedule comes to.
 use Rattle.std.specs.Prelude.{◌≡◌, ◌⊎◌, ℕ, List, All, length, map}
 use Rattle.tm_hist.specs.Board.{IsFull, IsHistory, ShownBoard as Board}
-use Rattle.tm_hunt.specs.Checks.{HasEnded, IsViolatedAt, NoneViolated}
+use Rattle.tm_check.specs.Checks.{HasEnded, IsViolatedAt, NoneViolated}
 use Rattle.tm_hunt.specs.declared.trial.Trial.{Trial}
 
 -- a board of what is tried: its program, its limits, and at most so many steps

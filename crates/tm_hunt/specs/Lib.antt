@@ -1,4 +1,3 @@
-pub mod Checks
 pub mod Hunt
 pub mod Attempts
 pub mod Cost

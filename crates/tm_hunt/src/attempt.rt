@@ -6,11 +6,11 @@ ghost use Rattle.tm_hunt.specs.declared.attempt.HuntFault.TheVariants.{Board as 
 ghost use Rattle.tm_hunt.specs.Attempts.{IsAttempt, IsRefusal};
 ghost use Rattle.tm_hunt.specs.Hunt.{IsOver, IsTrialOf};
 
-use crate::check::{first_violated, has_ended};
 use crate::one_run::run;
 use crate::trial::Trial;
 use std::alloc::{AllocError, Global};
 use thiserror::Error;
+use tm_check::{first_violated, has_ended};
 use tm_hist::{Board, BoardFault, History};
 use tm_pick::Picker;
 

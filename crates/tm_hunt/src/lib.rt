@@ -1,14 +1,13 @@
 //! The search for a schedule that breaks a program.
 //!
-//! A [`Trial`] is a program with checks on the end of its runs. [`first_failing`] makes runs by chance ([`tm_pick`])
+//! A [`Trial`] is a program with checks (`tm_check`) on the end of its runs. [`first_failing`] makes runs by chance ([`tm_pick`])
 //! until one violates a check, and [`shorten`] finds a shorter schedule that violates the same check. Promised: a
 //! schedule that is answered, run from the program's opening state, violates the check that it is answered with; and
 //! there are as many runs as are counted, which may be alike, that violate none. The words for it stand in
-//! `specs/Checks.antt` and `specs/Hunt.antt`, over the boards of `tm_hist`, whose machine is the run of their history.
+//! `specs/Hunt.antt`, over the boards of `tm_hist`, whose machine is the run of their history.
 #![tactic(auto)]
 
 mod attempt;
-mod check;
 mod cost;
 mod cuts;
 mod one_run;
@@ -17,7 +16,6 @@ mod shortening;
 mod trial;
 
 pub use attempt::{Failure, HuntFault, usual_length};
-pub use check::{Check, Comparison};
 pub use cost::switches;
 pub use searching::{Found, Search, first_failing};
 pub use shortening::shorten;

@@ -3,12 +3,12 @@
 ghost use Rattle.std.specs.Prelude.{◌≡◌, ◌<◌, ◌+◌, All, IfErr, IfOk, IfSome, IsNone, IsTrue, length};
 ghost use Rattle.tm_hist.specs.Board.{SameBoard};
 ghost use Rattle.tm_hunt.specs.Attempts.{IsBoardRefusal};
-ghost use Rattle.tm_hunt.specs.Checks.{HasEnded};
+ghost use Rattle.tm_check.specs.Checks.{HasEnded};
 ghost use Rattle.tm_hunt.specs.Hunt.{IsOver, IsTrialOf, SomeViolated};
 
-use crate::check::{Check, first_violated, has_ended};
 use crate::trial::Trial;
 use std::alloc::Global;
+use tm_check::{Check, first_violated, has_ended};
 use tm_core::{Outcome, Stop};
 use tm_hist::{Board, BoardFault};
 use tm_pick::{Going, Picker, is_waiting};

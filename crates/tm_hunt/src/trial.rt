@@ -1,7 +1,7 @@
 //! What is tried.
 
-use crate::check::Check;
 use ia_image::Program;
+use tm_check::Check;
 use tm_core::Limits;
 
 /// A program, and what is checked of its runs.

@@ -1,0 +1,100 @@
+//! Whether a board's machine and a serial run ended alike.
+
+ghost use Rattle.std.specs.Prelude.{◌≡◌, ◌↔◌, ◌<◌, IsTrue, length};
+ghost use Rattle.tm_hist.specs.Board.{stop_shown};
+ghost use Rattle.tm_hist.specs.Replay.{Replays, memory_of};
+ghost use Rattle.tm_core.specs.Theorem.{view_at};
+ghost use Rattle.elide_replay.specs.Alike.{SameCore, SameCores, SameRegs, SameStop};
+
+use tm_core::{CoreState, Machine};
+use tm_hist::{Board, Serial};
+use tm_rule::Stop;
+
+/// Whether a schedule on a board and a history on one memory ended alike.
+#[derive(Clone, Copy, PartialEq, Eq, Debug)]
+pub enum Agreement {
+    /// Memory, registers and stops are the same.
+    Agrees,
+    /// Some of them are not.
+    Differs,
+}
+
+/// Compares a board's machine with a serial run, which need not be that of the board's history. They agree exactly where
+/// memory is the same, both have as many cores, and of each core the registers (those before an open transaction) and the
+/// stop are the same. Takes no memory.
+pub fn agreement_of(board: &Board, serial: &Serial) -> Agreement
+    ensures { result ≡ Agreement.Agrees ↔ Replays board.now serial.now }
+{
+    if is_alike(board, serial) {
+        Agreement::Agrees
+    } else {
+        Agreement::Differs
+    }
+}
+
+fn is_alike(board: &Board, serial: &Serial) -> bool
+    ensures { IsTrue result ↔ Replays board.now serial.now }
+{
+    let machine = board.machine();
+    has_memory_of(machine, serial) && has_cores_of(machine, serial)
+}
+
+fn has_memory_of(machine: &Machine, serial: &Serial) -> bool
+    ensures { IsTrue result ↔ (memory_of serial.now ≡ machine.now.memory) }
+{
+    serial.memory() == machine.view()
+}
+
+// Whether each core is the same, and the serial run has no other.
+fn has_cores_of(machine: &Machine, serial: &Serial) -> bool
+    ensures { IsTrue result ↔ SameCores machine.now serial.now }
+{
+    let cores = machine.cores();
+    if serial.stop(cores).is_ok() {
+        return false;
+    }
+    for core in 0..cores {
+        if !is_same_core(machine, serial, core) {
+            return false;
+        }
+    }
+    true
+}
+
+fn is_same_core(machine: &Machine, serial: &Serial, core: u8) -> bool
+    requires { core < length machine.now.views }
+    ensures { IsTrue result ↔ SameCore machine.now serial.now core }
+{
+    has_regs_of(machine, serial, core) && has_stop_of(machine, serial, core)
+}
+
+fn has_regs_of(machine: &Machine, serial: &Serial, core: u8) -> bool
+    requires { core < length machine.now.views }
+    ensures { IsTrue result ↔ SameRegs machine.now serial.now core }
+{
+    match (machine.base_regs(core), serial.regs(core)) {
+        (Ok(shown), Ok(regs)) => regs == shown,
+        _ => false,
+    }
+}
+
+fn has_stop_of(machine: &Machine, serial: &Serial, core: u8) -> bool
+    requires { core < length machine.now.views }
+    ensures { IsTrue result ↔ SameStop machine.now serial.now core }
+{
+    match serial.stop(core) {
+        Ok(stop) => stop == stop_of(machine, core),
+        Err(_) => false,
+    }
+}
+
+// Why a core that the machine has stopped, where it has.
+fn stop_of(machine: &Machine, core: u8) -> Option<Stop>
+    requires { core < length machine.now.views }
+    ensures { result ≡ stop_shown (view_at machine.now core).mode }
+{
+    match machine.state(core) {
+        Ok(CoreState::Stopped(stop)) => Some(stop),
+        _ => None,
+    }
+}

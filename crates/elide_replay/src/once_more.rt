@@ -1,0 +1,149 @@
+//! `elide replay`.
+
+ghost use Rattle.std.specs.Prelude.{◌≡◌, ◌↔◌, ◌++◌, ◌∷◌, [], IfOk, OnOk};
+ghost use Rattle.elide_replay.specs.Replayed.{IsReplayed, cores_stepped};
+ghost use Rattle.elide_replay.specs.Told.{agreement_text};
+ghost use Rattle.tm_hist.specs.Board.{SameBoard};
+ghost use Rattle.tm_hist.specs.Replay.{Replays};
+
+use crate::agreement::{Agreement, agreement_of};
+use elide_args::ReplayOptions;
+use elide_program::Paths;
+use elide_setup::{
+    Course, Drawn, Fault, MemoryPart, Refusal, Setup, part_of, print, record, record_path,
+    scheduled,
+};
+use ia_text::Out;
+use std::alloc::Global;
+use tm_core::RunFault;
+use tm_hist::{Board, Serial};
+use tm_pick::Going;
+
+/// Runs a schedule on a board, and its history again on one memory; prints the state, the dump, and whether both ended
+/// alike, which they always do: a board's history replays.
+pub fn replay<P: Paths, O: Out>(
+    alloc: Global,
+    options: &ReplayOptions<'_>,
+    paths: &mut P,
+    out: &mut O,
+) -> Result<Agreement, Refusal>
+    ensures { IfOk result (λ agreement. agreement ≡ Agreement.Agrees) }
+{
+    let path = record_path(options.record, options.machine.file, paths)?;
+    let (setup, course) = scheduled(alloc, &options.machine, &options.schedule, paths)?;
+    let board = match course {
+        Course::Listed(steps) => replayed(alloc, &setup, steps.as_slice())?,
+        Course::Drawn(drawn) => drawn_board(alloc, &setup, drawn)?,
+    };
+    let part = part_of(board.machine().view(), setup.dump)?;
+    let serial = again(alloc, &board)?;
+    if path.is_some() {
+        record(path, cores_of(alloc, &board)?.as_slice(), paths)?;
+    }
+    let agreement = tell(&board, &serial, part, out)?;
+    Ok(agreement)
+}
+
+// The serial run of a board's history.
+fn again(alloc: Global, board: &Board) -> Result<Serial, Refusal>
+    ensures { IfOk result (λ serial. Replays board.now serial) }
+{
+    match board.replay(alloc) {
+        Ok(serial) => Ok(serial),
+        Err(fault) => Err(Refusal::Fault(Fault::Serial(fault))),
+    }
+}
+
+// Prints the state, the dump, and whether both runs ended alike.
+fn tell<O: Out>(
+    board: &Board,
+    serial: &Serial,
+    part: Option<MemoryPart<'_>>,
+    out: &mut O,
+) -> Result<Agreement, Refusal>
+    ensures { IfOk result (λ agreement. agreement ≡ Agreement.Agrees ↔ Replays board.now serial.now) }
+{
+    let agreement = agreement_of(board, serial);
+    print(board.machine(), part, text_of(agreement), out)?;
+    Ok(agreement)
+}
+
+fn text_of(agreement: Agreement) -> &'static [u8]
+    ensures { result.now ≡ agreement_text agreement }
+{
+    match agreement {
+        Agreement::Agrees => b"agree\n",
+        Agreement::Differs => b"differ\n",
+    }
+}
+
+// A board after these steps.
+fn replayed(alloc: Global, setup: &Setup, steps: &[u8]) -> Result<Board, Refusal>
+    ensures { IfOk result (λ board. IsReplayed setup.now steps.now board) }
+{
+    let limit = (steps.len() as u64).max(1);
+    let board = Board::new(alloc, &setup.program, setup.limits, limit);
+    let mut board = board.map_err(Fault::Board)?;
+    step_all(&mut board, steps)?;
+    Ok(board)
+}
+
+// A board after the steps that are drawn, until all cores have stopped or the limit is reached.
+fn drawn_board(alloc: Global, setup: &Setup, drawn: Drawn) -> Result<Board, Refusal> {
+    let board = Board::new(alloc, &setup.program, setup.limits, u64::from(drawn.most));
+    let mut board = board.map_err(Fault::Board)?;
+    let mut going = Going::all(board.cores());
+    let mut picker = drawn.picker();
+    for _ in 0..drawn.most {
+        if going.is_empty() {
+            break;
+        }
+        let core = picker.next(&going, false);
+        step(&mut board, core)?;
+        if board.is_stopped(core) {
+            going.remove(core);
+        }
+    }
+    Ok(board)
+}
+
+// The core of each step of a board.
+fn cores_of(alloc: Global, board: &Board) -> Result<Vec<u8>, Refusal> {
+    let mut cores = Vec::new(alloc);
+    let history = board.history();
+    for index in 0..history.len() {
+        if let Some((core, _outcome)) = history.get(index) {
+            if cores.push(core).is_err() {
+                return Err(Refusal::Fault(Fault::Run(RunFault::NoMemory)));
+            }
+        }
+    }
+    Ok(cores)
+}
+
+// One step of each core of the list, none where a number is no core's.
+fn step_all(board: &mut Board, steps: &[u8]) -> Result<(), Refusal>
+    ensures same { SameBoard board.old board.new }
+    ensures stepped { OnOk result (cores_stepped board.new ≡ cores_stepped board.old ++ steps.now) }
+{
+    let cores = board.cores();
+    if steps.iter().any(|core| *core >= cores) {
+        return Err(Refusal::Fault(Fault::Run(RunFault::NoSuchCore)));
+    }
+    for core in steps {
+        step(board, *core)?;
+    }
+    Ok(())
+}
+
+// One step of a core.
+#[inline(always)]
+fn step(board: &mut Board, core: u8) -> Result<(), Refusal>
+    ensures same { SameBoard board.old board.new }
+    ensures stepped { OnOk result (cores_stepped board.new ≡ cores_stepped board.old ++ core ∷ []) }
+{
+    match board.step(core) {
+        Ok(_outcome) => Ok(()),
+        Err(fault) => Err(Refusal::Fault(Fault::Step(fault))),
+    }
+}
