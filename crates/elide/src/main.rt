@@ -5,12 +5,15 @@
 
 mod ahead;
 mod arguments;
+mod progress;
 
 use ahead::ReadAhead;
 use arguments::{MOST, ROOM, Words, words_from};
 use elide_command::{HostPaths, command};
 use ia_text::{Out, ToWriter};
+use progress::ProgressLine;
 use std::io;
+use std::io::IsTerminal;
 use std::process::ExitCode;
 use tm_debug::FromReader;
 
@@ -28,6 +31,8 @@ fn main(rt: HostRuntime) -> ExitCode {
     let mut paths = HostPaths::new(&rt);
     let mut input = FromReader::new(ReadAhead::new(rt.stdin()));
     let mut out = ToWriter::new(io::writer(&rt));
+    let is_terminal = stderr.is_terminal();
+    let mut progress = ProgressLine::new(&rt, ToWriter::new(&stderr), is_terminal);
     let status = command(
         &rt,
         words.as_slice(),
@@ -35,6 +40,7 @@ fn main(rt: HostRuntime) -> ExitCode {
         &mut input,
         &mut out,
         &mut err,
+        &mut progress,
     );
     ExitCode::from(status)
 }

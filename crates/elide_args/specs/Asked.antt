@@ -5,10 +5,12 @@ use Rattle.std.specs.Option.{option_copied}
 use Rattle.clap.specs.Matches.{first_value}
 use Rattle.clap.specs.declared.parser.matches.Found.{Found}
 use Rattle.elide_args.specs.declared.subcommand.MachineOptions.{MachineOptions}
+use Rattle.elide_args.specs.declared.subcommand.OutcomesOptions.{OutcomesOptions}
 use Rattle.elide_args.specs.declared.subcommand.ScheduleOptions.{ScheduleOptions}
 use Rattle.elide_args.specs.declared.subcommand.Subcommand.{Subcommand}
 use Rattle.elide_args.specs.declared.subcommand.ThreadsOptions.{ThreadsOptions}
 use Rattle.elide_args.specs.declared.subcommand.Subcommand.TheVariants.{Asm, Dis, Run, Threads, Replay, Debug, Hunt}
+use Rattle.elide_args.specs.declared.subcommand.Subcommand.TheVariants.{Outcomes, Explain}
 
 pub record IsMachine (found : Found) (options : MachineOptions) : Type 0 where
   pub file : first_value found (codes "FILE") ≡ Some options.file.now
@@ -31,6 +33,11 @@ pub record IsWork (found : Found) (options : ThreadsOptions) : Type 0 where
   pub burst : first_value found (codes "burst") ≡ option_copied options.burst
   pub path : first_value found (codes "record") ≡ option_copied options.«record»
 
+pub record IsSearch (found : Found) (options : OutcomesOptions) : Type 0 where
+  pub machine : IsMachine found options.machine
+  pub show : first_value found (codes "show") ≡ option_copied options.show
+  pub limit : first_value found (codes "limit") ≡ option_copied options.limit
+
 -- the subcommand of this name, with these values
 abbrev pub Asks : Found → List ℕ → Subcommand → Type 0
 Asks found name (Asm options) = (name ≡ codes "asm") × (first_value found (codes "FILE") ≡ Some options.file.now)
@@ -42,3 +49,6 @@ Asks found name (Replay options) =
     (name ≡ codes "replay") × IsMachine found options.machine × IsSchedule found options.schedule
 Asks found name (Debug options) = (name ≡ codes "debug") × IsMachine found options.machine
 Asks found name (Hunt options) = (name ≡ codes "hunt") × IsMachine found options.machine
+Asks found name (Outcomes options) = (name ≡ codes "outcomes") × IsSearch found options
+Asks found name (Explain options) =
+    (name ≡ codes "explain") × (first_value found (codes "FAULT") ≡ option_copied options.fault)

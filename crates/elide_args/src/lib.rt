@@ -8,12 +8,13 @@
 mod hunt_line;
 mod hunt_options;
 mod line;
+mod outcomes_line;
 mod subcommand;
 mod words;
 
 pub use hunt_options::HuntOptions;
 pub use subcommand::{
-    AsmOptions, DebugOptions, DisOptions, MachineOptions, ReplayOptions, RunOptions,
-    ScheduleOptions, Subcommand, ThreadsOptions,
+    AsmOptions, DebugOptions, DisOptions, ExplainOptions, MachineOptions, OutcomesOptions,
+    ReplayOptions, RunOptions, ScheduleOptions, Subcommand, ThreadsOptions,
 };
 pub use words::{NotASubcommand, subcommand_of};

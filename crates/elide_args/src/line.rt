@@ -1,6 +1,7 @@
 //! The command line.
 
 use crate::hunt_line::{drawn, expect_halt, hunt_line};
+use crate::outcomes_line::outcomes_line;
 use clap::{Arg, ArgAction, Command};
 use std::alloc::{AllocError, Global};
 
@@ -21,7 +22,9 @@ pub fn command_line<'a>(alloc: Global) -> Result<Command<'a>, AllocError> {
         .subcommand(threads_line(alloc)?)?
         .subcommand(replay_line(alloc)?)?
         .subcommand(debug_line(alloc)?)?
-        .subcommand(hunt_line(alloc)?)
+        .subcommand(hunt_line(alloc)?)?
+        .subcommand(outcomes_line(alloc)?)?
+        .subcommand(explain_line(alloc)?)
 }
 
 // A subcommand on a file.
@@ -55,6 +58,16 @@ fn dis_line<'a>(alloc: Global) -> Result<Command<'a>, AllocError> {
             .about("Prints the instructions of a program's code")
             .after_help("Example: elide dis examples/increment.img"),
     )
+}
+
+fn explain_line<'a>(alloc: Global) -> Result<Command<'a>, AllocError> {
+    let fault = Arg::new(alloc, "FAULT").help(
+        "A fault's number or name; without it the numbers and names of all are printed",
+    );
+    Command::new(alloc, "explain")
+        .about("Prints what a fault means, and what to do")
+        .after_help("Example: elide explain 16")
+        .arg(fault)
 }
 
 // A subcommand that makes a machine.

@@ -19,6 +19,10 @@ pub enum Subcommand<'a> {
     Debug(DebugOptions<'a>),
     /// `hunt`.
     Hunt(HuntOptions<'a>),
+    /// `outcomes`.
+    Outcomes(OutcomesOptions<'a>),
+    /// `explain`.
+    Explain(ExplainOptions<'a>),
 }
 
 /// The options of `asm`.
@@ -81,6 +85,24 @@ pub struct ReplayOptions<'a> {
 pub struct DebugOptions<'a> {
     /// The machine.
     pub machine: MachineOptions<'a>,
+}
+
+/// The options of `explain`.
+#[derive(Clone, Copy, Debug)]
+pub struct ExplainOptions<'a> {
+    /// The number or the name of a fault.
+    pub fault: Option<&'a str>,
+}
+
+/// The options of `outcomes`.
+#[derive(Clone, Copy, Debug)]
+pub struct OutcomesOptions<'a> {
+    /// The machine.
+    pub machine: MachineOptions<'a>,
+    /// `--show`: what is shown of the state where all cores have stopped.
+    pub show: Option<&'a str>,
+    /// `--limit`: the most states.
+    pub limit: Option<&'a str>,
 }
 
 /// The options of each command that makes a machine, of which only FILE is there for certain.

@@ -7,8 +7,8 @@ ghost use Rattle.elide_args.specs.Asked.{Asks, IsMachine, IsSchedule};
 use crate::hunt_options::HuntOptions;
 use crate::line::command_line;
 use crate::subcommand::{
-    AsmOptions, DebugOptions, DisOptions, MachineOptions, ReplayOptions, RunOptions,
-    ScheduleOptions, Subcommand, ThreadsOptions,
+    AsmOptions, DebugOptions, DisOptions, ExplainOptions, MachineOptions, OutcomesOptions,
+    ReplayOptions, RunOptions, ScheduleOptions, Subcommand, ThreadsOptions,
 };
 use clap::error::ErrorKind;
 use clap::{ArgMatches, Error};
@@ -90,6 +90,10 @@ fn asked<'a>(alloc: Global, matches: &ArgMatches<'a>) -> Option<Subcommand<'a>> 
             Err(_) => None,
         };
     }
+    if name == "explain" {
+        let fault = options.get_str("FAULT");
+        return Some(Subcommand::Explain(ExplainOptions { fault }));
+    }
     subcommand_named(name, options)
 }
 
@@ -123,6 +127,11 @@ fn subcommand_named<'a>(name: &str, options: &ArgMatches<'a>) -> Option<Subcomma
         })),
         "debug" => Some(Subcommand::Debug(DebugOptions {
             machine: machine_of(file, options),
+        })),
+        "outcomes" => Some(Subcommand::Outcomes(OutcomesOptions {
+            machine: machine_of(file, options),
+            show: options.get_str("show"),
+            limit: options.get_str("limit"),
         })),
         _ => None,
     }

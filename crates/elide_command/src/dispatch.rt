@@ -6,10 +6,13 @@ use crate::telling::tell;
 use elide_args::{NotASubcommand, Subcommand, subcommand_of};
 use elide_asm::{asm, dis};
 use elide_debug::debug;
+use elide_explain::explain;
 use elide_hunt::{Answer as Hunted, hunt};
+use elide_outcomes::{Answer as Searched, outcomes};
 use elide_program::Paths;
-use elide_run::{Agreement, Ending, replay, run};
-use elide_setup::{Fault, Refusal};
+use elide_replay::{Agreement, replay};
+use elide_run::{Ending, run};
+use elide_setup::{Fault, Progress, Refusal};
 use elide_threads::threads;
 use ia_text::Out;
 use std::sync::Wait;
@@ -17,23 +20,32 @@ use std::thread::Threads;
 use tm_debug::In;
 
 /// Does what the words say, and gives the exit status: 0, 1 for a fault, 2 for a misused command line, 3 where a run failed what
-/// was asked of it.
+/// was asked of it or a search was cut at its limit.
 ///
 /// The words are the arguments without the program's name. A fault is one line on `err`, as `fault 23 BadCores`, or with the
 /// line of a text as `fault 27 BadImageText line 3`; a misused option is `usage: ` and its name. Nothing is written on
-/// `out` then, unless the fault came while writing there. Telling it takes no memory. Waits only for `input` and for workers.
-pub fn command<R: Threads + Wait + Sync + AllocGlobal, P: Paths, I: In, O: Out, E: Out>(
+/// `out` then, unless the fault came while writing there. Telling it takes no memory. Long work tells `progress` how far it is.
+/// Waits only for `input` and for workers.
+pub fn command<
+    R: Threads + Wait + Sync + AllocGlobal,
+    P: Paths,
+    I: In,
+    O: Out,
+    E: Out,
+    G: Progress,
+>(
     rt: &R,
     words: &[&str],
     paths: &mut P,
     input: &mut I,
     out: &mut O,
     err: &mut E,
+    progress: &mut G,
 ) -> u8
     ensures { result ≤ 3 }
 {
     match subcommand_of(rt.alloc(), words, out, err) {
-        Ok(subcommand) => match obey(rt, &subcommand, paths, input, out) {
+        Ok(subcommand) => match obey(rt, &subcommand, paths, input, out, progress) {
             Ok(Answer::Done) => 0,
             Ok(Answer::Differs) => 1,
             Ok(Answer::Fails) => 3,
@@ -53,31 +65,38 @@ enum Answer {
     Done,
     // A history that was run again ended otherwise.
     Differs,
-    // A run failed what was asked of it.
+    // A run failed what was asked of it, or a search was cut.
     Fails,
 }
 
 // Does what is asked for.
-fn obey<R: Threads + Wait + Sync + AllocGlobal, P: Paths, I: In, O: Out>(
+fn obey<R: Threads + Wait + Sync + AllocGlobal, P: Paths, I: In, O: Out, G: Progress>(
     rt: &R,
     subcommand: &Subcommand<'_>,
     paths: &mut P,
     input: &mut I,
     out: &mut O,
+    progress: &mut G,
 ) -> Result<Answer, Refusal> {
     let alloc = rt.alloc();
     match subcommand {
         Subcommand::Asm(options) => asm(alloc, options, paths, out)?,
         Subcommand::Dis(options) => dis(alloc, options, paths, out)?,
+        Subcommand::Explain(options) => explain(options, out)?,
         Subcommand::Threads(options) => threads(rt, options, paths, out)?,
         Subcommand::Debug(options) => debug(rt, alloc, options, paths, input, out)?,
         Subcommand::Run(options) => {
-            if run(alloc, options, paths, out)? == Ending::RunsOn {
+            if run(alloc, options, paths, out, progress)? == Ending::RunsOn {
                 return Ok(Answer::Fails);
             }
         }
         Subcommand::Hunt(options) => {
-            if hunt(rt, options, paths, out)? == Hunted::Failed {
+            if hunt(rt, options, paths, out, progress)? == Hunted::Failed {
+                return Ok(Answer::Fails);
+            }
+        }
+        Subcommand::Outcomes(options) => {
+            if outcomes(alloc, options, paths, out)? == Searched::Cut {
                 return Ok(Answer::Fails);
             }
         }

@@ -14,6 +14,7 @@ mod number;
 mod paths;
 mod replacing;
 mod settings;
+mod sums;
 
 pub use entries::EntryList;
 pub use fault::{ProgramFault, ProgramRefusal};
@@ -21,3 +22,4 @@ pub use file::{MOST_BYTES, ProgramFile, read_file, read_source};
 pub use host_paths::HostPaths;
 pub use paths::{Paths, ReadFault, Text};
 pub use settings::{Dump, Settings, number_of};
+pub use sums::sum_of;

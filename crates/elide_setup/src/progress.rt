@@ -1,0 +1,20 @@
+//! How far long work is.
+
+/// A place that is told how far long work is. What it shows of that, and whether anything, is its own: no answer depends on it.
+pub trait Progress {
+    /// So many of these things are done, of at most so many.
+    fn tell(&mut self, done: u64, most: u64, things: &str);
+
+    /// The work has ended.
+    fn end(&mut self);
+}
+
+/// A place that shows nothing.
+#[derive(Clone, Copy, PartialEq, Eq, Debug)]
+pub struct Silent;
+
+impl Progress for Silent {
+    fn tell(&mut self, _done: u64, _most: u64, _things: &str) {}
+
+    fn end(&mut self) {}
+}
