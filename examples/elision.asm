@@ -1,7 +1,8 @@
 ; An elided lock on four cores.
 ;
 ; Each core adds 1 to the counter 1000 times. It tries without the lock: in a transaction it reads the lock, and where the
-; lock is free it adds 1 and commits. Where the lock is taken, or the transaction aborts, it takes the lock.
+; lock is free it adds 1 and commits. Where the lock is taken, or the transaction aborts, it waits until the lock is
+; free, and takes it.
 ; The counter is 4000 in the end, whatever the order of the steps.
 ;
 ;   ./elide threads examples/elision.asm --cores 4 --budget 1000000 --record schedule.txt --dump 0x1c0:4
@@ -15,7 +16,11 @@ start:  mov esi, 1000
         xend
         jmp .done
 .busy:  xabort 0xff
-.fall:  mov eax, 1
+.fall:  cmp dword [mutex], 0    ; waits by loads: each xchg would abort the transactions that have read the lock
+        je .take
+        pause
+        jmp .fall
+.take:  mov eax, 1
         xchg eax, [mutex]       ; the lock itself
         test eax, eax
         jnz .fall

@@ -25,7 +25,12 @@ use std::{fs, io};
 
 /// The documents whose commands are run, in this order, so that a later one may read what an earlier one wrote. The last is
 /// there for the tests alone.
-const DOCUMENTS: [&str; 3] = ["docs/TUTORIAL.md", "examples/README.md", "files.md"];
+const DOCUMENTS: [&str; 4] = [
+    "docs/TUTORIAL.md",
+    "docs/FAULTS.md",
+    "examples/README.md",
+    "files.md",
+];
 
 /// The table of worked rows.
 const TABLE: &str = "rows.txt";

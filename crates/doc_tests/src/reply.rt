@@ -1,7 +1,7 @@
 //! What a command line of `elide` comes to.
 
 use doc_lines::{Room, Told};
-use elide_command::{Paths, command};
+use elide_command::{Paths, Silent, command};
 use ia_text::ToWriter;
 use std::alloc::{AllocError, Global};
 use std::io;
@@ -55,7 +55,15 @@ pub fn reply_to<R: Threads + Wait + Sync + AllocGlobal, P: Paths>(
     });
     let mut out = ToWriter::new(Sheet::new(alloc, room.out));
     let mut err = ToWriter::new(Sheet::new(alloc, room.err));
-    let status = command(rt, words.as_slice(), paths, &mut input, &mut out, &mut err);
+    let status = command(
+        rt,
+        words.as_slice(),
+        paths,
+        &mut input,
+        &mut out,
+        &mut err,
+        &mut Silent,
+    );
     Ok(Reply {
         status,
         out: out.writer.text(alloc)?,
