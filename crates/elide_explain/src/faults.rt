@@ -177,8 +177,8 @@ const SESSION: &str = "\
     To do: cores count from 0; --cores says how many there are.
     Example: step 2 of two cores
 73 OutOfRange
-    A part of memory that is to be printed or checked passes the memory's end; `error 73` of the debugger also where a count is
-    not in its range.
+    A part of memory that is to be printed or checked passes the memory's end, or a core that is to be shown is not there;
+    `error 73` of the debugger also where a count is not in its range.
     To do: --dump takes ADDRESS:BYTES below --mem; run takes 1 to 100000, mem 1 to 256, list 1 to 64.
     Example: --dump 0xffff:2 of a memory of 65536 bytes
 74 LimitReached
