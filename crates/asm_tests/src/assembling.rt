@@ -144,7 +144,7 @@ fn directives(rt: HostRuntime) -> Result<(), Fail> {
         lists(
             alloc,
             b"x: db 'abcdefgh', 'ijklmn'\ndb ''\nresb 13\nalign 2\n",
-            b"00000100  6162636465666768696a6b6c\n0000010e  \n0000010e  000000000000000000000000\n0000011b  90\n"
+            b"00000100  6162636465666768696a6b6c\n0000010c  6d6e\n0000010e  000000000000000000000000\n0000011a  00\n0000011b  90\n"
         )
     );
     assert_eq!(rt;

@@ -4,13 +4,15 @@ use Rattle.std.specs.Prelude.{◌≡◌, ℕ, List, Some, codes}
 use Rattle.std.specs.Option.{option_copied}
 use Rattle.clap.specs.Matches.{first_value}
 use Rattle.clap.specs.declared.parser.matches.Found.{Found}
+use Rattle.elide_args.specs.declared.subcommand.DrawOptions.{DrawOptions}
 use Rattle.elide_args.specs.declared.subcommand.MachineOptions.{MachineOptions}
 use Rattle.elide_args.specs.declared.subcommand.OutcomesOptions.{OutcomesOptions}
 use Rattle.elide_args.specs.declared.subcommand.ScheduleOptions.{ScheduleOptions}
+use Rattle.elide_args.specs.declared.subcommand.StatsOptions.{StatsOptions}
 use Rattle.elide_args.specs.declared.subcommand.Subcommand.{Subcommand}
 use Rattle.elide_args.specs.declared.subcommand.ThreadsOptions.{ThreadsOptions}
 use Rattle.elide_args.specs.declared.subcommand.Subcommand.TheVariants.{Asm, Dis, Run, Threads, Replay, Debug, Hunt}
-use Rattle.elide_args.specs.declared.subcommand.Subcommand.TheVariants.{Outcomes, Explain}
+use Rattle.elide_args.specs.declared.subcommand.Subcommand.TheVariants.{Outcomes, Stats, Draw, Explain}
 
 pub record IsMachine (found : Found) (options : MachineOptions) : Type 0 where
   pub file : first_value found (codes "FILE") ≡ Some options.file.now
@@ -38,6 +40,17 @@ pub record IsSearch (found : Found) (options : OutcomesOptions) : Type 0 where
   pub show : first_value found (codes "show") ≡ option_copied options.show
   pub limit : first_value found (codes "limit") ≡ option_copied options.limit
 
+pub record IsCounting (found : Found) (options : StatsOptions) : Type 0 where
+  pub machine : IsMachine found options.machine
+  pub schedule : IsSchedule found options.schedule
+
+pub record IsPicture (found : Found) (options : DrawOptions) : Type 0 where
+  pub machine : IsMachine found options.machine
+  pub schedule : IsSchedule found options.schedule
+  pub from : first_value found (codes "from") ≡ option_copied options.from
+  pub to : first_value found (codes "to") ≡ option_copied options.to
+  pub cores : first_value found (codes "core") ≡ option_copied options.cores
+
 -- the subcommand of this name, with these values
 abbrev pub Asks : Found → List ℕ → Subcommand → Type 0
 Asks found name (Asm options) = (name ≡ codes "asm") × (first_value found (codes "FILE") ≡ Some options.file.now)
@@ -50,5 +63,7 @@ Asks found name (Replay options) =
 Asks found name (Debug options) = (name ≡ codes "debug") × IsMachine found options.machine
 Asks found name (Hunt options) = (name ≡ codes "hunt") × IsMachine found options.machine
 Asks found name (Outcomes options) = (name ≡ codes "outcomes") × IsSearch found options
+Asks found name (Stats options) = (name ≡ codes "stats") × IsCounting found options
+Asks found name (Draw options) = (name ≡ codes "draw") × IsPicture found options
 Asks found name (Explain options) =
     (name ≡ codes "explain") × (first_value found (codes "FAULT") ≡ option_copied options.fault)

@@ -5,16 +5,17 @@
 //! of `clap` leaves it. Stands on `ia_text` for the devices that texts go to.
 #![tactic(auto)]
 
-mod hunt_line;
 mod hunt_options;
 mod line;
-mod outcomes_line;
+mod options;
 mod subcommand;
+mod subcommands;
 mod words;
 
 pub use hunt_options::HuntOptions;
 pub use subcommand::{
-    AsmOptions, DebugOptions, DisOptions, ExplainOptions, MachineOptions, OutcomesOptions,
-    ReplayOptions, RunOptions, ScheduleOptions, Subcommand, ThreadsOptions,
+    AsmOptions, DebugOptions, DisOptions, DrawOptions, ExplainOptions, MachineOptions,
+    OutcomesOptions, ReplayOptions, RunOptions, ScheduleOptions, StatsOptions, Subcommand,
+    ThreadsOptions,
 };
 pub use words::{NotASubcommand, subcommand_of};

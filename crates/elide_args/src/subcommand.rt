@@ -21,6 +21,10 @@ pub enum Subcommand<'a> {
     Hunt(HuntOptions<'a>),
     /// `outcomes`.
     Outcomes(OutcomesOptions<'a>),
+    /// `stats`.
+    Stats(StatsOptions<'a>),
+    /// `draw`.
+    Draw(DrawOptions<'a>),
     /// `explain`.
     Explain(ExplainOptions<'a>),
 }
@@ -50,6 +54,8 @@ pub struct RunOptions<'a> {
     pub schedule: ScheduleOptions<'a>,
     /// Whether the outcome of each step is printed.
     pub traces: bool,
+    /// Whether the reason of each abort is printed.
+    pub explains: bool,
     /// Whether a core that has not stopped at the end is a failure.
     pub expects_halt: bool,
     /// `--record`: the path that the schedule is written to.
@@ -65,6 +71,8 @@ pub struct ThreadsOptions<'a> {
     pub budget: Option<&'a str>,
     /// `--burst`: how many steps a core makes before another can come between.
     pub burst: Option<&'a str>,
+    /// Whether the reason of each abort is printed.
+    pub explains: bool,
     /// `--record`: the path that the schedule is written to.
     pub record: Option<&'a str>,
 }
@@ -76,6 +84,8 @@ pub struct ReplayOptions<'a> {
     pub machine: MachineOptions<'a>,
     /// The schedule.
     pub schedule: ScheduleOptions<'a>,
+    /// Whether the reason of each abort is printed.
+    pub explains: bool,
     /// `--record`: the path that the schedule is written to.
     pub record: Option<&'a str>,
 }
@@ -103,6 +113,32 @@ pub struct OutcomesOptions<'a> {
     pub show: Option<&'a str>,
     /// `--limit`: the most states.
     pub limit: Option<&'a str>,
+}
+
+/// The options of `stats`.
+#[derive(Clone, Copy, Debug)]
+pub struct StatsOptions<'a> {
+    /// The machine.
+    pub machine: MachineOptions<'a>,
+    /// The schedule.
+    pub schedule: ScheduleOptions<'a>,
+    /// Whether JSON is printed in place of columns.
+    pub is_json: bool,
+}
+
+/// The options of `draw`.
+#[derive(Clone, Copy, Debug)]
+pub struct DrawOptions<'a> {
+    /// The machine.
+    pub machine: MachineOptions<'a>,
+    /// The schedule.
+    pub schedule: ScheduleOptions<'a>,
+    /// `--from`: the first step that is drawn.
+    pub from: Option<&'a str>,
+    /// `--to`: the last step that is drawn.
+    pub to: Option<&'a str>,
+    /// `--core`: the cores that are drawn.
+    pub cores: Option<&'a str>,
 }
 
 /// The options of each command that makes a machine, of which only FILE is there for certain.

@@ -2,13 +2,14 @@
 
 ghost use Rattle.std.specs.Prelude.{◌≡◌, IfSome, Some, codes};
 ghost use Rattle.clap.specs.Matches.{first_value, found_of};
-ghost use Rattle.elide_args.specs.Asked.{Asks, IsMachine, IsSchedule};
+ghost use Rattle.elide_args.specs.Asked.{Asks, IsCounting, IsMachine, IsPicture, IsSchedule};
 
 use crate::hunt_options::HuntOptions;
 use crate::line::command_line;
 use crate::subcommand::{
-    AsmOptions, DebugOptions, DisOptions, ExplainOptions, MachineOptions, OutcomesOptions,
-    ReplayOptions, RunOptions, ScheduleOptions, Subcommand, ThreadsOptions,
+    AsmOptions, DebugOptions, DisOptions, DrawOptions, ExplainOptions, MachineOptions,
+    OutcomesOptions, ReplayOptions, RunOptions, ScheduleOptions, StatsOptions, Subcommand,
+    ThreadsOptions,
 };
 use clap::error::ErrorKind;
 use clap::{ArgMatches, Error};
@@ -111,6 +112,7 @@ fn subcommand_named<'a>(name: &str, options: &ArgMatches<'a>) -> Option<Subcomma
             machine: machine_of(file, options),
             schedule: schedule_of(options),
             traces: options.get_flag("trace"),
+            explains: options.get_flag("why"),
             expects_halt: options.get_flag("expect-halt"),
             record: options.get_str("record"),
         })),
@@ -118,11 +120,13 @@ fn subcommand_named<'a>(name: &str, options: &ArgMatches<'a>) -> Option<Subcomma
             machine: machine_of(file, options),
             budget: options.get_str("budget"),
             burst: options.get_str("burst"),
+            explains: options.get_flag("why"),
             record: options.get_str("record"),
         })),
         "replay" => Some(Subcommand::Replay(ReplayOptions {
             machine: machine_of(file, options),
             schedule: schedule_of(options),
+            explains: options.get_flag("why"),
             record: options.get_str("record"),
         })),
         "debug" => Some(Subcommand::Debug(DebugOptions {
@@ -133,6 +137,8 @@ fn subcommand_named<'a>(name: &str, options: &ArgMatches<'a>) -> Option<Subcomma
             show: options.get_str("show"),
             limit: options.get_str("limit"),
         })),
+        "stats" => Some(Subcommand::Stats(stats_of(file, options))),
+        "draw" => Some(Subcommand::Draw(draw_of(file, options))),
         _ => None,
     }
 }
@@ -168,6 +174,30 @@ fn several_of<'a>(
     match options.get_strs(name) {
         Some(values) => Vec::from_slice(alloc, values),
         None => Ok(Vec::new(alloc)),
+    }
+}
+
+fn stats_of<'a>(file: &'a str, options: &ArgMatches<'a>) -> StatsOptions<'a>
+    requires { first_value (found_of options.now) (codes "FILE") ≡ Some file.now }
+    ensures { IsCounting (found_of options.now) result }
+{
+    StatsOptions {
+        machine: machine_of(file, options),
+        schedule: schedule_of(options),
+        is_json: options.get_flag("json"),
+    }
+}
+
+fn draw_of<'a>(file: &'a str, options: &ArgMatches<'a>) -> DrawOptions<'a>
+    requires { first_value (found_of options.now) (codes "FILE") ≡ Some file.now }
+    ensures { IsPicture (found_of options.now) result }
+{
+    DrawOptions {
+        machine: machine_of(file, options),
+        schedule: schedule_of(options),
+        from: options.get_str("from"),
+        to: options.get_str("to"),
+        cores: options.get_str("core"),
     }
 }
 

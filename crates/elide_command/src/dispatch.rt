@@ -6,6 +6,7 @@ use crate::telling::tell;
 use elide_args::{NotASubcommand, Subcommand, subcommand_of};
 use elide_asm::{asm, dis};
 use elide_debug::debug;
+use elide_draw::draw;
 use elide_explain::explain;
 use elide_hunt::{Answer as Hunted, hunt};
 use elide_outcomes::{Answer as Searched, outcomes};
@@ -13,6 +14,7 @@ use elide_program::Paths;
 use elide_replay::{Agreement, replay};
 use elide_run::{Ending, run};
 use elide_setup::{Fault, Progress, Refusal};
+use elide_stats::stats;
 use elide_threads::threads;
 use ia_text::Out;
 use std::sync::Wait;
@@ -85,6 +87,8 @@ fn obey<R: Threads + Wait + Sync + AllocGlobal, P: Paths, I: In, O: Out, G: Prog
         Subcommand::Explain(options) => explain(options, out)?,
         Subcommand::Threads(options) => threads(rt, options, paths, out)?,
         Subcommand::Debug(options) => debug(rt, alloc, options, paths, input, out)?,
+        Subcommand::Draw(options) => draw(alloc, options, paths, out, progress)?,
+        Subcommand::Stats(options) => stats(alloc, options, paths, out, progress)?,
         Subcommand::Run(options) => {
             if run(alloc, options, paths, out, progress)? == Ending::RunsOn {
                 return Ok(Answer::Fails);

@@ -8,19 +8,21 @@ ghost use Rattle.tm_hist.specs.Replay.{Replays};
 
 use crate::agreement::{Agreement, agreement_of};
 use elide_args::ReplayOptions;
+use elide_places::Places;
 use elide_program::Paths;
 use elide_setup::{
-    Course, Drawn, Fault, MemoryPart, Refusal, Setup, part_of, print, record, record_path,
-    scheduled,
+    Course, Drawn, Fault, Gathered, MemoryPart, Refusal, Setup, part_of, print, record,
+    record_path, scheduled,
 };
+use elide_why::{scheduled_places, tell_history};
 use ia_text::Out;
 use std::alloc::Global;
 use tm_core::RunFault;
 use tm_hist::{Board, Serial};
 use tm_pick::Going;
 
-/// Runs a schedule on a board, and its history again on one memory; prints the state, the dump, and whether both ended
-/// alike, which they always do: a board's history replays.
+/// Runs a schedule on a board, and its history again on one memory; prints the aborts with their reasons where they are
+/// asked for, the state, the dump, and whether both ended alike, which they always do: a board's history replays.
 pub fn replay<P: Paths, O: Out>(
     alloc: Global,
     options: &ReplayOptions<'_>,
@@ -30,7 +32,7 @@ pub fn replay<P: Paths, O: Out>(
     ensures { IfOk result (λ agreement. agreement ≡ Agreement.Agrees) }
 {
     let path = record_path(options.record, options.machine.file, paths)?;
-    let (setup, course) = scheduled(alloc, &options.machine, &options.schedule, paths)?;
+    let (setup, course, places) = begun(alloc, options, paths)?;
     let board = match course {
         Course::Listed(steps) => replayed(alloc, &setup, steps.as_slice())?,
         Course::Drawn(drawn) => drawn_board(alloc, &setup, drawn)?,
@@ -40,8 +42,33 @@ pub fn replay<P: Paths, O: Out>(
     if path.is_some() {
         record(path, cores_of(alloc, &board)?.as_slice(), paths)?;
     }
-    let agreement = tell(&board, &serial, part, out)?;
+    let mut page = Gathered::new(out);
+    if let Some(places) = places {
+        tell_history(alloc, &board, options.machine.file, &places, &mut page)?;
+    }
+    let agreement = tell(&board, &serial, part, &mut page)?;
+    page.finish()?;
     Ok(agreement)
+}
+
+// The program and the schedule, and the places of its source where the reasons of the aborts are asked for.
+fn begun<P: Paths>(
+    alloc: Global,
+    options: &ReplayOptions<'_>,
+    paths: &mut P,
+) -> Result<(Setup, Course, Option<Places>), Refusal> {
+    if options.explains {
+        let (setup, course, places) = scheduled_places(
+            alloc,
+            &options.machine,
+            &options.schedule,
+            paths,
+        )?;
+        Ok((setup, course, Some(places)))
+    } else {
+        let (setup, course) = scheduled(alloc, &options.machine, &options.schedule, paths)?;
+        Ok((setup, course, None))
+    }
 }
 
 // The serial run of a board's history.

@@ -9,7 +9,7 @@ use tm_hist::write_outcome;
 use tm_pick::Going;
 
 /// After how many steps it is told how far a run is.
-const PORTION: u32 = 65536;
+pub const PORTION: u32 = 65536;
 
 /// What is wanted of a run whose steps are drawn.
 #[derive(Clone, Copy, Debug)]

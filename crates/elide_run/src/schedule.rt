@@ -1,6 +1,7 @@
 //! `elide run`.
 
 use crate::drawn::{Wanted, run_drawn};
+use crate::explained::run_explained;
 use crate::halting::{Ending, ending_of};
 use elide_args::RunOptions;
 use elide_program::Paths;
@@ -13,8 +14,8 @@ use std::alloc::Global;
 use tm_core::{Machine, Outcome};
 use tm_hist::write_outcome;
 
-/// Runs a schedule of core steps, and prints the outcomes where they are asked for, the state, and the dump; and where it is
-/// expected that all cores stop, those that did not.
+/// Runs a schedule of core steps, and prints the outcomes where they are asked for, the reasons of the aborts where these
+/// are, the state, and the dump; and where it is expected that all cores stop, those that did not.
 pub fn run<P: Paths, O: Out, G: Progress>(
     alloc: Global,
     options: &RunOptions<'_>,
@@ -22,16 +23,32 @@ pub fn run<P: Paths, O: Out, G: Progress>(
     out: &mut O,
     progress: &mut G,
 ) -> Result<Ending, Refusal> {
+    let mut page = Gathered::new(out);
+    let (setup, machine) = if options.explains {
+        run_explained(alloc, options, paths, &mut page, progress)?
+    } else {
+        run_plainly(alloc, options, paths, &mut page, progress)?
+    };
+    tell(&machine, &setup, options.expects_halt, &mut page)
+}
+
+// Makes a run's steps, and prints the outcomes where they are asked for.
+fn run_plainly<P: Paths, O: Out, G: Progress>(
+    alloc: Global,
+    options: &RunOptions<'_>,
+    paths: &mut P,
+    out: &mut O,
+    progress: &mut G,
+) -> Result<(Setup, Machine), Refusal> {
     let path = record_path(options.record, options.machine.file, paths)?;
     let (setup, course) = scheduled(alloc, &options.machine, &options.schedule, paths)?;
-    let mut page = Gathered::new(out);
     let machine = match course {
         Course::Listed(steps) => {
             let ran = Ran::of(alloc, &setup, steps.as_slice())?;
             part_of(ran.machine.view(), setup.dump)?;
             record(path, steps.as_slice(), paths)?;
             if options.traces {
-                write_trace(steps.as_slice(), ran.outcomes.as_slice(), &mut page)?;
+                write_trace(steps.as_slice(), ran.outcomes.as_slice(), out)?;
             }
             ran.machine
         }
@@ -41,10 +58,10 @@ pub fn run<P: Paths, O: Out, G: Progress>(
                 traces: options.traces,
                 path,
             };
-            run_drawn(alloc, &setup, &wanted, paths, &mut page, progress)?
+            run_drawn(alloc, &setup, &wanted, paths, out, progress)?
         }
     };
-    tell(&machine, &setup, options.expects_halt, &mut page)
+    Ok((setup, machine))
 }
 
 // Prints the state and the dump, and the cores that have not stopped where they are asked for.

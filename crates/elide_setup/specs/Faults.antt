@@ -3,10 +3,10 @@ use Rattle.std.specs.Prelude.{ℕ, Option, Some, None}
 use Rattle.elide_program.specs.Faults.{program_line, program_number}
 use Rattle.tm_core.specs.Faults.{machine_number, run_number}
 use Rattle.tm_hist.specs.BoardFaults.{board_code, step_code}
-use Rattle.tm_hist.specs.Schedule.{fault_code}
+use Rattle.tm_schedule.specs.Schedule.{fault_code}
 use Rattle.tm_hist.specs.Serial.{serial_code}
-use Rattle.tm_hist.specs.declared.schedule.ScheduleFault.{ScheduleFault}
-use Rattle.tm_hist.specs.declared.schedule.ScheduleFault.TheVariants.{BadSchedule, NoMemory, TooManySteps}
+use Rattle.tm_schedule.specs.declared.schedule.ScheduleFault.{ScheduleFault}
+use Rattle.tm_schedule.specs.declared.schedule.ScheduleFault.TheVariants.{BadSchedule, NoMemory, TooManySteps}
 use Rattle.elide_setup.specs.declared.fault.Fault.{Fault}
 use Rattle.elide_setup.specs.declared.fault.Fault.TheVariants as fault
 use Rattle.elide_setup.specs.declared.fault.Refusal.{Refusal}

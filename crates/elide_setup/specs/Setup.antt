@@ -5,7 +5,7 @@ use Rattle.elide_args.specs.declared.subcommand.MachineOptions.{MachineOptions}
 use Rattle.elide_args.specs.declared.subcommand.ScheduleOptions.{ScheduleOptions}
 use Rattle.elide_program.specs.Settings.{AreSettings}
 use Rattle.elide_program.specs.declared.settings.Settings.{Settings}
-use Rattle.tm_hist.specs.Schedule.{schedule_of, steps_of}
+use Rattle.tm_schedule.specs.Schedule.{schedule_of, steps_of}
 use Rattle.elide_setup.specs.declared.machine.Setup.{Setup}
 
 -- the machine has the cores, the memory and the limits of the settings

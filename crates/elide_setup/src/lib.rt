@@ -18,7 +18,7 @@ mod told;
 pub use fault::{Fault, Refusal};
 pub use gathered::Gathered;
 pub use machine::{Setup, new_board, prepared, scheduled};
-pub use plan::{Course, Drawn, limit_of};
+pub use plan::{Course, Drawn, Plan, limit_of};
 pub use progress::{Progress, Silent};
 pub use recorded::{record, record_path};
 pub use shown::{MemoryPart, part_of, print, show};

@@ -4,8 +4,8 @@ use crate::fault::{Fault, Refusal};
 use elide_args::ScheduleOptions;
 use elide_program::{MOST_BYTES, Paths, ProgramFault, ReadFault, number_of};
 use std::alloc::Global;
-use tm_hist::{ScheduleFault, read_schedule, read_steps};
 use tm_pick::Picker;
+use tm_schedule::{ScheduleFault, read_schedule, read_steps};
 
 /// The most steps of a schedule that is drawn, where `--limit` is not given.
 const MOST_STEPS: u32 = 1_000_000;

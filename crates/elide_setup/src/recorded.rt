@@ -4,7 +4,7 @@ use crate::fault::{Fault, Refusal};
 use crate::gathered::Gathered;
 use elide_program::{Paths, Text};
 use ia_text::{Out, WriteFault};
-use tm_hist::write_schedule;
+use tm_schedule::write_schedule;
 
 /// The path that `--record` gives, which is not that of the program.
 pub fn record_path<'a, P: Paths>(

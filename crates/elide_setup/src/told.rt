@@ -7,7 +7,7 @@ ghost use Rattle.elide_setup.specs.Told.{fault_back, fault_front, line_words};
 
 use crate::fault::Fault;
 use ia_text::page::push;
-use tm_hist::text_line::{TextLine, push_number};
+use ia_text::text_line::{TextLine, push_number};
 
 /// Adds what stands before a fault's name: `fault` and its number.
 pub fn push_front(row: &mut TextLine, fault: Fault)

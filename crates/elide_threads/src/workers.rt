@@ -10,8 +10,10 @@ ghost use Rattle.tm_work.specs.Workers.{IsReport};
 
 use crate::record::Record;
 use elide_args::ThreadsOptions;
+use elide_places::Places;
 use elide_program::{Paths, ProgramRefusal, Settings, number_of};
-use elide_setup::{Fault, Refusal, Setup, new_board, part_of, prepared, print};
+use elide_setup::{Fault, Gathered, Refusal, Setup, new_board, part_of, prepared, print};
+use elide_why::{prepared_places, tell_history};
 use ia_text::Out;
 use std::alloc::Global;
 use std::sync::Wait;
@@ -19,8 +21,8 @@ use std::thread::Threads;
 use tm_hist::Board;
 use tm_work::{Burst, WorkFault, run_steadily};
 
-/// Runs each core on a thread of its own, writes the schedule that came about where it is asked for, and prints the state
-/// and the dump.
+/// Runs each core on a thread of its own, writes the schedule that came about where it is asked for, and prints the aborts
+/// with their reasons where these are asked for, the state and the dump.
 pub fn threads<R: Threads + Wait + Sync + AllocGlobal, P: Paths, O: Out>(
     rt: &R,
     options: &ThreadsOptions<'_>,
@@ -32,14 +34,36 @@ pub fn threads<R: Threads + Wait + Sync + AllocGlobal, P: Paths, O: Out>(
     let budget = number_of(options.budget, "--budget")?;
     let burst = burst_of(options.burst)?;
     let path = path_of(options, paths)?;
-    let setup = prepared(alloc, options.machine.file, &settings, paths)?;
+    let (setup, places) = begun(alloc, options, &settings, paths)?;
     let board = opened(alloc, &setup, budget)?;
     let record = record_of(alloc, path, &board)?;
     let board = worked(rt, board, budget, burst)?;
     if let Some(record) = record {
         record.write(&board, paths)?;
     }
-    tell(&board, &setup, out)
+    let mut page = Gathered::new(out);
+    if let Some(places) = places {
+        tell_history(alloc, &board, options.machine.file, &places, &mut page)?;
+    }
+    tell(&board, &setup, &mut page)?;
+    page.finish()?;
+    Ok(())
+}
+
+// The program, and the places of its source where the reasons of the aborts are asked for.
+fn begun<P: Paths>(
+    alloc: Global,
+    options: &ThreadsOptions<'_>,
+    settings: &Settings<'_>,
+    paths: &mut P,
+) -> Result<(Setup, Option<Places>), Refusal> {
+    let file = options.machine.file;
+    if options.explains {
+        let (setup, places) = prepared_places(alloc, file, settings, paths)?;
+        Ok((setup, Some(places)))
+    } else {
+        Ok((prepared(alloc, file, settings, paths)?, None))
+    }
 }
 
 // How many steps a core makes before another can come between.

@@ -7,7 +7,8 @@ use std::alloc::Global;
 use std::process::Abort;
 use tm_core::Outcome::{Begun, Inside};
 use tm_core::{CoreState, Limits, Machine, MachineFault, RunFault};
-use tm_hist::{Board, BoardFault, ScheduleFault, SerialFault, read_schedule, read_steps};
+use tm_hist::{Board, BoardFault, SerialFault};
+use tm_schedule::{ScheduleFault, read_schedule, read_steps};
 use tm_sets::{Directory, Kind, PlainSets, Sets};
 
 const LIMITS: Limits = Limits {

@@ -1,4 +1,5 @@
 pub mod FaultLemmas
+pub mod ListingLines
 pub mod Ends
 pub mod Placements
 pub mod SymbolValues

@@ -1,11 +1,11 @@
 //! The listing.
 
-ghost use Rattle.std.specs.Prelude.{◌≡◌, ◌≤◌, ◌<◌, ◌%◌, ◌^◌, ◌++◌, ◌∷◌, [], false, IsTrue, List, length, IfOk, OnOk};
+ghost use Rattle.std.specs.Prelude.{◌≡◌, ◌+◌, ◌*◌, ◌≤◌, ◌<◌, ◌%◌, ◌^◌, ◌++◌, ◌∷◌, [], false, IsTrue, List, length, IfOk, OnOk};
 ghost use Rattle.ia_item.specs.Fits.{AllFit};
 ghost use Rattle.ia_text.specs.Listing.{listing_line};
 ghost use Rattle.ia_resolve.specs.Symbols.{known};
 ghost use Rattle.ia_layout.specs.Placement.{EntryPlace, places, start};
-ghost use Rattle.ia_asm.specs.ListingText.{bytes_line, is_datum, own_line, goes_on, listing_text};
+ghost use Rattle.ia_asm.specs.ListingText.{bytes_line, bytes_lines, is_datum, own_line, goes_on, listing_text};
 ghost use Rattle.ia_layout.specs.Contents.{entry_place, IsBounded};
 ghost use Rattle.ia_asm.specs.Lister.{row_text, row_line, listing_with};
 
@@ -45,16 +45,40 @@ fn is_datum(item: &Item) -> bool
     }
 }
 
-/// Writes an address and at most 12 bytes.
-fn write_bytes(out: &mut Vec<u8>, at: u128, bytes: &[u8]) -> Result<(), AllocError>
-    ensures { OnOk result (out.new.items ≡ out.old.items ++ bytes_line at bytes.now) }
+/// The address of the line with this index.
+fn line_address(at: u128, index: usize) -> u32
+    ensures { result ≡ (at + 12 * index) % 2 ^ 32 }
 {
+    ((at % (1 << 32) + 12 * index as u128) % (1 << 32)) as u32
+}
+
+/// Writes the line with this index: its address and up to 12 bytes.
+fn write_bytes_line(
+    out: &mut Vec<u8>,
+    at: u128,
+    bytes: &[u8],
+    index: usize,
+) -> Result<(), AllocError>
+    requires { 12 * index < length bytes.now }
+    ensures { OnOk result (out.new.items ≡ out.old.items ++ bytes_line bytes.now at index) }
+{
+    let rest = &bytes[12 * index..];
     let mut page = Page::new();
-    push_eight(&mut page, (at % (1 << 32)) as u32);
+    push_eight(&mut page, line_address(at, index));
     push(&mut page, b"  ");
-    push_hex_bytes(&mut page, &bytes[..bytes.len().min(12)]);
+    push_hex_bytes(&mut page, &rest[..rest.len().min(12)]);
     push(&mut page, b"\n");
     push_bytes(out, page.as_slice())
+}
+
+/// Writes the lines of bytes that stand at an address.
+fn write_bytes(out: &mut Vec<u8>, at: u128, bytes: &[u8]) -> Result<(), AllocError>
+    ensures { OnOk result (out.new.items ≡ out.old.items ++ bytes_lines at bytes.now) }
+{
+    for index in 0..bytes.len().div_ceil(12) {
+        write_bytes_line(out, at, bytes, index)?;
+    }
+    Ok(())
 }
 
 /// Writes the line of an instruction.
@@ -92,7 +116,7 @@ impl Lister {
         Ok(())
     }
 
-    /// Writes the line of an item that stands alone.
+    /// Writes the lines of an item that stands alone.
     #[tactic(auto, unfolding(crate::specs::ListingText::own_line))]
     fn write_own(&mut self, symbols: &Table, spot: &PlacedEntry) -> Result<(), AllocError>
         requires good { IsBounded spot.now }
@@ -196,7 +220,7 @@ fn list_all(
     Ok(lister)
 }
 
-/// The listing: a line for each instruction, each line of `db` or `dd`, each `resb` and each `align`.
+/// The listing: a line for each instruction, and the lines of each line of `db` or `dd`, each `resb` and each `align`.
 pub fn listing(
     alloc: Global,
     symbols: &Table,

@@ -4,3 +4,4 @@ pub mod Names
 pub mod Arguments
 pub mod Text
 pub mod Listing
+pub mod TextLine

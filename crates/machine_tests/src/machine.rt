@@ -1,6 +1,7 @@
 //! Schedules over each call. Code lies from 100h on, in a memory of 65,536 bytes.
 
 mod both;
+mod explain;
 mod quick;
 mod refusals;
 mod rows;

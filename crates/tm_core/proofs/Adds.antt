@@ -52,7 +52,7 @@ adds_one s a w e =
     or_none true = refl
     or_none false = refl
 
-grows_len : (s : Lines) (l : ℕ) → finset.len s ≤ finset.len (finset.insert s l)
+pub grows_len : (s : Lines) (l : ℕ) → finset.len s ≤ finset.len (finset.insert s l)
 grows_len s l =
     subst (λ n. finset.len s ≤ n) (sym (finset.len-insert nat_cmp_total s l))
     (elim (finset.contains s l) as (λ t. finset.len s ≤ cond t (finset.len s) (finset.len s + 1)) [ true ↦ omega arith | false ↦ omega arith ])

@@ -162,7 +162,7 @@ both_hit reads writes loads stores =
 
 -- ---- a test over lists of the same members
 
-any_at : (p : ℕ → Bool) (q : ℕ) (xs : List ℕ) → list_any (eqb q) xs ≡ true → p q ≡ true → list_any p xs ≡ true
+pub any_at : (p : ℕ → Bool) (q : ℕ) (xs : List ℕ) → list_any (eqb q) xs ≡ true → p q ≡ true → list_any p xs ≡ true
 any_at p q [] is h = absurd (true≢false (sym is))
 any_at p q (x ∷ xs) is h =
     ⊎_elim (λ (e : eqb q x ≡ true). or_left (p x) (list_any p xs) (ap p (sym (eqb-true q x e)) ∙ h))

@@ -3,10 +3,8 @@ use Rattle.std.proofs.lemmas.List.{get_or-set_same, get_or-set_other}
 use Rattle.std.proofs.lemmas.Bool.{eqb-true, eqb-false, eq-eqb, or_left, or_right, true≢false}
 use Rattle.std.specs.List.{list_any}
 use Rattle.std.specs.FinSet as finset
-use Rattle.std.specs.Prelude.{Result, ◌&&◌, ◌||◌, not}
+use Rattle.std.specs.Prelude.{◌&&◌, ◌||◌, not}
 use Rattle.std.proofs.lemmas.Nat.Bits.{bit_at-zero}
-use Rattle.ia_insn.specs.declared.fault.DecodeFault.{DecodeFault}
-use Rattle.ia_insn.specs.declared.op.Insn.{Insn}
 use Rattle.tm_buffer.specs.Buffer.{BufferValue, memory_with}
 use Rattle.tm_sets.specs.Content.{Content, IsMaskOf, bit}
 use Rattle.tm_model.specs.Setting.{Setting}
@@ -16,14 +14,13 @@ use Rattle.tm_core.specs.Representation.{cpu_at, cpu_view, cpu_views, is_open, k
 use Rattle.tm_core.specs.Representation.{no_cpu}
 use Rattle.tm_core.specs.StepRefinement.{StepResult, Touched, condemn_view, finished, line_hits, lines_hit, lines_touched}
 use Rattle.tm_core.specs.StepRefinement.{stepped, view_after_hit, views_after}
-use Rattle.tm_core.specs.Types.{AtStop, Committed, Condemned, CoreState, Kind, Mid, Open, Outcome, Read, Regs, Running}
+use Rattle.tm_core.specs.Types.{AtStop, Committed, Condemned, CoreState, Kind, Mid, Open, Outcome, Read, Running}
 use Rattle.tm_core.specs.Types.{Write}
-use Rattle.tm_rule.specs.Rule.{StandsAt}
 use Rattle.tm_core.proofs.BufferLemmas.{items_any}
 use Rattle.tm_core.proofs.Held.{held_of, held_plain, ordered_as, ordered_of}
 use Rattle.tm_core.proofs.Hits.{hit_kept_view, lines_hit_same}
 use Rattle.tm_core.specs.declared.cpu.Cpu.{Cpu}
-use Rattle.tm_core.specs.Representation.{kept_in}
+use Rattle.tm_core.specs.Representation.{kept_in, regs_of}
 
 -- what is held is said of the buffer, the write set and the slots alone
 pub held_as : (room : ℕ) (a b : Content) (j : ℕ) (x y : Cpu) → y.buffer ≡ x.buffer → b.lines j Write ≡ a.lines j Write → b.slots j ≡ a.slots j → IsHeld room (kept_of a j x) → IsHeld room (kept_of b j y)
@@ -57,7 +54,7 @@ pub view_other : (a b : Content) (cpus : List Cpu) (c j : ℕ) (x : Cpu) → Els
 view_other a b cpus c j x same e =
     let ne : eqb j c ≡ true → ⊥ = λ t. true≢false (sym t ∙ e) in
     ap (cpu_view b j) (cpu_other cpus c j x (eqb-false j c e))
-    ∙ (λ i. record { mode = (cpu_at cpus j).state; base = (cpu_at cpus j).base; regs = (cpu_at cpus j).regs; kept = kept_in (cpu_at cpus j).state (cpu_at cpus j).kept; buffer = (cpu_at cpus j).buffer.bytes; reads = same.lines j ne Read i; writes = same.lines j ne Write i })
+    ∙ (λ i. record { mode = (cpu_at cpus j).state; base = (cpu_at cpus j).base; regs = regs_of (cpu_at cpus j); kept = kept_in (cpu_at cpus j).state (cpu_at cpus j).kept; buffer = (cpu_at cpus j).buffer.bytes; reads = same.lines j ne Read i; writes = same.lines j ne Write i })
 
 pub held_after : (room : ℕ) (a b : Content) (cpus : List Cpu) (c : ℕ) (x : Cpu) → c < length cpus → Elsewhere a b c →
     ((j : ℕ) → j < length cpus → IsHeld room (kept_at a cpus j)) → IsHeld room (kept_of b c x) → (j : ℕ) → j < length cpus → IsHeld room (kept_at b (set cpus c x) j)
@@ -111,7 +108,7 @@ module _ (k : Setting) (m : List ℕ) (a b b2 b3 : Content) (cpus cpus3 : List C
       ∙ hit_items room (kept_of b c x) (cpu_views a cpus j) held
 
   pub commit_step : (m2 : List ℕ) → (cpu_at cpus c).state ≡ Open depth → stepped k m (cpu_views a cpus c) (Open depth) ≡ finished m (cpu_view b c x) →
-      m2 ≡ memory_with (cpu_at cpus3 c).buffer.bytes m → cpu_view b3 c y ≡ view_outside Running (cpu_at cpus3 c).regs →
+      m2 ≡ memory_with (cpu_at cpus3 c).buffer.bytes m → cpu_view b3 c y ≡ view_outside Running (regs_of (cpu_at cpus3 c)) →
       IsStep k m (cpu_views a cpus) (length cpus) c Committed m2 (cpu_views b3 (set cpus3 c y))
   commit_step m2 state is memory shows =
       let whole : stepped k m (cpu_views a cpus c) (cpu_views a cpus c).mode ≡ finished m (cpu_view b c x) = ap (stepped k m (cpu_views a cpus c)) state ∙ is in
@@ -120,7 +117,7 @@ module _ (k : Setting) (m : List ℕ) (a b b2 b3 : Content) (cpus cpus3 : List C
         new_memory = memory ∙ ap (λ (z : KeptCore). memory_with z.view.buffer m) own_kept ∙ ap (λ (r : StepResult). r.memory) (sym whole);
         each = λ j h.
             subst (λ (r : StepResult). cpu_views b3 (set cpus3 c y) j ≡ views_after (cpu_views a cpus) c r j) (sym whole)
-            ((elim (eqb j c) as (λ t. eqb j c ≡ t → cpu_views b3 (set cpus3 c y) j ≡ cond t (view_outside Running x.regs) (view_after_hit (lines_touched Write (finset.items (b.lines c Write))) (cpu_views a cpus j))) [
+            ((elim (eqb j c) as (λ t. eqb j c ≡ t → cpu_views b3 (set cpus3 c y) j ≡ cond t (view_outside Running (regs_of x)) (view_after_hit (lines_touched Write (finset.items (b.lines c Write))) (cpu_views a cpus j))) [
               | true ↦ λ e.
                   ap (λ n. cpu_views b3 (set cpus3 c y) n) (eqb-true j c e)
                   ∙ ap (cpu_view b3 c) (cpu_same cpus3 c y (subst (λ n. c < n) (sym cores) below))
@@ -183,10 +180,6 @@ quiet_hits a cpus c touched closed j h =
 pub others_closed : (cpus : List Cpu) (c : ℕ) (x : Cpu) → length (set cpus c x) ≡ length cpus → AreClosed cpus → AreOthersClosed (set cpus c x) c
 others_closed cpus c x same closed j h other =
     ap (λ (z : Cpu). is_open z.state) (cpu_other cpus c j x (eqb-false j c other)) ∙ closed j (subst (λ n. j < n) same h)
-
--- what stands at the EIP of a core that is in no transaction
-pub row_of_base : (code : List ℕ) (base : ℕ) (row : Result (Insn × ℕ) DecodeFault) (x y : Cpu) → x ≡ y → y.regs ≡ y.base → StandsAt code base y.regs.eip row → StandsAt code base x.base.eip row
-row_of_base code base row x y same regs h = subst (λ (z : Cpu). StandsAt code base z.base.eip row) (sym same) (subst (λ (r : Regs). StandsAt code base r.eip row) regs h)
 
 -- ---- where no other core has the line, nothing is hit
 

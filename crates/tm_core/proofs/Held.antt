@@ -33,7 +33,7 @@ kept_some : (o : Option ℕ) → is_some (option_map (λ k. k + 1) o) ≡ is_som
 kept_some None = refl
 kept_some (Some k) = refl
 
-swapped : (x l : ℕ) → eqb x l ≡ eqb l x
+pub swapped : (x l : ℕ) → eqb x l ≡ eqb l x
 swapped x l = same_test (eqb x l) (eqb l x) (λ e. eq-eqb l x (sym (eqb-true x l e))) (λ e. eq-eqb x l (sym (eqb-true l x e)))
   where
     same_test : (a b : Bool) → (a ≡ true → b ≡ true) → (b ≡ true → a ≡ true) → a ≡ b
@@ -50,7 +50,7 @@ found_at (x ∷ xs) l =
     ])
     ∙ ap (λ t. t || list_any (eqb l) xs) (swapped x l)
 
-any-append : (p : ℕ → Bool) (xs : List ℕ) (l : ℕ) → list_any p (xs ++ l ∷ []) ≡ (p l || list_any p xs)
+pub any-append : (p : ℕ → Bool) (xs : List ℕ) (l : ℕ) → list_any p (xs ++ l ∷ []) ≡ (p l || list_any p xs)
 any-append p [] l = refl
 any-append p (x ∷ xs) l = ap (λ t. p x || t) (any-append p xs l) ∙ turned (p x) (p l) (list_any p xs)
   where

@@ -22,3 +22,10 @@ pub mod Rooms
 pub mod InterleavedBodies
 pub mod UnseenSteps
 pub mod UsualMachine
+pub mod ExplainLaws
+pub mod ExplainRooms
+pub mod ExplainReasons
+pub mod ExplainHits
+pub mod ExplainStates
+pub mod ExplainMachine
+pub mod ExplainTouches

@@ -99,7 +99,6 @@ bad_limits limits = bad_lines limits.read_lines || bad_lines limits.write_lines
 -- a core before its first step
 pub record IsStart (program : Program) (write_lines number : ℕ) (cpu : Cpu) : Type 0 where
   pub base : cpu.base ≡ start_regs program number
-  pub regs : cpu.regs ≡ start_regs program number
   pub state : cpu.state ≡ Running
   pub bytes : cpu.buffer.bytes ≡ map_of.empty
   pub order : cpu.buffer.order ≡ []

@@ -12,6 +12,8 @@ use Rattle.tm_core.specs.declared.cpu.Cpu.{Cpu}
 use Rattle.tm_core.specs.declared.step.OutsideStep.{OutsideStep}
 use Rattle.tm_core.specs.declared.usual.Usual.{Usual}
 use Rattle.tm_core.specs.declared.usual.Usual.TheVariants as usual
+use Rattle.tm_core.specs.declared.usual.UsualOutcome.{UsualOutcome}
+use Rattle.tm_core.specs.declared.usual.UsualOutcome.TheVariants as tag
 use Rattle.tm_core.specs.declared.transaction.InsideStep.{InsideStep}
 use Rattle.tm_core.specs.declared.transaction.InsideStep.TheVariants.{Aborts, Commits, GoesInside}
 use Rattle.tm_core.specs.StepRefinement.{StepResult, Touched, finished, lines_hit, stayed, stepped, touched_by}
@@ -21,7 +23,7 @@ use Rattle.tm_core.specs.Types.{Aborted, Access, AtStop, Begun, Committed, Conde
 use Rattle.tm_core.specs.Types.{Inside, Kind}
 use Rattle.tm_core.specs.Types.{Lines}
 use Rattle.tm_core.specs.Types.{Open}
-use Rattle.tm_core.specs.Types.{Loaded, Mid, Outcome, Plain, Read, Running, Stopped}
+use Rattle.tm_core.specs.Types.{Loaded, Mid, Outcome, Plain, Read, Regs, Running, Stopped}
 use Rattle.tm_core.specs.Types.{Store, Width, Write}
 use Rattle.tm_model.specs.Access.{loaded_addresses, memory_after, stores_of}
 use Rattle.tm_model.specs.Owed.{have_room}
@@ -39,11 +41,22 @@ kept_in (Open depth) value = 0
 kept_in (Condemned depth) value = 0
 kept_in (AtStop stop) value = 0
 
+-- the registers now: those of the body while a transaction is open
+abbrev pub regs_in : CoreState → Regs → Regs → Regs
+regs_in (Open depth) base regs = regs
+regs_in Running base regs = base
+regs_in Mid base regs = base
+regs_in (Condemned depth) base regs = base
+regs_in (AtStop stop) base regs = base
+
+abbrev pub regs_of : Cpu → Regs
+regs_of cpu = regs_in cpu.state cpu.base cpu.regs
+
 abbrev pub cpu_view : Content → ℕ → Cpu → View
 cpu_view content number cpu = record {
   mode = cpu.state;
   base = cpu.base;
-  regs = cpu.regs;
+  regs = regs_of cpu;
   kept = kept_in cpu.state cpu.kept;
   buffer = cpu.buffer.bytes;
   reads = content.lines number Read;
@@ -239,3 +252,10 @@ abbrev pub IsUsual : List ℕ → ℕ → List ℕ → List ℕ → Cpu → Cpu 
 IsUsual code base memory memory_now cpu cpu_now usual.Plain = RanUnseen code base memory memory_now cpu cpu_now Plain
 IsUsual code base memory memory_now cpu cpu_now usual.Loaded = RanUnseen code base memory memory_now cpu cpu_now Loaded
 IsUsual code base memory memory_now cpu cpu_now usual.Other = (memory_now ≡ memory) × (cpu_now ≡ cpu)
+
+-- the outcome that a tag stands for
+abbrev pub usual_outcome : UsualOutcome → Option Outcome
+usual_outcome tag.Plain = Some Plain
+usual_outcome tag.Loaded = Some Loaded
+usual_outcome tag.Inside = Some Inside
+usual_outcome tag.Other = None

@@ -36,7 +36,6 @@ fn condemn<S: Sets>(cpu: &mut Cpu, sets: &mut S, core: u8)
 {
     if let CoreState::Open(depth) = cpu.state {
         cpu.state = CoreState::Condemned(depth);
-        cpu.regs = cpu.base;
         cpu.buffer.clear();
         sets.clear(core);
     }
@@ -97,6 +96,7 @@ fn hit_access<S: Sets>(cpus: &mut [Cpu], sets: &mut S, c: u8, addr: u32, width: 
 }
 
 /// Condemns each other open core that a load of core c hits, where there is one.
+#[inline(always)]
 pub fn hit_load<S: Sets>(cpus: &mut [Cpu], sets: &mut S, c: u8, access: Option<Access>)
     requires cores { length cpus.old ≤ (S.content sets.old).fixed.cores }
     requires exists { c < length cpus.old }
@@ -174,6 +174,7 @@ pub fn hit_others<S: Sets>(
 }
 
 /// Condemns each other open core that has a line to which core c has stored.
+#[inline(always)]
 pub fn hit_written<S: Sets>(cpus: &mut [Cpu], sets: &mut S, c: u8)
     requires cores { length cpus.old ≤ (S.content sets.old).fixed.cores }
     requires exists { c < length cpus.old }

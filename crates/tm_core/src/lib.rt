@@ -4,7 +4,11 @@
 //! one flat memory with its doomed cores, and each step is the owed one of that memory, on which each committed
 //! transaction ran alone at its XEND. `Machine` is that promise's type, over any sets that keep the laws of
 //! `tm_sets`. What serves the proofs alone is named for it: `specs/StepRefinement.antt` (a step on what is shown),
-//! `specs/Representation.antt` (how a core's parts show it) and `specs/Machine.antt` (the machine as one value).
+//! `specs/Representation.antt` (how a core's parts show it), `specs/ExplainedViews.antt` (the same of a hit and of the
+//! reason of an abort) and `specs/Machine.antt` (the machine as one value).
+//!
+//! A step is explained by calls that are asked before it, and that change nothing: `Machine::hit` (whom it hits, on which
+//! line), `Machine::abort_reason` (why it is an abort) and `Machine::counts` (how large the sets are).
 //!
 //! Stands on `tm_rule` (one instruction), `tm_status`, `tm_sets` (read and write sets), `tm_buffer` (a transaction's
 //! bytes) and `ia_image` (programs). Memory is asked for only where a machine is made and by the answers of `run` and
@@ -15,6 +19,10 @@ mod alone;
 mod boundary;
 mod conflict;
 mod cpu;
+mod explain;
+mod explain_hit;
+mod explain_laws;
+mod explain_reason;
 mod fault;
 mod laws;
 mod limits;
@@ -27,10 +35,12 @@ mod transaction;
 mod two_steps;
 mod usual;
 
+pub use explain_laws::{hits_condemn, reasons_are_of_aborts};
 pub use fault::{MachineFault, NoSuchCore, RunFault};
 pub use laws::transactions_are_as_they_went;
 pub use limits::Limits;
 pub use machine::Machine;
 pub use start::{opening_memory, start_regs};
-pub use tm_model::{CoreState, Outcome, Stop};
+pub use tm_model::{AbortReason, CoreState, Counts, Hit, Outcome, Stop};
+pub use tm_sets::Kind;
 pub use two_steps::takes_two_steps;

@@ -16,7 +16,7 @@ ghost use Rattle.tm_model.specs.Access.{addresses_of, loaded_addresses, loaded_v
 ghost use Rattle.tm_model.specs.Owed.{have_room};
 ghost use Rattle.tm_model.specs.Shown.{view_outside};
 ghost use Rattle.tm_core.specs.Representation.{IsLoadOnLines, Elsewhere, IsHeld, cpu_view, kept_of, left_inside};
-ghost use Rattle.tm_core.specs.Representation.{parts_setting};
+ghost use Rattle.tm_core.specs.Representation.{parts_setting, regs_of};
 ghost use Rattle.tm_core.specs.StepRefinement.{add_all, grows, seen, stepped, store_addresses};
 
 use crate::boundary::end;
@@ -59,7 +59,6 @@ pub fn abort<S: Sets>(
     let status = status(cause, depth > 1);
     cpu.base.eip = fallback(code, &cpu.base);
     cpu.base.set(0, status);
-    cpu.regs = cpu.base;
     cpu.state = CoreState::Running;
     cpu.buffer.clear();
     sets.clear(c);
@@ -67,10 +66,11 @@ pub fn abort<S: Sets>(
 }
 
 /// A commit: the stored bytes go to memory, and the core is closed.
+#[inline(always)]
 pub fn commit<S: Sets>(memory: &mut [u8], cpu: &mut Cpu, sets: &mut S, c: u8)
     requires core { c < (S.content sets.old).fixed.cores }
     requires fits { Fits cpu.old.buffer.bytes (length memory.old) }
-    ensures view { cpu_view (S.content sets.new) c cpu.new ≡ view_outside CoreState.Running cpu.old.regs }
+    ensures view { cpu_view (S.content sets.new) c cpu.new ≡ view_outside CoreState.Running (regs_of cpu.old) }
     ensures memory { memory.new ≡ memory_with cpu.old.buffer.bytes memory.old }
     ensures elsewhere { Elsewhere (S.content sets.old) (S.content sets.new) c }
     ensures order { cpu.new.buffer.order ≡ [] }
@@ -78,7 +78,7 @@ pub fn commit<S: Sets>(memory: &mut [u8], cpu: &mut Cpu, sets: &mut S, c: u8)
     ensures room { cpu.new.buffer.room ≡ cpu.old.buffer.room }
 {
     cpu.buffer.drain_into(memory);
-    cpu.base = cpu.regs;
+    cpu.base = cpu.regs_now();
     cpu.state = CoreState::Running;
     sets.clear(c);
 }
@@ -104,9 +104,9 @@ fn slots_of<S: Sets>(sets: &S, c: u8, addr: u32, width: Width) -> [Option<u32>; 
     }
 }
 
-// What the transaction loads: memory, with its own bytes laid over it.
+/// What the transaction loads: memory, with its own bytes laid over it.
 #[inline(always)]
-fn load<S: Sets>(memory: &[u8], cpu: &Cpu, sets: &S, c: u8, access: Option<Access>) -> u32
+pub fn load<S: Sets>(memory: &[u8], cpu: &Cpu, sets: &S, c: u8, access: Option<Access>) -> u32
     requires core { c < (S.content sets.now).fixed.cores }
     requires lines { length memory.now ≤ (S.content sets.now).fixed.line_count * 64 }
     requires small { length memory.now < 2 ^ 32 }

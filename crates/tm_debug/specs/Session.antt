@@ -15,7 +15,8 @@ use Rattle.tm_model.specs.declared.outcome.CoreState.TheVariants.{Mid}
 use Rattle.tm_model.specs.declared.outcome.Outcome.{Outcome}
 use Rattle.tm_core.specs.Theorem.{ShownMachine as Machine, view_at}
 use Rattle.tm_hist.specs.Board.{IsHistory, SameBoard, ShownBoard as Board, stop_shown}
-use Rattle.tm_hist.specs.Lines.{core_text, dump_lines, line_end, number_text, outcome_line, state_word}
+use Rattle.tm_hist.specs.Lines.{core_text, dump_lines, outcome_line, state_word}
+use Rattle.ia_text.specs.TextLine.{line_end, number_text}
 use Rattle.tm_hist.specs.Machine.{shown_regs, shown_state}
 use Rattle.tm_debug.specs.declared.command.Command.{Command}
 use Rattle.tm_debug.specs.declared.command.Command.TheVariants.{Step, Run, Break, Clear, Regs, Mem, Sets}

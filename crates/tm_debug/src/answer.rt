@@ -13,9 +13,9 @@ use crate::refusal::Refusal;
 use crate::state::{MOST_BREAKPOINTS, RunCheck, SessionState, core_count};
 use ia_image::Program;
 use ia_text::page::{push, push_eight};
+use ia_text::text_line::{TextLine, push_number};
 use ia_text::{Out, WriteFault, write_line};
 use tm_core::Machine;
-use tm_hist::text_line::{TextLine, push_number};
 use tm_hist::{StepFault, write_core, write_dump, write_outcome};
 
 /// Tells a refusal.

@@ -14,11 +14,11 @@ use crate::interruption::{Interruption, answer_result};
 use crate::refusal::Refusal;
 use crate::state::SessionState;
 use ia_text::page::{Page, push, push_hex};
+use ia_text::text_line::{TextLine, push_number};
 use ia_text::{Out, WriteFault};
 use std::alloc::{AllocError, Global};
 use tm_core::{CoreState, Machine};
 use tm_hist::push_state;
-use tm_hist::text_line::{TextLine, push_number};
 use tm_sets::Kind;
 
 // Adds the number of a line in hex, behind a space.

@@ -1,12 +1,5 @@
 pub mod Machine
 pub mod Lines
-pub mod ScheduleWords
-pub mod ScheduleNumbers
-pub mod ScheduleRuns
-pub mod Schedule
-pub mod Pieces
-pub mod Unread
-pub mod FirstRun
 pub mod Serial
 pub mod History
 pub mod Board

@@ -6,6 +6,7 @@ use Rattle.std.specs.List.{flat_map, range_with_len}
 use Rattle.std.specs.Int.{w16, to_be_bytes}
 use Rattle.hex.specs.Hex.{encode_lower}
 use Rattle.ia_text.specs.Number.{eight_digits}
+use Rattle.ia_text.specs.TextLine.{line_end, number_text}
 use Rattle.ia_regs.specs.Flags.{flags_of, has_carry, has_parity, has_adjust, has_zero, has_sign, has_overflow}
 use Rattle.ia_regs.specs.declared.flags.Flags.{Flags}
 use Rattle.tm_rule.specs.declared.kinds.Stop.TheVariants as stop
@@ -17,17 +18,6 @@ use Rattle.tm_model.specs.declared.outcome.CoreState.TheVariants as state
 use Rattle.tm_model.specs.declared.outcome.Outcome.TheVariants as outcome
 use Rattle.tm_core.specs.Theorem.{ShownMachine}
 use Rattle.tm_hist.specs.Machine.{core_count, shown_regs, shown_state}
-
--- a line feed
-abbrev pub line_end : List ℕ
-line_end = 10 ∷ []
-
--- a number below 1000 in decimal digits
-unfoldable pub number_text : ℕ → List ℕ
-number_text n =
-    if nat_lt n 10 then (48 + n) ∷ []
-    else if nat_lt n 100 then (48 + n / 10) ∷ (48 + n % 10) ∷ []
-    else (48 + n / 100) ∷ (48 + n / 10 % 10) ∷ (48 + n % 10) ∷ []
 
 -- the sum of CF 001h, PF 004h, AF 010h, ZF 040h, SF 080h and OF 800h, each where it is set
 abbrev pub flag_sum : Flags → ℕ

@@ -1,10 +1,9 @@
-//! A machine with the history of its steps, the serial run of a history, and what is printed and read of a run.
+//! A machine with the history of its steps, the serial run of a history, and what is printed of a run.
 //!
 //! A `Board` keeps that its machine is the run of its history, whose outcomes are the owed ones (`Board::is_run`), so
 //! each history replays: `serial` runs it on one flat memory, without buffers, sets or marks, and ends with the
 //! machine's memory, registers and stops, or names the first pair at which a list is no run. State lines, outcome
-//! lines, dumps and schedules are those of docs/FORMATS.md; a schedule that is written reads as the list that it was
-//! written from.
+//! lines and dumps are those of docs/FORMATS.md; schedules are `tm_schedule`'s.
 //!
 //! Stands on `tm_core` (the machine), `tm_rule` (one instruction), `ia_image` (programs) and `ia_text` (numbers,
 //! writing).
@@ -16,20 +15,16 @@ mod history;
 mod lines;
 mod one_memory;
 mod pair;
-mod pieces;
 mod replay;
-mod schedule;
 mod serial_core;
 mod step;
-pub mod text_line;
 mod usual;
 
 pub use board::{Board, BoardFault, MOST_STEPS, StepFault};
 pub use history::History;
-pub use lines::{push_state, write_core, write_dump, write_outcome, write_state};
+pub use lines::{push_state, stop_text, write_core, write_dump, write_outcome, write_state};
 pub use one_memory::serial;
 pub use replay::{Serial, SerialFault};
-pub use schedule::{ScheduleFault, read_schedule, read_steps, write_schedule};
 
 #[cfg(test)]
 mod tests;

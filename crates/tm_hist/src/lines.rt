@@ -7,15 +7,15 @@ ghost use Rattle.tm_hist.specs.Lines.{core_line, core_text, dump_line, dump_line
 ghost use Rattle.tm_hist.specs.Lines.{outcome_line, register_text, regs_text, state_text, state_word, stop_word};
 ghost use Rattle.tm_hist.specs.Machine.{core_count};
 
-use crate::text_line::{TextLine, push_number};
 use ia_regs::{Flags, Regs};
 use ia_text::page::{push, push_bytes, push_eight};
+use ia_text::text_line::{TextLine, push_number};
 use ia_text::{Out, WriteFault};
 use tm_core::{CoreState, Machine, Outcome};
 use tm_rule::Stop;
 
-// The word of a stop.
-fn stop_text(stop: Stop) -> &'static [u8]
+/// The word of a stop.
+pub fn stop_text(stop: Stop) -> &'static [u8]
     ensures text { result.now ≡ stop_word stop }
     ensures short { length result.now ≤ 13 }
 {

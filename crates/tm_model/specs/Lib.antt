@@ -7,6 +7,7 @@ pub mod State
 pub mod Steps
 pub mod Conflicts
 pub mod Owed
+pub mod Explained
 pub mod Runs
 pub mod Went
 pub mod Shown

@@ -75,6 +75,16 @@ pub trait Sets {
         requires { core < (content self.now).fixed.cores }
         ensures { result ≡ set.len ((content self.now).lines core kind) };
 
+    /// How many lines of this kind a core has room for.
+    fn room_for(&self, kind: Kind) -> u32
+        ensures { result ≡ (content self.now).fixed.room kind };
+
+    /// Whether the line is in this set of the core, with no visit counted.
+    fn holds(&self, core: u8, line: u32, kind: Kind) -> bool
+        requires core { core < (content self.now).fixed.cores }
+        requires line { line < (content self.now).fixed.line_count }
+        ensures { result ≡ set.contains ((content self.now).lines core kind) line };
+
     /// The slot of a line that the core has written, and nothing for any other line: a number below the core's room for
     /// written lines, and for each of them another one. It stays the line's slot until `clear` of the core.
     fn slot(&self, core: u8, line: u32) -> Option<u32>

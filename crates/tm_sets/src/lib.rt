@@ -6,8 +6,8 @@
 //! lines. `Directory` is one: entries in one row, each on the list of its core and on the list of its line. `PlainSets`
 //! is the other: lists that are searched.
 //!
-//! Promised: `add` refuses a line exactly where its set has no room; `has`, `others_on`, `writers_on`, `count` and
-//! `listing` tell what the set of triples has, and change none; `clear` takes away one core's triples alone.
+//! Promised: `add` refuses a line exactly where its set has no room; `has`, `holds`, `others_on`, `writers_on`,
+//! `count` and `listing` tell what the set of triples has, and change none; `clear` takes away one core's triples alone.
 //!
 //! It stands on no other crate of the machine.
 #![tactic(auto)]

@@ -192,6 +192,20 @@ impl Sets for PlainSets {
         }
     }
 
+    fn room_for(&self, kind: Kind) -> u32 {
+        match kind {
+            Kind::Read => self.read_lines,
+            Kind::Write => self.write_lines,
+        }
+    }
+
+    fn holds(&self, core: u8, line: u32, kind: Kind) -> bool {
+        match kind {
+            Kind::Read => self.reads[usize::from(core)].place(line).is_some(),
+            Kind::Write => self.writes[usize::from(core)].place(line).is_some(),
+        }
+    }
+
     fn slot(&self, core: u8, line: u32) -> Option<u32> {
         match self.writes[usize::from(core)].place(line) {
             Some(place) => Some(place as u32),

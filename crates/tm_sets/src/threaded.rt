@@ -398,6 +398,15 @@ impl Sets for Directory {
         self.held_lines(core, kind)
     }
 
+    fn room_for(&self, kind: Kind) -> u32 {
+        self.room(kind)
+    }
+
+    fn holds(&self, core: u8, line: u32, kind: Kind) -> bool {
+        let (place, _) = self.find(core, line, kind);
+        place.is_some()
+    }
+
     fn slot(&self, core: u8, line: u32) -> Option<u32> {
         let (place, _) = self.find(core, line, Kind::Write);
         match place {

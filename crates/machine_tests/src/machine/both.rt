@@ -11,7 +11,7 @@ use tm_core::{Limits, Machine};
 use tm_sets::{Kind, PlainSets};
 
 /// A machine over plain sets.
-fn over_plain_sets(
+pub fn over_plain_sets(
     rt: &impl Abort,
     alloc: Global,
     program: &Program,

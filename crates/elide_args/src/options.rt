@@ -1,0 +1,235 @@
+//! The options, as data.
+
+/// An option of a subcommand, or a word that has its place.
+#[derive(Clone, Copy, Debug)]
+pub struct OptionText {
+    /// Its name: of an option, what stands behind `--`.
+    pub name: &'static str,
+    /// How it is given.
+    pub form: Form,
+    /// What the help says of it.
+    pub help: &'static str,
+}
+
+/// How an option is given.
+#[derive(Clone, Copy, Debug)]
+pub enum Form {
+    /// A word in its place, which has to be there.
+    Word,
+    /// A word in its place, which may be left out.
+    FreeWord,
+    /// `--name` alone.
+    Flag,
+    /// `--name` and a value of this name.
+    Value(&'static str),
+    /// `--name` and a value of this name, which has to be given.
+    Needed(&'static str),
+    /// `--name` and a value of this name, any number of times.
+    Several(&'static str),
+    /// `--name` and a value of this name, or else the second.
+    Default(&'static str, &'static str),
+}
+
+pub const SOURCE: OptionText = OptionText {
+    name: "FILE",
+    form: Form::Word,
+    help: "An assembler source, in NASM's syntax",
+};
+
+pub const FILE: OptionText = OptionText {
+    name: "FILE",
+    form: Form::Word,
+    help: "A program: image text, whose first line is `image 1 BASE CODE`, or else an assembler source",
+};
+
+pub const FAULT: OptionText = OptionText {
+    name: "FAULT",
+    form: Form::FreeWord,
+    help: "A fault's number or name; without it the numbers and names of all are printed",
+};
+
+pub const LIST: OptionText = OptionText {
+    name: "list",
+    form: Form::Flag,
+    help: "Prints the listing in place of the image text",
+};
+
+pub const CORES: OptionText = OptionText {
+    name: "cores",
+    form: Form::Value("N"),
+    help: "Number of cores, 1 to 64 [default: 1]",
+};
+
+pub const MEM: OptionText = OptionText {
+    name: "mem",
+    form: Form::Value("BYTES"),
+    help: "Memory size: a multiple of 4096, at least 4096 * (cores + 1), at most 268435456 [default: 65536]",
+};
+
+pub const ENTRY: OptionText = OptionText {
+    name: "entry",
+    form: Form::Value("AT[,AT..]"),
+    help: "Where the cores begin: an address or a source's symbol, one for all or one a core [default: the base]",
+};
+
+pub const READS: OptionText = OptionText {
+    name: "reads",
+    form: Form::Value("LINES"),
+    help: "Lines of 64 bytes that a transaction can read, 1 to 4096 [default: 512]",
+};
+
+pub const WRITES: OptionText = OptionText {
+    name: "writes",
+    form: Form::Value("LINES"),
+    help: "Lines of 64 bytes that a transaction can write, 1 to 4096 [default: 512]",
+};
+
+pub const DUMP: OptionText = OptionText {
+    name: "dump",
+    form: Form::Value("ADDRESS:BYTES"),
+    help: "Prints this part of memory after the cores",
+};
+
+pub const STEPS: OptionText = OptionText {
+    name: "steps",
+    form: Form::Value("LIST"),
+    help: "The schedule: core numbers, as \"0 1 0 1\"",
+};
+
+pub const SCHEDULE: OptionText = OptionText {
+    name: "schedule",
+    form: Form::Value("PATH"),
+    help: "The schedule: a file whose first line is `schedule 1` or `schedule 2`",
+};
+
+pub const TRACE: OptionText = OptionText {
+    name: "trace",
+    form: Form::Flag,
+    help: "Prints the outcome of each step before the state",
+};
+
+pub const WHY: OptionText = OptionText {
+    name: "why",
+    form: Form::Flag,
+    help: "Prints each abort with its reason before the state: who hit it, on which line, and when it began",
+};
+
+pub const EXPECT_HALT: OptionText = OptionText {
+    name: "expect-halt",
+    form: Form::Flag,
+    help: "A run that ends with a core that has not stopped fails (status 3)",
+};
+
+pub const IN_TURN: OptionText = OptionText {
+    name: "in-turn",
+    form: Form::Flag,
+    help: "The schedule: round by round over the cores that have not stopped",
+};
+
+pub const RANDOM: OptionText = OptionText {
+    name: "random",
+    form: Form::Value("SEED"),
+    help: "The schedule: each core that has not stopped as likely as another",
+};
+
+pub const LIMIT: OptionText = OptionText {
+    name: "limit",
+    form: Form::Value("N"),
+    help: "The most steps of a run [default: 1000000]",
+};
+
+pub const RECORD: OptionText = OptionText {
+    name: "record",
+    form: Form::Value("PATH"),
+    help: "Writes the schedule that came about to this file",
+};
+
+pub const BUDGET: OptionText = OptionText {
+    name: "budget",
+    form: Form::Needed("N"),
+    help: "The most steps of each core: cores times N is 1 to 16777216",
+};
+
+pub const BURST: OptionText = OptionText {
+    name: "burst",
+    form: Form::Value("N"),
+    help: "The steps that a core makes before another can come between; by default 17 to 47, and fewer at first",
+};
+
+pub const RECORD_FIRST: OptionText = OptionText {
+    name: "record",
+    form: Form::Value("PATH"),
+    help: "Writes the schedule that came about to this file, before the state is printed",
+};
+
+pub const CHECK: OptionText = OptionText {
+    name: "check",
+    form: Form::Several("CHECK"),
+    help: "What memory holds where all cores have stopped: `SUM == N`, also with !=, < and <=, of a doubleword, or `SUM:N=HEX` of bytes; a sum is of symbols and numbers",
+};
+
+pub const STOP: OptionText = OptionText {
+    name: "stop",
+    form: Form::Several("CAUSE"),
+    help: "A core that stops for this reason fails the run: #BP (INT3), #DE, #UD, #GP, HLT, range, code-store, fetch or not-in-subset",
+};
+
+pub const RUNS: OptionText = OptionText {
+    name: "runs",
+    form: Form::Default("K|A..B", "10000"),
+    help: "How many runs are made, or their numbers from A up to B - 1",
+};
+
+pub const SEED: OptionText = OptionText {
+    name: "seed",
+    form: Form::Default("SEED", "1"),
+    help: "What the schedules are drawn from, with the number of the run",
+};
+
+pub const METHOD: OptionText = OptionText {
+    name: "method",
+    form: Form::Default("METHOD", "mix"),
+    help: "How the core of each step is drawn: uniform, bursts, pct (random priorities), or mix, a third of the runs each",
+};
+
+pub const JOBS: OptionText = OptionText {
+    name: "jobs",
+    form: Form::Value("N"),
+    help: "How many threads make runs, 1 to 1024 [default: one a processor]",
+};
+
+pub const SHOW: OptionText = OptionText {
+    name: "show",
+    form: Form::Needed("ITEMS"),
+    help: "What is shown where all cores have stopped: registers of cores, as eax@0, and doublewords at sums of symbols and numbers",
+};
+
+pub const STATES: OptionText = OptionText {
+    name: "limit",
+    form: Form::Value("N"),
+    help: "The most states; where there are more, the status is 3 [default: 1000000]",
+};
+
+pub const FROM: OptionText = OptionText {
+    name: "from",
+    form: Form::Value("A"),
+    help: "The first step that is drawn, counted from 1 [default: 1]",
+};
+
+pub const TO: OptionText = OptionText {
+    name: "to",
+    form: Form::Value("B"),
+    help: "The last step that is drawn [default: the last]",
+};
+
+pub const CORE: OptionText = OptionText {
+    name: "core",
+    form: Form::Value("N[,N..]"),
+    help: "The cores that are drawn, in this order [default: all]",
+};
+
+pub const JSON: OptionText = OptionText {
+    name: "json",
+    form: Form::Flag,
+    help: "Prints one JSON object in place of columns",
+};

@@ -1,0 +1,155 @@
+//! The subcommands, as data.
+
+use crate::options::{
+    BUDGET, BURST, CHECK, CORE, CORES, DUMP, ENTRY, EXPECT_HALT, FAULT, FILE, FROM, IN_TURN, JOBS,
+    JSON, LIMIT, LIST, MEM, METHOD, OptionText, RANDOM, READS, RECORD, RECORD_FIRST, RUNS,
+    SCHEDULE, SEED, SHOW, SOURCE, STATES, STEPS, STOP, TO, TRACE, WHY, WRITES,
+};
+
+/// A subcommand.
+#[derive(Clone, Copy, Debug)]
+pub struct SubcommandText {
+    /// Its name.
+    pub name: &'static str,
+    /// What the help says of it.
+    pub about: &'static str,
+    /// What the help ends with.
+    pub example: &'static str,
+    /// Its options, in the order of the help.
+    pub options: &'static [OptionText],
+}
+
+/// The subcommands, in the order of the help.
+pub const SUBCOMMANDS: [SubcommandText; 11] = [
+    ASM, DIS, RUN, THREADS, REPLAY, DEBUG, HUNT, OUTCOMES, STATS, DRAW, EXPLAIN,
+];
+
+const ASM: SubcommandText = SubcommandText {
+    name: "asm",
+    about: "Assembles a source and prints its image text",
+    example: "Example: elide asm examples/elision.asm --list",
+    options: &[SOURCE, LIST],
+};
+
+const DIS: SubcommandText = SubcommandText {
+    name: "dis",
+    about: "Prints the instructions of a program's code",
+    example: "Example: elide dis examples/increment.img",
+    options: &[FILE],
+};
+
+const RUN: SubcommandText = SubcommandText {
+    name: "run",
+    about: "Runs a schedule of core steps and prints the state",
+    example: "Example: elide run examples/increment.img --cores 2 --steps \"0 1 0 1 0 1 0 1\" --dump 0x1000:4",
+    options: &[
+        FILE,
+        CORES,
+        MEM,
+        ENTRY,
+        READS,
+        WRITES,
+        DUMP,
+        STEPS,
+        SCHEDULE,
+        TRACE,
+        WHY,
+        EXPECT_HALT,
+        IN_TURN,
+        RANDOM,
+        LIMIT,
+        RECORD,
+    ],
+};
+
+const THREADS: SubcommandText = SubcommandText {
+    name: "threads",
+    about: "Runs each core on a thread of its own and prints the state",
+    example: "Example: elide threads examples/elision.asm --cores 4 --budget 1000000 --record schedule.txt",
+    options: &[
+        FILE,
+        CORES,
+        MEM,
+        ENTRY,
+        READS,
+        WRITES,
+        DUMP,
+        BUDGET,
+        BURST,
+        WHY,
+        RECORD_FIRST,
+    ],
+};
+
+const REPLAY: SubcommandText = SubcommandText {
+    name: "replay",
+    about: "Runs a schedule, compares it with a serial run on one memory, and prints the state and `agree` or `differ`",
+    example: "Example: elide replay examples/conflict.img --cores 2 --steps \"0 0 1 1 0 0 0 1\"",
+    options: &[
+        FILE, CORES, MEM, ENTRY, READS, WRITES, DUMP, STEPS, SCHEDULE, WHY, IN_TURN, RANDOM, LIMIT,
+        RECORD,
+    ],
+};
+
+const DEBUG: SubcommandText = SubcommandText {
+    name: "debug",
+    about: "Answers commands that are read from standard input: step, run, break, clear, regs, mem, sets, list, quit",
+    example: "Example: elide debug examples/conflict.img --cores 2",
+    options: &[FILE, CORES, MEM, ENTRY, READS, WRITES, DUMP],
+};
+
+const HUNT: SubcommandText = SubcommandText {
+    name: "hunt",
+    about: "Runs a program by many random schedules until a check fails, and shortens the schedule that fails",
+    example: "Example: elide hunt examples/faulty/no-read.asm --cores 2 --check 'count == 6' --record schedule.txt",
+    options: &[
+        FILE,
+        CORES,
+        MEM,
+        ENTRY,
+        READS,
+        WRITES,
+        CHECK,
+        STOP,
+        EXPECT_HALT,
+        RUNS,
+        SEED,
+        METHOD,
+        LIMIT,
+        JOBS,
+        RECORD,
+    ],
+};
+
+const OUTCOMES: SubcommandText = SubcommandText {
+    name: "outcomes",
+    about: "Searches all schedules of a small program and prints each outcome",
+    example: "Example: elide outcomes examples/litmus/store-buffering.asm --cores 2 --show 'eax@0 eax@1'",
+    options: &[FILE, CORES, MEM, ENTRY, READS, WRITES, SHOW, STATES],
+};
+
+const STATS: SubcommandText = SubcommandText {
+    name: "stats",
+    about: "Runs a schedule of core steps and prints what its transactions came to, by the place of their XBEGIN",
+    example: "Example: elide stats examples/elision.asm --cores 4 --random 7",
+    options: &[
+        FILE, CORES, MEM, ENTRY, READS, WRITES, STEPS, SCHEDULE, IN_TURN, RANDOM, LIMIT, JSON,
+    ],
+};
+
+const DRAW: SubcommandText = SubcommandText {
+    name: "draw",
+    about: "Runs a schedule of core steps and draws a timeline of it, as SVG",
+    example: "Example: elide draw examples/elision.asm --cores 4 --random 7 --from 380 --to 560 > timeline.svg",
+    options: &[
+        FILE, CORES, MEM, ENTRY, READS, WRITES, STEPS, SCHEDULE, IN_TURN, RANDOM, LIMIT, FROM, TO,
+        CORE,
+    ],
+};
+
+const EXPLAIN: SubcommandText = SubcommandText {
+    name: "explain",
+    about: "Prints what a fault means, and what to do",
+    example: "Example: elide explain 16",
+    options: &[FAULT],
+};

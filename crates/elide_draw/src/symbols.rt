@@ -1,0 +1,27 @@
+//! What lines of memory are called in pictures.
+
+use elide_places::{Places, SymbolText, push_symbols};
+use std::str;
+use tm_timeline::{Label, LineLabels};
+
+/// The labels of a program's source.
+#[derive(Clone, Copy)]
+pub struct Symbols<'a> {
+    places: &'a Places,
+}
+
+impl<'a> Symbols<'a> {
+    /// Those of these places.
+    pub fn new(places: &'a Places) -> Symbols<'a> {
+        Symbols { places }
+    }
+}
+
+impl LineLabels for Symbols<'_> {
+    fn label(&self, line: u32) -> Label {
+        let mut row = SymbolText::new();
+        push_symbols(&mut row, self.places, line);
+        // A source has names in ASCII alone.
+        Label::of(str::from_utf8(row.as_slice()).unwrap_or(""))
+    }
+}

@@ -1,0 +1,77 @@
+//! A step, and whom it hits.
+
+use elide_setup::{Fault, Refusal};
+use std::alloc::AllocError;
+use tm_core::{CoreState, Kind, Machine, Outcome, RunFault};
+use tm_timeline::{LineUse, Timeline};
+
+// How the next step uses the line on which it hits a core, for each core.
+type Uses = [Option<LineUse>; 64];
+
+/// Makes a step, and tells a timeline whom it hits and what it was.
+pub fn watch_step(
+    machine: &mut Machine,
+    core: u8,
+    timeline: &mut Timeline,
+) -> Result<Outcome, Refusal> {
+    let uses = if timeline.shows_lines() {
+        Some(uses_of(machine, core))
+    } else {
+        None
+    };
+    let outcome = match machine.step(core) {
+        Ok(outcome) => outcome,
+        Err(_) => return Err(Refusal::Fault(Fault::Run(RunFault::NoSuchCore))),
+    };
+    tell_hits(machine, core, &uses, timeline)?;
+    timeline.told(core, outcome)?;
+    Ok(outcome)
+}
+
+// Tells the transactions that were open before the step and are condemned behind it.
+fn tell_hits(
+    machine: &Machine,
+    core: u8,
+    uses: &Option<Uses>,
+    timeline: &mut Timeline,
+) -> Result<(), AllocError> {
+    for victim in 0..machine.cores() {
+        if timeline.is_open(victim) && is_condemned(machine, victim) {
+            timeline.hit(victim, core, use_on(uses, victim))?;
+        }
+    }
+    Ok(())
+}
+
+// Whether the transaction of a core is doomed.
+fn is_condemned(machine: &Machine, core: u8) -> bool {
+    matches!(machine.state(core), Ok(CoreState::Condemned(_)))
+}
+
+// How the step used the line on which it hit a core, where that was asked.
+fn use_on(uses: &Option<Uses>, victim: u8) -> Option<LineUse> {
+    match uses {
+        Some(uses) if victim < 64 => uses[usize::from(victim)],
+        _ => None,
+    }
+}
+
+// How the next step of a core uses the lines on which it hits the others.
+fn uses_of(machine: &Machine, core: u8) -> Uses {
+    let mut uses = [None; 64];
+    for victim in 0..machine.cores() {
+        uses[usize::from(victim)] = use_of(machine, core, victim);
+    }
+    uses
+}
+
+// How the next step of a core uses the line on which it hits another: the lowest, where there are several.
+fn use_of(machine: &Machine, core: u8, victim: u8) -> Option<LineUse> {
+    match machine.hit(core, victim) {
+        Ok(Some(hit)) => Some(LineUse {
+            line: hit.line,
+            is_write: hit.kind == Kind::Write,
+        }),
+        _ => None,
+    }
+}

@@ -1,0 +1,95 @@
+//! The places of a source.
+
+ghost use Rattle.ia_item.specs.Fits.{AllFit};
+ghost use Rattle.ia_layout.specs.Contents.{IsBounded};
+
+use crate::label::Label;
+use ia_item::{Entry, Item};
+use ia_layout::{Layout, PlacedEntry, base_of, entry_count, tail_base, text_end};
+use ia_source::{SourceFault, entries};
+use indexmap::IndexMap;
+use std::alloc::{AllocError, Global};
+
+/// The lines of a source by the addresses of their instructions, and its labels. Of image text there are none.
+#[derive(Drop)]
+pub struct Places {
+    lines: IndexMap<u32, u32>,
+    labels: Vec<Label>,
+    end: u32,
+}
+
+impl Places {
+    /// No places.
+    pub fn none(alloc: Global) -> Places {
+        Places {
+            lines: IndexMap::new(alloc),
+            labels: Vec::new(alloc),
+            end: 0,
+        }
+    }
+
+    /// The places of a program's text: those of a source, and none of image text. Nor has a source that is refused any.
+    pub fn of_text(alloc: Global, text: &[u8]) -> Result<Places, AllocError> {
+        if text.starts_with(b"image 1 ") {
+            return Ok(Places::none(alloc));
+        }
+        match entries(alloc, text) {
+            Ok(found) => Places::of_entries(alloc, found.as_slice()),
+            Err(SourceFault::NoMemory) => Err(AllocError),
+            Err(SourceFault::Line { .. }) => Ok(Places::none(alloc)),
+        }
+    }
+
+    // The places of what a source asks for.
+    fn of_entries(alloc: Global, entries: &[Entry<'_>]) -> Result<Places, AllocError>
+        requires { AllFit entries.now }
+    {
+        // So few entries that sums of their sizes are exact.
+        let _count = entry_count(entries);
+        let base = base_of(entries);
+        let tail = tail_base(text_end(alloc, base, entries)?);
+        let mut places = Places::none(alloc);
+        let mut walk = Layout::new(alloc, u128::from(base), tail);
+        for entry in entries {
+            let spot = walk.place(entry)?;
+            places.add(alloc, &spot)?;
+        }
+        Ok(places)
+    }
+
+    // Takes in what stands at a place, unless it lies past all memory.
+    fn add(&mut self, alloc: Global, spot: &PlacedEntry<'_, '_>) -> Result<(), AllocError>
+        requires { IsBounded spot.now }
+    {
+        if spot.at >= 1 << 32 {
+            return Ok(());
+        }
+        let at = spot.at as u32;
+        match &spot.entry.item {
+            Item::Label(name) => self.labels.push(Label::of(alloc, name, at)?)?,
+            Item::Code(_) => {
+                self.lines.insert(at, spot.entry.line)?;
+            }
+            _ => {}
+        }
+        self.end = at
+            .saturating_add(u32::try_from(spot.size).unwrap_or(u32::MAX))
+            .max(self.end);
+        Ok(())
+    }
+
+    /// The line of the source, from 1, whose instruction stands at this address.
+    pub fn line_of(&self, address: u32) -> Option<u32> {
+        self.lines.get(&address).copied()
+    }
+
+    /// The labels, in the order of the source.
+    pub fn labels(&self) -> &[Label] {
+        self.labels.as_slice()
+    }
+
+    /// The address behind the last byte of the image.
+    pub fn end(&self) -> u32 {
+        self.end
+    }
+}

@@ -1,0 +1,79 @@
+//! The symbols on a line of 64 bytes.
+
+use crate::label::Label;
+use crate::places::Places;
+use arrayvec::{ArrayString, ArrayVec};
+use ia_text::page::push;
+use std::fmt::Write;
+
+/// How many bytes of names are told of a line.
+const ROOM: usize = 96;
+
+/// Names of symbols.
+pub type SymbolText = ArrayVec<u8, ROOM>;
+
+/// Writes what stands on a line of 64 bytes, of this number: the labels on it, as `mutex, owner`; where there is none,
+/// the last one below it in the image, with the distance, as `table+0x40`; and nothing where there is none, either. What
+/// has no room is told as `..`.
+pub fn push_symbols(row: &mut SymbolText, places: &Places, line: u32) {
+    row.clear();
+    for label in places.labels() {
+        if label.line() == line {
+            push_name(row, label.name());
+        }
+    }
+    if row.is_empty() {
+        push_below(row, places, line);
+    }
+}
+
+// One more name.
+fn push_name(row: &mut SymbolText, name: &[u8]) {
+    if !row.is_empty() {
+        push_cut(row, b", ");
+    }
+    push_cut(row, name);
+}
+
+// The last label below a line of the image, with the distance to it.
+fn push_below(row: &mut SymbolText, places: &Places, line: u32) {
+    if line >= places.end().div_ceil(64) {
+        return;
+    }
+    if let Some(label) = last_below(places.labels(), line) {
+        let distance = line.saturating_mul(64).saturating_sub(label.address());
+        let mut sum = ArrayString::<16>::new();
+        // There is room for a number of 32 bits.
+        let _ = write!(sum, "+0x{distance:x}");
+        push_cut(row, label.name());
+        push_cut(row, sum.as_str().as_bytes());
+    }
+}
+
+// The label with the greatest address below a line.
+fn last_below(labels: &[Label], line: u32) -> Option<&Label> {
+    let mut last = None;
+    for label in labels {
+        if label.line() < line && is_later(label, last) {
+            last = Some(label);
+        }
+    }
+    last
+}
+
+// Whether a label stands no lower than the last one so far.
+fn is_later(label: &Label, last: Option<&Label>) -> bool {
+    match last {
+        Some(last) => last.address() <= label.address(),
+        None => true,
+    }
+}
+
+// Adds a text, or, where it has no room, `..` in its place.
+fn push_cut(row: &mut SymbolText, text: &[u8]) {
+    if text.len() + 2 <= row.remaining_capacity() {
+        push(row, text);
+    } else if !row.as_slice().ends_with(b"..") && row.remaining_capacity() >= 2 {
+        push(row, b"..");
+    }
+}

@@ -1,0 +1,16 @@
+//! `elide stats`.
+//!
+//! Promises no more than safety: what a schedule comes to, why a transaction aborts and whom a step hits is proved of
+//! `tm_core`, and that counts are those of the steps that were told of `tm_stats`; what is printed is compared by
+//! `doc_tests`. Stands on `elide_setup`, `tm_core` and `tm_stats`, and on `tm_pick` for schedules that are drawn.
+#![tactic(auto)]
+
+mod asked;
+mod columns;
+mod command;
+mod counting;
+mod json;
+mod labels;
+mod report;
+
+pub use command::stats;

@@ -1,0 +1,76 @@
+-- The line of an abort with its reason (docs/FORMATS.md, "Why a transaction aborted").
+use Rattle.std.specs.Prelude.{ℕ, List, [], ◌++◌, codes, Option, Some, None, length, ◌==◌, if◌then◌else◌}
+use Rattle.std.specs.Fmt.{decimal}
+use Rattle.ia_insn.specs.declared.op.Insn.{Insn}
+use Rattle.ia_text.specs.Number.{eight_digits, hex_digits}
+use Rattle.ia_text.specs.Text.{insn_text}
+use Rattle.ia_text.specs.TextLine.{line_end}
+use Rattle.tm_hist.specs.Lines.{stop_word}
+use Rattle.tm_sets.specs.declared.interface.Kind.{Kind}
+use Rattle.tm_sets.specs.declared.interface.Kind.TheVariants.{Read, Write}
+use Rattle.tm_why.specs.declared.reason.Reason.{Reason}
+use Rattle.tm_why.specs.declared.row.StandingHit.{StandingHit}
+use Rattle.tm_model.specs.declared.explain.AbortReason.{AbortReason}
+use Rattle.tm_model.specs.declared.explain.AbortReason.TheVariants as cause
+use Rattle.elide_why.specs.declared.words.Words.{Words}
+
+-- a line by its number, with the symbols that stand on it
+abbrev pub symbols_text : List ℕ → List ℕ
+symbols_text symbols = if length symbols == 0 then [] else codes " (" ++ symbols ++ codes ")"
+
+abbrev pub line_text : ℕ → Words → List ℕ
+line_text line words = codes "line " ++ hex_digits line ++ symbols_text words.symbols.items
+
+abbrev pub insn_words : Option Insn → ℕ → List ℕ
+insn_words None at = []
+insn_words (Some insn) at = insn_text insn at
+
+-- how a step of another core hit
+abbrev pub use_word : Kind → List ℕ
+use_word Read = codes ": read at step "
+use_word Write = codes ": written at step "
+
+abbrev pub hit_words : Option StandingHit → Words → List ℕ
+hit_words None words = []
+hit_words (Some hit) words =
+    codes " " ++ line_text hit.hit.line words ++ use_word hit.hit.kind ++ decimal hit.step
+    ++ codes " by core " ++ decimal hit.core ++ codes ", " ++ words.place.items ++ codes " "
+
+abbrev pub no_room_text : Kind → ℕ → Words → List ℕ
+no_room_text Read line words = codes "reads: no room for " ++ line_text line words
+no_room_text Write line words = codes "writes: no room for " ++ line_text line words
+
+abbrev pub cause_text : AbortReason → Reason → Words → List ℕ
+cause_text cause.Conflict why words = codes "conflict" ++ hit_words why.transaction.hit words
+cause_text (cause.Capacity kind line) why words = no_room_text kind line words
+cause_text cause.Nest why words = codes "nested deeper than 7"
+cause_text (cause.Explicit argument) why words = codes "xabort 0x" ++ hex_digits argument
+cause_text cause.Breakpoint why words = codes "#BP"
+cause_text (cause.Stop stop) why words = stop_word stop
+cause_text cause.NotAllowed why words = codes "not in a transaction: "
+
+-- of a transaction that was hit alone it is told when it began
+abbrev pub begun_told : AbortReason → Option ℕ → Option ℕ
+begun_told cause.Conflict begun = begun
+begun_told (cause.Capacity kind line) begun = None
+begun_told cause.Nest begun = None
+begun_told (cause.Explicit argument) begun = None
+begun_told cause.Breakpoint begun = None
+begun_told (cause.Stop stop) begun = None
+begun_told cause.NotAllowed begun = None
+
+abbrev pub begun_text : Option ℕ → List ℕ
+begun_text None = []
+begun_text (Some step) = codes "; begun at step " ++ decimal step
+
+-- the outcome line of an abort, which goes on with its reason, and with the instruction that the reason tells
+unfoldable pub abort_front : ℕ → ℕ → Reason → Words → List ℕ
+abort_front core status why words =
+    decimal core ++ codes " aborted " ++ eight_digits status ++ codes " " ++ cause_text why.cause why words
+
+unfoldable pub abort_back : Reason → List ℕ
+abort_back why = begun_text (begun_told why.cause why.transaction.begun) ++ line_end
+
+abbrev pub abort_line : ℕ → ℕ → Reason → Words → List ℕ
+abort_line core status why words =
+    abort_front core status why words ++ (insn_words words.insn words.eip ++ abort_back why)

@@ -1,0 +1,195 @@
+//! The line of an abort with its reason.
+
+ghost use Rattle.std.specs.Prelude.{◌≡◌, ◌+◌, ◌≤◌, ◌++◌, length};
+ghost use Rattle.std.specs.Fmt.{decimal};
+ghost use Rattle.arrayvec.specs.ArrayVec.{array_vec_len};
+ghost use Rattle.ia_text.specs.Writing.{Writes};
+ghost use Rattle.elide_why.specs.Lines.{abort_back, abort_front, abort_line, begun_text, begun_told, cause_text};
+ghost use Rattle.elide_why.specs.Lines.{hit_words, insn_words, line_text, no_room_text, symbols_text, use_word};
+
+use crate::words::Words;
+use ia_insn::Insn;
+use ia_text::page::{Page, push, push_eight, push_hex};
+use ia_text::{Out, WriteFault, write_insn};
+use itoa::Buffer;
+use tm_core::AbortReason;
+use tm_hist::stop_text;
+use tm_sets::Kind;
+use tm_why::{Reason, StandingHit};
+
+/// Writes the outcome line of an abort with this status, and its reason behind it.
+///
+/// [`WriteFault::Write`], where the device failed: a beginning of the line was written.
+pub fn write_abort<O: Out>(
+    core: u8,
+    status: u32,
+    reason: &Reason,
+    words: &Words,
+    out: &mut O,
+) -> Result<(), WriteFault>
+    ensures { Writes (O.device out.old) (O.device out.new) (abort_line core status reason.now words.now) result }
+{
+    let mut front = Page::new();
+    push_front(&mut front, core, status, reason, words);
+    let mut back = Page::new();
+    push_back(&mut back, reason);
+    out.put(front.as_slice())?;
+    write_words(words.insn, words.eip, out)?;
+    out.put(back.as_slice())?;
+    Ok(())
+}
+
+// An instruction, where there is one.
+fn write_words<O: Out>(insn: Option<Insn>, at: u32, out: &mut O) -> Result<(), WriteFault>
+    ensures { Writes (O.device out.old) (O.device out.new) (insn_words insn at) result }
+{
+    match insn {
+        Some(insn) => write_insn(&insn, at, out),
+        None => Ok(()),
+    }
+}
+
+// What stands before the instruction that is told.
+#[tactic(auto, unfolding(crate::specs::Lines::abort_front))]
+fn push_front(page: &mut Page, core: u8, status: u32, reason: &Reason, words: &Words)
+    requires { array_vec_len page.old ≡ 0 }
+    ensures { page.new.items ≡ page.old.items ++ abort_front core status reason.now words.now }
+{
+    push_decimal(page, u64::from(core));
+    push(page, b" aborted ");
+    push_eight(page, status);
+    push(page, b" ");
+    push_cause(page, reason, words);
+}
+
+// What stands behind it: when a transaction began that was hit, and the line's end.
+#[tactic(auto, unfolding(crate::specs::Lines::abort_back))]
+fn push_back(page: &mut Page, reason: &Reason)
+    requires { array_vec_len page.old ≡ 0 }
+    ensures { page.new.items ≡ page.old.items ++ abort_back reason.now }
+{
+    push_begun(page, begun_told(reason.cause, reason.transaction.begun));
+    push(page, b"\n");
+}
+
+// When a transaction began, where that is told.
+fn begun_told(cause: AbortReason, begun: Option<u64>) -> Option<u64>
+    ensures { result ≡ begun_told cause begun }
+{
+    match cause {
+        AbortReason::Conflict => begun,
+        AbortReason::Capacity(_, _) => None,
+        AbortReason::Nest => None,
+        AbortReason::Explicit(_) => None,
+        AbortReason::Breakpoint => None,
+        AbortReason::Stop(_) => None,
+        AbortReason::NotAllowed => None,
+    }
+}
+
+fn push_begun(page: &mut Page, begun: Option<u64>)
+    requires { array_vec_len page.old ≡ 0 }
+    ensures text { page.new.items ≡ page.old.items ++ begun_text begun }
+    ensures len { array_vec_len page.new ≤ 60 }
+{
+    if let Some(begun) = begun {
+        push(page, b"; begun at step ");
+        push_decimal(page, begun);
+    }
+}
+
+// A number in decimal digits.
+fn push_decimal(page: &mut Page, number: u64)
+    requires { array_vec_len page.old + 40 ≤ 4096 }
+    ensures text { page.new.items ≡ page.old.items ++ decimal number }
+    ensures len { array_vec_len page.new ≤ array_vec_len page.old + 40 }
+{
+    push(page, Buffer::new().format(number).as_bytes());
+}
+
+fn push_cause(page: &mut Page, reason: &Reason, words: &Words)
+    requires { array_vec_len page.old + 1800 ≤ 4096 }
+    ensures { page.new.items ≡ page.old.items ++ cause_text reason.now.cause reason.now words.now }
+{
+    match reason.cause {
+        AbortReason::Conflict => {
+            push(page, b"conflict");
+            push_hit(page, reason.transaction.hit, words);
+        }
+        AbortReason::Capacity(kind, line) => push_no_room(page, kind, line, words),
+        AbortReason::Nest => push(page, b"nested deeper than 7"),
+        AbortReason::Explicit(argument) => {
+            push(page, b"xabort 0x");
+            push_hex(page, u32::from(argument));
+        }
+        AbortReason::Breakpoint => push(page, b"#BP"),
+        AbortReason::Stop(stop) => push(page, stop_text(stop)),
+        AbortReason::NotAllowed => push(page, b"not in a transaction: "),
+    }
+}
+
+// Which line was hit, how, when, by whom, and where the instruction stands that did.
+fn push_hit(page: &mut Page, hit: Option<StandingHit>, words: &Words)
+    requires { array_vec_len page.old + 1700 ≤ 4096 }
+    ensures { page.new.items ≡ page.old.items ++ hit_words hit words.now }
+{
+    let Some(hit) = hit else {
+        return;
+    };
+    push(page, b" ");
+    push_line(page, hit.hit.line, words);
+    push(page, use_word(hit.hit.kind));
+    push_decimal(page, hit.step);
+    push(page, b" by core ");
+    push_decimal(page, u64::from(hit.core));
+    push(page, b", ");
+    push(page, words.place.as_slice());
+    push(page, b" ");
+}
+
+// How a step used a line.
+fn use_word(kind: Kind) -> &'static [u8]
+    ensures text { result.now ≡ use_word kind }
+    ensures short { length result.now ≤ 18 }
+{
+    match kind {
+        Kind::Read => b": read at step ",
+        Kind::Write => b": written at step ",
+    }
+}
+
+// What had no room, and on which line.
+fn push_no_room(page: &mut Page, kind: Kind, line: u32, words: &Words)
+    requires { array_vec_len page.old + 200 ≤ 4096 }
+    ensures { page.new.items ≡ page.old.items ++ no_room_text kind line words.now }
+{
+    match kind {
+        Kind::Read => push(page, b"reads: no room for "),
+        Kind::Write => push(page, b"writes: no room for "),
+    }
+    push_line(page, line, words);
+}
+
+// A line by its number, and the symbols on it.
+fn push_line(page: &mut Page, line: u32, words: &Words)
+    requires { array_vec_len page.old + 130 ≤ 4096 }
+    ensures text { page.new.items ≡ page.old.items ++ line_text line words.now }
+    ensures len { array_vec_len page.new ≤ array_vec_len page.old + 130 }
+{
+    push(page, b"line ");
+    push_hex(page, line);
+    push_symbols(page, words.symbols.as_slice());
+}
+
+// The symbols, where there are any.
+fn push_symbols(page: &mut Page, symbols: &[u8])
+    requires { array_vec_len page.old + length symbols.now + 3 ≤ 4096 }
+    ensures text { page.new.items ≡ page.old.items ++ symbols_text symbols.now }
+    ensures len { array_vec_len page.new ≤ array_vec_len page.old + length symbols.now + 3 }
+{
+    if !symbols.is_empty() {
+        push(page, b" (");
+        push(page, symbols);
+        push(page, b")");
+    }
+}

@@ -1,0 +1,79 @@
+//! Steps that are made and told.
+
+use crate::lines::write_abort;
+use crate::words::Words;
+use elide_places::Places;
+use elide_setup::{Fault, Refusal};
+use ia_image::Program;
+use ia_text::Out;
+use tm_core::{Machine, Outcome, RunFault};
+use tm_hist::write_outcome;
+use tm_why::{Asked, Watch};
+
+/// Makes the steps of a run and tells of each that aborts why it does, and of the others where they are asked for.
+#[derive(Drop)]
+pub struct Teller<'a> {
+    program: &'a Program,
+    path: &'a str,
+    places: &'a Places,
+    traces: bool,
+    watch: Watch,
+}
+
+impl<'a> Teller<'a> {
+    /// Before the first step of a program, of the file at this path with these places. `traces` says whether the steps
+    /// that are no aborts are told, too.
+    pub fn new(
+        program: &'a Program,
+        path: &'a str,
+        places: &'a Places,
+        traces: bool,
+    ) -> Teller<'a> {
+        Teller {
+            program,
+            path,
+            places,
+            traces,
+            watch: Watch::new(),
+        }
+    }
+
+    /// Makes a step of a core, and prints its line. Takes no memory.
+    pub fn step<O: Out>(
+        &mut self,
+        machine: &mut Machine,
+        core: u8,
+        out: &mut O,
+    ) -> Result<Outcome, Refusal> {
+        let Ok(asked) = Asked::of(machine, core) else {
+            return Err(Refusal::Fault(Fault::Run(RunFault::NoSuchCore)));
+        };
+        let reason = self.watch.reason(&asked);
+        let Ok(outcome) = machine.step(core) else {
+            return Err(Refusal::Fault(Fault::Run(RunFault::NoSuchCore)));
+        };
+        self.watch.told(&asked, outcome);
+        match (outcome, reason) {
+            (Outcome::Aborted(status), Some(reason)) => {
+                let words = Words::of(self.program, self.path, self.places, &reason);
+                write_abort(core, status, &reason, &words, out)?;
+            }
+            _ if self.traces => write_outcome(core, &outcome, out)?,
+            _ => {}
+        }
+        Ok(outcome)
+    }
+
+    /// The same of each core of a list, in its order.
+    pub fn step_all<O: Out>(
+        &mut self,
+        machine: &mut Machine,
+        cores: &[u8],
+        out: &mut O,
+    ) -> Result<(), Refusal> {
+        for core in cores {
+            self.step(machine, *core, out)?;
+        }
+        Ok(())
+    }
+}

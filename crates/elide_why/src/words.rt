@@ -1,0 +1,100 @@
+//! What the text of a program says of a reason.
+
+use arrayvec::ArrayVec;
+use elide_places::{Places, SymbolText, push_symbols};
+use ia_image::Program;
+use ia_insn::Insn;
+use ia_text::page::{push, push_eight};
+use itoa::Buffer;
+use tm_core::AbortReason;
+use tm_why::Reason;
+
+/// How many bytes of a path are told.
+const PATH_ROOM: usize = 1024;
+
+/// Where an instruction stands: the source and its line, as `lock.asm:11`, or else the address in eight hex digits.
+pub type PlaceText = ArrayVec<u8, 1100>;
+
+/// What the text of a program says of a reason.
+#[derive(Drop)]
+pub struct Words {
+    /// The symbols on the line that the reason tells of; none, where it tells of no line.
+    pub symbols: SymbolText,
+    /// The address of the instruction that the reason tells of: the one by which another core hit, or else the one that
+    /// was aborted.
+    pub eip: u32,
+    /// Where it stands.
+    pub place: PlaceText,
+    /// What it is, where the reason tells it.
+    pub insn: Option<Insn>,
+}
+
+impl Words {
+    /// What a program, of the source or image at this path and with these places, says of a reason.
+    pub fn of(program: &Program, path: &str, places: &Places, reason: &Reason) -> Words {
+        let mut symbols = SymbolText::new();
+        if let Some(line) = line_of(reason) {
+            push_symbols(&mut symbols, places, line);
+        }
+        let eip = eip_of(reason);
+        Words {
+            symbols,
+            eip,
+            place: place_of(path, places, eip),
+            insn: if tells_insn(reason) {
+                insn_at(program, eip)
+            } else {
+                None
+            },
+        }
+    }
+}
+
+// Whether a reason tells an instruction: the one that hit, or the one that no transaction may run.
+fn tells_insn(reason: &Reason) -> bool {
+    match reason.cause {
+        AbortReason::Conflict => reason.transaction.hit.is_some(),
+        AbortReason::NotAllowed => true,
+        _ => false,
+    }
+}
+
+// The address of the instruction that a reason tells of.
+fn eip_of(reason: &Reason) -> u32 {
+    match (reason.cause, reason.transaction.hit) {
+        (AbortReason::Conflict, Some(hit)) => hit.eip,
+        _ => reason.eip,
+    }
+}
+
+// The line that a reason tells of, if any.
+fn line_of(reason: &Reason) -> Option<u32> {
+    match (reason.cause, reason.transaction.hit) {
+        (AbortReason::Conflict, Some(standing)) => Some(standing.hit.line),
+        (AbortReason::Capacity(_, line), _) => Some(line),
+        _ => None,
+    }
+}
+
+fn place_of(path: &str, places: &Places, at: u32) -> PlaceText {
+    let mut place = PlaceText::new();
+    match places.line_of(at) {
+        Some(line) => {
+            let path = path.as_bytes();
+            push(&mut place, &path[..path.len().min(PATH_ROOM)]);
+            push(&mut place, b":");
+            push(&mut place, Buffer::new().format(line).as_bytes());
+        }
+        None => push_eight(&mut place, at),
+    }
+    place
+}
+
+// The instruction of a program at an address.
+fn insn_at(program: &Program, at: u32) -> Option<Insn> {
+    let offset = at.checked_sub(program.base())?;
+    match program.insn_at(offset) {
+        Ok((insn, _length)) => Some(insn),
+        Err(_) => None,
+    }
+}

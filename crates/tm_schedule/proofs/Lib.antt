@@ -1,0 +1,8 @@
+pub mod Cuts
+pub mod Counts
+pub mod WordsBack
+pub mod NumbersBack
+mod ShortWords
+pub mod RunsOf
+pub mod RunsBack
+pub mod RunsWritten

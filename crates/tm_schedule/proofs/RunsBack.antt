@@ -1,0 +1,167 @@
+-- A list in the second form reads as that list.
+use Rattle.std.proofs.Common.{◌≡◌, ℕ, suc, ◌+◌, ◌<◌, ◌≤◌, ◌==◌, Bool, true, false, List, [], ◌∷◌, ◌++◌, refl, sym, ◌∙◌, ap, arith, length, take, drop, map, get_or, Some, None, Ok}
+use Rattle.std.specs.Prelude.{cond, nat_lt, option_map}
+use Rattle.std.specs.Char.{digit_char, digit_value, is_ascii_digit}
+use Rattle.std.specs.Int.Digits.{digits_of, number_from_digits}
+use Rattle.std.specs.List.{AllByRecursion, flat_map, list_all, position, position_or_len}
+use Rattle.std.specs.Str.Parse.{digits_value}
+use Rattle.std.proofs.lemmas.Bool.{eqb-true, lt-ltb}
+use Rattle.std.proofs.lemmas.Bool.Decides.{nat_tests}
+use Rattle.std.proofs.lemmas.List.{length-map, length-append}
+use Rattle.std.proofs.lemmas.Int.Digits.{all_below_base_digits_of, number_digits_of, digits_value_is, length-digits_of_step, length-digits_of-le}
+use Rattle.ia_lex.specs.Lines.{lines_of}
+use Rattle.tm_schedule.specs.declared.schedule.runs.Run.{Run}
+use Rattle.ia_text.specs.TextLine.{number_text}
+use Rattle.tm_schedule.specs.ScheduleNumbers.{core_number}
+use Rattle.tm_schedule.specs.ScheduleRuns.{run_steps, is_count, in_range, count_number, run_from, run_at, word_run, word_steps, runs_of, count_text, run_word}
+use Rattle.tm_schedule.specs.ScheduleWords.{steps_said, words_from, unless, words_text}
+use Rattle.tm_schedule.specs.Schedule.{schedule_of, schedule_text}
+use Rattle.tm_schedule.proofs.WordsBack.{Above, above_append, above_less, differs, bytes_are, by_test, AreWords, AreSaid, words_back, fault_back, said_back}
+use Rattle.tm_schedule.proofs.NumbersBack.{number_digits, number_long, core_back}
+use Rattle.tm_schedule.proofs.RunsOf.{IsRun, AreRuns, runs_steps, are_runs}
+
+-- ---- a count
+
+abbrev Below : List ℕ → Type 0
+Below ds = AllByRecursion (λ d. d < 10) ds
+
+digit_back : (d : ℕ) → d < 10 → digit_value (digit_char d) ≡ d
+digit_back d h = grind (arith, nat_tests)
+
+digit_yes : (d : ℕ) → d < 10 → is_ascii_digit (digit_char d) ≡ true
+digit_yes d h = grind (arith, nat_tests)
+
+digit_above : (d : ℕ) → d < 10 → 42 < digit_char d
+digit_above d h = grind (arith, nat_tests)
+
+values_back : (ds : List ℕ) → Below ds → map digit_value (map digit_char ds) ≡ ds
+values_back [] h = refl
+values_back (d ∷ ds) h = ap (λ v. v ∷ map digit_value (map digit_char ds)) (digit_back d h.0) ∙ ap (λ v. d ∷ v) (values_back ds h.1)
+
+digits_yes : (ds : List ℕ) → Below ds → list_all is_ascii_digit (map digit_char ds) ≡ true
+digits_yes [] h = refl
+digits_yes (d ∷ ds) h = rw (digit_yes d h.0) (digits_yes ds h.1)
+
+digits_above : (ds : List ℕ) → Below ds → Above 42 (map digit_char ds)
+digits_above [] h = tt
+digits_above (d ∷ ds) h = (digit_above d h.0, digits_above ds h.1)
+
+count_above : (n : ℕ) → Above 42 (count_text n)
+count_above n = digits_above (digits_of 10 n) (all_below_base_digits_of 10 n (omega arith))
+
+is_count_yes : (text : List ℕ) → 0 < length text → length text ≤ 8 → list_all is_ascii_digit text ≡ true → is_count text ≡ true
+is_count_yes text some few digits = rw digits (grind (arith, nat_tests))
+
+in_range_yes : (n : ℕ) → 1 ≤ n → n ≤ 16777216 → in_range n ≡ Some n
+in_range_yes n some few = grind (arith, nat_tests)
+
+count_back : (n : ℕ) → 1 ≤ n → n ≤ 16777216 → count_number (count_text n) ≡ Some n
+count_back n some few =
+    let ds = digits_of 10 n in
+    let below = all_below_base_digits_of 10 n (omega arith) in
+    let long = length-map ds digit_char in
+    let longer = length-digits_of_step 10 n (omega arith) (omega arith) in
+    let short = length-digits_of-le 10 8 n (omega arith) (omega arith) in
+    let value : digits_value 10 (count_text n) ≡ n =
+    digits_value_is 10 (count_text n) ∙ ap (number_from_digits 10) (values_back ds below) ∙ number_digits_of 10 n (omega arith) in
+    rw (is_count_yes (count_text n) (omega arith) (omega arith) (digits_yes ds below)) (ap in_range value ∙ in_range_yes n some few)
+
+-- ---- a word
+
+abbrev star : ℕ → Bool
+star b = b == 42
+
+first_nowhere : (xs : List ℕ) → Above 42 xs → position_or_len star xs ≡ length xs
+first_nowhere [] h = refl
+first_nowhere (x ∷ xs) h = rw (differs 42 42 x (omega arith) h.0, first_nowhere xs h.1) (omega arith)
+
+first_at : (xs ys : List ℕ) → Above 42 xs → position_or_len star (xs ++ 42 ∷ ys) ≡ length xs
+first_at [] ys h = refl
+first_at (x ∷ xs) ys h = rw (differs 42 42 x (omega arith) h.0, first_at xs ys h.1) (omega arith)
+
+found : (n size : ℕ) → n < size → cond (nat_lt n size) (Some n) None ≡ Some n
+found n size h = rw (lt-ltb n size h)
+
+not_above : (n most : ℕ) → n ≤ most → nat_lt most n ≡ false
+not_above n most h = grind (arith, nat_tests)
+
+star_none : (xs : List ℕ) → Above 42 xs → position star xs ≡ None
+star_none xs h = ap (λ b. cond b (Some (position_or_len star xs)) None)
+    (not_above (length xs) (position_or_len star xs) (let e = first_nowhere xs h in omega arith))
+
+star_at : (xs ys : List ℕ) → Above 42 xs → position star (xs ++ 42 ∷ ys) ≡ Some (length xs)
+star_at xs ys h =
+    let e = first_at xs ys h in
+    let long = length-append xs (42 ∷ ys) in
+    found (position_or_len star (xs ++ 42 ∷ ys)) (length (xs ++ 42 ∷ ys)) (omega arith) ∙ ap Some e
+
+take_front : (xs ys : List ℕ) → take (length xs) (xs ++ ys) ≡ xs
+take_front [] ys = refl
+take_front (x ∷ xs) ys = ap (λ l. x ∷ l) (take_front xs ys)
+
+drop_front : (xs : List ℕ) (y : ℕ) (ys : List ℕ) → drop (length xs + 1) (xs ++ y ∷ ys) ≡ ys
+drop_front [] y ys = refl
+drop_front (x ∷ xs) y ys =
+    let e : length (x ∷ xs) + 1 ≡ suc (length xs + 1) = omega arith in
+    ap (λ n. drop n (x ∷ (xs ++ y ∷ ys))) e ∙ drop_front xs y ys
+
+run_back : (run : Run) → IsRun run → word_run (run_word run) ≡ Some run
+unfolding run_word
+run_back run h = by_test (λ word. word_run word ≡ Some run) (run.count == 1) _ _
+    (λ e.
+    let front = number_text run.core in
+    let same = eqb-true run.count 1 e in
+    ap (run_at front) (star_none front (number_digits run.core))
+    ∙ ap (λ core. run_from core (Some 1)) (core_back run.core h.core)
+    ∙ ap (λ n. Some (record { core = run.core; count = n })) (sym same))
+    (λ e.
+    let front = number_text run.core in
+    let count = count_text run.count in
+    ap (run_at (front ++ 42 ∷ count)) (star_at front count (number_digits run.core))
+    ∙ ap (λ digits. run_from (core_number digits) (count_number (drop (length front + 1) (front ++ 42 ∷ count)))) (take_front front (42 ∷ count))
+    ∙ ap (λ digits. run_from (core_number front) (count_number digits)) (drop_front front 42 count)
+    ∙ ap (λ core. run_from core (count_number count)) (core_back run.core h.core)
+    ∙ ap (run_from (Some run.core)) (count_back run.count h.some h.few))
+
+word_long : (run : Run) → 0 < length (run_word run)
+unfolding run_word
+word_long run = by_test (λ (word : List ℕ). 0 < length word) (run.count == 1) _ _
+    (λ _. number_long run.core)
+    (λ _. let some = number_long run.core in let long = length-append (number_text run.core) (42 ∷ count_text run.count) in omega arith)
+
+word_above : (run : Run) → Above 32 (run_word run)
+unfolding run_word
+word_above run =
+    let front = above_less 32 42 (number_text run.core) (omega arith) (number_digits run.core) in
+    by_test (Above 32) (run.count == 1) _ _
+    (λ _. front)
+    (λ _. above_append 32 (number_text run.core) (42 ∷ count_text run.count) front
+    (omega arith, above_less 32 42 (count_text run.count) (omega arith) (count_above run.count)))
+
+steps_back : (run : Run) → IsRun run → word_steps (run_word run) ≡ Some (run_steps run)
+unfolding word_steps
+steps_back run h =
+    let long = word_long run in
+    let some : (length (run_word run) == 0) ≡ false = grind (arith, nat_tests) in
+    rw some (ap (option_map run_steps) (run_back run h))
+
+-- ---- a list
+
+are_words : (runs : List Run) → AreWords (map run_word runs)
+are_words [] = tt
+are_words (run ∷ runs) = (record { some = word_long run; above = word_above run }, are_words runs)
+
+are_said : (runs : List Run) → AreRuns runs → AreSaid word_steps run_word run_steps runs
+are_said [] h = tt
+are_said (run ∷ runs) h = (steps_back run h.0, are_said runs h.1)
+
+pub runs_back : (cores : List ℕ) → ((i : ℕ) → get_or cores i 0 < 256) → length cores ≤ 16777216 → schedule_of (schedule_text cores) ≡ Ok cores
+runs_back cores h l =
+    let runs = runs_of cores in
+    let words = words_from 2 (lines_of (words_text 16 0 (map run_word runs))) in
+    let same = words_back 16 0 2 (map run_word runs) (are_words runs) in
+    let said = are_said runs (are_runs cores (bytes_are cores h)) in
+    let long = ap length (runs_steps cores) in
+    ap (λ fault. unless fault (flat_map (steps_said word_steps) words))
+    (fault_back word_steps (Some 16777216) run_word run_steps words runs 0 same said (not_above (0 + length (flat_map run_steps runs)) 16777216 (omega arith)))
+    ∙ ap Ok (said_back word_steps run_word run_steps words runs same said ∙ runs_steps cores)

@@ -1,0 +1,7 @@
+pub mod ScheduleWords
+pub mod ScheduleNumbers
+pub mod ScheduleRuns
+pub mod Schedule
+pub mod Pieces
+pub mod Unread
+pub mod FirstRun

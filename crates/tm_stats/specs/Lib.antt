@@ -1,0 +1,4 @@
+pub mod Tally
+pub mod Places
+pub mod Counts
+pub mod Conflicts

@@ -1,0 +1,62 @@
+//! Why transactions abort, as it is counted.
+
+use std::fmt;
+use std::fmt::{Display, Formatter, Write};
+
+/// Why a transaction aborts, as statistics tell causes apart (docs/FORMATS.md, "Statistics").
+#[derive(Clone, Copy, PartialEq, Eq, PartialOrd, Ord, Hash, Debug)]
+pub enum AbortCause {
+    /// A step of another core hit it.
+    Conflict,
+    /// A line that it loads from has no room.
+    ReadCapacity,
+    /// A line that it stores to has no room.
+    WriteCapacity,
+    /// XBEGIN at the greatest depth.
+    Nest,
+    /// XABORT, with its argument.
+    Explicit(u8),
+    /// INT3.
+    Breakpoint,
+    /// #DE.
+    Divide,
+    /// #UD.
+    Undefined,
+    /// #GP.
+    Protection,
+    /// HLT.
+    Halt,
+    /// A byte at or above the memory size.
+    Range,
+    /// A byte that is stored lies in the code.
+    CodeStore,
+    /// EIP outside the code.
+    Fetch,
+    /// No instruction of the subset.
+    NotInSubset,
+    /// An instruction that no transaction may run.
+    NotAllowed,
+}
+
+impl Display for AbortCause {
+    fn fmt<W: Write>(&self, f: &mut Formatter<W>) -> fmt::Result {
+        let name = match self {
+            AbortCause::Explicit(argument) => return write!(f, "xabort:{argument:02x}"),
+            AbortCause::Conflict => "conflict",
+            AbortCause::ReadCapacity => "read-capacity",
+            AbortCause::WriteCapacity => "write-capacity",
+            AbortCause::Nest => "nest",
+            AbortCause::Breakpoint => "INT3",
+            AbortCause::Divide => "#DE",
+            AbortCause::Undefined => "#UD",
+            AbortCause::Protection => "#GP",
+            AbortCause::Halt => "HLT",
+            AbortCause::Range => "range",
+            AbortCause::CodeStore => "code-store",
+            AbortCause::Fetch => "fetch",
+            AbortCause::NotInSubset => "not-in-subset",
+            AbortCause::NotAllowed => "not-allowed",
+        };
+        f.write_str(name)
+    }
+}

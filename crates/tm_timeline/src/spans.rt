@@ -1,0 +1,125 @@
+//! A window of few steps: each transaction, each hit and each step.
+
+ghost use Rattle.std.specs.Prelude.{◌≡◌, ◌<◌, ◌≤◌, ◌++◌, ◌∷◌, ◌↔◌, [], IsTrue, OnErr, OnOk};
+
+use crate::fate::Fate;
+use crate::window::Window;
+use std::alloc::{AllocError, Global};
+use tm_model::Outcome;
+
+/// How a step used a line of 64 bytes, when it hit a transaction.
+#[derive(Clone, Copy, PartialEq, Eq, Debug)]
+pub struct LineUse {
+    /// The number of the line: address / 64.
+    pub line: u32,
+    /// Whether it stored to the line; else it loaded from it.
+    pub is_write: bool,
+}
+
+/// A hit: what doomed a transaction.
+#[derive(Clone, Copy, PartialEq, Eq, Debug)]
+pub struct Hit {
+    /// The step that hit it.
+    pub step: u32,
+    /// The core of that step.
+    pub by: u8,
+    /// The line, where it is known.
+    pub on: Option<LineUse>,
+}
+
+/// A transaction of a core.
+#[derive(Clone, Copy, PartialEq, Eq, Debug)]
+pub struct Span {
+    /// The core.
+    pub core: u8,
+    /// The step of its XBEGIN.
+    pub begin: u32,
+    /// The step behind its last: behind the commit, the abort or the run.
+    pub end: u32,
+    /// The hit that doomed it.
+    pub hit: Option<Hit>,
+    /// What it came to.
+    pub fate: Fate,
+}
+
+/// An arrow: a hit, and the core whose transaction it dooms.
+#[derive(Clone, Copy, PartialEq, Eq, Debug)]
+pub struct Arrow {
+    /// The core of the transaction.
+    pub victim: u8,
+    /// The hit.
+    pub hit: Hit,
+}
+
+/// A step that is drawn.
+#[derive(Clone, Copy, PartialEq, Eq, Debug)]
+pub struct Step {
+    /// Its number.
+    pub number: u32,
+    /// Its core.
+    pub core: u8,
+    /// What it was.
+    pub outcome: Outcome,
+}
+
+/// What a picture of few steps shows.
+#[derive(Debug, Drop)]
+pub struct Spans {
+    /// The transactions, in the order of their ends.
+    pub spans: Vec<Span>,
+    /// The hits, in the order of their steps.
+    pub arrows: Vec<Arrow>,
+    /// The steps, where they are drawn one by one.
+    pub steps: Vec<Step>,
+}
+
+impl Spans {
+    /// Nothing so far.
+    pub fn new(alloc: Global) -> Spans
+        ensures { result.spans.items ≡ [] }
+    {
+        Spans {
+            spans: Vec::new(alloc),
+            arrows: Vec::new(alloc),
+            steps: Vec::new(alloc),
+        }
+    }
+
+    /// Takes up a step of the window.
+    pub fn add_step(&mut self, step: Step) -> Result<(), AllocError>
+        ensures { self.new.spans.items ≡ self.old.spans.items }
+    {
+        match self.steps.push(step) {
+            Ok(()) => Ok(()),
+            Err(_) => Err(AllocError),
+        }
+    }
+
+    /// Takes up a hit in the window.
+    pub fn add_arrow(&mut self, arrow: Arrow) -> Result<(), AllocError>
+        ensures { self.new.spans.items ≡ self.old.spans.items }
+    {
+        match self.arrows.push(arrow) {
+            Ok(()) => Ok(()),
+            Err(_) => Err(AllocError),
+        }
+    }
+
+    /// Takes up a transaction that has ended.
+    pub fn add_span(&mut self, span: Span) -> Result<(), AllocError>
+        ensures ok { OnOk result (self.new.spans.items ≡ self.old.spans.items ++ span ∷ []) }
+        ensures err { OnErr result (self.new.spans.items ≡ self.old.spans.items) }
+    {
+        match self.spans.push(span) {
+            Ok(()) => Ok(()),
+            Err(_) => Err(AllocError),
+        }
+    }
+}
+
+/// Whether a transaction has a step in a window.
+pub fn is_drawn(window: Window, span: Span) -> bool
+    ensures { IsTrue result ↔ (span.begin < window.to) × (window.from < span.end) }
+{
+    span.begin < window.to && window.from < span.end
+}

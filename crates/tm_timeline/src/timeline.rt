@@ -1,0 +1,278 @@
+//! What is kept of a run.
+
+ghost use Rattle.std.specs.Prelude.{◌≡◌, ◌<◌, ◌≤◌, ◌++◌, ◌∷◌, [], OnOk, true};
+
+use crate::columns::{Columns, StepKind};
+use crate::fate::{Fate, fate_of};
+use crate::frame::Sheet;
+use crate::label::{Label, LineLabels};
+use crate::picture::{Picture, draw};
+use crate::rows::Rows;
+use crate::spans::{Arrow, Hit, LineUse, Span, Spans, Step, is_drawn};
+use crate::svg::Svg;
+use crate::window::Window;
+use ia_text::{Out, WriteFault};
+use std::alloc::{AllocError, Global};
+use tm_model::Outcome;
+
+/// The most cores of a machine.
+const CORES: usize = 64;
+
+/// What a picture of a window of a run shows, told step by step from the run's first step on, of which the steps of
+/// transactions that reach into the window count also where they lie before and behind it.
+#[derive(Debug, Drop)]
+pub struct Timeline {
+    window: Window,
+    cores: u8,
+    // The number of the next step.
+    next: u32,
+    // The open transaction of each core.
+    open: [Option<Transaction>; CORES],
+    picture: Picture,
+}
+
+// An open transaction.
+#[derive(Clone, Copy, PartialEq, Eq, Debug)]
+struct Transaction {
+    // The step of its XBEGIN.
+    begin: u32,
+    // The hit that doomed it.
+    hit: Option<Hit>,
+}
+
+impl Timeline {
+    ghost use Rattle.tm_timeline.specs.Told.{AddsBar, IsEnded, bars, is_few};
+
+    /// A run of so many cores, of which no step is told.
+    pub fn new(alloc: Global, cores: u8, window: Window) -> Result<Timeline, AllocError> {
+        let picture = if window.is_detailed() {
+            Picture::Few(Spans::new(alloc))
+        } else {
+            Picture::Many(Columns::new(alloc, cores)?)
+        };
+        Ok(Timeline {
+            window,
+            cores,
+            next: 0,
+            open: [None; CORES],
+            picture,
+        })
+    }
+
+    /// Whether a hit of the next step is drawn with its line.
+    pub fn shows_lines(&self) -> bool {
+        matches!(self.picture, Picture::Few(_)) && self.window.contains(self.next)
+    }
+
+    /// Whether a core has a transaction that no step has hit.
+    pub fn is_open(&self, core: u8) -> bool {
+        match self.transaction(core) {
+            Some(transaction) => transaction.hit.is_none(),
+            None => false,
+        }
+    }
+
+    // The open transaction of a core.
+    fn transaction(&self, core: u8) -> Option<Transaction> {
+        if usize::from(core) < CORES {
+            self.open[usize::from(core)]
+        } else {
+            None
+        }
+    }
+
+    fn set(&mut self, core: u8, transaction: Option<Transaction>)
+        ensures window { self.new.window ≡ self.old.window }
+        ensures picture { self.new.picture ≡ self.old.picture }
+    {
+        if usize::from(core) < CORES {
+            self.open[usize::from(core)] = transaction;
+        }
+    }
+
+    /// Tells that the next step, of core `by`, hits the open transaction of another core. To be told before the step is.
+    pub fn hit(&mut self, victim: u8, by: u8, on: Option<LineUse>) -> Result<(), AllocError> {
+        let Some(transaction) = self.transaction(victim) else {
+            return Ok(());
+        };
+        if transaction.hit.is_some() {
+            return Ok(());
+        }
+        let step = self.next;
+        let hit = Hit { step, by, on };
+        let begin = transaction.begin;
+        self.set(
+            victim,
+            Some(Transaction {
+                begin,
+                hit: Some(hit),
+            }),
+        );
+        if !self.window.contains(step) {
+            return Ok(());
+        }
+        match &mut self.picture {
+            Picture::Few(spans) => spans.add_arrow(Arrow { victim, hit }),
+            Picture::Many(columns) => {
+                columns.count_hit(self.window, step);
+                Ok(())
+            }
+        }
+    }
+
+    /// Tells the next step: its core and what it was. Where transactions are drawn one by one, and the step is in the window, a
+    /// commit adds the bar of a transaction that was committed by this step.
+    pub fn told(&mut self, core: u8, outcome: Outcome) -> Result<(), AllocError>
+        ensures window { self.new.window ≡ self.old.window }
+        ensures commit { OnOk result (outcome ≡ Outcome.Committed → is_few self.old.picture ≡ true →
+            self.old.window.from ≤ self.old.next → self.old.next < self.old.window.to →
+            AddsBar self.old.picture self.new.picture core self.old.next Fate.Committed) }
+    {
+        let step = self.next;
+        self.next = step.saturating_add(1);
+        self.begin(core, step, outcome);
+        self.keep(step, core, outcome)?;
+        match outcome {
+            Outcome::Committed => self.end(core, step, Fate::Committed),
+            Outcome::Aborted(status) => self.end(core, step, fate_of(status)),
+            _ => Ok(()),
+        }
+    }
+
+    // Begins a transaction of a core, where this step does.
+    fn begin(&mut self, core: u8, step: u32, outcome: Outcome)
+        ensures window { self.new.window ≡ self.old.window }
+        ensures picture { self.new.picture ≡ self.old.picture }
+    {
+        if outcome == Outcome::Begun {
+            let begun = Transaction {
+                begin: step,
+                hit: None,
+            };
+            self.set(core, Some(begun));
+        }
+    }
+
+    // Keeps a step, where the window has it.
+    fn keep(&mut self, number: u32, core: u8, outcome: Outcome) -> Result<(), AllocError>
+        ensures window { self.new.window ≡ self.old.window }
+        ensures kind { is_few self.new.picture ≡ is_few self.old.picture }
+        ensures bars { bars self.new.picture ≡ bars self.old.picture }
+    {
+        let window = self.window;
+        if !window.contains(number) {
+            return Ok(());
+        }
+        match &mut self.picture {
+            Picture::Many(columns) => {
+                columns.count_step(window, number, core, kind_of(outcome));
+                Ok(())
+            }
+            Picture::Few(spans) if window.has_ticks() => spans.add_step(Step {
+                number,
+                core,
+                outcome,
+            }),
+            Picture::Few(_) => Ok(()),
+        }
+    }
+
+    // Ends the transaction of a core by this step.
+    fn end(&mut self, core: u8, step: u32, fate: Fate) -> Result<(), AllocError>
+        ensures window { self.new.window ≡ self.old.window }
+        ensures bar { OnOk result (is_few self.old.picture ≡ true → self.old.window.from ≤ step →
+            step < self.old.window.to → AddsBar self.old.picture self.new.picture core step fate) }
+    {
+        let window = self.window;
+        let span = self.ended(core, step, fate);
+        self.set(core, None);
+        if is_drawn(window, span) {
+            self.add(span)
+        } else {
+            Ok(())
+        }
+    }
+
+    // The transaction of a core that ends with this step.
+    fn ended(&self, core: u8, step: u32, fate: Fate) -> Span
+        ensures begin { result.begin ≤ step }
+        ensures ended { step < u32.MAX → IsEnded result core step fate }
+    {
+        let (begin, hit) = match self.transaction(core) {
+            Some(transaction) => (transaction.begin.min(step), transaction.hit),
+            None => (step, None),
+        };
+        Span {
+            core,
+            begin,
+            end: step.saturating_add(1),
+            hit,
+            fate,
+        }
+    }
+
+    // Keeps a transaction that has a step in the window.
+    fn add(&mut self, span: Span) -> Result<(), AllocError>
+        ensures window { self.new.window ≡ self.old.window }
+        ensures bars { OnOk result (is_few self.old.picture ≡ true →
+            bars self.new.picture ≡ bars self.old.picture ++ span ∷ []) }
+    {
+        let window = self.window;
+        match &mut self.picture {
+            Picture::Few(spans) => spans.add_span(span),
+            Picture::Many(columns) => {
+                columns.settle(window, &span);
+                Ok(())
+            }
+        }
+    }
+
+    /// Tells that the run has ended: what is open stays open, or doomed.
+    pub fn finish(&mut self) -> Result<(), AllocError> {
+        let last = self.next.saturating_sub(1);
+        for core in 0..self.cores {
+            if let Some(transaction) = self.transaction(core) {
+                let fate = match transaction.hit {
+                    Some(_) => Fate::Doomed,
+                    None => Fate::Open,
+                };
+                self.end(core, last, fate)?;
+            }
+        }
+        Ok(())
+    }
+
+    /// Writes the picture as SVG: of these cores, under a title, with the symbols of lines.
+    ///
+    /// [`WriteFault::Write`], where the device failed: a beginning of the picture was written.
+    pub fn write<L: LineLabels, O: Out>(
+        &self,
+        title: &Label,
+        rows: &Rows,
+        labels: &L,
+        out: &mut O,
+    ) -> Result<(), WriteFault> {
+        let sheet = Sheet {
+            window: self.window,
+            rows,
+            title,
+            cores: self.cores,
+        };
+        let mut svg = Svg::new(out);
+        match draw(&mut svg, &sheet, &self.picture, labels) {
+            Ok(()) => Ok(()),
+            Err(_) => Err(WriteFault::Write),
+        }
+    }
+}
+
+// Where a step is counted.
+fn kind_of(outcome: Outcome) -> StepKind {
+    match outcome {
+        Outcome::Begun | Outcome::Inside | Outcome::Committed | Outcome::Aborted(_) => {
+            StepKind::Inside
+        }
+        Outcome::Plain | Outcome::Loaded | Outcome::Stopped(_) => StepKind::Outside,
+        Outcome::Idle => StepKind::Idle,
+    }
+}

@@ -1,0 +1,3 @@
+mod OneStep
+mod FilledRows
+mod StandingHits

@@ -1,0 +1,11 @@
+use Rattle.std.proofs.Common.{◌≡◌, ℕ, ◌<◌, ◌≤◌, None, get_or, length}
+use Rattle.tm_why.specs.Said.{IsSaidOf}
+use Rattle.tm_why.proofs.asked.put_hits.Given as goal
+
+abbrev pub invariant-loop-victim : goal.invariant-loop-victim
+invariant-loop-victim l = record {
+  len : length l.hits ≡ 64;
+  said : (k : ℕ) → k < l.victim → (k ≡ l.core → ⊥) → IsSaidOf l.machine l.core k (get_or l.hits k None);
+  own : get_or l.hits l.core None ≡ None;
+  rest : (k : ℕ) → l.victim ≤ k → get_or l.hits k None ≡ None;
+}

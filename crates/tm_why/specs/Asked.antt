@@ -1,0 +1,18 @@
+-- What a machine says of a core's next step before it is made.
+use Rattle.std.specs.Prelude.{◌≡◌, ℕ, ◌<◌, ◌≤◌, Option, None, length}
+use Rattle.tm_model.specs.Explained.{abort_reason}
+use Rattle.tm_model.specs.State.{State}
+use Rattle.tm_core.specs.Theorem.{ShownMachine, StandsFor, machine_setting, view_at}
+use Rattle.tm_why.specs.Said.{IsSaidOf}
+use Rattle.tm_why.specs.Types.{Asked}
+use Rattle.tm_why.specs.Watched.{hit_on}
+
+pub record IsAsked (machine : ShownMachine) (number : ℕ) (asked : Asked) : Type 0 where
+  pub core : asked.core ≡ number
+  pub eip : asked.eip ≡ (view_at machine number).regs.eip
+  pub hits : (other : ℕ) → other < length machine.views → (other ≡ number → ⊥) →
+      IsSaidOf machine number other (hit_on asked other)
+  pub own : hit_on asked number ≡ None
+  pub absent : (other : ℕ) → length machine.views ≤ other → hit_on asked other ≡ None
+  pub reason : (state : State) (doomed : ℕ → Option ℕ) → StandsFor machine state doomed →
+      asked.reason ≡ abort_reason (machine_setting machine) state.memory (state.cores number) (doomed number)

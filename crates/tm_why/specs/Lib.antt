@@ -1,0 +1,6 @@
+pub mod Said
+pub mod Types
+pub mod Watched
+pub mod Standing
+pub mod Rows
+pub mod Asked

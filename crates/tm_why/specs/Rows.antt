@@ -1,0 +1,24 @@
+-- What one step makes of a core's row, as the code computes it.
+use Rattle.std.specs.Prelude.{ℕ, ◌==◌, if◌then◌else◌, Option}
+use Rattle.std.specs.Option.{option_or}
+use Rattle.tm_model.specs.declared.outcome.Outcome.{Outcome}
+use Rattle.tm_why.specs.Types.{Asked, Hit, Watched}
+use Rattle.tm_why.specs.Watched.{begun_by, hit_on, left_by, standing}
+
+abbrev pub row_after_own : Watched → Outcome → ℕ → Watched
+row_after_own row outcome number = record {
+  begun = begun_by outcome number row.begun;
+  hit = left_by outcome row.hit;
+}
+
+abbrev pub row_after_other : Watched → Option Hit → Asked → ℕ → Watched
+row_after_other row hit asked number = record {
+  begun = row.begun;
+  hit = option_or row.hit (standing number asked hit);
+}
+
+abbrev pub row_after : ℕ → Asked → Outcome → ℕ → Watched → Watched
+row_after core asked outcome number row =
+    if core == asked.core
+    then row_after_own row outcome number
+    else row_after_other row (hit_on asked core) asked number

@@ -1,0 +1,70 @@
+-- Of a run, when each core's open transaction began, and the hit that condemned it. Steps are listed newest first, each
+-- with what the machine said of it before and what came of it, and are numbered from 1.
+use Rattle.std.specs.Prelude.{◌≡◌, ℕ, suc, ◌<◌, ◌==◌, if◌then◌else◌, List, [], ◌∷◌, length, Option, Some, None}
+use Rattle.std.specs.Prelude.{option_map, slice_index_or}
+use Rattle.std.specs.Option.{option_or}
+use Rattle.tm_model.specs.declared.outcome.Outcome.{Outcome}
+use Rattle.tm_model.specs.declared.outcome.Outcome.TheVariants.{Aborted, Begun, Committed}
+use Rattle.tm_why.specs.Types.{Asked, Hit, Reason, StandingHit, Watch, Watched}
+
+abbrev pub Told : Type 0
+Told = Asked × Outcome
+
+-- ---- when the open transaction began
+
+-- behind an own step of this number
+abbrev pub begun_by : Outcome → ℕ → Option ℕ → Option ℕ
+begun_by Begun number before = Some number
+begun_by Committed number before = None
+begun_by (Aborted status) number before = None
+begun_by outcome number before = before
+
+abbrev pub begun_in : ℕ → List Told → Option ℕ
+begun_in core [] = None
+begun_in core (step ∷ earlier) =
+    if core == step.0.core
+    then begun_by step.1 (suc (length earlier)) (begun_in core earlier)
+    else begun_in core earlier
+
+-- ---- the hit that condemned it: the first since it began
+
+-- an own step that begins a transaction or ends one leaves no hit
+abbrev pub left_by : Outcome → Option StandingHit → Option StandingHit
+left_by Begun hit = None
+left_by Committed hit = None
+left_by (Aborted status) hit = None
+left_by outcome hit = hit
+
+-- the hit of a step of this number on a core, if there is one
+abbrev pub standing : ℕ → Asked → Option Hit → Option StandingHit
+standing number asked hit =
+    option_map (λ hit. record { step = number; core = asked.core; eip = asked.eip; hit = hit }) hit
+
+abbrev pub hit_on : Asked → ℕ → Option Hit
+hit_on asked core = slice_index_or asked.hits core None
+
+abbrev pub hit_in : ℕ → List Told → Option StandingHit
+hit_in core [] = None
+hit_in core (step ∷ earlier) =
+    if core == step.0.core
+    then left_by step.1 (hit_in core earlier)
+    else option_or (hit_in core earlier) (standing (suc (length earlier)) step.0 (hit_on step.0 core))
+
+-- ---- what a watch keeps
+
+abbrev pub watched_in : ℕ → List Told → Watched
+watched_in core steps = record { begun = begun_in core steps; hit = hit_in core steps }
+
+abbrev pub outside : Watched
+outside = record { begun = None; hit = None }
+
+-- it was told of these steps
+pub record IsWatch (watch : Watch) (steps : List Told) : Type 0 where
+  pub made : watch.made ≡ length steps
+  pub rows : (core : ℕ) → core < 64 → slice_index_or watch.rows core outside ≡ watched_in core steps
+
+-- the reason of an abort behind these steps, with what is known of its transaction
+abbrev pub reason_in : Asked → List Told → Option Reason
+reason_in asked steps =
+    option_map (λ cause. record { cause = cause; eip = asked.eip; transaction = watched_in asked.core steps })
+    asked.reason

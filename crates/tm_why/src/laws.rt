@@ -1,0 +1,9 @@
+//! Laws of what is watched. The function does nothing: its contract is the law.
+
+ghost use Rattle.tm_why.specs.Standing.{HitsStand};
+
+/// A hit stands on a core exactly while the core is doomed: where that is so, it is so behind each owed step whose hits
+/// were told. So each abort of a doomed transaction is told with the hit that condemned it.
+pub fn hits_stand()
+    ensures { HitsStand }
+{}

@@ -1,0 +1,76 @@
+//! What is kept of a core.
+
+ghost use Rattle.std.specs.Prelude.{◌≡◌, ◌<◌};
+ghost use Rattle.tm_why.specs.Rows.{row_after, row_after_other, row_after_own};
+
+use crate::asked::Asked;
+use tm_core::{Hit, Outcome};
+
+/// A hit that condemned a transaction.
+#[derive(Clone, Copy, PartialEq, Eq, Debug)]
+pub struct StandingHit {
+    /// The number of the step that hit, from 1.
+    pub step: u64,
+    /// The core that made it.
+    pub core: u8,
+    /// The address of the instruction by which it hit.
+    pub eip: u32,
+    /// The line, and how the step used it.
+    pub hit: Hit,
+}
+
+/// What is kept of a core.
+#[derive(Clone, Copy, PartialEq, Eq, Debug)]
+pub struct Watched {
+    /// The number of the step at which its open transaction began, from 1.
+    pub begun: Option<u64>,
+    /// The hit that condemned it.
+    pub hit: Option<StandingHit>,
+}
+
+// A core behind its own step, which begins or ends a transaction, or neither.
+fn after_own(row: Watched, outcome: Outcome, number: u64) -> Watched
+    ensures { result ≡ row_after_own row outcome number }
+{
+    match outcome {
+        Outcome::Begun => Watched {
+            begun: Some(number),
+            hit: None,
+        },
+        Outcome::Committed | Outcome::Aborted(_) => Watched {
+            begun: None,
+            hit: None,
+        },
+        _ => row,
+    }
+}
+
+// A core behind another core's step, of which the first hit stands.
+fn after_other(row: Watched, hit: Option<Hit>, asked: &Asked, number: u64) -> Watched
+    ensures { result ≡ row_after_other row hit asked.now number }
+{
+    match (row.hit, hit) {
+        (None, Some(hit)) => Watched {
+            begun: row.begun,
+            hit: Some(StandingHit {
+                step: number,
+                core: asked.core,
+                eip: asked.eip,
+                hit,
+            }),
+        },
+        _ => row,
+    }
+}
+
+/// The row of a core behind the step of this number.
+pub fn row_after(row: Watched, core: usize, asked: &Asked, outcome: Outcome, number: u64) -> Watched
+    requires { core < 64 }
+    ensures { result ≡ row_after core asked.now outcome number row }
+{
+    if core == asked.core as usize {
+        after_own(row, outcome, number)
+    } else {
+        after_other(row, asked.hits[core], asked, number)
+    }
+}

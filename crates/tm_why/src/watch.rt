@@ -1,0 +1,68 @@
+//! A run that is watched.
+
+ghost use Rattle.std.specs.Prelude.{◌≡◌, ℕ, ◌<◌, ◌^◌, ◌-◌, ◌∷◌, [], List, length, slice_index_or};
+ghost use Rattle.tm_why.specs.Watched.{outside};
+ghost use Rattle.tm_why.specs.Rows.{row_after};
+
+use crate::asked::{Asked, MOST_CORES};
+use crate::reason::Reason;
+use crate::row::{Watched, row_after};
+use tm_core::Outcome;
+
+/// Of each core the step at which its open transaction began, and the hit that condemned it: a row of fixed length. It
+/// is told of each step of a run, which are numbered from 1.
+#[derive(Clone, Copy, Debug)]
+pub struct Watch {
+    made: u64,
+    rows: [Watched; MOST_CORES],
+}
+
+impl Watch {
+    ghost use Rattle.tm_why.specs.Watched.{IsWatch, Told, reason_in};
+
+    /// Before the first step.
+    pub fn new() -> Watch
+        ensures { IsWatch result [] }
+    {
+        let outside = Watched {
+            begun: None,
+            hit: None,
+        };
+        Watch {
+            made: 0,
+            rows: [outside; MOST_CORES],
+        }
+    }
+
+    /// Why the step that was asked of is an abort, where it is one: to be asked before [`Watch::told`].
+    pub fn reason(&self, asked: &Asked) -> Option<Reason>
+        ensures { (steps : List Told) → IsWatch self.now steps → result ≡ reason_in asked.now steps }
+    {
+        let cause = asked.reason?;
+        Some(Reason {
+            cause,
+            eip: asked.eip,
+            transaction: self.rows[asked.core as usize],
+        })
+    }
+
+    /// Takes in a step: what the machine said of it, and what came of it. Takes no memory.
+    pub fn told(&mut self, asked: &Asked, outcome: Outcome)
+        ensures { (steps : List Told) → length steps < 2 ^ 64 - 1 → IsWatch self.old steps →
+            IsWatch self.new ((asked.now, outcome) ∷ steps) }
+    {
+        let number = self.made.saturating_add(1);
+        self.made = number;
+        take_in(&mut self.rows, asked, outcome, number);
+    }
+}
+
+// Each row behind the step of this number.
+fn take_in(rows: &mut [Watched; MOST_CORES], asked: &Asked, outcome: Outcome, number: u64)
+    ensures { (core : ℕ) → core < 64 → slice_index_or rows.new core outside
+        ≡ row_after core asked.now outcome number (slice_index_or rows.old core outside) }
+{
+    for core in 0..MOST_CORES {
+        rows[core] = row_after(rows[core], core, asked, outcome, number);
+    }
+}
