@@ -3,11 +3,9 @@
 use ia_image::load;
 use ia_text::{ToVec, WriteFault};
 use tm_core::Outcome;
-use tm_hist::{
-    History, ScheduleFault, SerialFault, read_schedule, read_steps, serial, write_dump,
-    write_outcome, write_schedule,
-};
+use tm_hist::{History, SerialFault, serial, write_dump, write_outcome};
 use tm_rule::Stop;
+use tm_schedule::{ScheduleFault, read_schedule, read_steps, write_schedule};
 
 #[test]
 fn outcome_lines(rt: HostRuntime) -> Result<(), WriteFault> {
