@@ -45,6 +45,9 @@ fn room_for_two_lines(rt: HostRuntime) {
     sets.clear(0);
     assert_eq!(rt; sets.count(0, Kind::Read), 0);
     assert!(rt; sets.add(0, 8, Kind::Read).is_ok());
+    assert!(rt; sets.add(0, 9, Kind::Read).is_ok());
+    assert_eq!(rt; sets.add(0, 7, Kind::Read), Err(Full));
+    assert!(rt; sets.add(0, 9, Kind::Read).is_ok());
 }
 
 #[test]
@@ -88,6 +91,7 @@ fn a_directory_has_room_for_two_lines(rt: HostRuntime) {
     assert!(rt; sets.add(0, 8, Kind::Read).is_ok());
     assert!(rt; sets.add(0, 9, Kind::Read).is_ok());
     assert_eq!(rt; sets.add(0, 7, Kind::Read), Err(Full));
+    assert!(rt; sets.add(0, 9, Kind::Read).is_ok());
 }
 
 #[test]

@@ -1,8 +1,9 @@
 //! Two representations of the sets beside one another, and a transaction that stores over the end of a line.
 
-ghost use Rattle.std.specs.Prelude.{◌≡◌};
+ghost use Rattle.std.specs.Prelude.{◌≡◌, ◌<◌};
 
 use ia_image::load;
+use std::alloc::Global;
 use std::process::Abort;
 use tm_core::{Limits, Machine, Outcome};
 use tm_sets::{Directory, Kind, PlainSets, Sets};
@@ -41,8 +42,33 @@ fn a_transaction_stores_over_the_end_of_a_line(rt: HostRuntime) {
     }
 }
 
+/// Both list the same lines of a core, and have the same room.
+fn same_lines<A: Sets, B: Sets>(
+    rt: &impl Abort,
+    alloc: Global,
+    one: &A,
+    other: &B,
+    core: u8,
+    kind: Kind,
+)
+    requires one_cores { core < (A.content one.now).fixed.cores }
+    requires other_cores { core < (B.content other.now).fixed.cores }
+{
+    let lines = one.listing(alloc, core, kind).expect(rt, "memory");
+    let others = other.listing(alloc, core, kind).expect(rt, "memory");
+    assert_eq!(rt; lines.as_slice(), others.as_slice());
+    assert_eq!(rt; one.count(core, kind), other.count(core, kind));
+    assert_eq!(rt; one.room_for(kind), other.room_for(kind));
+}
+
 /// One call of both, which answer alike: of three cores and eight lines, chosen by a number.
-fn same_answer<A: Sets, B: Sets>(rt: &impl Abort, one: &mut A, other: &mut B, number: u32)
+fn same_answer<A: Sets, B: Sets>(
+    rt: &impl Abort,
+    alloc: Global,
+    one: &mut A,
+    other: &mut B,
+    number: u32,
+)
     requires one_cores { (A.content one.old).fixed.cores ≡ 3 }
     requires one_lines { (A.content one.old).fixed.line_count ≡ 8 }
     requires other_cores { (B.content other.old).fixed.cores ≡ 3 }
@@ -62,10 +88,11 @@ fn same_answer<A: Sets, B: Sets>(rt: &impl Abort, one: &mut A, other: &mut B, nu
             one.add(core, line, kind).is_ok(),
             other.add(core, line, kind).is_ok()
         ),
-        9..=10 => assert_eq!(rt; one.has(core, line, kind), other.has(core, line, kind)),
+        9 => assert_eq!(rt; one.has(core, line, kind), other.has(core, line, kind)),
+        10 => assert_eq!(rt; one.holds(core, line, kind), other.holds(core, line, kind)),
         11 => assert_eq!(rt; one.others_on(line, core), other.others_on(line, core)),
         12 => assert_eq!(rt; one.writers_on(line, core), other.writers_on(line, core)),
-        13 => assert_eq!(rt; one.count(core, kind), other.count(core, kind)),
+        13 => same_lines(rt, alloc, one, other, core, kind),
         14 => assert_eq!(rt;
             one.slot(core, line).is_some(),
             other.slot(core, line).is_some()
@@ -78,7 +105,7 @@ fn same_answer<A: Sets, B: Sets>(rt: &impl Abort, one: &mut A, other: &mut B, nu
 }
 
 /// Many calls, by the numbers of a linear congruential generator.
-fn same_answers<A: Sets, B: Sets>(rt: &impl Abort, one: &mut A, other: &mut B)
+fn same_answers<A: Sets, B: Sets>(rt: &impl Abort, alloc: Global, one: &mut A, other: &mut B)
     requires one_cores { (A.content one.old).fixed.cores ≡ 3 }
     requires one_lines { (A.content one.old).fixed.line_count ≡ 8 }
     requires other_cores { (B.content other.old).fixed.cores ≡ 3 }
@@ -87,7 +114,7 @@ fn same_answers<A: Sets, B: Sets>(rt: &impl Abort, one: &mut A, other: &mut B)
     let mut number = 1u32;
     for _ in 0..20_000 {
         number = number.wrapping_mul(1_664_525).wrapping_add(1_013_904_223);
-        same_answer(rt, one, other, number / 256);
+        same_answer(rt, alloc, one, other, number / 256);
     }
 }
 
@@ -95,7 +122,7 @@ fn same_answers<A: Sets, B: Sets>(rt: &impl Abort, one: &mut A, other: &mut B)
 fn both_representations_answer_alike(rt: HostRuntime) {
     let mut plain = PlainSets::new(rt.alloc(), 3, 8, 4, 3).expect(&rt, "memory");
     let mut directory = Directory::new(rt.alloc(), 3, 8, 4, 3).expect(&rt, "memory");
-    same_answers(&rt, &mut plain, &mut directory);
+    same_answers(&rt, rt.alloc(), &mut plain, &mut directory);
     assert!(rt; plain.visits() > 0);
     assert!(rt; directory.visits() > 0);
 }

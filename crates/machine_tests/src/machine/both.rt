@@ -53,6 +53,15 @@ fn show_alike(
     }
 }
 
+/// Both show the same memory, and the same of each core.
+fn all_alike(rt: &impl Abort, alloc: Global, listed: &Machine, plain: &Machine<PlainSets>) {
+    assert_eq!(rt; listed.cores(), plain.cores());
+    assert!(rt; listed.view() == plain.view());
+    for core in 0..listed.cores() {
+        show_alike(rt, alloc, listed, plain, core);
+    }
+}
+
 /// A schedule comes to the same on both, with room for so many lines that are written.
 fn run_alike(
     rt: &impl Abort,
@@ -72,12 +81,10 @@ fn run_alike(
     };
     let mut listed: Machine = Machine::new(alloc, &program, limits).expect(rt, "makes");
     let mut plain = over_plain_sets(rt, alloc, &program, limits);
+    all_alike(rt, alloc, &listed, &plain);
     for core in schedule {
         assert_eq!(rt; listed.step(*core), plain.step(*core));
-        assert!(rt; listed.view() == plain.view());
-        for shown in 0..listed.cores() {
-            show_alike(rt, alloc, &listed, &plain, shown);
-        }
+        all_alike(rt, alloc, &listed, &plain);
     }
 }
 
@@ -231,4 +238,50 @@ fn room_and_lines(rt: HostRuntime) {
     let code = joined(&rt, alloc, &test, &[0x0f, 0x01, 0xd6]);
     alone(&rt, alloc, &code, 512, &[0, 0, 0]);
     alone(&rt, alloc, &[0x0f, 0x01, 0xd5], 512, &[0, 0]);
+}
+
+#[test]
+fn outside_of_transactions(rt: HostRuntime) {
+    let alloc = rt.alloc();
+    // mov eax, [1000h]; add eax, 1; mov [1000h], eax; hlt
+    let adds = [
+        0xa1, 0, 0x10, 0, 0, 0x83, 0xc0, 1, 0xa3, 0, 0x10, 0, 0, 0xf4,
+    ];
+    let entries = [0x100, 0x100];
+    run_alike(&rt, alloc, &adds, &entries, 512, &[0, 1, 0, 1, 0, 1, 0, 1]);
+    // mov eax, -1; add eax, 1
+    let carries = [0xb8, 0xff, 0xff, 0xff, 0xff, 0x83, 0xc0, 1];
+    alone(&rt, alloc, &carries, 512, &[0, 0]);
+    // mov eax, 80000000h; mov ebx, 1; cmp eax, ebx; add eax, ebx, in both spellings
+    let compares = [
+        0xb8, 0, 0, 0, 0x80, 0xbb, 1, 0, 0, 0, 0x39, 0xd8, 0x01, 0xd8, 0x03, 0xc3,
+    ];
+    alone(&rt, alloc, &compares, 512, &[0, 0, 0, 0, 0]);
+    // push esp; pop esp
+    alone(&rt, alloc, &[0x54, 0x5c], 512, &[0, 0]);
+    // mov eax, 7; xor ecx, ecx; cpuid
+    let asks = [0xb8, 7, 0, 0, 0, 0x31, 0xc9, 0x0f, 0xa2];
+    alone(&rt, alloc, &asks, 512, &[0, 0, 0]);
+    // jmp short into its own second byte: inc eax; hlt
+    alone(&rt, alloc, &[0xeb, 0xff, 0xc0, 0xf4], 512, &[0, 0, 0]);
+}
+
+#[test]
+fn what_stops_a_core(rt: HostRuntime) {
+    let alloc = rt.alloc();
+    // an XBEGIN cut short; LOCK before a store of a register; div ebx
+    alone(&rt, alloc, &[0xc7, 0xf8, 0x0f, 0], 512, &[0, 0]);
+    alone(&rt, alloc, &[0xf0, 0x89, 0x18], 512, &[0, 0]);
+    alone(&rt, alloc, &[0xf7, 0xf3], 512, &[0, 0]);
+    // mov [100h], eax, into the code, outside and inside
+    let into_code = [0xa3, 0, 0x01, 0, 0];
+    alone(&rt, alloc, &into_code, 512, &[0, 0]);
+    let inside = joined(&rt, alloc, &BEGIN, &into_code);
+    alone(&rt, alloc, &inside, 512, &[0, 0]);
+    // mov eax, [fffeh] and mov eax, [fffdh], past the end of memory; mov eax, [fffch], its last four bytes
+    alone(&rt, alloc, &[0xa1, 0xfe, 0xff, 0, 0], 512, &[0, 0]);
+    alone(&rt, alloc, &[0xa1, 0xfd, 0xff, 0, 0], 512, &[0, 0]);
+    alone(&rt, alloc, &[0xa1, 0xfc, 0xff, 0, 0], 512, &[0]);
+    // no step at all: the opening state
+    run_alike(&rt, alloc, &ADDS, &[0x100, 0x100], 512, &[]);
 }
