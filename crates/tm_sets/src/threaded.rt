@@ -343,7 +343,7 @@ impl Sets for Directory {
     }
 
     /// The count of entries visited rises by at most the number of triples that have the line, and by just this number
-    /// where the line is not in the set.
+    /// where the line is not in the set; so by at most two for each core.
     fn has(&mut self, core: u8, line: u32, kind: Kind) -> bool
         requires core { core < length self.old.core_heads.items }
         requires line { line < self.old.line_count }
@@ -354,13 +354,14 @@ impl Sets for Directory {
         ensures some { self.old.visits < u64.MAX → IsTrue result → self.old.visits < self.new.visits }
         ensures all { IsTrue (not result) → self.new.visits
             ≡ min (self.old.visits + triples_on (threaded_content (rows_of self.old)) line) u64.MAX }
+        ensures few { self.new.visits ≤ self.old.visits + 2 * length self.old.core_heads.items }
     {
         let (place, visited) = self.find(core, line, kind);
         self.visits = self.visits.saturating_add(visited);
         place.is_some()
     }
 
-    /// The count of entries visited rises by the number of triples that have the line.
+    /// The count of entries visited rises by the number of triples that have the line, at most two for each core.
     fn others_on(&mut self, line: u32, core: u8) -> u64
         requires core { core < length self.old.core_heads.items }
         requires line { line < self.old.line_count }
@@ -371,13 +372,14 @@ impl Sets for Directory {
         ensures visits { self.old.visits ≤ self.new.visits }
         ensures exact { self.new.visits
             ≡ min (self.old.visits + triples_on (threaded_content (rows_of self.old)) line) u64.MAX }
+        ensures few { self.new.visits ≤ self.old.visits + 2 * length self.old.core_heads.items }
     {
         let (mask, visited) = self.others(line, core, false);
         self.visits = self.visits.saturating_add(visited);
         mask
     }
 
-    /// The count of entries visited rises by the number of triples that have the line.
+    /// The count of entries visited rises by the number of triples that have the line, at most two for each core.
     fn writers_on(&mut self, line: u32, core: u8) -> u64
         requires core { core < length self.old.core_heads.items }
         requires line { line < self.old.line_count }
@@ -388,6 +390,7 @@ impl Sets for Directory {
         ensures visits { self.old.visits ≤ self.new.visits }
         ensures exact { self.new.visits
             ≡ min (self.old.visits + triples_on (threaded_content (rows_of self.old)) line) u64.MAX }
+        ensures few { self.new.visits ≤ self.old.visits + 2 * length self.old.core_heads.items }
     {
         let (mask, visited) = self.others(line, core, true);
         self.visits = self.visits.saturating_add(visited);
