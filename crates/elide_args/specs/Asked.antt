@@ -1,8 +1,8 @@
 -- What a subcommand asks for, by the values that were found of its options. The names are those of the command line
 -- (docs/FORMATS.md, "Options of the command line").
-use Rattle.std.specs.Prelude.{◌≡◌, ℕ, List, Some, codes}
+use Rattle.std.specs.Prelude.{◌≡◌, ℕ, Bool, false, true, List, Some, None, codes}
 use Rattle.std.specs.Option.{option_copied}
-use Rattle.clap.specs.Matches.{first_value}
+use Rattle.clap.specs.Matches.{first_value, one_text}
 use Rattle.clap.specs.declared.parser.matches.Found.{Found}
 use Rattle.elide_args.specs.declared.subcommand.DrawOptions.{DrawOptions}
 use Rattle.elide_args.specs.declared.subcommand.MachineOptions.{MachineOptions}
@@ -13,6 +13,12 @@ use Rattle.elide_args.specs.declared.subcommand.Subcommand.{Subcommand}
 use Rattle.elide_args.specs.declared.subcommand.ThreadsOptions.{ThreadsOptions}
 use Rattle.elide_args.specs.declared.subcommand.Subcommand.TheVariants.{Asm, Dis, Run, Threads, Replay, Debug, Hunt}
 use Rattle.elide_args.specs.declared.subcommand.Subcommand.TheVariants.{Outcomes, Stats, Draw, Explain}
+
+-- the flag of this name: false, unless clap read `true` of it
+pub record IsFlag (found : Found) (name : List ℕ) (flag : Bool) : Type 0 where
+  pub none : one_text found name ≡ None → flag ≡ false
+  pub given : one_text found name ≡ Some (codes "true") → flag ≡ true
+  pub other : one_text found name ≡ Some (codes "false") → flag ≡ false
 
 pub record IsMachine (found : Found) (options : MachineOptions) : Type 0 where
   pub file : first_value found (codes "FILE") ≡ Some options.file.now
@@ -33,6 +39,9 @@ pub record IsWork (found : Found) (options : ThreadsOptions) : Type 0 where
   pub machine : IsMachine found options.machine
   pub budget : first_value found (codes "budget") ≡ option_copied options.budget
   pub burst : first_value found (codes "burst") ≡ option_copied options.burst
+  pub explains : IsFlag found (codes "why") options.explains
+  pub counts : IsFlag found (codes "stats") options.counts
+  pub json : IsFlag found (codes "json") options.is_json
   pub path : first_value found (codes "record") ≡ option_copied options.«record»
 
 pub record IsSearch (found : Found) (options : OutcomesOptions) : Type 0 where
@@ -43,10 +52,13 @@ pub record IsSearch (found : Found) (options : OutcomesOptions) : Type 0 where
 pub record IsCounting (found : Found) (options : StatsOptions) : Type 0 where
   pub machine : IsMachine found options.machine
   pub schedule : IsSchedule found options.schedule
+  pub path : first_value found (codes "record") ≡ option_copied options.«record»
+  pub json : IsFlag found (codes "json") options.is_json
 
 pub record IsPicture (found : Found) (options : DrawOptions) : Type 0 where
   pub machine : IsMachine found options.machine
   pub schedule : IsSchedule found options.schedule
+  pub path : first_value found (codes "record") ≡ option_copied options.«record»
   pub from : first_value found (codes "from") ≡ option_copied options.from
   pub to : first_value found (codes "to") ≡ option_copied options.to
   pub cores : first_value found (codes "core") ≡ option_copied options.cores

@@ -233,3 +233,15 @@ pub const JSON: OptionText = OptionText {
     form: Form::Flag,
     help: "Prints one JSON object in place of columns",
 };
+
+pub const COUNTS: OptionText = OptionText {
+    name: "stats",
+    form: Form::Flag,
+    help: "Prints what the transactions came to, by the place of their XBEGIN, in place of the state",
+};
+
+pub const COUNTS_JSON: OptionText = OptionText {
+    name: "json",
+    form: Form::Flag,
+    help: "With --stats: prints one JSON object in place of columns",
+};

@@ -73,6 +73,10 @@ pub struct ThreadsOptions<'a> {
     pub burst: Option<&'a str>,
     /// Whether the reason of each abort is printed.
     pub explains: bool,
+    /// `--stats`: whether what the transactions came to is printed in place of the state.
+    pub counts: bool,
+    /// `--json`: whether that is printed as JSON in place of columns.
+    pub is_json: bool,
     /// `--record`: the path that the schedule is written to.
     pub record: Option<&'a str>,
 }
@@ -122,6 +126,8 @@ pub struct StatsOptions<'a> {
     pub machine: MachineOptions<'a>,
     /// The schedule.
     pub schedule: ScheduleOptions<'a>,
+    /// `--record`: the path that the schedule is written to.
+    pub record: Option<&'a str>,
     /// Whether JSON is printed in place of columns.
     pub is_json: bool,
 }
@@ -133,6 +139,8 @@ pub struct DrawOptions<'a> {
     pub machine: MachineOptions<'a>,
     /// The schedule.
     pub schedule: ScheduleOptions<'a>,
+    /// `--record`: the path that the schedule is written to.
+    pub record: Option<&'a str>,
     /// `--from`: the first step that is drawn.
     pub from: Option<&'a str>,
     /// `--to`: the last step that is drawn.

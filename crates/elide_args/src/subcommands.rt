@@ -1,9 +1,9 @@
 //! The subcommands, as data.
 
 use crate::options::{
-    BUDGET, BURST, CHECK, CORE, CORES, DUMP, ENTRY, EXPECT_HALT, FAULT, FILE, FROM, IN_TURN, JOBS,
-    JSON, LIMIT, LIST, MEM, METHOD, OptionText, RANDOM, READS, RECORD, RECORD_FIRST, RUNS,
-    SCHEDULE, SEED, SHOW, SOURCE, STATES, STEPS, STOP, TO, TRACE, WHY, WRITES,
+    BUDGET, BURST, CHECK, CORE, CORES, COUNTS, COUNTS_JSON, DUMP, ENTRY, EXPECT_HALT, FAULT, FILE,
+    FROM, IN_TURN, JOBS, JSON, LIMIT, LIST, MEM, METHOD, OptionText, RANDOM, READS, RECORD,
+    RECORD_FIRST, RUNS, SCHEDULE, SEED, SHOW, SOURCE, STATES, STEPS, STOP, TO, TRACE, WHY, WRITES,
 };
 
 /// A subcommand.
@@ -77,6 +77,8 @@ const THREADS: SubcommandText = SubcommandText {
         BUDGET,
         BURST,
         WHY,
+        COUNTS,
+        COUNTS_JSON,
         RECORD_FIRST,
     ],
 };
@@ -133,7 +135,8 @@ const STATS: SubcommandText = SubcommandText {
     about: "Runs a schedule of core steps and prints what its transactions came to, by the place of their XBEGIN",
     example: "Example: elide stats examples/elision.asm --cores 4 --random 7",
     options: &[
-        FILE, CORES, MEM, ENTRY, READS, WRITES, STEPS, SCHEDULE, IN_TURN, RANDOM, LIMIT, JSON,
+        FILE, CORES, MEM, ENTRY, READS, WRITES, STEPS, SCHEDULE, IN_TURN, RANDOM, LIMIT, RECORD,
+        JSON,
     ],
 };
 
@@ -142,8 +145,8 @@ const DRAW: SubcommandText = SubcommandText {
     about: "Runs a schedule of core steps and draws a timeline of it, as SVG",
     example: "Example: elide draw examples/elision.asm --cores 4 --random 7 --from 380 --to 560 > timeline.svg",
     options: &[
-        FILE, CORES, MEM, ENTRY, READS, WRITES, STEPS, SCHEDULE, IN_TURN, RANDOM, LIMIT, FROM, TO,
-        CORE,
+        FILE, CORES, MEM, ENTRY, READS, WRITES, STEPS, SCHEDULE, IN_TURN, RANDOM, LIMIT, RECORD,
+        FROM, TO, CORE,
     ],
 };
 

@@ -2,7 +2,7 @@
 
 ghost use Rattle.std.specs.Prelude.{◌≡◌, IfSome, Some, codes};
 ghost use Rattle.clap.specs.Matches.{first_value, found_of};
-ghost use Rattle.elide_args.specs.Asked.{Asks, IsCounting, IsMachine, IsPicture, IsSchedule};
+ghost use Rattle.elide_args.specs.Asked.{Asks, IsCounting, IsMachine, IsPicture, IsSchedule, IsWork};
 
 use crate::hunt_options::HuntOptions;
 use crate::line::command_line;
@@ -116,13 +116,7 @@ fn subcommand_named<'a>(name: &str, options: &ArgMatches<'a>) -> Option<Subcomma
             expects_halt: options.get_flag("expect-halt"),
             record: options.get_str("record"),
         })),
-        "threads" => Some(Subcommand::Threads(ThreadsOptions {
-            machine: machine_of(file, options),
-            budget: options.get_str("budget"),
-            burst: options.get_str("burst"),
-            explains: options.get_flag("why"),
-            record: options.get_str("record"),
-        })),
+        "threads" => Some(Subcommand::Threads(threads_of(file, options))),
         "replay" => Some(Subcommand::Replay(ReplayOptions {
             machine: machine_of(file, options),
             schedule: schedule_of(options),
@@ -177,6 +171,21 @@ fn several_of<'a>(
     }
 }
 
+fn threads_of<'a>(file: &'a str, options: &ArgMatches<'a>) -> ThreadsOptions<'a>
+    requires { first_value (found_of options.now) (codes "FILE") ≡ Some file.now }
+    ensures { IsWork (found_of options.now) result }
+{
+    ThreadsOptions {
+        machine: machine_of(file, options),
+        budget: options.get_str("budget"),
+        burst: options.get_str("burst"),
+        explains: options.get_flag("why"),
+        counts: options.get_flag("stats"),
+        is_json: options.get_flag("json"),
+        record: options.get_str("record"),
+    }
+}
+
 fn stats_of<'a>(file: &'a str, options: &ArgMatches<'a>) -> StatsOptions<'a>
     requires { first_value (found_of options.now) (codes "FILE") ≡ Some file.now }
     ensures { IsCounting (found_of options.now) result }
@@ -184,6 +193,7 @@ fn stats_of<'a>(file: &'a str, options: &ArgMatches<'a>) -> StatsOptions<'a>
     StatsOptions {
         machine: machine_of(file, options),
         schedule: schedule_of(options),
+        record: options.get_str("record"),
         is_json: options.get_flag("json"),
     }
 }
@@ -195,6 +205,7 @@ fn draw_of<'a>(file: &'a str, options: &ArgMatches<'a>) -> DrawOptions<'a>
     DrawOptions {
         machine: machine_of(file, options),
         schedule: schedule_of(options),
+        record: options.get_str("record"),
         from: options.get_str("from"),
         to: options.get_str("to"),
         cores: options.get_str("core"),
