@@ -1,17 +1,18 @@
 //! The command.
 
-use crate::course::{steps_of, watched};
+use crate::course::{counted, watched};
 use crate::extent::{Extent, rows_of};
 use crate::symbols::Symbols;
 use elide_args::DrawOptions;
 use elide_places::Places;
 use elide_program::{Paths, ProgramFile, Settings, read_file};
-use elide_setup::{Gathered, Plan, Progress, Refusal, Setup};
+use elide_setup::{Gathered, Plan, Progress, Refusal, Setup, record_path};
 use ia_text::Out;
 use std::alloc::Global;
 use tm_timeline::Label;
 
-/// Runs a schedule of core steps, and writes a timeline of the steps that are asked for, as SVG.
+/// Runs a schedule of core steps, writes the schedule that came about where there is a path, and then a timeline of the
+/// steps that are asked for, as SVG.
 pub fn draw<P: Paths, O: Out, G: Progress>(
     alloc: Global,
     options: &DrawOptions<'_>,
@@ -19,6 +20,7 @@ pub fn draw<P: Paths, O: Out, G: Progress>(
     out: &mut O,
     progress: &mut G,
 ) -> Result<(), Refusal> {
+    let path = record_path(options.record, options.machine.file, paths)?;
     let settings = Settings::read(&options.machine)?;
     let plan = Plan::read(alloc, &options.schedule)?;
     let extent = Extent::read(options.from, options.to)?;
@@ -27,9 +29,10 @@ pub fn draw<P: Paths, O: Out, G: Progress>(
     let setup = setup_of(alloc, &settings, text.as_slice())?;
     let places = Places::of_text(alloc, text.as_slice())?;
     let course = plan.course(alloc, paths)?;
-    let total = steps_of(alloc, &setup, &course, progress)?;
-    let window = extent.window(total)?;
-    let timeline = watched(alloc, &setup, &course, window)?;
+    let counted = counted(alloc, &setup, &course, path.is_some(), progress)?;
+    let window = extent.window(counted.total)?;
+    let timeline = watched(alloc, &setup, &course, window, progress)?;
+    course.record(path, counted.made.as_slice(), paths)?;
     let mut page = Gathered::new(out);
     let title = Label::of(name_of(options.machine.file));
     timeline.write(&title, &rows, &Symbols::new(&places), &mut page)?;

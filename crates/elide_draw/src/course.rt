@@ -1,31 +1,60 @@
 //! A schedule, run twice: once to count its steps, where it is drawn step by step, and once to watch them.
 
-use crate::watch::watch_step;
-use elide_setup::{Course, Drawn, Fault, Progress, Refusal, Setup};
+use crate::watch::Watcher;
+use elide_setup::{Course, Fault, Progress, Refusal, Setup, StepMaker};
 use std::alloc::Global;
-use tm_core::{Machine, Outcome, RunFault};
-use tm_pick::Going;
+use tm_core::{Machine, Outcome};
 use tm_timeline::{Timeline, Window};
 
-/// After how many steps it is told how far a run is.
-const PORTION: u32 = 65536;
+/// What a schedule came to before it is watched.
+#[derive(Debug, Drop)]
+pub struct Tally {
+    /// How many steps it makes.
+    pub total: u32,
+    /// The cores of the steps that were drawn, where they were asked for.
+    pub made: Vec<u8>,
+}
 
 /// How many steps a schedule makes: those of the list, or those that are drawn until all cores have stopped or the limit is
-/// reached.
-pub fn steps_of<G: Progress>(
+/// reached. `keeps` asks for the cores of those that are drawn.
+pub fn counted<G: Progress>(
     alloc: Global,
     setup: &Setup,
     course: &Course,
+    keeps: bool,
     progress: &mut G,
-) -> Result<u32, Refusal> {
+) -> Result<Tally, Refusal> {
     match course {
-        Course::Listed(steps) => Ok(u32::try_from(steps.len()).unwrap_or(u32::MAX)),
-        Course::Drawn(drawn) => {
-            let mut machine = machine_of(alloc, setup)?;
-            let counted = count_drawn(&mut machine, *drawn, progress);
-            progress.end();
-            counted
+        Course::Listed(steps) => Ok(Tally {
+            total: u32::try_from(steps.len()).unwrap_or(u32::MAX),
+            made: Vec::new(alloc),
+        }),
+        Course::Drawn(_) => {
+            let mut counter = Counter {
+                machine: machine_of(alloc, setup)?,
+                total: 0,
+            };
+            let cores = counter.machine.cores();
+            let made = course.walk(alloc, cores, keeps, &mut counter, progress)?;
+            Ok(Tally {
+                total: counter.total,
+                made,
+            })
         }
+    }
+}
+
+// A machine that counts its steps.
+#[derive(Drop)]
+struct Counter {
+    machine: Machine,
+    total: u32,
+}
+
+impl StepMaker for Counter {
+    fn make_step(&mut self, core: u8) -> Result<Outcome, Refusal> {
+        self.total = self.total.saturating_add(1);
+        self.machine.make_step(core)
     }
 }
 
@@ -37,77 +66,24 @@ fn machine_of(alloc: Global, setup: &Setup) -> Result<Machine, Refusal> {
     }
 }
 
-// How many steps are drawn.
-fn count_drawn<G: Progress>(
-    machine: &mut Machine,
-    drawn: Drawn,
-    progress: &mut G,
-) -> Result<u32, Refusal> {
-    let mut going = Going::all(machine.cores());
-    let mut picker = drawn.picker();
-    for number in 0..drawn.most {
-        if going.is_empty() {
-            return Ok(number);
-        }
-        if number % PORTION == 0 {
-            progress.tell(u64::from(number), u64::from(drawn.most), "steps");
-        }
-        let core = picker.next(&going, false);
-        let outcome = match machine.step(core) {
-            Ok(outcome) => outcome,
-            Err(_) => return Err(Refusal::Fault(Fault::Run(RunFault::NoSuchCore))),
-        };
-        if let Outcome::Stopped(_) = outcome {
-            going.remove(core);
-        }
-    }
-    Ok(drawn.most)
-}
-
-/// Runs a schedule, and tells a timeline of this window of it.
-pub fn watched(
+/// Runs a schedule, and tells a timeline of this window of it. A picker draws the cores that it drew when the steps were
+/// counted.
+pub fn watched<G: Progress>(
     alloc: Global,
     setup: &Setup,
     course: &Course,
     window: Window,
+    progress: &mut G,
 ) -> Result<Timeline, Refusal> {
-    let mut machine = machine_of(alloc, setup)?;
-    let mut timeline = Timeline::new(alloc, machine.cores(), window)?;
-    match course {
-        Course::Listed(steps) => watch_listed(&mut machine, steps.as_slice(), &mut timeline)?,
-        Course::Drawn(drawn) => watch_drawn(&mut machine, *drawn, &mut timeline)?,
-    }
+    let machine = machine_of(alloc, setup)?;
+    let cores = machine.cores();
+    let timeline = Timeline::new(alloc, cores, window)?;
+    let mut watcher = Watcher { machine, timeline };
+    course.walk(alloc, cores, false, &mut watcher, progress)?;
+    let Watcher {
+        machine: _,
+        mut timeline,
+    } = watcher;
     timeline.finish()?;
     Ok(timeline)
-}
-
-fn watch_listed(
-    machine: &mut Machine,
-    steps: &[u8],
-    timeline: &mut Timeline,
-) -> Result<(), Refusal> {
-    for core in steps {
-        watch_step(machine, *core, timeline)?;
-    }
-    Ok(())
-}
-
-// The picker draws the cores that it drew when the steps were counted.
-fn watch_drawn(
-    machine: &mut Machine,
-    drawn: Drawn,
-    timeline: &mut Timeline,
-) -> Result<(), Refusal> {
-    let mut going = Going::all(machine.cores());
-    let mut picker = drawn.picker();
-    for _ in 0..drawn.most {
-        if going.is_empty() {
-            break;
-        }
-        let core = picker.next(&going, false);
-        if let Outcome::Stopped(_) = watch_step(machine, core, timeline)? {
-            going.remove(core);
-        }
-    }
-    Ok(())
 }

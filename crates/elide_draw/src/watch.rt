@@ -1,15 +1,30 @@
 //! A step, and whom it hits.
 
-use elide_setup::{Fault, Refusal};
+use elide_setup::{Refusal, StepMaker};
 use std::alloc::AllocError;
-use tm_core::{CoreState, Kind, Machine, Outcome, RunFault};
+use tm_core::{CoreState, Kind, Machine, Outcome};
 use tm_timeline::{LineUse, Timeline};
 
 // How the next step uses the line on which it hits a core, for each core.
 type Uses = [Option<LineUse>; 64];
 
-/// Makes a step, and tells a timeline whom it hits and what it was.
-pub fn watch_step(
+/// A machine whose steps a timeline is told.
+#[derive(Drop)]
+pub struct Watcher {
+    /// The machine.
+    pub machine: Machine,
+    /// The timeline.
+    pub timeline: Timeline,
+}
+
+impl StepMaker for Watcher {
+    fn make_step(&mut self, core: u8) -> Result<Outcome, Refusal> {
+        watch_step(&mut self.machine, core, &mut self.timeline)
+    }
+}
+
+// Makes a step, and tells a timeline whom it hits and what it was.
+fn watch_step(
     machine: &mut Machine,
     core: u8,
     timeline: &mut Timeline,
@@ -19,10 +34,7 @@ pub fn watch_step(
     } else {
         None
     };
-    let outcome = match machine.step(core) {
-        Ok(outcome) => outcome,
-        Err(_) => return Err(Refusal::Fault(Fault::Run(RunFault::NoSuchCore))),
-    };
+    let outcome = machine.make_step(core)?;
     tell_hits(machine, core, &uses, timeline)?;
     timeline.told(core, outcome)?;
     Ok(outcome)

@@ -1,10 +1,9 @@
 //! `elide run`.
 //!
 //! Promises no more than safety: what a schedule comes to is proved of `tm_core`, and what is printed is compared by `doc_tests`.
-//! Stands on `elide_setup`, on `tm_pick` for schedules that are drawn, and on `elide_why` for the reasons of aborts.
+//! Stands on `elide_setup`, and on `elide_why` for the reasons of aborts.
 #![tactic(auto)]
 
-mod drawn;
 mod explained;
 mod halting;
 mod schedule;

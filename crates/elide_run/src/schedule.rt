@@ -1,15 +1,13 @@
 //! `elide run`.
 
-use crate::drawn::{Wanted, run_drawn};
 use crate::explained::run_explained;
 use crate::halting::{Ending, ending_of};
 use elide_args::RunOptions;
 use elide_program::Paths;
 use elide_setup::{
-    Course, Fault, Gathered, Progress, Refusal, Setup, part_of, record, record_path, scheduled,
-    show,
+    Fault, Gathered, Progress, Refusal, Setup, StepMaker, part_of, record_path, scheduled, show,
 };
-use ia_text::{Out, WriteFault};
+use ia_text::Out;
 use std::alloc::Global;
 use tm_core::{Machine, Outcome};
 use tm_hist::write_outcome;
@@ -42,26 +40,36 @@ fn run_plainly<P: Paths, O: Out, G: Progress>(
 ) -> Result<(Setup, Machine), Refusal> {
     let path = record_path(options.record, options.machine.file, paths)?;
     let (setup, course) = scheduled(alloc, &options.machine, &options.schedule, paths)?;
-    let machine = match course {
-        Course::Listed(steps) => {
-            let ran = Ran::of(alloc, &setup, steps.as_slice())?;
-            part_of(ran.machine.view(), setup.dump)?;
-            record(path, steps.as_slice(), paths)?;
-            if options.traces {
-                write_trace(steps.as_slice(), ran.outcomes.as_slice(), out)?;
-            }
-            ran.machine
-        }
-        Course::Drawn(drawn) => {
-            let wanted = Wanted {
-                drawn,
-                traces: options.traces,
-                path,
-            };
-            run_drawn(alloc, &setup, &wanted, paths, out, progress)?
-        }
-    };
+    let machine = Machine::new(alloc, &setup.program, setup.limits);
+    let mut machine = machine.map_err(Fault::Machine)?;
+    let cores = machine.cores();
+    course.check_cores(cores)?;
+    part_of(machine.view(), setup.dump)?;
+    if options.traces {
+        let mut tracing = Tracing {
+            machine: &mut machine,
+            out,
+        };
+        course.walk_recorded(alloc, cores, path, &mut tracing, paths, progress)?;
+    } else {
+        course.walk_recorded(alloc, cores, path, &mut machine, paths, progress)?;
+    }
     Ok((setup, machine))
+}
+
+// A machine whose outcomes are printed.
+#[derive(Drop)]
+struct Tracing<'a, O> {
+    machine: &'a mut Machine,
+    out: &'a mut O,
+}
+
+impl<O: Out> StepMaker for Tracing<'_, O> {
+    fn make_step(&mut self, core: u8) -> Result<Outcome, Refusal> {
+        let outcome = self.machine.make_step(core)?;
+        write_outcome(core, &outcome, self.out)?;
+        Ok(outcome)
+    }
 }
 
 // Prints the state and the dump, and the cores that have not stopped where they are asked for.
@@ -80,28 +88,4 @@ fn tell<O: Out>(
     };
     page.finish()?;
     Ok(ending)
-}
-
-// A machine after a list of steps, and what came of each.
-#[derive(Drop)]
-struct Ran {
-    machine: Machine,
-    outcomes: Vec<Outcome>,
-}
-
-impl Ran {
-    fn of(alloc: Global, setup: &Setup, steps: &[u8]) -> Result<Ran, Refusal> {
-        let machine = Machine::new(alloc, &setup.program, setup.limits);
-        let mut machine = machine.map_err(Fault::Machine)?;
-        let outcomes = machine.run(alloc, steps).map_err(Fault::Run)?;
-        Ok(Ran { machine, outcomes })
-    }
-}
-
-// One outcome line a step.
-fn write_trace<O: Out>(steps: &[u8], outcomes: &[Outcome], out: &mut O) -> Result<(), WriteFault> {
-    for (core, outcome) in steps.iter().zip(outcomes) {
-        write_outcome(*core, outcome, out)?;
-    }
-    Ok(())
 }

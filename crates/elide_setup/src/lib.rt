@@ -14,12 +14,14 @@ mod progress;
 mod recorded;
 mod shown;
 mod told;
+mod walk;
 
 pub use fault::{Fault, Refusal};
 pub use gathered::Gathered;
-pub use machine::{Setup, new_board, prepared, scheduled};
+pub use machine::{Setup, new_board, planned, prepared, scheduled};
 pub use plan::{Course, Drawn, Plan, limit_of};
 pub use progress::{Progress, Silent};
 pub use recorded::{record, record_path};
 pub use shown::{MemoryPart, part_of, print, show};
 pub use told::{push_back, push_front};
+pub use walk::StepMaker;

@@ -92,23 +92,23 @@ pub fn scheduled<P: Paths>(
     let settings = Settings::read(machine)?;
     let plan = Plan::read(alloc, schedule)?;
     let text = read_file(machine.file, paths)?;
-    planned(alloc, &settings, plan, text.as_slice(), paths)
+    let file = ProgramFile::read(alloc, text.as_slice())?;
+    planned(alloc, &settings, plan, &file, paths)
 }
 
-// A program by the text of FILE, and its schedule.
-fn planned<P: Paths>(
+/// The program of a file that was read, and its schedule.
+pub fn planned<P: Paths>(
     alloc: Global,
     settings: &Settings<'_>,
     plan: Plan<'_>,
-    text: &[u8],
+    file: &ProgramFile<'_>,
     paths: &mut P,
 ) -> Result<(Setup, Course), Refusal>
     ensures { IfOk result (λ r. IsSetup settings.now r.0) }
 {
-    let file = ProgramFile::read(alloc, text)?;
     let starts = file.starts(alloc, settings)?;
     let course = plan.course(alloc, paths)?;
-    let setup = Setup::load(alloc, settings, &file, starts.as_slice())?;
+    let setup = Setup::load(alloc, settings, file, starts.as_slice())?;
     Ok((setup, course))
 }
 

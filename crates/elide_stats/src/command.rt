@@ -6,12 +6,13 @@ use crate::json::put_json;
 use crate::labels::Labels;
 use crate::report::Report;
 use elide_args::StatsOptions;
-use elide_program::{Paths, ProgramFile, read_file};
-use elide_setup::{Gathered, Progress, Refusal, scheduled};
+use elide_program::{Paths, ProgramFile, Settings, read_file};
+use elide_setup::{Gathered, Plan, Progress, Refusal, planned, record_path};
 use ia_text::Out;
 use std::alloc::Global;
 
-/// Runs a schedule of core steps, and prints what its transactions came to.
+/// Runs a schedule of core steps, writes the schedule that came about where there is a path, and prints what its
+/// transactions came to.
 pub fn stats<P: Paths, O: Out, G: Progress>(
     alloc: Global,
     options: &StatsOptions<'_>,
@@ -19,10 +20,13 @@ pub fn stats<P: Paths, O: Out, G: Progress>(
     out: &mut O,
     progress: &mut G,
 ) -> Result<(), Refusal> {
-    let (setup, course) = scheduled(alloc, &options.machine, &options.schedule, paths)?;
-    let counting = counted(alloc, &setup, course, progress)?;
+    let path = record_path(options.record, options.machine.file, paths)?;
+    let settings = Settings::read(&options.machine)?;
+    let plan = Plan::read(alloc, &options.schedule)?;
     let text = read_file(options.machine.file, paths)?;
     let file = ProgramFile::read(alloc, text.as_slice())?;
+    let (setup, course) = planned(alloc, &settings, plan, &file, paths)?;
+    let counting = counted(alloc, &setup, &course, path, paths, progress)?;
     let labels = Labels::of_file(alloc, &file)?;
     let report = Report::of(alloc, counting, &labels)?;
     let mut page = Gathered::new(out);

@@ -1,14 +1,11 @@
 //! A run whose steps are counted.
 
 use crate::asked::{Asked, conflict_with};
-use elide_setup::{Course, Drawn, Fault, Progress, Refusal, Setup};
+use elide_program::Paths;
+use elide_setup::{Course, Fault, Progress, Refusal, Setup, StepMaker};
 use std::alloc::Global;
 use tm_core::{Machine, Outcome, RunFault};
-use tm_pick::Going;
 use tm_stats::{Conflicts, RunCounts};
-
-/// After how many steps it is told how far a run is.
-const PORTION: u32 = 65536;
 
 /// A machine, with the counts of the steps that it made.
 #[derive(Drop)]
@@ -18,11 +15,13 @@ pub struct Counting {
     conflicts: Conflicts,
 }
 
-/// Runs a schedule, and counts its steps.
-pub fn counted<G: Progress>(
+/// Runs a schedule, counts its steps, and writes the schedule that came about where there is a path.
+pub fn counted<P: Paths, G: Progress>(
     alloc: Global,
     setup: &Setup,
-    course: Course,
+    course: &Course,
+    path: Option<&str>,
+    paths: &mut P,
     progress: &mut G,
 ) -> Result<Counting, Refusal> {
     let machine = Machine::new(alloc, &setup.program, setup.limits);
@@ -31,59 +30,26 @@ pub fn counted<G: Progress>(
         counts: RunCounts::new(alloc),
         conflicts: Conflicts::new(alloc),
     };
-    match course {
-        Course::Listed(steps) => counting.run_listed(steps.as_slice(), progress)?,
-        Course::Drawn(drawn) => counting.run_drawn(drawn, progress)?,
-    }
-    progress.end();
+    let cores = counting.machine.cores();
+    course.check_cores(cores)?;
+    course.walk_recorded(alloc, cores, path, &mut counting, paths, progress)?;
     Ok(counting)
 }
 
-impl Counting {
-    // Makes the steps of a list.
-    fn run_listed<G: Progress>(&mut self, steps: &[u8], progress: &mut G) -> Result<(), Refusal> {
-        for index in 0..steps.len() {
-            if index % PORTION as usize == 0 {
-                progress.tell(index as u64, steps.len() as u64, "steps");
-            }
-            self.step(steps[index])?;
-        }
-        Ok(())
-    }
-
-    // Makes the steps that are drawn, until all cores have stopped or the limit is reached.
-    fn run_drawn<G: Progress>(&mut self, drawn: Drawn, progress: &mut G) -> Result<(), Refusal> {
-        let mut going = Going::all(self.machine.cores());
-        let mut picker = drawn.picker();
-        for number in 0..drawn.most {
-            if going.is_empty() {
-                break;
-            }
-            if number % PORTION == 0 {
-                progress.tell(u64::from(number), u64::from(drawn.most), "steps");
-            }
-            let core = picker.next(&going, false);
-            if let Outcome::Stopped(_) = self.step(core)? {
-                going.remove(core);
-            }
-        }
-        Ok(())
-    }
-
+impl StepMaker for Counting {
     // Makes a step, and counts it with the transactions that it hits.
-    fn step(&mut self, core: u8) -> Result<Outcome, Refusal> {
+    fn make_step(&mut self, core: u8) -> Result<Outcome, Refusal> {
         let asked = Asked::before(&self.machine, core);
         self.count_conflicts(core)?;
-        let outcome = match self.machine.step(core) {
-            Ok(outcome) => outcome,
-            Err(_) => return Err(Refusal::Fault(Fault::Run(RunFault::NoSuchCore))),
-        };
+        let outcome = self.machine.make_step(core)?;
         match self.counts.told(asked.step(core, outcome)) {
             Ok(()) => Ok(outcome),
             Err(_) => Err(no_memory()),
         }
     }
+}
 
+impl Counting {
     /// The counts of the steps, and of the transactions that were hit.
     pub fn into_counts(self) -> (RunCounts, Conflicts) {
         let Counting {
