@@ -1,0 +1,145 @@
+# Completions of elide for bash, to be sourced. Made by scripts/refresh-completions from the texts of `elide --help`.
+
+# The options of a subcommand.
+_elide_options() {
+    case $1 in
+    asm) echo '--help --list' ;;
+    dis) echo '--help' ;;
+    run) echo '--help --cores --mem --entry --reads --writes --dump --steps --schedule --trace --why --expect-halt --in-turn --random --limit --record' ;;
+    threads) echo '--help --cores --mem --entry --reads --writes --dump --budget --burst --why --record' ;;
+    replay) echo '--help --cores --mem --entry --reads --writes --dump --steps --schedule --why --in-turn --random --limit --record' ;;
+    debug) echo '--help --cores --mem --entry --reads --writes --dump' ;;
+    hunt) echo '--help --cores --mem --entry --reads --writes --check --stop --expect-halt --runs --seed --method --limit --jobs --record' ;;
+    outcomes) echo '--help --cores --mem --entry --reads --writes --show --limit' ;;
+    stats) echo '--help --cores --mem --entry --reads --writes --steps --schedule --in-turn --random --limit --json' ;;
+    draw) echo '--help --cores --mem --entry --reads --writes --steps --schedule --in-turn --random --limit --from --to --core' ;;
+    explain) echo '--help' ;;
+    esac
+}
+
+# What stands behind an option of a subcommand: a path, or another value.
+_elide_value() {
+    case "$1 $2" in
+    'run --schedule' | \
+    'run --record' | \
+    'threads --record' | \
+    'replay --schedule' | \
+    'replay --record' | \
+    'hunt --record' | \
+    'stats --schedule' | \
+    'draw --schedule') echo path ;;
+    'run --cores' | \
+    'run --mem' | \
+    'run --entry' | \
+    'run --reads' | \
+    'run --writes' | \
+    'run --dump' | \
+    'run --steps' | \
+    'run --random' | \
+    'run --limit' | \
+    'threads --cores' | \
+    'threads --mem' | \
+    'threads --entry' | \
+    'threads --reads' | \
+    'threads --writes' | \
+    'threads --dump' | \
+    'threads --budget' | \
+    'threads --burst' | \
+    'replay --cores' | \
+    'replay --mem' | \
+    'replay --entry' | \
+    'replay --reads' | \
+    'replay --writes' | \
+    'replay --dump' | \
+    'replay --steps' | \
+    'replay --random' | \
+    'replay --limit' | \
+    'debug --cores' | \
+    'debug --mem' | \
+    'debug --entry' | \
+    'debug --reads' | \
+    'debug --writes' | \
+    'debug --dump' | \
+    'hunt --cores' | \
+    'hunt --mem' | \
+    'hunt --entry' | \
+    'hunt --reads' | \
+    'hunt --writes' | \
+    'hunt --check' | \
+    'hunt --stop' | \
+    'hunt --runs' | \
+    'hunt --seed' | \
+    'hunt --method' | \
+    'hunt --limit' | \
+    'hunt --jobs' | \
+    'outcomes --cores' | \
+    'outcomes --mem' | \
+    'outcomes --entry' | \
+    'outcomes --reads' | \
+    'outcomes --writes' | \
+    'outcomes --show' | \
+    'outcomes --limit' | \
+    'stats --cores' | \
+    'stats --mem' | \
+    'stats --entry' | \
+    'stats --reads' | \
+    'stats --writes' | \
+    'stats --steps' | \
+    'stats --random' | \
+    'stats --limit' | \
+    'draw --cores' | \
+    'draw --mem' | \
+    'draw --entry' | \
+    'draw --reads' | \
+    'draw --writes' | \
+    'draw --steps' | \
+    'draw --random' | \
+    'draw --limit' | \
+    'draw --from' | \
+    'draw --to' | \
+    'draw --core') echo other ;;
+    esac
+}
+
+_elide_takes_file() {
+    case $1 in
+    asm | dis | run | threads | replay | debug | hunt | outcomes | stats | draw) return 0 ;;
+    *) return 1 ;;
+    esac
+}
+
+_elide_commands='asm dis run threads replay debug hunt outcomes stats draw explain help'
+
+# What a word behind the subcommand can be, or `files` where it is one's path.
+_elide_choices() {
+    case $(_elide_value "$1" "$2") in
+    path) echo files ;;
+    other) ;;
+    *)
+        case $3 in
+        -*) _elide_options "$1" ;;
+        *) if _elide_takes_file "$1"; then echo files; elif [ "$1" = help ]; then echo "$_elide_commands"; fi ;;
+        esac
+        ;;
+    esac
+}
+
+_elide() {
+    local word=${COMP_WORDS[COMP_CWORD]} before=${COMP_WORDS[COMP_CWORD - 1]} choices
+    # bash splits `--record=file` at the sign.
+    if [ "$before" = = ]; then before=${COMP_WORDS[COMP_CWORD - 2]}; fi
+    if [ "$word" = = ]; then word=; fi
+    if [ "$COMP_CWORD" -eq 1 ]; then
+        choices="$_elide_commands --help --version"
+    else
+        choices=$(_elide_choices "${COMP_WORDS[1]}" "$before" "$word")
+    fi
+    COMPREPLY=()
+    # Without an answer bash offers files.
+    if [ "$choices" = files ]; then return; fi
+    compopt +o default 2>/dev/null
+    # shellcheck disable=SC2207
+    COMPREPLY=($(compgen -W "$choices" -- "$word"))
+}
+
+complete -o default -F _elide elide
