@@ -4,3 +4,4 @@ pub mod TermLists
 pub mod Ends
 pub mod Lengths
 pub mod Rows
+pub mod Alone

@@ -4,3 +4,4 @@ pub mod Tokens
 pub mod Terms
 pub mod Lines
 pub mod Words
+pub mod Alone

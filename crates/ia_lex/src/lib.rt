@@ -5,7 +5,8 @@
 //! each a number or a symbol (`Atom`), whose value is a whole number.
 //!
 //! Promised: `first_line` gives the lines of a text one by one, `tokens` exactly the tokens of a line or that something
-//! in it is no token, and `expression`, `word_number` and `register_of` what their tokens and words say.
+//! in it is no token, `only_word` the word that is a line's only token, and `expression`, `word_number` and `register_of`
+//! what their tokens and words say.
 //!
 //! It stands on `ia_word` for the widths of registers.
 #![tactic(auto)]
@@ -22,7 +23,7 @@ mod words;
 pub use lines::{first_line, without_cr};
 pub use number::word_number;
 pub use read::{atom, expression, sign};
-pub use scan::tokens;
+pub use scan::{only_word, tokens};
 pub use terms::{Atom, Expression, Term};
 pub use token::{LexFault, Token};
 pub use words::{find_word, is_word, register_of};
