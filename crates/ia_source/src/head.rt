@@ -3,7 +3,7 @@
 ghost use Rattle.std.specs.Prelude.{◌≡◌, map, option_map};
 ghost use Rattle.ia_lex.specs.Tokens.{lexeme_of};
 ghost use Rattle.ia_source.specs.Heads.{begins_with_colon, behind_colon, behind_lock, by_keyword, statement_at};
-ghost use Rattle.ia_source.specs.Heads.{with_label, head_of, statement_content, head_content};
+ghost use Rattle.ia_source.specs.Heads.{with_label, head_of, is_label, statement_content, head_content};
 
 use crate::comma::is_mark;
 use crate::directive::{Directive, Keyword};
@@ -116,6 +116,13 @@ fn with_label<'a, 'b>(
         }),
         None => None,
     }
+}
+
+/// Whether a word that stands first on a line is a label: it names no instruction, directive, prefix or register.
+pub fn is_label(word: &[u8]) -> bool
+    ensures { result ≡ is_label word.now }
+{
+    keyword(word).is_none() && register_of(word).is_none()
 }
 
 /// The head of a line, or none where a name stands that is no instruction's and no directive's.

@@ -4,7 +4,8 @@
 //!
 //! Promised by `entries`: exactly the entries that the lines of the source ask for, in their order, each of which can
 //! be placed; or the first line that is wrong and the first thing that is wrong with it; or that no memory was left.
-//! A memory operand reads as the sum of its addends, in whichever order they stand.
+//! A memory operand reads as the sum of its addends, in whichever order they stand. By `is_label`, which first words of lines
+//! are labels.
 //!
 //! It stands on `ia_lex` for lines, tokens and expressions, and on `ia_item` for what it gives.
 #![tactic(auto)]
@@ -27,5 +28,6 @@ mod sum;
 mod values;
 
 pub use fault::{SourceFault, Why};
+pub use head::is_label;
 pub use laws::places_are_sums;
 pub use source::entries;
