@@ -10,7 +10,7 @@ use elide_draw::draw;
 use elide_explain::explain;
 use elide_hunt::{Answer as Hunted, hunt};
 use elide_outcomes::{Answer as Searched, outcomes};
-use elide_program::Paths;
+use elide_program::{Paths, WarnedPaths};
 use elide_replay::{Agreement, replay};
 use elide_run::{Ending, run};
 use elide_setup::{Fault, Progress, Refusal};
@@ -26,8 +26,8 @@ use tm_debug::In;
 ///
 /// The words are the arguments without the program's name. A fault is one line on `err`, as `fault 23 BadCores`, or with the
 /// line of a text as `fault 27 BadImageText line 3`; a misused option is `usage: ` and its name. Nothing is written on
-/// `out` then, unless the fault came while writing there. Telling it takes no memory. Long work tells `progress` how far it is.
-/// Waits only for `input` and for workers.
+/// `out` then, unless the fault came while writing there. Warnings of a source stand on `err` before. Telling them takes no
+/// memory. Long work tells `progress` how far it is. Waits only for `input` and for workers.
 pub fn command<
     R: Threads + Wait + Sync + AllocGlobal,
     P: Paths,
@@ -47,12 +47,14 @@ pub fn command<
     ensures { result ≤ 3 }
 {
     match subcommand_of(rt.alloc(), words, out, err) {
-        Ok(subcommand) => match obey(rt, &subcommand, paths, input, out, progress) {
-            Ok(Answer::Done) => 0,
-            Ok(Answer::Differs) => 1,
-            Ok(Answer::Fails) => 3,
-            Err(refusal) => tell(refusal, err),
-        },
+        Ok(subcommand) => {
+            match obey_warned(rt, &subcommand, paths, input, out, err, progress) {
+                Ok(Answer::Done) => 0,
+                Ok(Answer::Differs) => 1,
+                Ok(Answer::Fails) => 3,
+                Err(refusal) => tell(refusal, err),
+            }
+        }
         Err(NotASubcommand::Helped) => 0,
         Err(NotASubcommand::Misused) => 2,
         Err(NotASubcommand::NotWritten) => tell(Refusal::Fault(Fault::Output), err),
@@ -69,6 +71,44 @@ enum Answer {
     Differs,
     // A run failed what was asked of it, or a search was cut.
     Fails,
+}
+
+// Does what is asked for, and tells the warnings of its program.
+fn obey_warned<
+    R: Threads + Wait + Sync + AllocGlobal,
+    P: Paths,
+    I: In,
+    O: Out,
+    E: Out,
+    G: Progress,
+>(
+    rt: &R,
+    subcommand: &Subcommand<'_>,
+    paths: &mut P,
+    input: &mut I,
+    out: &mut O,
+    err: &mut E,
+    progress: &mut G,
+) -> Result<Answer, Refusal> {
+    let mut warned = WarnedPaths::new(paths, err, program_of(subcommand));
+    obey(rt, subcommand, &mut warned, input, out, progress)
+}
+
+// The path of the program that a subcommand works on.
+fn program_of<'s>(subcommand: &'s Subcommand<'_>) -> Option<&'s str> {
+    match subcommand {
+        Subcommand::Asm(options) => Some(options.file),
+        Subcommand::Dis(options) => Some(options.file),
+        Subcommand::Run(options) => Some(options.machine.file),
+        Subcommand::Threads(options) => Some(options.machine.file),
+        Subcommand::Replay(options) => Some(options.machine.file),
+        Subcommand::Debug(options) => Some(options.machine.file),
+        Subcommand::Hunt(options) => Some(options.machine.file),
+        Subcommand::Outcomes(options) => Some(options.machine.file),
+        Subcommand::Stats(options) => Some(options.machine.file),
+        Subcommand::Draw(options) => Some(options.machine.file),
+        Subcommand::Explain(_) => None,
+    }
 }
 
 // Does what is asked for.

@@ -2,3 +2,4 @@ pub mod Faults
 pub mod Files
 pub mod ProgramFile
 pub mod Settings
+pub mod Warned

@@ -3,6 +3,7 @@
 ghost use Rattle.std.specs.Prelude.{◌≡◌, ◌≤◌, IfOk, MatchResult, length, min, replicate};
 ghost use Rattle.elide_program.specs.Faults.{unread, unread_source};
 ghost use Rattle.elide_program.specs.Files.{Gives, Tells, most_bytes};
+ghost use Rattle.elide_program.specs.ProgramFile.{is_image};
 
 use crate::entries::EntryList;
 use crate::fault::{ProgramFault, ProgramRefusal};
@@ -51,6 +52,13 @@ pub fn read_source<P: Paths>(path: &str, paths: &mut P) -> Result<Vec<u8>, Progr
     }
 }
 
+/// Whether a text begins as image text does.
+pub fn is_image(text: &[u8]) -> bool
+    ensures { result ≡ is_image text.now }
+{
+    text.starts_with(b"image 1 ")
+}
+
 impl<'a> ProgramFile<'a> {
     ghost use Rattle.elide_program.specs.ProgramFile.{IsFile, file_base, file_bytes, file_code_len, file_symbol};
     ghost use Rattle.elide_program.specs.ProgramFile.{loaded};
@@ -59,7 +67,7 @@ impl<'a> ProgramFile<'a> {
     pub fn read(alloc: Global, text: &'a [u8]) -> Result<ProgramFile<'a>, ProgramRefusal>
         ensures { IfOk result (λ file. IsFile text.now file) }
     {
-        if text.starts_with(b"image 1 ") {
+        if is_image(text) {
             match read_image(alloc, text) {
                 Ok(image) => Ok(ProgramFile::Image(image)),
                 Err(fault) => Err(ProgramRefusal::Fault(ProgramFault::Image(fault))),

@@ -2,8 +2,9 @@
 //!
 //! Promised: the number and line of each fault; which number a setting has where its option is given and where it is not; that a
 //! file is read up to 640 MiB, and as image text or as a source; and that what is loaded is that file with this memory and these
-//! starts. The order of faults is compared by `doc_tests`. Stands on the assembler (`ia_asm`) and the image text and loader
-//! (`ia_image`); a word of the command line is a number as `ia_lex` reads it.
+//! starts. The order of faults, and that the warnings of a source (`ia_warn`) are told once, is compared by `doc_tests`. Stands
+//! on the assembler (`ia_asm`) and the image text and loader (`ia_image`); a word of the command line is a number as `ia_lex`
+//! reads it.
 #![tactic(auto)]
 
 mod entries;
@@ -15,6 +16,7 @@ mod paths;
 mod replacing;
 mod settings;
 mod sums;
+mod warned;
 
 pub use entries::EntryList;
 pub use fault::{ProgramFault, ProgramRefusal};
@@ -23,3 +25,4 @@ pub use host_paths::HostPaths;
 pub use paths::{Paths, ReadFault, Text};
 pub use settings::{Dump, Settings, number_of};
 pub use sums::sum_of;
+pub use warned::WarnedPaths;

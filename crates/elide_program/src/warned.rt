@@ -1,0 +1,78 @@
+//! The warnings of a program, told as its file is read.
+
+ghost use Rattle.std.specs.Prelude.{◌≤◌, IfOk, None, length};
+ghost use Rattle.elide_program.specs.Warned.{program_warnings};
+ghost use Rattle.ia_text.specs.Writing.{Writes};
+
+use crate::file::is_image;
+use crate::paths::{Paths, ReadFault, Text};
+use ia_text::{Failed, Out};
+use ia_warn::warn;
+
+/// The files of a command. When its program's file is first read, the warnings of the text are told.
+#[derive(Drop)]
+pub struct WarnedPaths<'a, P, E> {
+    paths: &'a mut P,
+    err: &'a mut E,
+    // The path of the program, until its warnings are told.
+    program: Option<&'a str>,
+}
+
+impl<'a, P: Paths, E: Out> WarnedPaths<'a, P, E> {
+    /// These files, one of which is a program, and the device that its warnings are told on.
+    pub fn new(
+        paths: &'a mut P,
+        err: &'a mut E,
+        program: Option<&'a str>,
+    ) -> WarnedPaths<'a, P, E> {
+        WarnedPaths {
+            paths,
+            err,
+            program,
+        }
+    }
+}
+
+impl<P: Paths, E: Out> Paths for WarnedPaths<'_, P, E> {
+    ghost content = { λ _ _. None };
+
+    fn read(&mut self, path: &str, most: usize) -> Result<Vec<u8>, ReadFault> {
+        match self.paths.read(path, most) {
+            Ok(bytes) => {
+                if is_path(self.program, path) {
+                    self.program = None;
+                    // A warning that is not written whole has no further place to be told.
+                    let _ = warn_of(bytes.as_slice(), self.err);
+                }
+                Ok(bytes)
+            }
+            Err(fault) => Err(fault),
+        }
+    }
+
+    fn write<T: Text>(&mut self, path: &str, text: &T) -> Result<(), Failed> {
+        self.paths.write(path, text)
+    }
+
+    fn is_same_file(&mut self, path: &str, other: &str) -> bool {
+        self.paths.is_same_file(path, other)
+    }
+}
+
+fn is_path(program: Option<&str>, path: &str) -> bool {
+    match program {
+        Some(program) => program == path,
+        None => false,
+    }
+}
+
+// Tells the warnings of a program's text. Image text has none.
+fn warn_of<E: Out>(text: &[u8], err: &mut E) -> Result<(), Failed>
+    ensures { Writes (E.device err.old) (E.device err.new) (program_warnings text.now) result }
+{
+    if is_image(text) {
+        Ok(())
+    } else {
+        warn(text, err)
+    }
+}
