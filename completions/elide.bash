@@ -6,13 +6,13 @@ _elide_options() {
     asm) echo '--help --list' ;;
     dis) echo '--help' ;;
     run) echo '--help --cores --mem --entry --reads --writes --dump --steps --schedule --trace --why --expect-halt --in-turn --random --limit --record' ;;
-    threads) echo '--help --cores --mem --entry --reads --writes --dump --budget --burst --why --record' ;;
+    threads) echo '--help --cores --mem --entry --reads --writes --dump --budget --burst --why --stats --json --record' ;;
     replay) echo '--help --cores --mem --entry --reads --writes --dump --steps --schedule --why --in-turn --random --limit --record' ;;
     debug) echo '--help --cores --mem --entry --reads --writes --dump' ;;
     hunt) echo '--help --cores --mem --entry --reads --writes --check --stop --expect-halt --runs --seed --method --limit --jobs --record' ;;
     outcomes) echo '--help --cores --mem --entry --reads --writes --show --limit' ;;
-    stats) echo '--help --cores --mem --entry --reads --writes --steps --schedule --in-turn --random --limit --json' ;;
-    draw) echo '--help --cores --mem --entry --reads --writes --steps --schedule --in-turn --random --limit --from --to --core' ;;
+    stats) echo '--help --cores --mem --entry --reads --writes --steps --schedule --in-turn --random --limit --record --json' ;;
+    draw) echo '--help --cores --mem --entry --reads --writes --steps --schedule --in-turn --random --limit --record --from --to --core' ;;
     explain) echo '--help' ;;
     esac
 }
@@ -27,7 +27,9 @@ _elide_value() {
     'replay --record' | \
     'hunt --record' | \
     'stats --schedule' | \
-    'draw --schedule') echo path ;;
+    'stats --record' | \
+    'draw --schedule' | \
+    'draw --record') echo path ;;
     'run --cores' | \
     'run --mem' | \
     'run --entry' | \

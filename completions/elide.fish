@@ -39,6 +39,8 @@ complete -c elide -n '__fish_seen_subcommand_from threads' -l dump -x -d 'Prints
 complete -c elide -n '__fish_seen_subcommand_from threads' -l budget -x -d 'The most steps of each core: cores times N is 1 to 16777216'
 complete -c elide -n '__fish_seen_subcommand_from threads' -l burst -x -d 'The steps that a core makes before another can come between; by default 17 to 47, and fewer at first'
 complete -c elide -n '__fish_seen_subcommand_from threads' -l why -d 'Prints each abort with its reason before the state: who hit it, on which line, and when it began'
+complete -c elide -n '__fish_seen_subcommand_from threads' -l stats -d 'Prints what the transactions came to, by the place of their XBEGIN, in place of the state'
+complete -c elide -n '__fish_seen_subcommand_from threads' -l json -d 'With --stats: prints one JSON object in place of columns'
 complete -c elide -n '__fish_seen_subcommand_from threads' -l record -r -F -d 'Writes the schedule that came about to this file, before the state is printed'
 
 complete -c elide -n __fish_use_subcommand -f -a replay -d 'Runs a schedule, compares it with a serial run on one memory, and prints the state and `agree` or `differ`'
@@ -105,6 +107,7 @@ complete -c elide -n '__fish_seen_subcommand_from stats' -l schedule -r -F -d 'T
 complete -c elide -n '__fish_seen_subcommand_from stats' -l in-turn -d 'The schedule: round by round over the cores that have not stopped'
 complete -c elide -n '__fish_seen_subcommand_from stats' -l random -x -d 'The schedule: each core that has not stopped as likely as another'
 complete -c elide -n '__fish_seen_subcommand_from stats' -l limit -x -d 'The most steps of a run [default: 1000000]'
+complete -c elide -n '__fish_seen_subcommand_from stats' -l record -r -F -d 'Writes the schedule that came about to this file'
 complete -c elide -n '__fish_seen_subcommand_from stats' -l json -d 'Prints one JSON object in place of columns'
 
 complete -c elide -n __fish_use_subcommand -f -a draw -d 'Runs a schedule of core steps and draws a timeline of it, as SVG'
@@ -119,6 +122,7 @@ complete -c elide -n '__fish_seen_subcommand_from draw' -l schedule -r -F -d 'Th
 complete -c elide -n '__fish_seen_subcommand_from draw' -l in-turn -d 'The schedule: round by round over the cores that have not stopped'
 complete -c elide -n '__fish_seen_subcommand_from draw' -l random -x -d 'The schedule: each core that has not stopped as likely as another'
 complete -c elide -n '__fish_seen_subcommand_from draw' -l limit -x -d 'The most steps of a run [default: 1000000]'
+complete -c elide -n '__fish_seen_subcommand_from draw' -l record -r -F -d 'Writes the schedule that came about to this file'
 complete -c elide -n '__fish_seen_subcommand_from draw' -l from -x -d 'The first step that is drawn, counted from 1 [default: 1]'
 complete -c elide -n '__fish_seen_subcommand_from draw' -l to -x -d 'The last step that is drawn [default: the last]'
 complete -c elide -n '__fish_seen_subcommand_from draw' -l core -x -d 'The cores that are drawn, in this order [default: all]'
