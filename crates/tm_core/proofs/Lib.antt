@@ -24,6 +24,7 @@ pub mod UnseenSteps
 pub mod UsualMachine
 pub mod ExplainLaws
 pub mod ExplainRooms
+pub mod ExplainReach
 pub mod ExplainReasons
 pub mod ExplainHits
 pub mod ExplainStates

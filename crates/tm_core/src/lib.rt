@@ -4,11 +4,12 @@
 //! one flat memory with its doomed cores, and each step is the owed one of that memory, on which each committed
 //! transaction ran alone at its XEND. `Machine` is that promise's type, over any sets that keep the laws of
 //! `tm_sets`. What serves the proofs alone is named for it: `specs/StepRefinement.antt` (a step on what is shown),
-//! `specs/Representation.antt` (how a core's parts show it), `specs/ExplainedViews.antt` (the same of a hit and of the
-//! reason of an abort) and `specs/Machine.antt` (the machine as one value).
+//! `specs/Representation.antt` (how a core's parts show it), `specs/ExplainedViews.antt` (the same of a hit, of the
+//! reason of an abort and of the bytes of a step) and `specs/Machine.antt` (the machine as one value).
 //!
 //! A step is explained by calls that are asked before it, and that change nothing: `Machine::hit` (whom it hits, on which
-//! line), `Machine::abort_reason` (why it is an abort) and `Machine::counts` (how large the sets are).
+//! line), `Machine::abort_reason` (why it is an abort), `Machine::counts` (how large the sets are) and `Machine::reach`
+//! (which bytes it loads and stores).
 //!
 //! Stands on `tm_rule` (one instruction), `tm_status`, `tm_sets` (read and write sets), `tm_buffer` (a transaction's
 //! bytes) and `ia_image` (programs). Memory is asked for only where a machine is made and by the answers of `run` and
@@ -22,6 +23,7 @@ mod cpu;
 mod explain;
 mod explain_hit;
 mod explain_laws;
+mod explain_reach;
 mod explain_reason;
 mod fault;
 mod laws;
@@ -41,6 +43,6 @@ pub use laws::transactions_are_as_they_went;
 pub use limits::Limits;
 pub use machine::Machine;
 pub use start::{opening_memory, start_regs};
-pub use tm_model::{AbortReason, CoreState, Counts, Hit, Outcome, Stop};
+pub use tm_model::{AbortReason, CoreState, Counts, Hit, Outcome, Reach, Stop};
 pub use tm_sets::Kind;
 pub use two_steps::takes_two_steps;

@@ -1,5 +1,5 @@
--- How a run is explained: which line a step hits another core's transaction on, and why a step is an abort. That a hit
--- dooms, and that a reason is the owed abort's, are laws (HitsCondemn, ReasonsAreOfAborts).
+-- How a run is explained: which line a step hits another core's transaction on, why a step is an abort, and which bytes
+-- a step reaches. That a hit dooms, and that a reason is the owed abort's, are laws (HitsCondemn, ReasonsAreOfAborts).
 use Rattle.std.specs.Prelude.{◌≡◌, ℕ, ◌≤◌, Bool, true, false, ◌&&◌, ◌||◌, if◌then◌else◌, List, [], ◌∷◌, ◌++◌, map}
 use Rattle.std.specs.Prelude.{Option, Some, None, IsSome, MatchOption, nat_eq, nat_lt}
 use Rattle.std.specs.FinSet as set
@@ -9,8 +9,10 @@ use Rattle.tm_status.specs.declared.cause.Cause.TheVariants as cause
 use Rattle.tm_model.specs.declared.explain.AbortReason.{AbortReason}
 use Rattle.tm_model.specs.declared.explain.AbortReason.TheVariants as reason
 use Rattle.tm_model.specs.declared.explain.Hit.{Hit}
-use Rattle.tm_model.specs.Access.{Lines, Stores, lines_of, memory_after, stored_addresses, stores_of}
-use Rattle.tm_model.specs.Conflicts.{Doomed, addresses_loaded_by, addresses_stored_by, doomed_after}
+use Rattle.tm_model.specs.declared.explain.Reach.{Reach}
+use Rattle.tm_model.specs.Access.{Lines, Stores, lines_of, loaded_addresses, memory_after, stored_addresses, stores_of}
+use Rattle.tm_model.specs.Conflicts.{Doomed, addresses_loaded_by, addresses_stored_by, addresses_stored_outside}
+use Rattle.tm_model.specs.Conflicts.{doomed_after}
 use Rattle.tm_model.specs.Isolated.{Body, instruction_after, isolated_body, read_set, write_set}
 use Rattle.tm_model.specs.Owed.{abort_at, owed_outcome}
 use Rattle.tm_model.specs.Setting.{Setting, outside_at}
@@ -152,3 +154,34 @@ abbrev pub ReasonsAreOfAborts : Type 0
 ReasonsAreOfAborts =
     (setting : Setting) (memory : List ℕ) (core : Core) (doom : Option ℕ) →
     IsReasonOf (owed_outcome setting memory core doom) (abort_reason setting memory core doom)
+
+-- ---- which bytes a step reaches
+
+-- the addresses that the instruction after a body stores to
+abbrev pub addresses_stored_next : InsideResult → List ℕ
+addresses_stored_next (GoesOn regs store) = stored_addresses (stores_of store)
+addresses_stored_next (Nests regs) = []
+addresses_stored_next (Ends regs) = []
+addresses_stored_next (Fails cause) = []
+
+abbrev pub addresses_stored_after : Setting → List ℕ → Option Body → List ℕ
+addresses_stored_after setting memory None = []
+addresses_stored_after setting memory (Some body) = addresses_stored_next (instruction_after setting memory body)
+
+-- The addresses that the instruction of a step stores to: outside, those of memory; inside, those of which others see
+-- nothing before the commit. A commit stores nothing of its own: it shows what its body has stored (SDM volume 1,
+-- 16.2.1).
+abbrev pub addresses_stored_at : Setting → List ℕ → Core → Outcome → List ℕ
+addresses_stored_at setting memory (Closed regs) Plain = addresses_stored_outside (outside_at setting regs memory)
+addresses_stored_at setting memory (Midway regs value) Plain = addresses_stored_outside (setting.outside regs value)
+addresses_stored_at setting memory (Opened regs steps) Inside =
+    addresses_stored_after setting memory (isolated_body setting regs memory steps)
+addresses_stored_at setting memory core outcome = []
+
+-- what is told of the owed step of a core, with its depth where it is doomed
+pub record IsReachTold (setting : Setting) (memory : List ℕ) (core : Core) (doom : Option ℕ) (told : Reach)
+    : Type 0 where
+  pub loads : loaded_addresses told.load
+      ≡ addresses_loaded_by setting memory core (owed_outcome setting memory core doom)
+  pub stores : loaded_addresses told.store
+      ≡ addresses_stored_at setting memory core (owed_outcome setting memory core doom)

@@ -1,8 +1,10 @@
-//! What a run is explained by: whom a step hits, why it is an abort, and how large the sets are.
+//! What a run is explained by: whom a step hits, why it is an abort, how large the sets are, and which bytes a step
+//! reaches.
 
 ghost use Rattle.std.specs.Prelude.{◌≡◌};
 ghost use Rattle.tm_model.specs.Explained.{cause_of};
 
+use ia_addr::Access;
 use tm_rule::Stop;
 use tm_sets::Kind;
 use tm_status::Cause;
@@ -60,4 +62,13 @@ pub struct Counts {
     pub reads: u32,
     /// In its write set.
     pub writes: u32,
+}
+
+/// Which bytes a step reaches. Of a step that stops, begins, commits, aborts or is idle there are none.
+#[derive(Clone, Copy, PartialEq, Eq, Debug)]
+pub struct Reach {
+    /// Those that it loads, also where the transaction's own bytes answer.
+    pub load: Option<Access>,
+    /// Those that it stores to: outside, in memory; inside, those that its transaction keeps for itself.
+    pub store: Option<Access>,
 }

@@ -12,6 +12,6 @@
 mod explain;
 mod outcome;
 
-pub use explain::{AbortReason, Counts, Hit};
+pub use explain::{AbortReason, Counts, Hit, Reach};
 pub use outcome::{CoreState, Outcome};
 pub use tm_rule::Stop;
