@@ -125,7 +125,7 @@ fn obey<R: Threads + Wait + Sync + AllocGlobal, P: Paths, I: In, O: Out, G: Prog
         Subcommand::Asm(options) => asm(alloc, options, paths, out)?,
         Subcommand::Dis(options) => dis(alloc, options, paths, out)?,
         Subcommand::Explain(options) => explain(options, out)?,
-        Subcommand::Threads(options) => threads(rt, options, paths, out)?,
+        Subcommand::Threads(options) => threads(rt, options, paths, out, progress)?,
         Subcommand::Debug(options) => debug(rt, alloc, options, paths, input, out)?,
         Subcommand::Draw(options) => draw(alloc, options, paths, out, progress)?,
         Subcommand::Stats(options) => stats(alloc, options, paths, out, progress)?,
@@ -145,7 +145,7 @@ fn obey<R: Threads + Wait + Sync + AllocGlobal, P: Paths, I: In, O: Out, G: Prog
             }
         }
         Subcommand::Replay(options) => {
-            if replay(alloc, options, paths, out)? == Agreement::Differs {
+            if replay(alloc, options, paths, out, progress)? == Agreement::Differs {
                 return Ok(Answer::Differs);
             }
         }

@@ -11,7 +11,7 @@ use elide_args::ReplayOptions;
 use elide_places::Places;
 use elide_program::Paths;
 use elide_setup::{
-    Course, Drawn, Fault, Gathered, MemoryPart, Refusal, Setup, part_of, print, record,
+    Course, Drawn, Fault, Gathered, MemoryPart, Progress, Refusal, Setup, part_of, print, record,
     record_path, scheduled,
 };
 use elide_why::{scheduled_places, tell_history};
@@ -21,22 +21,28 @@ use tm_core::RunFault;
 use tm_hist::{Board, Serial};
 use tm_pick::Going;
 
+/// After how many steps it is told how far a run is.
+const PORTION: u64 = 65536;
+
 /// Runs a schedule on a board, and its history again on one memory; prints the aborts with their reasons where they are
 /// asked for, the state, the dump, and whether both ended alike, which they always do: a board's history replays.
-pub fn replay<P: Paths, O: Out>(
+pub fn replay<P: Paths, O: Out, G: Progress>(
     alloc: Global,
     options: &ReplayOptions<'_>,
     paths: &mut P,
     out: &mut O,
+    progress: &mut G,
 ) -> Result<Agreement, Refusal>
     ensures { IfOk result (λ agreement. agreement ≡ Agreement.Agrees) }
 {
     let path = record_path(options.record, options.machine.file, paths)?;
     let (setup, course, places) = begun(alloc, options, paths)?;
-    let board = match course {
-        Course::Listed(steps) => replayed(alloc, &setup, steps.as_slice())?,
-        Course::Drawn(drawn) => drawn_board(alloc, &setup, drawn)?,
+    let made = match course {
+        Course::Listed(steps) => replayed(alloc, &setup, steps.as_slice(), progress),
+        Course::Drawn(drawn) => drawn_board(alloc, &setup, drawn, progress),
     };
+    progress.end();
+    let board = made?;
     let part = part_of(board.machine().view(), setup.dump)?;
     let serial = again(alloc, &board)?;
     if path.is_some() {
@@ -44,7 +50,14 @@ pub fn replay<P: Paths, O: Out>(
     }
     let mut page = Gathered::new(out);
     if let Some(places) = places {
-        tell_history(alloc, &board, options.machine.file, &places, &mut page)?;
+        tell_history(
+            alloc,
+            &board,
+            options.machine.file,
+            &places,
+            &mut page,
+            progress,
+        )?;
     }
     let agreement = tell(&board, &serial, part, &mut page)?;
     page.finish()?;
@@ -105,18 +118,28 @@ fn text_of(agreement: Agreement) -> &'static [u8]
 }
 
 // A board after these steps.
-fn replayed(alloc: Global, setup: &Setup, steps: &[u8]) -> Result<Board, Refusal>
+fn replayed<G: Progress>(
+    alloc: Global,
+    setup: &Setup,
+    steps: &[u8],
+    progress: &mut G,
+) -> Result<Board, Refusal>
     ensures { IfOk result (λ board. IsReplayed setup.now steps.now board) }
 {
     let limit = (steps.len() as u64).max(1);
     let board = Board::new(alloc, &setup.program, setup.limits, limit);
     let mut board = board.map_err(Fault::Board)?;
-    step_all(&mut board, steps)?;
+    step_all(&mut board, steps, progress)?;
     Ok(board)
 }
 
 // A board after the steps that are drawn, until all cores have stopped or the limit is reached.
-fn drawn_board(alloc: Global, setup: &Setup, drawn: Drawn) -> Result<Board, Refusal> {
+fn drawn_board<G: Progress>(
+    alloc: Global,
+    setup: &Setup,
+    drawn: Drawn,
+    progress: &mut G,
+) -> Result<Board, Refusal> {
     let board = Board::new(alloc, &setup.program, setup.limits, u64::from(drawn.most));
     let mut board = board.map_err(Fault::Board)?;
     let mut going = Going::all(board.cores());
@@ -125,6 +148,7 @@ fn drawn_board(alloc: Global, setup: &Setup, drawn: Drawn) -> Result<Board, Refu
         if going.is_empty() {
             break;
         }
+        tell_made(&board, u64::from(drawn.most), progress);
         let core = picker.next(&going, false);
         step(&mut board, core)?;
         if board.is_stopped(core) {
@@ -148,8 +172,17 @@ fn cores_of(alloc: Global, board: &Board) -> Result<Vec<u8>, Refusal> {
     Ok(cores)
 }
 
+// Tells how many steps of at most so many a board has made, now and then.
+#[inline(always)]
+fn tell_made<G: Progress>(board: &Board, most: u64, progress: &mut G) {
+    let made = board.made();
+    if made % PORTION == 0 {
+        progress.tell(made, most, "steps");
+    }
+}
+
 // One step of each core of the list, none where a number is no core's.
-fn step_all(board: &mut Board, steps: &[u8]) -> Result<(), Refusal>
+fn step_all<G: Progress>(board: &mut Board, steps: &[u8], progress: &mut G) -> Result<(), Refusal>
     ensures same { SameBoard board.old board.new }
     ensures stepped { OnOk result (cores_stepped board.new ≡ cores_stepped board.old ++ steps.now) }
 {
@@ -158,6 +191,7 @@ fn step_all(board: &mut Board, steps: &[u8]) -> Result<(), Refusal>
         return Err(Refusal::Fault(Fault::Run(RunFault::NoSuchCore)));
     }
     for core in steps {
+        tell_made(board, steps.len() as u64, progress);
         step(board, *core)?;
     }
     Ok(())

@@ -3,9 +3,14 @@
 use crate::asked::{Asked, conflict_with};
 use elide_program::Paths;
 use elide_setup::{Course, Fault, Progress, Refusal, Setup, StepMaker};
+use ia_image::Program;
 use std::alloc::Global;
-use tm_core::{Machine, Outcome, RunFault};
+use tm_core::{Limits, Machine, Outcome, RunFault};
+use tm_hist::Board;
 use tm_stats::{Conflicts, RunCounts};
+
+/// After how many steps it is told how far a run is.
+const PORTION: usize = 65536;
 
 /// A machine, with the counts of the steps that it made.
 #[derive(Drop)]
@@ -24,15 +29,23 @@ pub fn counted<P: Paths, G: Progress>(
     paths: &mut P,
     progress: &mut G,
 ) -> Result<Counting, Refusal> {
-    let machine = Machine::new(alloc, &setup.program, setup.limits);
-    let mut counting = Counting {
-        machine: machine.map_err(Fault::Machine)?,
-        counts: RunCounts::new(alloc),
-        conflicts: Conflicts::new(alloc),
-    };
+    let mut counting = Counting::new(alloc, &setup.program, setup.limits)?;
     let cores = counting.machine.cores();
     course.check_cores(cores)?;
     course.walk_recorded(alloc, cores, path, &mut counting, paths, progress)?;
+    Ok(counting)
+}
+
+/// Makes the steps of a board's history again on a machine of their own, and counts them.
+pub fn counted_history<G: Progress>(
+    alloc: Global,
+    board: &Board,
+    progress: &mut G,
+) -> Result<Counting, Refusal> {
+    let mut counting = Counting::new(alloc, board.program(), board.limits())?;
+    let counted = counting.run_history(board, progress);
+    progress.end();
+    counted?;
     Ok(counting)
 }
 
@@ -50,6 +63,32 @@ impl StepMaker for Counting {
 }
 
 impl Counting {
+    // Before the first step of a program.
+    fn new(alloc: Global, program: &Program, limits: Limits) -> Result<Counting, Refusal> {
+        match Machine::new(alloc, program, limits) {
+            Ok(machine) => Ok(Counting {
+                machine,
+                counts: RunCounts::new(alloc),
+                conflicts: Conflicts::new(alloc),
+            }),
+            Err(fault) => Err(Refusal::Fault(Fault::Machine(fault))),
+        }
+    }
+
+    // Makes the steps of a board's history.
+    fn run_history<G: Progress>(&mut self, board: &Board, progress: &mut G) -> Result<(), Refusal> {
+        let history = board.history();
+        for index in 0..history.len() {
+            if index % PORTION == 0 {
+                progress.tell(index as u64, history.len() as u64, "steps");
+            }
+            if let Some((core, _outcome)) = history.get(index) {
+                self.make_step(core)?;
+            }
+        }
+        Ok(())
+    }
+
     /// The counts of the steps, and of the transactions that were hit.
     pub fn into_counts(self) -> (RunCounts, Conflicts) {
         let Counting {

@@ -1,8 +1,8 @@
-//! `elide stats`.
+//! `elide stats`, and `--stats` of `elide threads`.
 //!
 //! Promises no more than safety: what a schedule comes to, why a transaction aborts and whom a step hits is proved of
 //! `tm_core`, and that counts are those of the steps that were told of `tm_stats`; what is printed is compared by
-//! `doc_tests`. Stands on `elide_setup`, `tm_core` and `tm_stats`, and on `tm_pick` for schedules that are drawn.
+//! `doc_tests`. Stands on `elide_setup`, `tm_core` and `tm_stats`, and on `tm_hist` for histories.
 #![tactic(auto)]
 
 mod asked;
@@ -13,4 +13,4 @@ mod json;
 mod labels;
 mod report;
 
-pub use command::stats;
+pub use command::{stats, tell_counts};

@@ -11,8 +11,9 @@ ghost use Rattle.tm_work.specs.Workers.{IsReport};
 use crate::record::Record;
 use elide_args::ThreadsOptions;
 use elide_places::Places;
-use elide_program::{Paths, ProgramRefusal, Settings, number_of};
-use elide_setup::{Fault, Gathered, Refusal, Setup, new_board, part_of, prepared, print};
+use elide_program::{Paths, ProgramRefusal, Settings, number_of, read_file};
+use elide_setup::{Fault, Gathered, Progress, Refusal, Setup, new_board, part_of, prepared, print};
+use elide_stats::tell_counts;
 use elide_why::{prepared_places, tell_history};
 use ia_text::Out;
 use std::alloc::Global;
@@ -22,19 +23,25 @@ use tm_hist::Board;
 use tm_work::{Burst, WorkFault, run_steadily};
 
 /// Runs each core on a thread of its own, writes the schedule that came about where it is asked for, and prints the aborts
-/// with their reasons where these are asked for, the state and the dump.
-pub fn threads<R: Threads + Wait + Sync + AllocGlobal, P: Paths, O: Out>(
+/// with their reasons where these are asked for, and then what the transactions came to, or where that is not asked for
+/// the state and the dump.
+pub fn threads<R: Threads + Wait + Sync + AllocGlobal, P: Paths, O: Out, G: Progress>(
     rt: &R,
     options: &ThreadsOptions<'_>,
     paths: &mut P,
     out: &mut O,
+    progress: &mut G,
 ) -> Result<(), Refusal> {
+    if options.is_json && !options.counts {
+        return Err(Refusal::Usage("--json"));
+    }
     let alloc = rt.alloc();
     let settings = Settings::read(&options.machine)?;
     let budget = number_of(options.budget, "--budget")?;
     let burst = burst_of(options.burst)?;
     let path = path_of(options, paths)?;
     let (setup, places) = begun(alloc, options, &settings, paths)?;
+    let text = counted_text(options, paths)?;
     let board = opened(alloc, &setup, budget)?;
     let record = record_of(alloc, path, &board)?;
     let board = worked(rt, board, budget, burst)?;
@@ -43,11 +50,40 @@ pub fn threads<R: Threads + Wait + Sync + AllocGlobal, P: Paths, O: Out>(
     }
     let mut page = Gathered::new(out);
     if let Some(places) = places {
-        tell_history(alloc, &board, options.machine.file, &places, &mut page)?;
+        tell_history(
+            alloc,
+            &board,
+            options.machine.file,
+            &places,
+            &mut page,
+            progress,
+        )?;
     }
-    tell(&board, &setup, &mut page)?;
+    match text {
+        Some(text) => tell_counts(
+            alloc,
+            &board,
+            text.as_slice(),
+            options.is_json,
+            &mut page,
+            progress,
+        )?,
+        None => tell(&board, &setup, &mut page)?,
+    }
     page.finish()?;
     Ok(())
+}
+
+// The text of the program, where its symbols are wanted for the counts. It is read before the run.
+fn counted_text<P: Paths>(
+    options: &ThreadsOptions<'_>,
+    paths: &mut P,
+) -> Result<Option<Vec<u8>>, Refusal> {
+    if options.counts {
+        Ok(Some(read_file(options.machine.file, paths)?))
+    } else {
+        Ok(None)
+    }
 }
 
 // The program, and the places of its source where the reasons of the aborts are asked for.

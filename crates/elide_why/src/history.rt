@@ -2,25 +2,45 @@
 
 use crate::teller::Teller;
 use elide_places::Places;
-use elide_setup::{Fault, Refusal};
+use elide_setup::{Fault, Progress, Refusal};
 use ia_text::Out;
 use std::alloc::Global;
 use tm_core::Machine;
 use tm_hist::Board;
 
+/// After how many steps it is told how far the run is.
+const PORTION: usize = 65536;
+
 /// Makes the steps of a board again on a machine of their own, and prints the line of each abort with its reason.
-pub fn tell_history<O: Out>(
+pub fn tell_history<O: Out, G: Progress>(
     alloc: Global,
     board: &Board,
     path: &str,
     places: &Places,
     out: &mut O,
+    progress: &mut G,
+) -> Result<(), Refusal> {
+    let told = told_steps(alloc, board, path, places, out, progress);
+    progress.end();
+    told
+}
+
+fn told_steps<O: Out, G: Progress>(
+    alloc: Global,
+    board: &Board,
+    path: &str,
+    places: &Places,
+    out: &mut O,
+    progress: &mut G,
 ) -> Result<(), Refusal> {
     let machine = Machine::new(alloc, board.program(), board.limits());
     let mut machine = machine.map_err(Fault::Machine)?;
     let mut teller = Teller::new(board.program(), path, places, false);
     let history = board.history();
     for index in 0..history.len() {
+        if index % PORTION == 0 {
+            progress.tell(index as u64, history.len() as u64, "steps");
+        }
         if let Some((core, _outcome)) = history.get(index) {
             teller.step(&mut machine, core, out)?;
         }
