@@ -17,6 +17,8 @@ pub struct Conflict {
     pub victim: u32,
     /// Whether the step stored to the line; else it loaded from it.
     pub stores: bool,
+    /// Whether the two met on no byte of the line.
+    pub is_apart: bool,
 }
 
 /// How many transactions were hit.
@@ -24,7 +26,7 @@ pub struct Conflict {
 pub struct Conflicts {
     /// On each line.
     pub lines: Tally<u32>,
-    /// Alike in line, places and kind.
+    /// Alike in line, places, kind and whether they are of apart bytes.
     pub pairs: Tally<Conflict>,
 }
 
