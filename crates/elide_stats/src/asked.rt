@@ -103,7 +103,8 @@ fn eip_of(machine: &Machine, core: u8) -> u32 {
     }
 }
 
-/// How the next step of a core hits the open transaction of another. None where it does not.
+/// How the next step of a core hits the open transaction of another; on which bytes is told of once it was made. None
+/// where it does not hit it.
 pub fn conflict_with(machine: &Machine, core: u8, victim: u8) -> Option<Conflict> {
     if core == victim || !matches!(machine.state(victim), Ok(CoreState::Open(_))) {
         return None;
@@ -114,6 +115,7 @@ pub fn conflict_with(machine: &Machine, core: u8, victim: u8) -> Option<Conflict
             by: eip_of(machine, core),
             victim: place_of(machine, victim),
             stores: hit.kind == Kind::Write,
+            is_apart: false,
         }),
         _ => None,
     }

@@ -102,9 +102,18 @@ fn put_hit<O: Out>(row: &HitRow, out: &mut O) -> Result<(), WriteFault> {
         row.victim.as_str(),
         row.count
     );
+    let sharing = if row.false_sharing {
+        "false-sharing"
+    } else {
+        "true-sharing"
+    };
     put_named(
         &line,
-        &[row.from_symbol.as_str(), row.victim_symbol.as_str()],
+        &[
+            row.from_symbol.as_str(),
+            row.victim_symbol.as_str(),
+            sharing,
+        ],
         out,
     )
 }

@@ -1,6 +1,7 @@
 //! A run whose steps are counted.
 
-use crate::asked::{Asked, conflict_with};
+use crate::asked::Asked;
+use crate::hits::{CoreBytes, Hits};
 use elide_program::Paths;
 use elide_setup::{Course, Fault, Progress, Refusal, Setup, StepMaker};
 use ia_image::Program;
@@ -9,7 +10,7 @@ use tm_core::{Limits, Machine, Outcome, RunFault};
 use tm_hist::Board;
 use tm_stats::{Conflicts, RunCounts};
 
-/// After how many steps it is told how far a run is.
+/// After how many steps of a history it is told how far the counting is.
 const PORTION: usize = 65536;
 
 /// A machine, with the counts of the steps that it made.
@@ -18,6 +19,7 @@ pub struct Counting {
     machine: Machine,
     counts: RunCounts,
     conflicts: Conflicts,
+    bytes: CoreBytes,
 }
 
 /// Runs a schedule, counts its steps, and writes the schedule that came about where there is a path.
@@ -36,25 +38,13 @@ pub fn counted<P: Paths, G: Progress>(
     Ok(counting)
 }
 
-/// Makes the steps of a board's history again on a machine of their own, and counts them.
-pub fn counted_history<G: Progress>(
-    alloc: Global,
-    board: &Board,
-    progress: &mut G,
-) -> Result<Counting, Refusal> {
-    let mut counting = Counting::new(alloc, board.program(), board.limits())?;
-    let counted = counting.run_history(board, progress);
-    progress.end();
-    counted?;
-    Ok(counting)
-}
-
 impl StepMaker for Counting {
     // Makes a step, and counts it with the transactions that it hits.
     fn make_step(&mut self, core: u8) -> Result<Outcome, Refusal> {
         let asked = Asked::before(&self.machine, core);
-        self.count_conflicts(core)?;
+        let hits = Hits::before(&self.machine, core);
         let outcome = self.machine.make_step(core)?;
+        self.count_hits(core, &hits, outcome)?;
         match self.counts.told(asked.step(core, outcome)) {
             Ok(()) => Ok(outcome),
             Err(_) => Err(no_memory()),
@@ -63,20 +53,26 @@ impl StepMaker for Counting {
 }
 
 impl Counting {
-    // Before the first step of a program.
-    fn new(alloc: Global, program: &Program, limits: Limits) -> Result<Counting, Refusal> {
-        match Machine::new(alloc, program, limits) {
-            Ok(machine) => Ok(Counting {
-                machine,
-                counts: RunCounts::new(alloc),
-                conflicts: Conflicts::new(alloc),
-            }),
-            Err(fault) => Err(Refusal::Fault(Fault::Machine(fault))),
-        }
+    /// Before the first step of a program.
+    pub fn new(alloc: Global, program: &Program, limits: Limits) -> Result<Counting, Refusal> {
+        let machine = Machine::new(alloc, program, limits);
+        let Ok(bytes) = CoreBytes::new(alloc, program.cores()) else {
+            return Err(no_memory());
+        };
+        Ok(Counting {
+            machine: machine.map_err(Fault::Machine)?,
+            counts: RunCounts::new(alloc),
+            conflicts: Conflicts::new(alloc),
+            bytes,
+        })
     }
 
-    // Makes the steps of a board's history.
-    fn run_history<G: Progress>(&mut self, board: &Board, progress: &mut G) -> Result<(), Refusal> {
+    /// Makes the steps of a board's history.
+    pub fn run_history<G: Progress>(
+        &mut self,
+        board: &Board,
+        progress: &mut G,
+    ) -> Result<(), Refusal> {
         let history = board.history();
         for index in 0..history.len() {
             if index % PORTION == 0 {
@@ -95,20 +91,25 @@ impl Counting {
             machine: _,
             counts,
             conflicts,
+            bytes: _,
         } = self;
         (counts, conflicts)
     }
 
-    // Counts the transactions of other cores that the next step of a core hits.
-    fn count_conflicts(&mut self, core: u8) -> Result<(), Refusal> {
-        for victim in 0..self.machine.cores() {
-            if let Some(conflict) = conflict_with(&self.machine, core, victim) {
-                if self.conflicts.told(conflict).is_err() {
-                    return Err(no_memory());
-                }
+    // Counts the transactions of other cores that a step of a core has hit.
+    fn count_hits(&mut self, core: u8, hits: &Hits, outcome: Outcome) -> Result<(), Refusal> {
+        let step = hits.step(outcome);
+        for (victim, conflict) in hits.conflicts() {
+            let mut conflict = *conflict;
+            conflict.is_apart = self.bytes.is_apart(core, step, *victim, conflict.line);
+            if self.conflicts.told(conflict).is_err() {
+                return Err(no_memory());
             }
         }
-        Ok(())
+        match self.bytes.told(core, step) {
+            Ok(()) => Ok(()),
+            Err(_) => Err(no_memory()),
+        }
     }
 }
 

@@ -9,8 +9,11 @@ mod asked;
 mod columns;
 mod command;
 mod counting;
+mod hits;
 mod json;
 mod labels;
 mod report;
+mod told;
 
-pub use command::{stats, tell_counts};
+pub use command::stats;
+pub use told::tell_counts;

@@ -112,6 +112,8 @@ pub struct HitRow {
     pub victim_symbol: String,
     /// How many were doomed.
     pub count: u64,
+    /// Whether the steps and the transactions that they hit met on no byte of the line.
+    pub false_sharing: bool,
 }
 
 impl Report {
@@ -303,5 +305,6 @@ fn hit_row(
         victim,
         victim_symbol,
         count,
+        false_sharing: conflict.is_apart,
     })
 }

@@ -11,10 +11,10 @@ ghost use Rattle.tm_work.specs.Workers.{IsReport};
 use crate::record::Record;
 use elide_args::ThreadsOptions;
 use elide_places::Places;
-use elide_program::{Paths, ProgramRefusal, Settings, number_of, read_file};
-use elide_setup::{Fault, Gathered, Progress, Refusal, Setup, new_board, part_of, prepared, print};
+use elide_program::{Paths, ProgramFile, ProgramRefusal, Settings, number_of, read_file};
+use elide_setup::{Fault, Gathered, Progress, Refusal, Setup, new_board, part_of, print};
 use elide_stats::tell_counts;
-use elide_why::{prepared_places, tell_history};
+use elide_why::tell_history;
 use ia_text::Out;
 use std::alloc::Global;
 use std::sync::Wait;
@@ -40,8 +40,10 @@ pub fn threads<R: Threads + Wait + Sync + AllocGlobal, P: Paths, O: Out, G: Prog
     let budget = number_of(options.budget, "--budget")?;
     let burst = burst_of(options.burst)?;
     let path = path_of(options, paths)?;
-    let (setup, places) = begun(alloc, options, &settings, paths)?;
-    let text = counted_text(options, paths)?;
+    let text = read_file(options.machine.file, paths)?;
+    let file = ProgramFile::read(alloc, text.as_slice())?;
+    let setup = Setup::of_file(alloc, &settings, &file)?;
+    let places = places_of(alloc, options, text.as_slice())?;
     let board = opened(alloc, &setup, budget)?;
     let record = record_of(alloc, path, &board)?;
     let board = worked(rt, board, budget, burst)?;
@@ -59,46 +61,25 @@ pub fn threads<R: Threads + Wait + Sync + AllocGlobal, P: Paths, O: Out, G: Prog
             progress,
         )?;
     }
-    match text {
-        Some(text) => tell_counts(
-            alloc,
-            &board,
-            text.as_slice(),
-            options.is_json,
-            &mut page,
-            progress,
-        )?,
-        None => tell(&board, &setup, &mut page)?,
+    if options.counts {
+        tell_counts(alloc, &board, &file, options.is_json, &mut page, progress)?;
+    } else {
+        tell(&board, &setup, &mut page)?;
     }
     page.finish()?;
     Ok(())
 }
 
-// The text of the program, where its symbols are wanted for the counts. It is read before the run.
-fn counted_text<P: Paths>(
-    options: &ThreadsOptions<'_>,
-    paths: &mut P,
-) -> Result<Option<Vec<u8>>, Refusal> {
-    if options.counts {
-        Ok(Some(read_file(options.machine.file, paths)?))
-    } else {
-        Ok(None)
-    }
-}
-
-// The program, and the places of its source where the reasons of the aborts are asked for.
-fn begun<P: Paths>(
+// The places of the source, where the reasons of the aborts are asked for.
+fn places_of(
     alloc: Global,
     options: &ThreadsOptions<'_>,
-    settings: &Settings<'_>,
-    paths: &mut P,
-) -> Result<(Setup, Option<Places>), Refusal> {
-    let file = options.machine.file;
+    text: &[u8],
+) -> Result<Option<Places>, Refusal> {
     if options.explains {
-        let (setup, places) = prepared_places(alloc, file, settings, paths)?;
-        Ok((setup, Some(places)))
+        Ok(Some(Places::of_text(alloc, text)?))
     } else {
-        Ok((prepared(alloc, file, settings, paths)?, None))
+        Ok(None)
     }
 }
 

@@ -13,6 +13,6 @@ mod words;
 
 pub use history::tell_history;
 pub use lines::write_abort;
-pub use placed::{prepared_places, scheduled_places};
+pub use placed::scheduled_places;
 pub use teller::Teller;
 pub use words::{PlaceText, Words};

@@ -25,17 +25,3 @@ pub fn scheduled_places<P: Paths>(
     let places = Places::of_text(alloc, text.as_slice())?;
     Ok((setup, course, places))
 }
-
-/// The program and the places of FILE, as [`elide_setup::prepared`] answers them without the places. FILE is read once.
-pub fn prepared_places<P: Paths>(
-    alloc: Global,
-    path: &str,
-    settings: &Settings<'_>,
-    paths: &mut P,
-) -> Result<(Setup, Places), Refusal> {
-    let text = read_file(path, paths)?;
-    let file = ProgramFile::read(alloc, text.as_slice())?;
-    let setup = Setup::of_file(alloc, settings, &file)?;
-    let places = Places::of_text(alloc, text.as_slice())?;
-    Ok((setup, places))
-}

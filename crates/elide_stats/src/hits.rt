@@ -1,0 +1,84 @@
+//! The transactions that steps hit, and the bytes on which they meet.
+
+use crate::asked::conflict_with;
+use arrayvec::ArrayVec;
+use std::alloc::{AllocError, Global};
+use tm_core::{Machine, Outcome, Reach};
+use tm_stats::{ByteStep, Conflict, OpenBytes};
+
+/// The most cores of a machine.
+const MOST_CORES: usize = 64;
+
+/// The transactions of other cores that the next step of a core hits, and the bytes that it reaches.
+#[derive(Drop)]
+pub struct Hits {
+    // Each with the core whose transaction it is.
+    conflicts: ArrayVec<(u8, Conflict), MOST_CORES>,
+    reach: Reach,
+}
+
+impl Hits {
+    /// Asks a machine before a step of a core.
+    pub fn before(machine: &Machine, core: u8) -> Hits {
+        let mut conflicts = ArrayVec::new();
+        for victim in 0..machine.cores() {
+            if let Some(conflict) = conflict_with(machine, core, victim) {
+                // There is room for one of each core.
+                let _ = conflicts.try_push((victim, conflict));
+            }
+        }
+        let reach = machine.reach(core).unwrap_or(Reach {
+            load: None,
+            store: None,
+        });
+        Hits { conflicts, reach }
+    }
+
+    /// Each hit, with the core whose transaction it is.
+    pub fn conflicts(&self) -> &[(u8, Conflict)] {
+        self.conflicts.as_slice()
+    }
+
+    /// The step, once its outcome is known.
+    pub fn step(&self, outcome: Outcome) -> ByteStep {
+        ByteStep {
+            outcome,
+            reach: self.reach,
+        }
+    }
+}
+
+/// The bytes of each core's open transaction.
+#[derive(Drop)]
+pub struct CoreBytes {
+    cores: Vec<OpenBytes>,
+}
+
+impl CoreBytes {
+    /// Those of so many cores, of which none has a transaction open.
+    pub fn new(alloc: Global, count: u8) -> Result<CoreBytes, AllocError> {
+        let mut cores = Vec::new(alloc);
+        for _ in 0..count {
+            cores.push(OpenBytes::new(alloc)).map_err(|_| AllocError)?;
+        }
+        Ok(CoreBytes { cores })
+    }
+
+    /// Whether the next step of a core hits the transaction of another on a line of whose bytes both touch none.
+    pub fn is_apart(&self, core: u8, step: ByteStep, victim: u8, line: u32) -> bool {
+        let own = self.cores.get(usize::from(core));
+        let other = self.cores.get(usize::from(victim));
+        match (own, other) {
+            (Some(own), Some(other)) => own.is_apart(step, other, line),
+            _ => false,
+        }
+    }
+
+    /// Tells a step of a core. Where there is no memory the bytes stay as they were.
+    pub fn told(&mut self, core: u8, step: ByteStep) -> Result<(), AllocError> {
+        match self.cores.get_mut(usize::from(core)) {
+            Some(own) => own.told(step),
+            None => Ok(()),
+        }
+    }
+}

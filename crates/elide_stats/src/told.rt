@@ -1,0 +1,49 @@
+//! What is printed of a run that was counted.
+
+use crate::columns::put_columns;
+use crate::counting::Counting;
+use crate::json::put_json;
+use crate::labels::Labels;
+use crate::report::Report;
+use elide_program::ProgramFile;
+use elide_setup::{Gathered, Progress, Refusal};
+use ia_text::Out;
+use std::alloc::Global;
+use tm_hist::Board;
+
+/// Prints what the transactions of a run of the program of this file came to.
+pub fn tell_counting<O: Out>(
+    alloc: Global,
+    counting: Counting,
+    file: &ProgramFile<'_>,
+    is_json: bool,
+    out: &mut O,
+) -> Result<(), Refusal> {
+    let labels = Labels::of_file(alloc, file)?;
+    let report = Report::of(alloc, counting, &labels)?;
+    let mut page = Gathered::new(out);
+    if is_json {
+        put_json(alloc, &report, &mut page)?;
+    } else {
+        put_columns(&report, &mut page)?;
+    }
+    page.finish()?;
+    Ok(())
+}
+
+/// Makes the steps of a board again on a machine of their own, and prints what its transactions came to. The file is that
+/// of the board's program.
+pub fn tell_counts<O: Out, G: Progress>(
+    alloc: Global,
+    board: &Board,
+    file: &ProgramFile<'_>,
+    is_json: bool,
+    out: &mut O,
+    progress: &mut G,
+) -> Result<(), Refusal> {
+    let mut counting = Counting::new(alloc, board.program(), board.limits())?;
+    let counted = counting.run_history(board, progress);
+    progress.end();
+    counted?;
+    tell_counting(alloc, counting, file, is_json, out)
+}
