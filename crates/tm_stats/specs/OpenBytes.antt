@@ -3,7 +3,7 @@
 -- of apart bytes (false sharing: Bolosky and Scott, "False Sharing and Its Effect on Shared Memory Performance", 1993).
 use Rattle.std.specs.Prelude.{◌≡◌, ℕ, ◌/◌, Bool, true, false, ◌&&◌, ◌||◌, not, if◌then◌else◌, List, [], ◌∷◌, nat_eq}
 use Rattle.std.specs.List.{list_any}
-use Rattle.std.specs.HashSet.{HashSet, contains}
+use Rattle.std.specs.HashSet.{contains}
 use Rattle.tm_model.specs.Access.{loaded_addresses}
 use Rattle.tm_model.specs.declared.outcome.Outcome.{Outcome}
 use Rattle.tm_model.specs.declared.outcome.Outcome.TheVariants.{Inside}
