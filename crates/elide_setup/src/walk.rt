@@ -1,5 +1,7 @@
 //! Runs over a schedule, listed or drawn.
 
+ghost use Rattle.std.specs.Prelude.{◌≤◌};
+
 use crate::fault::{Fault, Refusal};
 use crate::plan::{Course, Drawn};
 use crate::progress::Progress;
@@ -38,7 +40,8 @@ impl Course {
         }
     }
 
-    /// Makes the steps: those of the list, or those that are drawn until all cores have stopped or the limit is reached.
+    /// Makes the steps on a machine of so many cores, 1 to 64: those of the list, or those that are drawn until all cores
+    /// have stopped or the limit is reached.
     /// Answers the cores of those that were drawn, where `keeps` asks for them; else it takes no memory.
     pub fn walk<S: StepMaker, G: Progress>(
         &self,
@@ -47,7 +50,9 @@ impl Course {
         keeps: bool,
         maker: &mut S,
         progress: &mut G,
-    ) -> Result<Vec<u8>, Refusal> {
+    ) -> Result<Vec<u8>, Refusal>
+        requires { cores ≤ 64 }
+    {
         let mut made = Vec::new(alloc);
         let walked = match self {
             Course::Listed(steps) => walk_list(steps.as_slice(), maker, progress),
@@ -70,7 +75,9 @@ impl Course {
         maker: &mut S,
         paths: &mut P,
         progress: &mut G,
-    ) -> Result<(), Refusal> {
+    ) -> Result<(), Refusal>
+        requires { cores ≤ 64 }
+    {
         if let Course::Listed(steps) = self {
             record(path, steps.as_slice(), paths)?;
         }
@@ -116,7 +123,9 @@ fn walk_drawn<S: StepMaker, G: Progress>(
     mut kept: Option<&mut Vec<u8>>,
     maker: &mut S,
     progress: &mut G,
-) -> Result<(), Refusal> {
+) -> Result<(), Refusal>
+    requires { cores ≤ 64 }
+{
     let mut going = Going::all(cores);
     let mut picker = drawn.picker();
     for number in 0..drawn.most {
