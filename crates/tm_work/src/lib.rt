@@ -18,6 +18,7 @@ mod meeting;
 mod opening;
 mod progress;
 mod seat;
+mod watch;
 mod workers;
 
 pub use desk::Desk;
@@ -27,4 +28,5 @@ pub use manner::Burst;
 pub use opening::Opening;
 pub use progress::{Progress, Receipt};
 pub use seat::{DeskIdentity, Seat};
+pub use watch::Watch;
 pub use workers::{Report, run_steadily, run_workers};

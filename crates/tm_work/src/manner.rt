@@ -8,7 +8,11 @@ use crate::desk::Desk;
 use crate::gate::Gate;
 use crate::meeting::Meeting;
 use crate::seat::{DeskIdentity, Seat};
+use crate::watch::Watch;
 use std::sync::Wait;
+
+// More than so many steps of a worker lie between two numbers that it tells its watch.
+const PORTION: u32 = 4096;
 
 /// What the worker of a seat does until its budget is used or its core makes no further step.
 pub(crate) trait Manner: Sync {
@@ -87,18 +91,21 @@ impl Burst {
     }
 }
 
-/// Several steps under one lock, and a meeting with the other workers before the first ones.
+/// Several steps under one lock, and a meeting with the other workers before the first ones. A watch hears of them now and
+/// then.
 #[derive(Drop)]
-pub(crate) struct Steady {
+pub(crate) struct Steady<'a, W: Watch> {
     burst: Burst,
     meeting: Meeting,
+    watch: &'a W,
 }
 
-impl Steady {
-    pub(crate) fn new(burst: Burst, workers: usize) -> Steady {
+impl<'a, W: Watch> Steady<'a, W> {
+    pub(crate) fn new(burst: Burst, workers: usize, watch: &'a W) -> Steady<'a, W> {
         Steady {
             burst,
             meeting: Meeting::new(workers),
+            watch,
         }
     }
 
@@ -115,6 +122,7 @@ impl Steady {
     {
         let mut seat = seat;
         let mut left = budget;
+        let mut due = budget.saturating_sub(PORTION);
         while left > 0 {
             self.meeting.meet();
             let most = self.burst.next(budget - left).min(left);
@@ -122,12 +130,23 @@ impl Steady {
                 return seat;
             }
             left -= most;
+            if left < due {
+                due = left.saturating_sub(PORTION);
+                self.tell(&seat);
+            }
         }
         seat
     }
+
+    // Tells the watch how long the history was with the seat's last step. The seat knows, so no worker counts for all.
+    fn tell<J: DeskIdentity>(&self, seat: &Seat<J>) {
+        if let Some(receipt) = seat.last() {
+            self.watch.reached((receipt.index as u64).saturating_add(1));
+        }
+    }
 }
 
-impl Manner for Steady {
+impl<'a, W: Watch + Sync> Manner for Steady<'a, W> {
     fn work<J: DeskIdentity, R: Wait>(
         &self,
         rt: &R,

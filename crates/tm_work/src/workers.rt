@@ -12,6 +12,7 @@ use crate::gate::Gate;
 use crate::manner::{Burst, Gated, Manner, Steady};
 use crate::opening::Opening;
 use crate::seat::{DeskIdentity, Seat};
+use crate::watch::Watch;
 use core::thread::Stack;
 use std::alloc::Global;
 use std::collections::VecDeque;
@@ -69,21 +70,23 @@ pub fn run_workers<G: Gate, R: Threads + Wait + Sync>(
 
 /// The same without a gate, and with several steps under one lock: [`Desk::turns`] in place of turns one by one, as many
 /// at a time as the burst says. Before its first bursts each worker waits a while for the others, so that they make
-/// these side by side.
-pub fn run_steadily<R: Threads + Wait + Sync>(
+/// these side by side. While they work, the watch hears now and then how long the history is; of a worker with few steps it
+/// hears nothing.
+pub fn run_steadily<W: Watch + Sync, R: Threads + Wait + Sync>(
     rt: &R,
     alloc: Global,
     board: Board,
     budgets: &[u32],
     burst: Burst,
+    watch: &W,
 ) -> Result<Report, WorkFault>
     requires { length budgets.now ≡ length board.program.entries }
     ensures report { IfOk result (λ r. IsReport board budgets.now r.board r.steps.items) }
     ensures fault { IfErr result (λ e. IsFault board budgets.now e) }
 {
     let opening = Opening::new(alloc, board)?;
-    let manner = Steady::new(burst, budgets.len());
-    run_at::<Brand, Steady, R>(rt, alloc, opening, budgets, &manner)
+    let manner = Steady::new(burst, budgets.len(), watch);
+    run_at::<Brand, Steady<'_, W>, R>(rt, alloc, opening, budgets, &manner)
 }
 
 fn run_at<J: DeskIdentity + Send + Sync, M: Manner, R: Threads + Wait + Sync>(

@@ -1,0 +1,9 @@
+//! What hears how far workers are.
+
+/// What hears how long a board's history is while workers make it longer. No contract says how often it does, or that it
+/// does at all.
+pub trait Watch {
+    /// The board's history has come to this many steps. It is called in a worker's thread after some of its steps, without
+    /// the desk's lock, so it may wait for another worker, and numbers of different workers may come in the other order.
+    fn reached(&self, steps: u64);
+}
