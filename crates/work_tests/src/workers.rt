@@ -14,7 +14,8 @@ use std::thread::Threads;
 use tm_core::{Limits, Outcome};
 use tm_hist::Board;
 use tm_work::{
-    Burst, Desk, DeskIdentity, Gate, Opening, Report, Seat, WorkFault, run_steadily, run_workers,
+    Burst, Desk, DeskIdentity, Gate, Opening, Report, Seat, Watch, WorkFault, run_steadily,
+    run_workers,
 };
 
 const LIMITS: Limits = Limits {
@@ -469,15 +470,40 @@ fn no_third_thread(rt: HostRuntime) -> Result<(), Fail> {
     refused_from(&rt, rt.alloc(), 2)
 }
 
-// What workers with several steps a lock do; refused as those of `three_workers` may be.
+// Counts what it is told, and keeps the greatest number.
+#[derive(Drop)]
+struct Listener {
+    calls: AtomicU64,
+    greatest: AtomicU64,
+}
+
+impl Listener {
+    fn new() -> Listener {
+        Listener {
+            calls: AtomicU64::new(0),
+            greatest: AtomicU64::new(0),
+        }
+    }
+}
+
+impl Watch for Listener {
+    fn reached(&self, steps: u64) {
+        self.calls.fetch_add(1, Ordering::SeqCst);
+        self.greatest.fetch_max(steps, Ordering::SeqCst);
+    }
+}
+
+// What workers with several steps a lock do; refused as those of `three_workers` may be. They are too short for a watch.
 fn three_steady_workers<R: Threads + Wait + Abort + Sync>(
     rt: &R,
     alloc: Global,
     burst: Burst,
 ) -> Result<(), Fail> {
     let board = board_of(alloc, &SPINS, &[0x100, 0x100, 0x100], 1000)?;
-    match run_steadily(rt, alloc, board, &[700, 30, 0], burst) {
+    let listener = Listener::new();
+    match run_steadily(rt, alloc, board, &[700, 30, 0], burst, &listener) {
         Ok(report) => {
+            assert_eq!(rt; listener.calls.load(Ordering::SeqCst), 0);
             assert_eq!(rt; report.steps.as_slice(), [700, 30, 0].as_slice());
             assert_eq!(rt; steps_of(&report.board, 0), 700);
             assert_eq!(rt; steps_of(&report.board, 1), 30);
@@ -520,7 +546,8 @@ fn varying_steps_a_lock(rt: HostRuntime) -> Result<(), Fail> {
 #[test]
 fn steady_workers_stop(rt: HostRuntime) -> Result<(), Fail> {
     let board = board_of(rt.alloc(), &[0xf4], &[0x100, 0x100], 100)?;
-    let Ok(report) = run_steadily(&rt, rt.alloc(), board, &[5, 5], Burst::Varying) else {
+    let listener = Listener::new();
+    let Ok(report) = run_steadily(&rt, rt.alloc(), board, &[5, 5], Burst::Varying, &listener) else {
         return Err("a report".into());
     };
     assert_eq!(rt; report.steps.as_slice(), [1, 1].as_slice());
@@ -530,11 +557,76 @@ fn steady_workers_stop(rt: HostRuntime) -> Result<(), Fail> {
 #[test]
 fn steady_workers_fill_the_history(rt: HostRuntime) -> Result<(), Fail> {
     let board = board_of(rt.alloc(), &SPINS, &[0x100, 0x100], 100)?;
-    let Ok(report) = run_steadily(&rt, rt.alloc(), board, &[100, 100], Burst::Varying) else {
+    let listener = Listener::new();
+    let Ok(report) = run_steadily(
+        &rt,
+        rt.alloc(),
+        board,
+        &[100, 100],
+        Burst::Varying,
+        &listener,
+    ) else {
         return Err("a report".into());
     };
     assert_eq!(rt; report.board.made(), 100);
     assert_eq!(rt; sum_of(report.steps.as_slice()), 100);
+    Ok(())
+}
+
+// Two workers with steps enough to be heard of.
+fn two_watched_workers<R: Threads + Wait + Abort + Sync>(
+    rt: &R,
+    alloc: Global,
+    burst: Burst,
+) -> Result<(), Fail> {
+    let board = board_of(alloc, &SPINS, &[0x100, 0x100], 40000)?;
+    let listener = Listener::new();
+    let Ok(report) = run_steadily(rt, alloc, board, &[20000, 20000], burst, &listener) else {
+        return Err("a report".into());
+    };
+    assert_eq!(rt; report.steps.as_slice(), [20000, 20000].as_slice());
+    assert_eq!(rt; report.board.made(), 40000);
+    assert!(rt; listener.calls.load(Ordering::SeqCst) >= 2);
+    let greatest = listener.greatest.load(Ordering::SeqCst);
+    assert!(rt; 0 < greatest && greatest <= 40000);
+    Ok(())
+}
+
+#[test]
+fn a_watch_hears_of_single_steps(rt: HostRuntime) -> Result<(), Fail> {
+    two_watched_workers(&rt, rt.alloc(), Burst::Fixed(1))
+}
+
+#[test]
+fn a_watch_hears_of_varying_steps(rt: HostRuntime) -> Result<(), Fail> {
+    two_watched_workers(&rt, rt.alloc(), Burst::Varying)
+}
+
+#[test]
+fn a_watch_hears_of_one_long_burst_each(rt: HostRuntime) -> Result<(), Fail> {
+    two_watched_workers(&rt, rt.alloc(), Burst::Fixed(u32::MAX))
+}
+
+// It is the length of the whole history that is told, and not how many of the steps are new.
+#[test]
+fn a_watch_hears_of_the_whole_history(rt: HostRuntime) -> Result<(), Fail> {
+    let mut board = board_of(rt.alloc(), &SPINS, &[0x100], 20001)?;
+    assert!(rt; board.step(0).is_ok());
+    assert!(rt; board.cores() == 1);
+    let listener = Listener::new();
+    let Ok(report) = run_steadily(
+        &rt,
+        rt.alloc(),
+        board,
+        &[20000],
+        Burst::Fixed(20000),
+        &listener,
+    ) else {
+        return Err("a report".into());
+    };
+    assert_eq!(rt; report.board.made(), 20001);
+    assert_eq!(rt; listener.calls.load(Ordering::SeqCst), 1);
+    assert_eq!(rt; listener.greatest.load(Ordering::SeqCst), 20001);
     Ok(())
 }
 
