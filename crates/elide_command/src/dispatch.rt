@@ -34,7 +34,7 @@ pub fn command<
     I: In,
     O: Out,
     E: Out,
-    G: Progress,
+    G: Progress + Send,
 >(
     rt: &R,
     words: &[&str],
@@ -80,7 +80,7 @@ fn obey_warned<
     I: In,
     O: Out,
     E: Out,
-    G: Progress,
+    G: Progress + Send,
 >(
     rt: &R,
     subcommand: &Subcommand<'_>,
@@ -112,7 +112,7 @@ fn program_of<'s>(subcommand: &'s Subcommand<'_>) -> Option<&'s str> {
 }
 
 // Does what is asked for.
-fn obey<R: Threads + Wait + Sync + AllocGlobal, P: Paths, I: In, O: Out, G: Progress>(
+fn obey<R: Threads + Wait + Sync + AllocGlobal, P: Paths, I: In, O: Out, G: Progress + Send>(
     rt: &R,
     subcommand: &Subcommand<'_>,
     paths: &mut P,

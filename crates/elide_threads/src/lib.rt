@@ -5,6 +5,7 @@
 #![tactic(auto)]
 
 mod record;
+mod watch;
 mod workers;
 
 pub use workers::threads;

@@ -9,6 +9,7 @@ ghost use Rattle.tm_work.specs.Faults.{work_number};
 ghost use Rattle.tm_work.specs.Workers.{IsReport};
 
 use crate::record::Record;
+use crate::watch::Told;
 use elide_args::ThreadsOptions;
 use elide_places::Places;
 use elide_program::{Paths, ProgramFile, ProgramRefusal, Settings, number_of, read_file};
@@ -24,8 +25,8 @@ use tm_work::{Burst, WorkFault, run_steadily};
 
 /// Runs each core on a thread of its own, writes the schedule that came about where it is asked for, and prints the aborts
 /// with their reasons where these are asked for, and then what the transactions came to, or where that is not asked for
-/// the state and the dump.
-pub fn threads<R: Threads + Wait + Sync + AllocGlobal, P: Paths, O: Out, G: Progress>(
+/// the state and the dump. While the cores run, `progress` is told how many steps the history has.
+pub fn threads<R: Threads + Wait + Sync + AllocGlobal, P: Paths, O: Out, G: Progress + Send>(
     rt: &R,
     options: &ThreadsOptions<'_>,
     paths: &mut P,
@@ -45,26 +46,66 @@ pub fn threads<R: Threads + Wait + Sync + AllocGlobal, P: Paths, O: Out, G: Prog
     let setup = Setup::of_file(alloc, &settings, &file)?;
     let places = places_of(alloc, options, text.as_slice())?;
     let board = opened(alloc, &setup, budget)?;
-    let record = record_of(alloc, path, &board)?;
-    let board = worked(rt, board, budget, burst)?;
+    let board = recorded(rt, board, budget, burst, path, paths, progress)?;
+    tell_run(
+        alloc,
+        options,
+        &file,
+        &setup,
+        places.as_ref(),
+        &board,
+        out,
+        progress,
+    )
+}
+
+// The board after each core made so many steps, and its schedule, written where it is asked for.
+fn recorded<R: Threads + Wait + Sync + AllocGlobal, P: Paths, G: Progress + Send>(
+    rt: &R,
+    board: Board,
+    budget: u32,
+    burst: Burst,
+    path: Option<&str>,
+    paths: &mut P,
+    progress: &mut G,
+) -> Result<Board, Refusal>
+    ensures { IfOk result (λ last. (steps : List ℕ)
+        × IsReport board (replicate (length board.program.entries) budget) last steps) }
+{
+    let record = record_of(rt.alloc(), path, &board)?;
+    let board = worked(rt, board, budget, burst, progress)?;
     if let Some(record) = record {
         record.write(&board, paths)?;
     }
+    Ok(board)
+}
+
+// Prints what is asked for of a run.
+fn tell_run<O: Out, G: Progress>(
+    alloc: Global,
+    options: &ThreadsOptions<'_>,
+    file: &ProgramFile<'_>,
+    setup: &Setup,
+    places: Option<&Places>,
+    board: &Board,
+    out: &mut O,
+    progress: &mut G,
+) -> Result<(), Refusal> {
     let mut page = Gathered::new(out);
     if let Some(places) = places {
         tell_history(
             alloc,
-            &board,
+            board,
             options.machine.file,
-            &places,
+            places,
             &mut page,
             progress,
         )?;
     }
     if options.counts {
-        tell_counts(alloc, &board, &file, options.is_json, &mut page, progress)?;
+        tell_counts(alloc, board, file, options.is_json, &mut page, progress)?;
     } else {
-        tell(&board, &setup, &mut page)?;
+        tell(board, setup, &mut page)?;
     }
     page.finish()?;
     Ok(())
@@ -135,12 +176,13 @@ fn opened(alloc: Global, setup: &Setup, budget: u32) -> Result<Board, Refusal>
     new_board(alloc, setup, limit)
 }
 
-// The board after each core made so many steps on a thread of its own.
-fn worked<R: Threads + Wait + Sync + AllocGlobal>(
+// The board after each core made so many steps on a thread of its own. Their progress is told while they run.
+fn worked<R: Threads + Wait + Sync + AllocGlobal, G: Progress + Send>(
     rt: &R,
     board: Board,
     budget: u32,
     burst: Burst,
+    progress: &mut G,
 ) -> Result<Board, Refusal>
     ensures { IfOk result (λ last. (steps : List ℕ)
         × IsReport board (replicate (length board.program.entries) budget) last steps) }
@@ -149,7 +191,11 @@ fn worked<R: Threads + Wait + Sync + AllocGlobal>(
     let Ok(budgets) = vec![in alloc; budget; usize::from(board.cores())] else {
         return Err(Refusal::Fault(Fault::NoWorkers));
     };
-    match run_steadily(rt, alloc, board, budgets.as_slice(), burst) {
+    let told = Told::new(progress, board.limit());
+    let report = run_steadily(rt, alloc, board, budgets.as_slice(), burst, &told);
+    drop(told);
+    progress.end();
+    match report {
         Ok(report) => Ok(report.board),
         Err(fault) => Err(Refusal::Fault(fault_of(&fault))),
     }
