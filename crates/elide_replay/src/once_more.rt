@@ -37,29 +37,60 @@ pub fn replay<P: Paths, O: Out, G: Progress>(
 {
     let path = record_path(options.record, options.machine.file, paths)?;
     let (setup, course, places) = begun(alloc, options, paths)?;
-    let made = match course {
-        Course::Listed(steps) => replayed(alloc, &setup, steps.as_slice(), progress),
-        Course::Drawn(drawn) => drawn_board(alloc, &setup, drawn, progress),
-    };
+    let made = board_of(alloc, &setup, course, progress);
     progress.end();
     let board = made?;
+    let asked = Asked {
+        file: options.machine.file,
+        path,
+        places: places.as_ref(),
+    };
+    compared(alloc, &setup, &board, &asked, paths, out, progress)
+}
+
+// What is asked for beside the state.
+#[derive(Clone, Copy)]
+struct Asked<'a> {
+    file: &'a str,
+    path: Option<&'a str>,
+    places: Option<&'a Places>,
+}
+
+// A board after the steps of a schedule.
+fn board_of<G: Progress>(
+    alloc: Global,
+    setup: &Setup,
+    course: Course,
+    progress: &mut G,
+) -> Result<Board, Refusal> {
+    match course {
+        Course::Listed(steps) => replayed(alloc, setup, steps.as_slice(), progress),
+        Course::Drawn(drawn) => drawn_board(alloc, setup, drawn, progress),
+    }
+}
+
+// Runs the board's history again, and prints what is asked for and whether both ended alike.
+fn compared<P: Paths, O: Out, G: Progress>(
+    alloc: Global,
+    setup: &Setup,
+    board: &Board,
+    asked: &Asked<'_>,
+    paths: &mut P,
+    out: &mut O,
+    progress: &mut G,
+) -> Result<Agreement, Refusal>
+    ensures { IfOk result (λ agreement. agreement ≡ Agreement.Agrees) }
+{
     let part = part_of(board.machine().view(), setup.dump)?;
-    let serial = again(alloc, &board)?;
-    if path.is_some() {
-        record(path, cores_of(alloc, &board)?.as_slice(), paths)?;
+    let serial = again(alloc, board)?;
+    if asked.path.is_some() {
+        record(asked.path, cores_of(alloc, board)?.as_slice(), paths)?;
     }
     let mut page = Gathered::new(out);
-    if let Some(places) = places {
-        tell_history(
-            alloc,
-            &board,
-            options.machine.file,
-            &places,
-            &mut page,
-            progress,
-        )?;
+    if let Some(places) = asked.places {
+        tell_history(alloc, board, asked.file, places, &mut page, progress)?;
     }
-    let agreement = tell(&board, &serial, part, &mut page)?;
+    let agreement = tell(board, &serial, part, &mut page)?;
     page.finish()?;
     Ok(agreement)
 }
