@@ -1,0 +1,5 @@
+mod Ends
+mod FaultOrder
+mod Fronts
+mod Loading
+mod Outcomes
