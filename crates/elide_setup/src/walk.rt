@@ -21,6 +21,8 @@ pub trait StepMaker {
 }
 
 impl StepMaker for Machine {
+    // Inlined, so that a walk that drops the outcome pays nothing for it.
+    #[inline(always)]
     fn make_step(&mut self, core: u8) -> Result<Outcome, Refusal> {
         match self.step(core) {
             Ok(outcome) => Ok(outcome),
