@@ -2,29 +2,34 @@
 
 use elide_setup::Progress;
 use std::sync::Mutex;
+use std::sync::atomic::{AtomicU64, Ordering};
 use tm_work::Watch;
 
-/// Tells a place how far workers are. They share it: one that comes while another tells passes on, so that none waits.
+/// Tells a place how far workers are. They share it: one that comes while another tells passes on, so that none waits; and
+/// the greatest number is told, since that of one worker may come after a greater one of another.
 #[derive(Drop)]
 pub struct Told<'a, G> {
     progress: Mutex<&'a mut G>,
+    greatest: AtomicU64,
     most: u64,
 }
 
-impl<'a, G: Progress> Told<'a, G> {
+impl<'a, G: Progress + Send> Told<'a, G> {
     /// Of workers that make at most so many steps together.
     pub fn new(progress: &'a mut G, most: u64) -> Told<'a, G> {
         Told {
             progress: Mutex::new(progress),
+            greatest: AtomicU64::new(0),
             most,
         }
     }
 }
 
-impl<'a, G: Progress> Watch for Told<'a, G> {
+impl<'a, G: Progress + Send> Watch for Told<'a, G> {
     fn reached(&self, steps: u64) {
+        let before = self.greatest.fetch_max(steps, Ordering::SeqCst);
         if let Some(mut progress) = self.progress.try_lock() {
-            progress.tell(steps, self.most, "steps");
+            progress.tell(steps.max(before), self.most, "steps");
         }
     }
 }
