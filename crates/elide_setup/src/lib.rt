@@ -13,6 +13,7 @@ mod plan;
 mod progress;
 mod recorded;
 mod shown;
+mod terminals;
 mod told;
 mod walk;
 
@@ -23,5 +24,6 @@ pub use plan::{Course, Drawn, Plan, limit_of};
 pub use progress::{Progress, Silent};
 pub use recorded::{record, record_path};
 pub use shown::{MemoryPart, part_of, print, show};
+pub use terminals::Terminals;
 pub use told::{push_back, push_front};
 pub use walk::StepMaker;
