@@ -10,7 +10,10 @@ use std::process::Abort;
 use std::sync::Wait;
 use std::test::Fail;
 use tm_core::Limits;
-use tm_debug::{FromReader, In, MOST_BREAKPOINTS, Refusal, Session, SessionFault, serve};
+use tm_debug::{
+    CommandName, FromReader, In, MOST_BREAKPOINTS, Manner, Range, Refusal, Session, SessionFault,
+    serve, serve_in,
+};
 use tm_hist::Board;
 
 const LIMITS: Limits = Limits {
@@ -198,6 +201,26 @@ fn sixty_four_breakpoints(rt: HostRuntime) {
 }
 
 #[test]
+fn a_spoken_session(rt: HostRuntime) {
+    let mut lines = long_line(&rt, rt.alloc(), 257);
+    lines
+        .extend_from_slice(b"\nstep 0\n\nhelp 1")
+        .expect(&rt, "memory");
+    let mut input = FromReader::new(Cursor::new(lines.as_slice()));
+    let mut out = ToVec::new(Vec::new(rt.alloc()));
+    let board = board(&rt, rt.alloc(), &[0x100], 1);
+    let board = serve_in(&rt, rt.alloc(), Manner::Spoken, board, &mut input, &mut out).expect(
+        &rt,
+        "it is served",
+    );
+    assert_eq!(rt; board.made(), 1);
+    assert_eq!(rt;
+        out.bytes.as_slice(),
+        b"elide> error 70: a line has at most 256 bytes\nelide> 0 begun\nelide> error 74: the session has made its most steps\nelide> elide> error 71: help stands alone\nelide> bye\n".as_slice()
+    );
+}
+
+#[test]
 fn lent_devices(rt: HostRuntime) {
     let mut input = FromReader::new(b"step 0\nquit\nleft".as_slice());
     let mut out = ToVec::new(Vec::new(rt.alloc()));
@@ -216,9 +239,10 @@ fn lent_devices(rt: HostRuntime) {
 fn refusals_have_numbers(rt: HostRuntime) -> Result<(), Fail> {
     let cases = [
         (Refusal::UnknownCommand, 70, "UnknownCommand"),
-        (Refusal::BadArgument, 71, "BadArgument"),
-        (Refusal::NoSuchCore, 72, "NoSuchCore"),
-        (Refusal::OutOfRange, 73, "OutOfRange"),
+        (Refusal::LongLine, 70, "LongLine"),
+        (Refusal::BadArgument(CommandName::Mem), 71, "BadArgument"),
+        (Refusal::NoSuchCore(2), 72, "NoSuchCore"),
+        (Refusal::OutOfRange(Range::Lines), 73, "OutOfRange"),
         (Refusal::LimitReached, 74, "LimitReached"),
         (Refusal::TooManyBreakpoints, 75, "TooManyBreakpoints"),
     ];

@@ -79,24 +79,24 @@ next_broken {a} {b} {c} count n p q s turn line below same next so_far stopped =
 pub step_broken : {a b c : Device} (count n : ℕ) (p q s : SessionValue) (core : ℕ) → n < count → run_check q (n == 0) ≡ Go core → SoFar n p q a b → (line : List ℕ) × GoAnswer q core line s × Stopped b c line → RunBroken count p a c s
 step_broken count n p q s core below turn so_far told = next_broken count n p q s (Go core) told.0 below (sym turn) told.1 so_far told.2
 
-ending_line : (turn : RunCheck) (q : SessionValue) → ((core : ℕ) → turn ≡ Go core → ⊥) → NextLine turn q (run_ending turn) q
+ending_line : (turn : RunCheck) (q : SessionValue) → ((core : ℕ) → turn ≡ Go core → ⊥) → NextLine turn q (run_ending q.manner turn) q
 ending_line AllStopped q ends = (refl, refl)
 ending_line Full q ends = (refl, refl)
 ending_line (AtBreakpoint core address) q ends = (refl, refl)
 ending_line (Go core) q ends = absurd (ends core refl)
 
 -- a test ends the run
-pub run_ended : {E : Type 0} (a b c : Device) (count n : ℕ) (p q : SessionValue) (turn : RunCheck) (r : Result (Unit {0}) E) → n < count → turn ≡ run_check q (n == 0) → ((core : ℕ) → turn ≡ Go core → ⊥) → SoFar n p q a b → Writes b c (run_ending turn) r →
+pub run_ended : {E : Type 0} (a b c : Device) (count n : ℕ) (p q : SessionValue) (turn : RunCheck) (r : Result (Unit {0}) E) → n < count → turn ≡ run_check q (n == 0) → ((core : ℕ) → turn ≡ Go core → ⊥) → SoFar n p q a b → Writes b c (run_ending q.manner turn) r →
     OnOk r ((text : List ℕ) × RunWhole count p text q × Wrote a c text) × OnErr r (RunBroken count p a c q)
 run_ended a b c count n p q turn (Ok done) below same ends so_far writes = (
   (
-    so_far.0 ++ run_ending turn,
+    so_far.0 ++ run_ending q.manner turn,
     record {
       count = n;
       lines = so_far.0;
-      tail = run_ending turn;
+      tail = run_ending q.manner turn;
       ran = so_far.1;
-      end = inr (below, ap run_ending same, λ core e. ends core (same ∙ e));
+      end = inr (below, ap (λ t. run_ending q.manner t) same, λ core e. ends core (same ∙ e));
       whole = refl;
     },
     wrote_then so_far.2 writes,
@@ -105,5 +105,5 @@ run_ended a b c count n p q turn (Ok done) below same ends so_far writes = (
 )
 run_ended a b c count n p q turn (Err fault) below same ends so_far writes = (
   tt,
-  next_broken count n p q q turn (run_ending turn) below same (ending_line turn q ends) so_far writes,
+  next_broken count n p q q turn (run_ending q.manner turn) below same (ending_line turn q ends) so_far writes,
 )

@@ -11,13 +11,15 @@ use Rattle.tm_debug.specs.declared.session.Request.{Request}
 use Rattle.tm_debug.specs.declared.session.Request.TheVariants.{Do, Leave, Nothing, Refuse}
 use Rattle.tm_debug.specs.declared.command.Command.{Command}
 use Rattle.tm_debug.specs.declared.command.Command.TheVariants as command
-use Rattle.tm_debug.specs.declared.refusal.Refusal.TheVariants.{UnknownCommand}
+use Rattle.tm_debug.specs.declared.manner.Manner.{Manner}
+use Rattle.tm_debug.specs.declared.manner.Manner.TheVariants.{Plain, Spoken}
+use Rattle.tm_debug.specs.declared.refusal.Refusal.TheVariants.{LongLine}
 use Rattle.tm_debug.specs.Commands.{command_of}
 use Rattle.tm_debug.specs.Words.{first_word}
 use Rattle.std.proofs.lemmas.Bool.{lt-ltb}
 use Rattle.tm_debug.specs.declared.interruption.Interruption.TheVariants as interruption
 use Rattle.tm_debug.specs.Session.{AnswersBroken, Ends, SessionValue, bye_line, is_run_length, run_broken_by}
-use Rattle.tm_debug.specs.Serving.{AnswersLines, BeginsLine, FailsToRead, FailsToWrite, FindsNoMemory, FirstLine, IsEnded, IsLine, LinesRead, Replies, RepliesBroken, ServesInput, WantsMemory, first_request, request_by, request_of}
+use Rattle.tm_debug.specs.Serving.{AnswersLines, BeginsLine, PromptedBroken, Responds, RespondsBroken, FailsToRead, FailsToWrite, FindsNoMemory, FirstLine, IsEnded, IsLine, LinesRead, Replies, RepliesBroken, ServesInput, WantsMemory, first_request, request_by, request_of}
 use Rattle.tm_debug.proofs.Bytewise.{GivesLine}
 
 went_more : (front : List (List ℕ)) (line : List ℕ) (p q s : SessionValue) (told answer : List ℕ) → AnswersLines front p told q → Replies (request_of line) q answer s → AnswersLines (front ++ line ∷ []) p (told ++ answer) s
@@ -248,7 +250,7 @@ fails_to_write {a} {b} {c} {f} {g} {d0} {d1} {d2} p q s line request so_far give
 pub rose_after : {a b c : ℕ} → b ≡ a → Rose b c → Rose a c
 rose_after {a} {b} {c} e h = subst (λ n. Rose n c) e h
 
-pub long_request : (text : List ℕ) → 256 < length text → Refuse UnknownCommand ≡ request_of text
+pub long_request : (text : List ℕ) → 256 < length text → Refuse LongLine ≡ request_of text
 unfolding request_of
 long_request text h = ap (λ b. request_by b (length (first_word text) == 0) (command_of text)) (sym (lt-ltb 256 (length text) h))
 
@@ -266,11 +268,15 @@ pub left_ok : {a b c : Option (List ℕ)} {f g : ℕ} {d0 d1 : Device} (d2 : Dev
 left_ok d2 p q line request (Ok done) so_far gives requests leave told = serving_ends p q line request so_far gives requests leave told
 left_ok d2 p q line request (Err fault) so_far gives requests leave told = tt
 
+left_broken : (manner : Manner) (q : SessionValue) (d1 d2 : Device) → RespondsBroken Leave q d1 d2 q → PromptedBroken manner (Responds Leave q) (RespondsBroken Leave q) d1 d2 q
+left_broken Plain q d1 d2 broken = broken
+left_broken Spoken q d1 d2 broken = inl broken
+
 pub left_written : {a b c : Option (List ℕ)} {f g : ℕ} {d0 d1 : Device} (d2 : Device) (p q : SessionValue) (line : Line) (request : Request) (r : Result (Unit {0}) Interruption) → Serving a b f g p q d0 d1 → GivesLine b c line → Requests request line → request ≡ Leave →
     MatchResult r (λ _. Wrote d1 d2 bye_line) (λ fault. (fault ≡ interruption.Write) × Stopped d1 d2 bye_line) → r ≡ Err interruption.Write → FailsToWrite a c p d0 d2 q.board
 left_written d2 p q line request (Ok done) so_far gives requests leave told e = cc
 left_written {a} {b} {c} {f} {g} {d0} {d1} d2 p q line request (Err fault) so_far gives requests leave told e =
-    fails_to_write p q q line request so_far gives requests (subst (λ (w : Request). RepliesBroken w q d1 d2 q) (sym leave) (bye_line, (refl, refl), told.1))
+    fails_to_write p q q line request so_far gives requests (subst (λ (w : Request). RepliesBroken w q d1 d2 q) (sym leave) (left_broken q.manner q d1 d2 (bye_line, (refl, refl), told.1)))
 
 pub left_reads : {X : Type 0} (old new : Device) (r : Result (Unit {0}) Interruption) → MatchResult r (λ _. Wrote old new bye_line) (λ fault. (fault ≡ interruption.Write) × Stopped old new bye_line) → r ≡ Err interruption.Read → X
 left_reads old new (Ok done) told e = cc
@@ -296,13 +302,22 @@ broken_rose (command.Regs core) q s d1 d2 broken = broken.2.failures
 broken_rose (command.Mem at number) q s d1 d2 broken = broken.2.failures
 broken_rose (command.Sets core) q s d1 d2 broken = broken.2.failures
 broken_rose (command.List at number) q s d1 d2 broken = broken.2.failures
+broken_rose command.Help q s d1 d2 broken = broken.2.failures
 broken_rose command.Quit q s d1 d2 broken = broken.2.failures
 
+responded_rose : (request : Request) (q s : SessionValue) (d1 d2 : Device) → RespondsBroken request q d1 d2 s → Rose d1.failures d2.failures
+responded_rose Leave q s d1 d2 broken = broken.2.failures
+responded_rose Nothing q s d1 d2 broken = absurd broken
+responded_rose (Refuse refusal) q s d1 d2 broken = broken.2.failures
+responded_rose (Do command) q s d1 d2 broken = broken_rose command q s d1 d2 broken
+
+prompted_rose : (manner : Manner) (request : Request) (q s : SessionValue) (d1 d2 : Device) → PromptedBroken manner (Responds request q) (RespondsBroken request q) d1 d2 s → Rose d1.failures d2.failures
+prompted_rose Plain request q s d1 d2 broken = responded_rose request q s d1 d2 broken
+prompted_rose Spoken request q s d1 d2 (inl broken) = responded_rose request q s d1 d2 broken
+prompted_rose Spoken request q s d1 d2 (inr stopped) = rose_after stopped.3.failures stopped.4.failures
+
 replied_rose : (request : Request) (q s : SessionValue) (d1 d2 : Device) → RepliesBroken request q d1 d2 s → Rose d1.failures d2.failures
-replied_rose Leave q s d1 d2 broken = broken.2.failures
-replied_rose Nothing q s d1 d2 broken = absurd broken
-replied_rose (Refuse refusal) q s d1 d2 broken = broken.2.failures
-replied_rose (Do command) q s d1 d2 broken = broken_rose command q s d1 d2 broken
+replied_rose request q s d1 d2 broken = prompted_rose q.manner request q s d1 d2 broken
 
 pub reply_write : {a b : Option (List ℕ)} {f g : ℕ} {d0 d1 : Device} (d2 : Device) (p q s : SessionValue) (request : Request) (t : Interruption) → Serving a b f g p q d0 d1 → Ends (Replies request q) (RepliesBroken request q) d1 d2 q s (Err t) → t ≡ interruption.Write → Rose d0.failures d2.failures
 reply_write {a} {b} {f} {g} {d0} {d1} d2 p q s request interruption.Write so_far ends e = rose_after so_far.failures (replied_rose request q s d1 d2 ends)

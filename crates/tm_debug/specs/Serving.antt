@@ -1,22 +1,25 @@
 -- What a session answers to all lines of its input, one after another (docs/FORMATS.md, "Debugger").
-use Rattle.std.specs.Prelude.{⊤, ◌≡◌, ◌⊎◌, ℕ, ◌==◌, ◌<◌, ◌≤◌, Bool, true, false, List, [], ◌∷◌, ◌++◌, length, nat_lt}
-use Rattle.std.specs.Prelude.{Option, Some, Result, Ok, Err}
+use Rattle.std.specs.Prelude.{⊤, ◌≡◌, ◌⊎◌, ℕ, ◌==◌, ◌<◌, ◌≤◌, Bool, true, false, List, [], ◌∷◌, ◌++◌, codes, length}
+use Rattle.std.specs.Prelude.{nat_lt, Option, Some, Result, Ok, Err}
 use Rattle.std.specs.List.{prefix_len}
 use Rattle.ia_lex.specs.Chars.{differs}
 use Rattle.ia_lex.specs.Lines.{lines_of}
-use Rattle.ia_text.specs.Writing.{Device, Wrote}
+use Rattle.ia_text.specs.Writing.{Device, Stopped, Writes, Wrote}
 use Rattle.tm_hist.specs.Board.{ShownBoard as Board}
 use Rattle.tm_debug.specs.declared.command.Command.{Command}
 use Rattle.tm_debug.specs.declared.command.Command.TheVariants.{Quit}
 use Rattle.tm_debug.specs.declared.command.Command.TheVariants as command
 use Rattle.tm_debug.specs.declared.refusal.Refusal.{Refusal}
-use Rattle.tm_debug.specs.declared.refusal.Refusal.TheVariants.{UnknownCommand}
+use Rattle.tm_debug.specs.declared.refusal.Refusal.TheVariants.{LongLine}
 use Rattle.tm_debug.specs.declared.line.Line.{Line}
 use Rattle.tm_debug.specs.declared.line.Line.TheVariants as read
 use Rattle.tm_debug.specs.declared.line.LineStart.{LineStart}
 use Rattle.tm_debug.specs.declared.session.Request.{Request}
 use Rattle.tm_debug.specs.declared.session.Request.TheVariants.{Leave, Nothing, Refuse, Do}
-use Rattle.tm_debug.specs.Commands.{command_of, refusal_line}
+use Rattle.tm_debug.specs.declared.manner.Manner.{Manner}
+use Rattle.tm_debug.specs.declared.manner.Manner.TheVariants.{Plain, Spoken}
+use Rattle.tm_debug.specs.Commands.{command_of}
+use Rattle.tm_debug.specs.Refusals.{refusal_line}
 use Rattle.tm_debug.specs.Session.{Answers, AnswersBroken, AnswerStopped, SessionValue, bye_line}
 use Rattle.tm_debug.specs.Words.{first_word}
 
@@ -24,6 +27,7 @@ use Rattle.tm_debug.specs.Words.{first_word}
 abbrev pub request_for : Result Command Refusal → Request
 request_for (Err refusal) = Refuse refusal
 request_for (Ok command.Quit) = Leave
+request_for (Ok command.Help) = Do command.Help
 request_for (Ok (command.Step core)) = Do (command.Step core)
 request_for (Ok (command.Run number)) = Do (command.Run number)
 request_for (Ok (command.Break address)) = Do (command.Break address)
@@ -34,7 +38,7 @@ request_for (Ok (command.Sets core)) = Do (command.Sets core)
 request_for (Ok (command.List at number)) = Do (command.List at number)
 
 abbrev pub request_by : Bool → Bool → Result Command Refusal → Request
-request_by true blank read = Refuse UnknownCommand
+request_by true blank read = Refuse LongLine
 request_by false true read = Nothing
 request_by false false read = request_for read
 
@@ -48,19 +52,57 @@ first_request [] = Leave
 first_request (line ∷ lines) = request_of line
 
 -- the answer to a line that does not end the session
-abbrev pub Replies : Request → SessionValue → List ℕ → SessionValue → Type 0
-Replies Leave from text to = ⊥
-Replies Nothing from text to = (text ≡ []) × (to ≡ from)
-Replies (Refuse refusal) from text to = (text ≡ refusal_line refusal) × (to ≡ from)
-Replies (Do command) from text to = Answers command from text to
+abbrev pub Responds : Request → SessionValue → List ℕ → SessionValue → Type 0
+Responds Leave from text to = ⊥
+Responds Nothing from text to = (text ≡ []) × (to ≡ from)
+Responds (Refuse refusal) from text to = (text ≡ refusal_line from.manner refusal) × (to ≡ from)
+Responds (Do command) from text to = Answers command from text to
 
 -- the same where the writing of it failed
+abbrev pub RespondsBroken : Request → SessionValue → Device → Device → SessionValue → Type 0
+RespondsBroken Leave from old new to = AnswerStopped (λ text after. (text ≡ bye_line) × (after ≡ from)) old new to
+RespondsBroken Nothing from old new to = ⊥
+RespondsBroken (Refuse refusal) from old new to =
+    AnswerStopped (λ text after. (text ≡ refusal_line from.manner refusal) × (after ≡ from)) old new to
+RespondsBroken (Do command) from old new to = AnswersBroken command from old new to
+
+-- ---- the prompt, which a spoken session writes before each line is read
+
+abbrev pub prompt_text : List ℕ
+prompt_text = codes "elide> "
+
+-- an answer, and the prompt for the next line behind it
+abbrev pub Prompted : Manner → (List ℕ → SessionValue → Type 0) → List ℕ → SessionValue → Type 0
+Prompted Plain answer text to = answer text to
+Prompted Spoken answer text to = (told : List ℕ) × answer told to × (text ≡ told ++ prompt_text)
+
+-- the answer was written whole, but the prompt was not
+abbrev pub PromptStopped : (List ℕ → SessionValue → Type 0) → Device → Device → SessionValue → Type 0
+PromptStopped answer old new to =
+    (told : List ℕ) × (between : Device) × answer told to × Wrote old between told × Stopped between new prompt_text
+
+-- the same where the writing of either failed
+abbrev pub PromptedBroken : Manner → (List ℕ → SessionValue → Type 0)
+    → (Device → Device → SessionValue → Type 0) → Device → Device → SessionValue → Type 0
+PromptedBroken Plain answer broken old new to = broken old new to
+PromptedBroken Spoken answer broken old new to = broken old new to ⊎ PromptStopped answer old new to
+
+abbrev pub Replies : Request → SessionValue → List ℕ → SessionValue → Type 0
+Replies request from text to = Prompted from.manner (Responds request from) text to
+
 abbrev pub RepliesBroken : Request → SessionValue → Device → Device → SessionValue → Type 0
-RepliesBroken Leave from old new to = AnswerStopped (λ text after. (text ≡ bye_line) × (after ≡ from)) old new to
-RepliesBroken Nothing from old new to = ⊥
-RepliesBroken (Refuse refusal) from old new to =
-    AnswerStopped (λ text after. (text ≡ refusal_line refusal) × (after ≡ from)) old new to
-RepliesBroken (Do command) from old new to = AnswersBroken command from old new to
+RepliesBroken request from old new to =
+    PromptedBroken from.manner (Responds request from) (RespondsBroken request from) old new to
+
+-- a prompt is written in a spoken session alone
+abbrev pub Prompts : {E : Type 0} → Manner → Device → Device → Result (Unit {0}) E → Type 0
+Prompts Plain old new result = (result ≡ Ok tt) × (new ≡ old)
+Prompts Spoken old new result = Writes old new prompt_text result
+
+-- what a session does behind its first prompt
+abbrev pub BehindPrompt : Manner → Device → (Device → Type 0) → Type 0
+BehindPrompt Plain old session = session old
+BehindPrompt Spoken old session = (between : Device) × Wrote old between prompt_text × session between
 
 -- the answers to lines, one after another
 pub record First (more : SessionValue → List ℕ → SessionValue → Type 0) (line : List ℕ) (from : SessionValue)
@@ -140,6 +182,13 @@ abbrev pub FailsToWrite : Option (List ℕ) → Option (List ℕ) → SessionVal
 FailsToWrite input left from old new board = (xs : List ℕ) → input ≡ Some xs → (rest : List ℕ) × (to : SessionValue)
     × (left ≡ Some rest) × ServesWrite xs rest from old new to × (to.board ≡ board)
 
+-- the same in this manner: the first prompt too may not stand there whole, and then no line was read
+abbrev pub FailsToWriteIn : Manner → Option (List ℕ) → Option (List ℕ) → SessionValue → Device → Device → Board → Type 0
+FailsToWriteIn Plain input left from old new board = FailsToWrite input left from old new board
+FailsToWriteIn Spoken input left from old new board =
+    (Stopped old new prompt_text × (left ≡ input) × (board ≡ from.board))
+    ⊎ BehindPrompt Spoken old (λ between. FailsToWrite input left from between new board)
+
 -- the commands whose answer takes memory: that of a core's sets alone does
 abbrev pub TakesMemory : Command → Type 0
 TakesMemory (command.Sets core) = ⊤
@@ -150,6 +199,7 @@ TakesMemory (command.Clear address) = ⊥
 TakesMemory (command.Regs core) = ⊥
 TakesMemory (command.Mem at number) = ⊥
 TakesMemory (command.List at number) = ⊥
+TakesMemory command.Help = ⊥
 TakesMemory command.Quit = ⊥
 
 abbrev pub WantsMemory : Request → Type 0

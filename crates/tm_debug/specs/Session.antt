@@ -20,30 +20,38 @@ use Rattle.ia_text.specs.TextLine.{line_end, number_text}
 use Rattle.tm_hist.specs.Machine.{shown_regs, shown_state}
 use Rattle.tm_debug.specs.declared.command.Command.{Command}
 use Rattle.tm_debug.specs.declared.command.Command.TheVariants.{Step, Run, Break, Clear, Regs, Mem, Sets}
-use Rattle.tm_debug.specs.declared.command.Command.TheVariants.{List as Listing, Quit}
+use Rattle.tm_debug.specs.declared.command.Command.TheVariants.{List as Listing, Help, Quit}
+use Rattle.tm_debug.specs.declared.manner.Manner.{Manner}
+use Rattle.tm_debug.specs.declared.manner.Manner.TheVariants.{Plain}
+use Rattle.tm_debug.specs.declared.refusal.Range.TheVariants.{Addresses, Bytes, Lines, Steps}
 use Rattle.tm_debug.specs.declared.refusal.Refusal.{Refusal}
-use Rattle.tm_debug.specs.declared.refusal.Refusal.TheVariants.{NoSuchCore, OutOfRange, LimitReached}
+use Rattle.tm_debug.specs.declared.refusal.Refusal.TheVariants.{LimitReached, NoSuchCore, OutOfRange}
 use Rattle.tm_debug.specs.declared.refusal.Refusal.TheVariants.{TooManyBreakpoints}
 use Rattle.tm_debug.specs.declared.interruption.Interruption.{Interruption}
 use Rattle.tm_debug.specs.declared.interruption.Interruption.TheVariants as interruption
 use Rattle.tm_debug.specs.declared.state.RunCheck.{RunCheck}
 use Rattle.tm_debug.specs.declared.state.RunCheck.TheVariants.{AllStopped, Full, AtBreakpoint, Go}
 use Rattle.tm_debug.specs.declared.state.SessionState.{SessionState}
-use Rattle.tm_debug.specs.Commands.{refusal_line}
+use Rattle.tm_debug.specs.Help.{help_text}
+use Rattle.tm_debug.specs.Refusals.{refusal_line}
 
--- between two lines: the board, the breakpoints, and the number behind that of the core that was stepped last, 0 before
--- the first step
+-- between two lines: how it speaks, the board, the breakpoints, and the number behind that of the core that was stepped
+-- last, 0 before the first step
 pub record SessionValue : Type 0 where
+  pub manner : Manner
   pub board : Board
   pub breaks : List ℕ
   pub next : ℕ
 
 abbrev pub value_of : SessionState → SessionValue
-value_of state = record { board = state.board; breaks = state.breakpoints.items; next = state.next }
+value_of state = record { manner = state.manner; board = state.board; breaks = state.breakpoints.items; next = state.next }
 
 -- before the first line
+abbrev pub start_in : Manner → Board → SessionValue
+start_in manner board = record { manner = manner; board = board; breaks = []; next = 0 }
+
 abbrev pub start : Board → SessionValue
-start board = record { board = board; breaks = []; next = 0 }
+start board = start_in Plain board
 
 abbrev pub cores_of : SessionValue → ℕ
 cores_of session = length session.board.program.entries
@@ -112,17 +120,18 @@ unfoldable pub run_check : SessionValue → Bool → RunCheck
 run_check session first = run_check_by (next_running session) first session
 
 -- the line that ends a run
-abbrev pub run_ending : RunCheck → List ℕ
-run_ending AllStopped = codes "all stopped\n"
-run_ending Full = refusal_line LimitReached
-run_ending (AtBreakpoint core address) = break_line core address
-run_ending (Go core) = []
+abbrev pub run_ending : Manner → RunCheck → List ℕ
+run_ending manner AllStopped = codes "all stopped\n"
+run_ending manner Full = refusal_line manner LimitReached
+run_ending manner (AtBreakpoint core address) = break_line core address
+run_ending manner (Go core) = []
 
 -- one step of a core
 pub record IsStep (from : SessionValue) (core : ℕ) (outcome : Outcome) (to : SessionValue) : Type 0 where
   pub same : SameBoard from.board to.board
   pub history : to.board.history ≡ from.board.history ++ (core, outcome) ∷ []
   pub law : IsHistory to.board
+  pub manner : to.manner ≡ from.manner
   pub breaks : to.breaks ≡ from.breaks
   pub next : to.next ≡ core + 1
 
@@ -149,7 +158,7 @@ pub record RunWhole (number : ℕ) (from : SessionValue) (text : List ℕ) (to :
   pub lines : List ℕ
   pub tail : List ℕ
   pub ran : IsRunOf count from lines to
-  pub end : ((count ≡ number) × (tail ≡ [])) ⊎ ((count < number) × (tail ≡ run_ending (run_check to (count == 0)))
+  pub end : ((count ≡ number) × (tail ≡ [])) ⊎ ((count < number) × (tail ≡ run_ending to.manner (run_check to (count == 0)))
       × ((core : ℕ) → run_check to (count == 0) ≡ Go core → ⊥))
   pub whole : text ≡ lines ++ tail
 
@@ -159,9 +168,9 @@ abbrev pub core_named : SessionValue → ℕ → Option ℕ
 core_named session core = if nat_lt core (cores_of session) then Some core else None
 
 abbrev pub step_by : SessionValue → Option ℕ → List ℕ → SessionValue → Type 0
-step_by from None text to = (text ≡ refusal_line NoSuchCore) × (to ≡ from)
+step_by from None text to = (text ≡ refusal_line from.manner (NoSuchCore (cores_of from))) × (to ≡ from)
 step_by from (Some core) text to =
-    ((length from.board.history ≡ from.board.limit) × (text ≡ refusal_line LimitReached) × (to ≡ from))
+    ((length from.board.history ≡ from.board.limit) × (text ≡ refusal_line from.manner LimitReached) × (to ≡ from))
     ⊎ ((outcome : Outcome) × IsStep from core outcome to × (text ≡ outcome_line core outcome))
 
 abbrev pub StepAnswer : SessionValue → ℕ → List ℕ → SessionValue → Type 0
@@ -174,7 +183,7 @@ GoAnswer from core text to = (outcome : Outcome) × IsStep from core outcome to 
 -- 1 to 100000 steps
 abbrev pub run_by : Bool → ℕ → SessionValue → List ℕ → SessionValue → Type 0
 run_by true number from text to = RunWhole number from text to
-run_by false number from text to = (text ≡ refusal_line OutOfRange) × (to ≡ from)
+run_by false number from text to = (text ≡ refusal_line from.manner (OutOfRange Steps)) × (to ≡ from)
 
 abbrev pub is_run_length : ℕ → Bool
 is_run_length number = nat_le 1 number && nat_le number 100000
@@ -185,9 +194,10 @@ RunAnswer number from text to = run_by (is_run_length number) number from text t
 -- the line behind some steps of a run: that of one more step, or the one that a test ends the run with
 abbrev pub NextLine : RunCheck → SessionValue → List ℕ → SessionValue → Type 0
 NextLine (Go core) from line to = GoAnswer from core line to
-NextLine AllStopped from line to = (line ≡ run_ending AllStopped) × (to ≡ from)
-NextLine Full from line to = (line ≡ run_ending Full) × (to ≡ from)
-NextLine (AtBreakpoint core address) from line to = (line ≡ run_ending (AtBreakpoint core address)) × (to ≡ from)
+NextLine AllStopped from line to = (line ≡ run_ending from.manner AllStopped) × (to ≡ from)
+NextLine Full from line to = (line ≡ run_ending from.manner Full) × (to ≡ from)
+NextLine (AtBreakpoint core address) from line to = (line ≡ run_ending from.manner (AtBreakpoint core address))
+    × (to ≡ from)
 
 -- a run of n steps that was broken off: the lines of some steps were written, and a beginning of the next line
 pub record RunBroken (number : ℕ) (from : SessionValue) (old new : Device) (to : SessionValue) : Type 0 where
@@ -209,55 +219,58 @@ AnswerStopped answer old new to = (text : List ℕ) × answer text to × Stopped
 abbrev pub run_broken_by : Bool → ℕ → SessionValue → Device → Device → SessionValue → Type 0
 run_broken_by true number from old new to = RunBroken number from old new to
 run_broken_by false number from old new to =
-    AnswerStopped (λ text after. (text ≡ refusal_line OutOfRange) × (after ≡ from)) old new to
+    AnswerStopped (λ text after. (text ≡ refusal_line from.manner (OutOfRange Steps)) × (after ≡ from)) old new to
 
 abbrev pub RunAnswerBroken : ℕ → SessionValue → Device → Device → SessionValue → Type 0
 RunAnswerBroken number from old new to = run_broken_by (is_run_length number) number from old new to
 
 -- ok, or the refusal
-abbrev pub done_line : Result (Unit {0}) Refusal → List ℕ
-done_line (Ok done) = ok_line
-done_line (Err refusal) = refusal_line refusal
+abbrev pub done_line : Manner → Result (Unit {0}) Refusal → List ℕ
+done_line manner (Ok done) = ok_line
+done_line manner (Err refusal) = refusal_line manner refusal
+
+abbrev pub with_breaks : SessionValue → List ℕ → SessionValue
+with_breaks session breaks = record { manner = session.manner; board = session.board; breaks = breaks; next = session.next }
 
 -- a breakpoint is set at most once, and at most 64 are
 abbrev pub set_at : Option ℕ → SessionValue → ℕ → Result (Unit {0}) Refusal × SessionValue
 set_at (Some i) session address = (Ok tt, session)
 set_at None session address =
     if length session.breaks == 64 then (Err TooManyBreakpoints, session)
-    else (Ok tt, record { board = session.board; breaks = session.breaks ++ address ∷ []; next = session.next })
+    else (Ok tt, with_breaks session (session.breaks ++ address ∷ []))
 
 abbrev pub set_break : SessionValue → ℕ → Result (Unit {0}) Refusal × SessionValue
-set_break session address = if nat_lt (2 ^ 32 - 1) address then (Err OutOfRange, session)
+set_break session address = if nat_lt (2 ^ 32 - 1) address then (Err (OutOfRange Addresses), session)
     else set_at (position (λ b. b == address) session.breaks) session address
 
 abbrev pub unset_at : Option ℕ → SessionValue → SessionValue
 unset_at None session = session
-unset_at (Some i) session = record { board = session.board; breaks = remove session.breaks i; next = session.next }
+unset_at (Some i) session = with_breaks session (remove session.breaks i)
 
 abbrev pub unset_break : SessionValue → ℕ → Result (Unit {0}) Refusal × SessionValue
-unset_break session address = if nat_lt (2 ^ 32 - 1) address then (Err OutOfRange, session)
+unset_break session address = if nat_lt (2 ^ 32 - 1) address then (Err (OutOfRange Addresses), session)
     else (Ok tt, unset_at (position (λ b. b == address) session.breaks) session)
 
 abbrev pub regs_by : SessionValue → Option ℕ → List ℕ
-regs_by session None = refusal_line NoSuchCore
+regs_by session None = refusal_line session.manner (NoSuchCore (cores_of session))
 regs_by session (Some core) = core_text session.board.machine core
 
 abbrev pub regs_answer : SessionValue → ℕ → List ℕ
 regs_answer session core = regs_by session (core_named session core)
 
 -- 1 to 256 bytes, all of them in memory
-abbrev pub mem_answer : Machine → ℕ → ℕ → List ℕ
-mem_answer machine at count =
+abbrev pub mem_answer : Manner → Machine → ℕ → ℕ → List ℕ
+mem_answer manner machine at count =
     if nat_lt count 1 || nat_lt 256 count || nat_lt (2 ^ 32 - 1) at || nat_lt (length machine.memory) at
-    || nat_lt (length machine.memory - at) count then refusal_line OutOfRange
+    || nat_lt (length machine.memory - at) count then refusal_line manner (OutOfRange Bytes)
     else dump_lines (take count (drop at machine.memory)) at
 
 -- 1 to 64 lines, the first of them in the code
-abbrev pub list_answer : Program → ℕ → ℕ → List ℕ
-list_answer program at count =
+abbrev pub list_answer : Manner → Program → ℕ → ℕ → List ℕ
+list_answer manner program at count =
     if nat_lt count 1 || nat_lt 64 count || nat_lt at program.base
     || nat_le (length (code_of program)) (at - program.base)
-    then refusal_line OutOfRange
+    then refusal_line manner (OutOfRange Lines)
     else some_lines count (drop (at - program.base) (code_of program)) at
 
 -- the lines of a core's sets, ascending
@@ -271,7 +284,7 @@ pub record SetsOf (machine : Machine) (core : ℕ) (text : List ℕ) : Type 0 wh
   pub line : text ≡ sets_line core (shown_state machine core) reads writes
 
 abbrev pub sets_by : SessionValue → Option ℕ → List ℕ → Type 0
-sets_by session None text = text ≡ refusal_line NoSuchCore
+sets_by session None text = text ≡ refusal_line session.manner (NoSuchCore (cores_of session))
 sets_by session (Some core) text = SetsOf session.board.machine core text
 
 abbrev pub SetsAnswer : SessionValue → ℕ → List ℕ → SessionValue → Type 0
@@ -286,13 +299,15 @@ TellsAnswer answer old new to result = (text : List ℕ) × answer text to × Wr
 abbrev pub Answers : Command → SessionValue → List ℕ → SessionValue → Type 0
 Answers (Step core) from text to = StepAnswer from core text to
 Answers (Run number) from text to = RunAnswer number from text to
-Answers (Break address) from text to = (text ≡ done_line (set_break from address).0) × (to ≡ (set_break from address).1)
+Answers (Break address) from text to =
+    (text ≡ done_line from.manner (set_break from address).0) × (to ≡ (set_break from address).1)
 Answers (Clear address) from text to =
-    (text ≡ done_line (unset_break from address).0) × (to ≡ (unset_break from address).1)
+    (text ≡ done_line from.manner (unset_break from address).0) × (to ≡ (unset_break from address).1)
 Answers (Regs core) from text to = (text ≡ regs_answer from core) × (to ≡ from)
-Answers (Mem at number) from text to = (text ≡ mem_answer from.board.machine at number) × (to ≡ from)
+Answers (Mem at number) from text to = (text ≡ mem_answer from.manner from.board.machine at number) × (to ≡ from)
 Answers (Sets core) from text to = SetsAnswer from core text to
-Answers (Listing at number) from text to = (text ≡ list_answer from.board.program at number) × (to ≡ from)
+Answers (Listing at number) from text to = (text ≡ list_answer from.manner from.board.program at number) × (to ≡ from)
+Answers Help from text to = (text ≡ help_text) × (to ≡ from)
 Answers Quit from text to = (text ≡ bye_line) × (to ≡ from)
 
 -- the same where the writing of it failed
@@ -305,6 +320,7 @@ AnswersBroken (Regs core) from old new to = AnswerStopped (Answers (Regs core) f
 AnswersBroken (Mem at number) from old new to = AnswerStopped (Answers (Mem at number) from) old new to
 AnswersBroken (Sets core) from old new to = AnswerStopped (Answers (Sets core) from) old new to
 AnswersBroken (Listing at number) from old new to = AnswerStopped (Answers (Listing at number) from) old new to
+AnswersBroken Help from old new to = AnswerStopped (Answers Help from) old new to
 AnswersBroken Quit from old new to = AnswerStopped (Answers Quit from) old new to
 
 -- what ended a call: its text was written; it was broken off; or, for want of memory, nothing was written

@@ -4,12 +4,13 @@ ghost use Rattle.std.specs.Prelude.{◌≡◌, ◌==◌, ◌++◌, ◌<◌, IfSo
 ghost use Rattle.std.specs.List.{position};
 ghost use Rattle.arrayvec.specs.ArrayVec.{array_vec_len};
 ghost use Rattle.ia_text.specs.Writing.{Writes};
-ghost use Rattle.tm_debug.specs.Session.{StepAnswer, TellsAnswer, break_line, core_named, done_line, run_ending};
+ghost use Rattle.tm_debug.specs.Session.{StepAnswer, TellsAnswer, break_line, core_named, cores_of, done_line};
 ghost use Rattle.tm_debug.specs.Session.{list_answer, mem_answer, ok_line, value_of, regs_answer, set_break};
-ghost use Rattle.tm_debug.specs.Session.{some_lines, unset_break};
-ghost use Rattle.tm_debug.specs.Commands.{refusal_line};
+ghost use Rattle.tm_debug.specs.Session.{run_ending, some_lines, unset_break};
+ghost use Rattle.tm_debug.specs.Refusals.{refusal_line};
 
-use crate::refusal::Refusal;
+use crate::manner::Manner;
+use crate::refusal::{Range, Refusal, refuse};
 use crate::state::{MOST_BREAKPOINTS, RunCheck, SessionState, core_count};
 use ia_image::Program;
 use ia_text::page::{push, push_eight};
@@ -18,12 +19,16 @@ use ia_text::{Out, WriteFault, write_line};
 use tm_core::Machine;
 use tm_hist::{StepFault, write_core, write_dump, write_outcome};
 
-/// Tells a refusal.
-pub fn refuse<O: Out>(refusal: Refusal, out: &mut O) -> Result<(), WriteFault>
-    ensures { Writes (O.device out.old) (O.device out.new) (refusal_line refusal) result }
+/// Tells that there is no core of a number.
+pub fn refuse_core<O: Out>(state: &SessionState, out: &mut O) -> Result<(), WriteFault>
+    ensures { Writes (O.device out.old) (O.device out.new)
+        (refusal_line state.now.manner (Refusal.NoSuchCore (cores_of (value_of state.now)))) result }
 {
-    out.put(refusal.line())?;
-    Ok(())
+    refuse(
+        state.manner,
+        Refusal::NoSuchCore(core_count(&state.board)),
+        out,
+    )
 }
 
 /// Tells that a command was done.
@@ -52,12 +57,13 @@ pub fn step<O: Out>(state: &mut SessionState, core: u64, out: &mut O) -> Result<
         (value_of state.new) result }
 {
     let Some(core) = core_of(state, core) else {
-        return refuse(Refusal::NoSuchCore, out);
+        return refuse_core(state, out);
     };
+    let manner = state.manner;
     match state.step(core) {
         Ok(outcome) => write_outcome(core, &outcome, out),
-        Err(StepFault::NoSuchCore) => refuse(Refusal::NoSuchCore, out),
-        Err(StepFault::LimitReached) => refuse(Refusal::LimitReached, out),
+        Err(StepFault::NoSuchCore) => refuse_core(state, out),
+        Err(StepFault::LimitReached) => refuse(manner, Refusal::LimitReached, out),
     }
 }
 
@@ -73,12 +79,12 @@ fn push_break(row: &mut TextLine, core: u8, address: u32)
 }
 
 /// The line that ends a run, and none where it goes on.
-pub fn end_run<O: Out>(check: RunCheck, out: &mut O) -> Result<(), WriteFault>
-    ensures { Writes (O.device out.old) (O.device out.new) (run_ending check) result }
+pub fn end_run<O: Out>(manner: Manner, check: RunCheck, out: &mut O) -> Result<(), WriteFault>
+    ensures { Writes (O.device out.old) (O.device out.new) (run_ending manner check) result }
 {
     match check {
         RunCheck::AllStopped => out.put(b"all stopped\n")?,
-        RunCheck::Full => out.put(Refusal::LimitReached.line())?,
+        RunCheck::Full => refuse(manner, Refusal::LimitReached, out)?,
         RunCheck::AtBreakpoint(core, address) => {
             let mut row = TextLine::new();
             push_break(&mut row, core, address);
@@ -101,7 +107,7 @@ fn set(state: &mut SessionState, address: u64) -> Result<(), Refusal>
     ensures { (result, value_of state.new) ≡ set_break (value_of state.old) address }
 {
     if address > u64::from(u32::MAX) {
-        return Err(Refusal::OutOfRange);
+        return Err(Refusal::OutOfRange(Range::Addresses));
     }
     let address = address as u32;
     if position_of(state.breakpoints.as_slice(), address).is_some() {
@@ -119,7 +125,7 @@ fn unset(state: &mut SessionState, address: u64) -> Result<(), Refusal>
     ensures { (result, value_of state.new) ≡ unset_break (value_of state.old) address }
 {
     if address > u64::from(u32::MAX) {
-        return Err(Refusal::OutOfRange);
+        return Err(Refusal::OutOfRange(Range::Addresses));
     }
     if let Some(index) = position_of(state.breakpoints.as_slice(), address as u32) {
         let _ = state.breakpoints.remove(index);
@@ -127,12 +133,12 @@ fn unset(state: &mut SessionState, address: u64) -> Result<(), Refusal>
     Ok(())
 }
 
-fn tell<O: Out>(done: Result<(), Refusal>, out: &mut O) -> Result<(), WriteFault>
-    ensures { Writes (O.device out.old) (O.device out.new) (done_line done) result }
+fn tell<O: Out>(manner: Manner, done: Result<(), Refusal>, out: &mut O) -> Result<(), WriteFault>
+    ensures { Writes (O.device out.old) (O.device out.new) (done_line manner done) result }
 {
     match done {
         Ok(()) => agree(out),
-        Err(refusal) => refuse(refusal, out),
+        Err(refusal) => refuse(manner, refusal, out),
     }
 }
 
@@ -143,11 +149,12 @@ pub fn set_breakpoint<O: Out>(
     out: &mut O,
 ) -> Result<(), WriteFault>
     ensures text { Writes (O.device out.old) (O.device out.new)
-        (done_line (set_break (value_of state.old) address).0) result }
+        (done_line state.old.manner (set_break (value_of state.old) address).0) result }
     ensures session { value_of state.new ≡ (set_break (value_of state.old) address).1 }
 {
+    let manner = state.manner;
     let done = set(state, address);
-    tell(done, out)
+    tell(manner, done, out)
 }
 
 /// Takes a breakpoint away.
@@ -157,11 +164,12 @@ pub fn clear_breakpoint<O: Out>(
     out: &mut O,
 ) -> Result<(), WriteFault>
     ensures text { Writes (O.device out.old) (O.device out.new)
-        (done_line (unset_break (value_of state.old) address).0) result }
+        (done_line state.old.manner (unset_break (value_of state.old) address).0) result }
     ensures session { value_of state.new ≡ (unset_break (value_of state.old) address).1 }
 {
+    let manner = state.manner;
     let done = unset(state, address);
-    tell(done, out)
+    tell(manner, done, out)
 }
 
 /// The state line of a core.
@@ -170,13 +178,19 @@ pub fn regs<O: Out>(state: &SessionState, core: u64, out: &mut O) -> Result<(), 
 {
     match core_of(state, core) {
         Some(core) => write_core(state.board.machine(), core, out),
-        None => refuse(Refusal::NoSuchCore, out),
+        None => refuse_core(state, out),
     }
 }
 
 /// Dump lines of memory.
-pub fn mem<O: Out>(machine: &Machine, at: u64, count: u64, out: &mut O) -> Result<(), WriteFault>
-    ensures { Writes (O.device out.old) (O.device out.new) (mem_answer machine.now at count) result }
+pub fn mem<O: Out>(
+    manner: Manner,
+    machine: &Machine,
+    at: u64,
+    count: u64,
+    out: &mut O,
+) -> Result<(), WriteFault>
+    ensures { Writes (O.device out.old) (O.device out.new) (mem_answer manner machine.now at count) result }
 {
     let memory = machine.view();
     if !(1..=256).contains(&count)
@@ -184,7 +198,7 @@ pub fn mem<O: Out>(machine: &Machine, at: u64, count: u64, out: &mut O) -> Resul
         || at > memory.len() as u64
         || count > memory.len() as u64 - at
     {
-        return refuse(Refusal::OutOfRange, out);
+        return refuse(manner, Refusal::OutOfRange(Range::Bytes), out);
     }
     let from = at as usize;
     write_dump(&memory[from..from + count as usize], at as u32, out)
@@ -207,13 +221,19 @@ fn write_lines<O: Out>(code: &[u8], at: u32, count: u8, out: &mut O) -> Result<(
 }
 
 /// A listing.
-pub fn list<O: Out>(program: &Program, at: u64, count: u64, out: &mut O) -> Result<(), WriteFault>
-    ensures { Writes (O.device out.old) (O.device out.new) (list_answer program.now at count) result }
+pub fn list<O: Out>(
+    manner: Manner,
+    program: &Program,
+    at: u64,
+    count: u64,
+    out: &mut O,
+) -> Result<(), WriteFault>
+    ensures { Writes (O.device out.old) (O.device out.new) (list_answer manner program.now at count) result }
 {
     let code = program.code();
     let base = u64::from(program.base());
     if !(1..=64).contains(&count) || at < base || at - base >= code.len() as u64 {
-        return refuse(Refusal::OutOfRange, out);
+        return refuse(manner, Refusal::OutOfRange(Range::Lines), out);
     }
     write_lines(&code[(at - base) as usize..], at as u32, count as u8, out)
 }

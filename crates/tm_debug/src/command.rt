@@ -1,14 +1,15 @@
 //! Commands as they are read.
 
 ghost use Rattle.std.specs.Prelude.{◌≡◌};
-ghost use Rattle.tm_debug.specs.Commands.{command_named, command_of, name_of, one_number, two_numbers};
+ghost use Rattle.tm_debug.specs.Commands.{command_alone, command_named, command_of, name_of, one_number};
+ghost use Rattle.tm_debug.specs.Commands.{two_numbers};
 
 use crate::number::number;
 use crate::refusal::Refusal;
 use crate::words::split_word;
 
 /// The name of a command.
-#[derive(Clone, Copy, PartialEq, Eq, Debug)]
+#[derive(Clone, Copy, PartialEq, Eq, Debug, Drop)]
 pub enum CommandName {
     Step,
     Run,
@@ -18,6 +19,7 @@ pub enum CommandName {
     Mem,
     Sets,
     List,
+    Help,
     Quit,
 }
 
@@ -40,6 +42,8 @@ pub enum Command {
     Sets(u64),
     /// A listing: the address of its first line, and how many lines.
     List(u64, u64),
+    /// The commands.
+    Help,
     /// The end of the session.
     Quit,
 }
@@ -64,6 +68,8 @@ fn name_of(word: &[u8]) -> Option<CommandName>
         Some(CommandName::Sets)
     } else if word == b"list".as_slice() {
         Some(CommandName::List)
+    } else if word == b"help".as_slice() {
+        Some(CommandName::Help)
     } else if word == b"quit".as_slice() {
         Some(CommandName::Quit)
     } else {
@@ -72,28 +78,39 @@ fn name_of(word: &[u8]) -> Option<CommandName>
 }
 
 // The one number that is given.
-fn one(first: &[u8], second: &[u8]) -> Result<u64, Refusal>
-    ensures { result ≡ one_number first.now second.now }
+fn one(name: CommandName, first: &[u8], second: &[u8]) -> Result<u64, Refusal>
+    ensures { result ≡ one_number name first.now second.now }
 {
     if !second.is_empty() {
-        return Err(Refusal::BadArgument);
+        return Err(Refusal::BadArgument(name));
     }
     match number(first) {
         Some(value) => Ok(value),
-        None => Err(Refusal::BadArgument),
+        None => Err(Refusal::BadArgument(name)),
     }
 }
 
 // The two numbers that are given.
-fn two(first: &[u8], second: &[u8], third: &[u8]) -> Result<(u64, u64), Refusal>
-    ensures { result ≡ two_numbers first.now second.now third.now }
+fn two(name: CommandName, first: &[u8], second: &[u8], third: &[u8]) -> Result<(u64, u64), Refusal>
+    ensures { result ≡ two_numbers name first.now second.now third.now }
 {
     if !third.is_empty() {
-        return Err(Refusal::BadArgument);
+        return Err(Refusal::BadArgument(name));
     }
     match (number(first), number(second)) {
         (Some(a), Some(b)) => Ok((a, b)),
-        _ => Err(Refusal::BadArgument),
+        _ => Err(Refusal::BadArgument(name)),
+    }
+}
+
+// A command without arguments.
+fn alone(name: CommandName, first: &[u8], command: Command) -> Result<Command, Refusal>
+    ensures { result ≡ command_alone name first.now command }
+{
+    if first.is_empty() {
+        Ok(command)
+    } else {
+        Err(Refusal::BadArgument(name))
     }
 }
 
@@ -107,27 +124,22 @@ fn command_named(
     ensures { result ≡ command_named name first.now second.now third.now }
 {
     match name {
-        CommandName::Step => Ok(Command::Step(one(first, second)?)),
-        CommandName::Run => Ok(Command::Run(one(first, second)?)),
-        CommandName::Break => Ok(Command::Break(one(first, second)?)),
-        CommandName::Clear => Ok(Command::Clear(one(first, second)?)),
-        CommandName::Regs => Ok(Command::Regs(one(first, second)?)),
-        CommandName::Sets => Ok(Command::Sets(one(first, second)?)),
+        CommandName::Step => Ok(Command::Step(one(name, first, second)?)),
+        CommandName::Run => Ok(Command::Run(one(name, first, second)?)),
+        CommandName::Break => Ok(Command::Break(one(name, first, second)?)),
+        CommandName::Clear => Ok(Command::Clear(one(name, first, second)?)),
+        CommandName::Regs => Ok(Command::Regs(one(name, first, second)?)),
+        CommandName::Sets => Ok(Command::Sets(one(name, first, second)?)),
         CommandName::Mem => {
-            let (at, count) = two(first, second, third)?;
+            let (at, count) = two(name, first, second, third)?;
             Ok(Command::Mem(at, count))
         }
         CommandName::List => {
-            let (at, count) = two(first, second, third)?;
+            let (at, count) = two(name, first, second, third)?;
             Ok(Command::List(at, count))
         }
-        CommandName::Quit => {
-            if first.is_empty() {
-                Ok(Command::Quit)
-            } else {
-                Err(Refusal::BadArgument)
-            }
-        }
+        CommandName::Help => alone(name, first, Command::Help),
+        CommandName::Quit => alone(name, first, Command::Quit),
     }
 }
 

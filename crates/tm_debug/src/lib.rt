@@ -12,10 +12,13 @@
 
 mod answer;
 mod command;
+mod help;
 mod input;
 mod interruption;
 mod line;
+mod manner;
 mod number;
+mod prompt;
 mod refusal;
 mod run;
 mod session;
@@ -23,7 +26,9 @@ mod sets;
 mod state;
 mod words;
 
+pub use command::CommandName;
 pub use input::{FromReader, In};
-pub use refusal::Refusal;
-pub use session::{Session, SessionFault, serve};
+pub use manner::Manner;
+pub use refusal::{Range, Refusal};
+pub use session::{Session, SessionFault, serve, serve_in};
 pub use state::MOST_BREAKPOINTS;

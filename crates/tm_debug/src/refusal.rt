@@ -1,29 +1,53 @@
 //! Faults that a line is answered with.
 
-ghost use Rattle.std.specs.Prelude.{◌≡◌};
-ghost use Rattle.tm_debug.specs.Commands.{refusal_code, refusal_line};
+ghost use Rattle.std.specs.Prelude.{◌≡◌, ◌++◌};
+ghost use Rattle.arrayvec.specs.ArrayVec.{array_vec_len};
+ghost use Rattle.ia_text.specs.Writing.{Writes};
+ghost use Rattle.tm_debug.specs.Refusals.{arguments_line, cores_line, plain_line, range_line, refusal_code, refusal_line};
+ghost use Rattle.tm_debug.specs.Refusals.{spoken_line};
 
+use crate::command::CommandName;
+use crate::manner::Manner;
+use ia_text::page::push;
+use ia_text::text_line::{TextLine, push_number};
+use ia_text::{Out, WriteFault};
 use thiserror::Error;
+
+/// The numbers that a command takes within a range.
+#[derive(Clone, Copy, PartialEq, Eq, Debug, Drop)]
+pub enum Range {
+    /// Steps of a run: 1 to 100,000.
+    Steps,
+    /// Addresses of breakpoints, below 2^32.
+    Addresses,
+    /// Bytes of memory: 1 to 256, all of them in memory.
+    Bytes,
+    /// Lines of a listing: 1 to 64, the first of them in the code.
+    Lines,
+}
 
 /// Why a command was not done. The session goes on.
 #[derive(Clone, Copy, PartialEq, Eq, Debug, Drop, Error)]
 pub enum Refusal {
-    /// The first word is no command, or the line has more than 256 bytes.
+    /// The first word is no command (70).
     #[error("UnknownCommand")]
     UnknownCommand,
-    /// The arguments are too many or too few, or one is no number.
+    /// The line has more than 256 bytes (70).
+    #[error("LongLine")]
+    LongLine,
+    /// The arguments of this command are too many or too few, or one is no number (71).
     #[error("BadArgument")]
-    BadArgument,
-    /// There is no core of this number.
+    BadArgument(CommandName),
+    /// There is no core of this number, of so many (72).
     #[error("NoSuchCore")]
-    NoSuchCore,
-    /// A number is out of its range.
+    NoSuchCore(u8),
+    /// A number is out of its range (73).
     #[error("OutOfRange")]
-    OutOfRange,
-    /// The history is full.
+    OutOfRange(Range),
+    /// The history is full (74).
     #[error("LimitReached")]
     LimitReached,
-    /// 64 breakpoints are set.
+    /// 64 breakpoints are set (75).
     #[error("TooManyBreakpoints")]
     TooManyBreakpoints,
 }
@@ -34,26 +58,102 @@ impl Refusal {
         ensures { result ≡ refusal_code self }
     {
         match self {
-            Refusal::UnknownCommand => 70,
-            Refusal::BadArgument => 71,
-            Refusal::NoSuchCore => 72,
-            Refusal::OutOfRange => 73,
+            Refusal::UnknownCommand | Refusal::LongLine => 70,
+            Refusal::BadArgument(_) => 71,
+            Refusal::NoSuchCore(_) => 72,
+            Refusal::OutOfRange(_) => 73,
             Refusal::LimitReached => 74,
             Refusal::TooManyBreakpoints => 75,
         }
     }
+}
 
-    /// The line that tells it.
-    pub(crate) fn line(self) -> &'static [u8]
-        ensures { result.now ≡ refusal_line self }
-    {
-        match self {
-            Refusal::UnknownCommand => b"error 70\n",
-            Refusal::BadArgument => b"error 71\n",
-            Refusal::NoSuchCore => b"error 72\n",
-            Refusal::OutOfRange => b"error 73\n",
-            Refusal::LimitReached => b"error 74\n",
-            Refusal::TooManyBreakpoints => b"error 75\n",
-        }
+// The line with the number alone.
+#[tactic(auto, unfolding(crate::specs::Refusals::plain_line))]
+fn plain_line(refusal: Refusal) -> &'static [u8]
+    ensures { result.now ≡ plain_line refusal }
+{
+    match refusal {
+        Refusal::UnknownCommand | Refusal::LongLine => b"error 70\n",
+        Refusal::BadArgument(_) => b"error 71\n",
+        Refusal::NoSuchCore(_) => b"error 72\n",
+        Refusal::OutOfRange(_) => b"error 73\n",
+        Refusal::LimitReached => b"error 74\n",
+        Refusal::TooManyBreakpoints => b"error 75\n",
     }
+}
+
+// What a command takes behind its name.
+#[tactic(auto, unfolding(crate::specs::Refusals::arguments_line))]
+fn arguments_line(name: CommandName) -> &'static [u8]
+    ensures { result.now ≡ arguments_line name }
+{
+    match name {
+        CommandName::Step => b"error 71: step takes a core\n",
+        CommandName::Run => b"error 71: run takes a number of steps\n",
+        CommandName::Break => b"error 71: break takes an address\n",
+        CommandName::Clear => b"error 71: clear takes an address\n",
+        CommandName::Regs => b"error 71: regs takes a core\n",
+        CommandName::Mem => b"error 71: mem takes an address and a number of bytes\n",
+        CommandName::Sets => b"error 71: sets takes a core\n",
+        CommandName::List => b"error 71: list takes an address and a number of lines\n",
+        CommandName::Help => b"error 71: help stands alone\n",
+        CommandName::Quit => b"error 71: quit stands alone\n",
+    }
+}
+
+// The range of a number.
+#[tactic(auto, unfolding(crate::specs::Refusals::range_line))]
+fn range_line(range: Range) -> &'static [u8]
+    ensures { result.now ≡ range_line range }
+{
+    match range {
+        Range::Steps => b"error 73: run takes 1 to 100000 steps\n",
+        Range::Addresses => b"error 73: addresses are below 0x100000000\n",
+        Range::Bytes => b"error 73: mem takes 1 to 256 bytes, all of them in memory\n",
+        Range::Lines => b"error 73: list takes 1 to 64 lines, the first of them in the code\n",
+    }
+}
+
+// How many cores there are.
+#[tactic(auto, unfolding(crate::specs::Refusals::cores_line))]
+fn push_cores(row: &mut TextLine, count: u8)
+    requires { array_vec_len row.old ≡ 0 }
+    ensures { row.new.items ≡ row.old.items ++ cores_line count }
+{
+    push(row, b"error 72: no such core; of cores there are ");
+    push_number(row, count);
+    push(row, b"\n");
+}
+
+// Tells a refusal with words.
+#[tactic(auto, unfolding(crate::specs::Refusals::spoken_line))]
+fn speak<O: Out>(refusal: Refusal, out: &mut O) -> Result<(), WriteFault>
+    ensures { Writes (O.device out.old) (O.device out.new) (spoken_line refusal) result }
+{
+    match refusal {
+        Refusal::UnknownCommand => out.put(b"error 70: no such command; help lists them\n")?,
+        Refusal::LongLine => out.put(b"error 70: a line has at most 256 bytes\n")?,
+        Refusal::BadArgument(name) => out.put(arguments_line(name))?,
+        Refusal::NoSuchCore(count) => {
+            let mut row = TextLine::new();
+            push_cores(&mut row, count);
+            out.put(row.as_slice())?;
+        }
+        Refusal::OutOfRange(range) => out.put(range_line(range))?,
+        Refusal::LimitReached => out.put(b"error 74: the session has made its most steps\n")?,
+        Refusal::TooManyBreakpoints => out.put(b"error 75: 64 breakpoints are set\n")?,
+    }
+    Ok(())
+}
+
+/// Tells a refusal.
+pub fn refuse<O: Out>(manner: Manner, refusal: Refusal, out: &mut O) -> Result<(), WriteFault>
+    ensures { Writes (O.device out.old) (O.device out.new) (refusal_line manner refusal) result }
+{
+    match manner {
+        Manner::Plain => out.put(plain_line(refusal))?,
+        Manner::Spoken => speak(refusal, out)?,
+    }
+    Ok(())
 }

@@ -6,8 +6,8 @@ ghost use Rattle.tm_hist.specs.Board.{IsFull};
 ghost use Rattle.tm_debug.specs.Session.{GoAnswer, RunAnswer, RunAnswerBroken, RunBroken, RunWhole, TellsAnswer};
 ghost use Rattle.tm_debug.specs.Session.{value_of};
 
-use crate::answer::{end_run, refuse};
-use crate::refusal::Refusal;
+use crate::answer::end_run;
+use crate::refusal::{Range, Refusal, refuse};
 use crate::state::{RunCheck, SessionState};
 use ia_text::{Out, WriteFault};
 use tm_hist::write_outcome;
@@ -36,7 +36,9 @@ fn run_steps<O: Out>(state: &mut SessionState, count: u64, out: &mut O) -> Resul
         match check {
             RunCheck::Go(core) => go(state, core, out)?,
             RunCheck::AllStopped | RunCheck::Full | RunCheck::AtBreakpoint(_, _) => return end_run(
-                check, out,
+                state.manner,
+                check,
+                out,
             ),
         }
     }
@@ -53,6 +55,6 @@ pub fn run<O: Out>(state: &mut SessionState, count: u64, out: &mut O) -> Result<
     if (1..=100_000).contains(&count) {
         run_steps(state, count, out)
     } else {
-        refuse(Refusal::OutOfRange, out)
+        refuse(state.manner, Refusal::OutOfRange(Range::Steps), out)
     }
 }

@@ -2,17 +2,21 @@
 
 ghost use Rattle.std.specs.Prelude.{◌≡◌, ℕ, List, Err, IfErr, IfOk, MatchResult, OnOk};
 ghost use Rattle.ia_text.specs.Writing.{Rose, Stopped, Writes, Wrote};
-ghost use Rattle.tm_debug.specs.Session.{Answers, AnswersBroken, Ends, SessionValue, bye_line, value_of, start};
-ghost use Rattle.tm_debug.specs.Serving.{FailsToRead, FailsToWrite, FindsNoMemory, IsLine, Replies, RepliesBroken};
-ghost use Rattle.tm_debug.specs.Serving.{ServesInput, TakesMemory, WantsMemory, request_of};
+ghost use Rattle.tm_debug.specs.Session.{Answers, AnswersBroken, Ends, SessionValue, bye_line, value_of, start, start_in};
+ghost use Rattle.tm_debug.specs.Serving.{BehindPrompt, FailsToRead, FailsToWrite, FailsToWriteIn, FindsNoMemory};
+ghost use Rattle.tm_debug.specs.Serving.{IsLine, Replies, RepliesBroken, Responds, RespondsBroken, ServesInput};
+ghost use Rattle.tm_debug.specs.Serving.{TakesMemory, WantsMemory, request_of};
 ghost use Rattle.tm_debug.specs.Faults.{session_board, session_code};
 
-use crate::answer::{clear_breakpoint, list, mem, refuse, regs, set_breakpoint, step};
+use crate::answer::{clear_breakpoint, list, mem, regs, set_breakpoint, step};
 use crate::command::{Command, read_command};
+use crate::help::help;
 use crate::input::In;
 use crate::interruption::{Interruption, answer_result};
 use crate::line::{Line, MOST_BYTES, read_line};
-use crate::refusal::Refusal;
+use crate::manner::Manner;
+use crate::prompt::prompt;
+use crate::refusal::{Refusal, refuse};
 use crate::run::run;
 use crate::sets::sets;
 use crate::state::SessionState;
@@ -94,7 +98,7 @@ fn text_request(line: &[u8]) -> Request
     ensures { result ≡ request_of line.now }
 {
     if line.len() > MOST_BYTES {
-        return Request::Refuse(Refusal::UnknownCommand);
+        return Request::Refuse(Refusal::LongLine);
     }
     let (word, _) = split_word(line);
     if word.is_empty() {
@@ -124,9 +128,22 @@ fn act<O: Out>(
         Command::Break(address) => answer_result(set_breakpoint(state, address, out)),
         Command::Clear(address) => answer_result(clear_breakpoint(state, address, out)),
         Command::Regs(core) => answer_result(regs(state, core, out)),
-        Command::Mem(at, count) => answer_result(mem(state.board.machine(), at, count, out)),
+        Command::Mem(at, count) => answer_result(mem(
+            state.manner,
+            state.board.machine(),
+            at,
+            count,
+            out,
+        )),
         Command::Sets(core) => sets(alloc, state, core, out),
-        Command::List(at, count) => answer_result(list(state.board.program(), at, count, out)),
+        Command::List(at, count) => answer_result(list(
+            state.manner,
+            state.board.program(),
+            at,
+            count,
+            out,
+        )),
+        Command::Help => answer_result(help(out)),
         Command::Quit => answer_result(part(out)),
     }
 }
@@ -139,7 +156,27 @@ fn part<O: Out>(out: &mut O) -> Result<(), WriteFault>
     Ok(())
 }
 
-// Answers a line, and tells whether the session goes on.
+// Answers a line that does not end the session.
+fn respond<O: Out>(
+    alloc: Global,
+    state: &mut SessionState,
+    request: Request,
+    out: &mut O,
+) -> Result<(), Interruption>
+    requires { request ≡ Request.Leave → ⊥ }
+    ensures answer { Ends (Responds request (value_of state.old)) (RespondsBroken request (value_of state.old))
+        (O.device out.old) (O.device out.new) (value_of state.old) (value_of state.new) result }
+    ensures memory { result ≡ Err Interruption.NoMemory → WantsMemory request }
+{
+    match request {
+        Request::Leave => unreachable!(),
+        Request::Nothing => Ok(()),
+        Request::Refuse(refusal) => answer_result(refuse(state.manner, refusal, out)),
+        Request::Do(command) => act(alloc, state, command, out),
+    }
+}
+
+// Answers a line that does not end the session, and asks for the next.
 fn reply<O: Out>(
     alloc: Global,
     state: &mut SessionState,
@@ -151,11 +188,10 @@ fn reply<O: Out>(
         (O.device out.old) (O.device out.new) (value_of state.old) (value_of state.new) result }
     ensures memory { result ≡ Err Interruption.NoMemory → WantsMemory request }
 {
-    match request {
-        Request::Leave => unreachable!(),
-        Request::Nothing => Ok(()),
-        Request::Refuse(refusal) => answer_result(refuse(refusal, out)),
-        Request::Do(command) => act(alloc, state, command, out),
+    let manner = state.manner;
+    match respond(alloc, state, request, out) {
+        Ok(()) => answer_result(prompt(manner, out)),
+        Err(interruption) => Err(interruption),
     }
 }
 
@@ -167,7 +203,7 @@ fn line_request(line: &Line) -> Request
     match line {
         Line::End => Request::Leave,
         Line::Text(row) => text_request(row.as_slice()),
-        Line::Long => Request::Refuse(Refusal::UnknownCommand),
+        Line::Long => Request::Refuse(Refusal::LongLine),
     }
 }
 
@@ -295,7 +331,13 @@ impl<'a, I: In, O: Out> Session<'a, I, O> {
             (O.device self.entry.out.now) (O.device self.exit.1.0.now) (session_board fault)) }
     {
         let Session { input, out, board } = self;
-        serve_from(rt, alloc, SessionState::new(board), input, out)
+        serve_from(
+            rt,
+            alloc,
+            SessionState::new(Manner::Plain, board),
+            input,
+            out,
+        )
     }
 }
 
@@ -323,4 +365,35 @@ pub fn serve<W: Wait, I: In, O: Out>(
         (O.device out.new) (session_board fault)) }
 {
     Session::new(board, input, out).serve(rt, alloc)
+}
+
+/// Answers the lines of an input with a board in this manner: plainly as [`serve`] does, or spoken, with a prompt before
+/// each line is read.
+pub fn serve_in<W: Wait, I: In, O: Out>(
+    rt: &W,
+    alloc: Global,
+    manner: Manner,
+    board: Board,
+    input: &mut I,
+    out: &mut O,
+) -> Result<Board, SessionFault>
+    ensures ok { IfOk result (λ last. BehindPrompt manner (O.device out.old) (λ begun. ServesInput
+        (I.remaining input.old) (I.remaining input.new) (start_in manner board) begun (O.device out.new) last)) }
+    ensures read { IfErr result (λ fault. session_code fault ≡ 76 → Rose (I.failed input.old) (I.failed input.new)) }
+    ensures read_lines { IfErr result (λ fault. session_code fault ≡ 76
+        → BehindPrompt manner (O.device out.old) (λ begun. FailsToRead (I.remaining input.old)
+        (I.remaining input.new) (start_in manner board) begun (O.device out.new) (session_board fault))) }
+    ensures write { IfErr result (λ fault. session_code fault ≡ 77
+        → Rose (O.device out.old).failures (O.device out.new).failures) }
+    ensures written { IfErr result (λ fault. session_code fault ≡ 77
+        → FailsToWriteIn manner (I.remaining input.old) (I.remaining input.new) (start_in manner board)
+        (O.device out.old) (O.device out.new) (session_board fault)) }
+    ensures memory { IfErr result (λ fault. session_code fault ≡ 78
+        → BehindPrompt manner (O.device out.old) (λ begun. FindsNoMemory (I.remaining input.old)
+        (I.remaining input.new) (start_in manner board) begun (O.device out.new) (session_board fault))) }
+{
+    match prompt(manner, out) {
+        Ok(()) => serve_from(rt, alloc, SessionState::new(manner, board), input, out),
+        Err(_) => Err(SessionFault::Write(board)),
+    }
 }

@@ -9,9 +9,8 @@ ghost use Rattle.ia_text.specs.Writing.{Writes};
 ghost use Rattle.tm_core.specs.Theorem.{lines_shown, view_at};
 ghost use Rattle.tm_debug.specs.Session.{AnswerStopped, Ends, SetsAnswer, SetsOf, lines_text, value_of, sets_head};
 
-use crate::answer::{core_of, refuse};
+use crate::answer::{core_of, refuse_core};
 use crate::interruption::{Interruption, answer_result};
-use crate::refusal::Refusal;
 use crate::state::SessionState;
 use ia_text::page::{Page, push, push_hex};
 use ia_text::text_line::{TextLine, push_number};
@@ -104,7 +103,7 @@ pub fn sets<O: Out>(
         (O.device out.old) (O.device out.new) (value_of state.now) (value_of state.now) result }
 {
     let Some(core) = core_of(state, core) else {
-        return answer_result(refuse(Refusal::NoSuchCore, out));
+        return answer_result(refuse_core(state, out));
     };
     match sets_line(alloc, state.board.machine(), core) {
         Ok(text) => answer_result(put_line(text.as_slice(), out)),

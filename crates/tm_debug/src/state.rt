@@ -4,8 +4,9 @@ ghost use Rattle.std.specs.Prelude.{◌≡◌, ◌↔◌, ℕ, ◌+◌, ◌<◌,
 ghost use Rattle.std.specs.Prelude.{length};
 ghost use Rattle.tm_hist.specs.Board.{IsFull, stop_shown};
 ghost use Rattle.tm_hist.specs.Machine.{shown_regs, shown_state};
-ghost use Rattle.tm_debug.specs.Session.{IsStep, is_midway, is_stopped, value_of, next_running, running_from, start, run_check};
+ghost use Rattle.tm_debug.specs.Session.{IsStep, is_midway, is_stopped, value_of, next_running, running_from, start_in, run_check};
 
+use crate::manner::Manner;
 use arrayvec::ArrayVec;
 use tm_core::{CoreState, Outcome};
 use tm_hist::{Board, StepFault};
@@ -13,9 +14,10 @@ use tm_hist::{Board, StepFault};
 /// The most breakpoints that are set at once.
 pub const MOST_BREAKPOINTS: usize = 64;
 
-/// A board, its breakpoints, and the number behind that of the core that was stepped last.
+/// How the session speaks, its board, its breakpoints, and the number behind that of the core that was stepped last.
 #[derive(Drop)]
 pub struct SessionState {
+    pub manner: Manner,
     pub board: Board,
     pub breakpoints: ArrayVec<u32, MOST_BREAKPOINTS>,
     pub next: u8,
@@ -76,10 +78,11 @@ fn running_from(board: &Board, core: u32, left: u8) -> Option<u8>
 
 impl SessionState {
     /// A session's state before its first line.
-    pub fn new(board: Board) -> SessionState
-        ensures { value_of result ≡ start board }
+    pub fn new(manner: Manner, board: Board) -> SessionState
+        ensures { value_of result ≡ start_in manner board }
     {
         SessionState {
+            manner,
             board,
             breakpoints: ArrayVec::new(),
             next: 0,

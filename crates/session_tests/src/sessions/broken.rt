@@ -4,7 +4,7 @@ use super::board;
 use ia_text::{Out, ToVec, ToWriter};
 use std::io::{self, ErrorKind, Read, Write};
 use std::test::Fail;
-use tm_debug::{FromReader, In, Session};
+use tm_debug::{FromReader, In, Manner, Session, serve_in};
 
 /// Gives these bytes, and then fails.
 #[derive(Drop)]
@@ -99,6 +99,38 @@ fn a_write_fails(rt: HostRuntime) {
         }
         assert_eq!(rt; out.writer.taken.as_slice(), &text[..room]);
         assert_eq!(rt; input.failures(), 0);
+    }
+}
+
+// A spoken session, whose prompts too are cut: it stops at the byte for which there is no room, and reads no line more.
+#[test]
+fn a_prompt_is_cut(rt: HostRuntime) {
+    let text = b"elide> 0 begun\nelide> error 71: step takes a core\nelide> bye\n".as_slice();
+    for room in 0..=text.len() {
+        let mut input = FromReader::new(b"step 0\nstep\nquit\nleft".as_slice());
+        let mut out = ToWriter::new(Narrow {
+            taken: Vec::new(rt.alloc()),
+            room,
+        });
+        let board = board(&rt, rt.alloc(), &[0x100], 100);
+        match serve_in(&rt, rt.alloc(), Manner::Spoken, board, &mut input, &mut out) {
+            Ok(board) => assert_eq!(rt; (room, board.made()), (text.len(), 1)),
+            Err(fault) => {
+                assert_eq!(rt; fault.code(), 77);
+                assert_eq!(rt; fault.board().made(), if room < 7 { 0 } else { 1 });
+            }
+        }
+        assert_eq!(rt; out.writer.taken.as_slice(), &text[..room]);
+        let left = if room < 7 {
+            21
+        } else if room < 22 {
+            14
+        } else if room < 57 {
+            9
+        } else {
+            4
+        };
+        assert_eq!(rt; input.reader.len(), left);
     }
 }
 

@@ -1,0 +1,14 @@
+-- The answer to `help` (docs/FORMATS.md, "Debugger").
+use Rattle.std.specs.Prelude.{ℕ, List, ◌++◌, codes}
+
+unfoldable pub help_text : List ℕ
+help_text = codes "step C     one step of core C\n"
+    ++ codes "run N      1 to 100000 steps, of each core in turn\n"
+    ++ codes "break A    runs stop before the instruction at address A\n"
+    ++ codes "clear A    they no longer do\n"
+    ++ codes "regs C     the state and the registers of core C\n"
+    ++ codes "mem A N    1 to 256 bytes of memory, from address A on\n"
+    ++ codes "sets C     the lines that core C has read and written in its transaction\n"
+    ++ codes "list A N   1 to 64 lines of the code, from address A on\n"
+    ++ codes "help       these lines\n"
+    ++ codes "quit       ends the session\n"

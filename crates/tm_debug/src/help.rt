@@ -1,0 +1,34 @@
+//! What the commands are.
+
+ghost use Rattle.std.specs.Prelude.{◌≡◌};
+ghost use Rattle.ia_text.specs.Writing.{Writes};
+ghost use Rattle.tm_debug.specs.Help.{help_text};
+
+use ia_text::{Out, WriteFault};
+
+// The commands, a line each.
+#[tactic(auto, unfolding(crate::specs::Help::help_text))]
+fn lines() -> &'static [u8]
+    ensures { result.now ≡ help_text }
+{
+    b"\
+step C     one step of core C
+run N      1 to 100000 steps, of each core in turn
+break A    runs stop before the instruction at address A
+clear A    they no longer do
+regs C     the state and the registers of core C
+mem A N    1 to 256 bytes of memory, from address A on
+sets C     the lines that core C has read and written in its transaction
+list A N   1 to 64 lines of the code, from address A on
+help       these lines
+quit       ends the session
+"
+}
+
+/// Tells the commands.
+pub fn help<O: Out>(out: &mut O) -> Result<(), WriteFault>
+    ensures { Writes (O.device out.old) (O.device out.new) help_text result }
+{
+    out.put(lines())?;
+    Ok(())
+}

@@ -1,0 +1,10 @@
+//! How a session speaks.
+
+/// How a session speaks.
+#[derive(Clone, Copy, PartialEq, Eq, Debug)]
+pub enum Manner {
+    /// Answers alone, as a program reads them.
+    Plain,
+    /// As a person reads it: the prompt `elide> ` before each line is read, and words behind the number of a refusal.
+    Spoken,
+}

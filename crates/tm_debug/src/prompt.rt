@@ -1,0 +1,18 @@
+//! The prompt of a spoken session.
+
+ghost use Rattle.std.specs.Prelude.{◌≡◌};
+ghost use Rattle.tm_debug.specs.Serving.{Prompts};
+
+use crate::manner::Manner;
+use ia_text::{Out, WriteFault};
+
+/// Asks for the next line, where the session is spoken.
+pub fn prompt<O: Out>(manner: Manner, out: &mut O) -> Result<(), WriteFault>
+    ensures { Prompts manner (O.device out.old) (O.device out.new) result }
+{
+    match manner {
+        Manner::Plain => {}
+        Manner::Spoken => out.put(b"elide> ")?,
+    }
+    Ok(())
+}
