@@ -1,0 +1,6 @@
+use Rattle.tm_back.specs.Back.{IsFirst}
+use Rattle.tm_back.proofs.back.follow.Given as goal
+
+-- the steps so far are the first of the history
+abbrev pub invariant-steps : goal.invariant-steps
+invariant-steps l = IsFirst l.board l.made l.first

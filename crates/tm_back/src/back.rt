@@ -1,0 +1,95 @@
+//! The first steps of a history, made once more.
+
+ghost use Rattle.std.specs.Prelude.{◌≡◌, ◌↔◌, ◌+◌, ◌<◌, ◌≤◌, Err, IfOk, OnErr, OnOk, false, length, true};
+ghost use Rattle.tm_core.specs.Machine.{bad_limits};
+ghost use Rattle.tm_hist.specs.Board.{IsNew, bad_limit};
+ghost use Rattle.tm_back.specs.Back.{HasStranger, IsFirst};
+
+use std::alloc::Global;
+use thiserror::Error;
+use tm_hist::{Board, BoardFault, StepFault};
+
+/// Why the first steps were not made once more.
+#[derive(Clone, Copy, PartialEq, Eq, Debug, Drop, Error)]
+pub enum BackFault {
+    /// There is no second board of the same program and limits: for want of memory, or as the given one's limits are out of
+    /// range.
+    #[error("{0}")]
+    NoBoard(BoardFault),
+    /// A step of the history is of a core that the program has not.
+    #[error("NoSuchCore")]
+    NoSuchCore,
+}
+
+/// A board of the same program and limits after the first so many steps of a board's history, all of them where there are
+/// fewer. The steps are made once more, at the cost of a step each.
+///
+/// [`BackFault::NoBoard`] with the fault of [`Board::new`], and [`BackFault::NoSuchCore`], where the history names no core.
+pub fn first_steps(alloc: Global, board: &Board, count: u64) -> Result<Board, BackFault>
+    ensures limit { result ≡ Err (BackFault.NoBoard BoardFault.BadLimit) ↔ (bad_limit board.now.limit ≡ true) }
+    ensures limits { result ≡ Err (BackFault.NoBoard BoardFault.BadLimits) ↔
+        ((bad_limit board.now.limit ≡ false) × (bad_limits board.now.limits ≡ true)) }
+    ensures stranger { result ≡ Err BackFault.NoSuchCore → HasStranger board.now }
+    ensures ok { IfOk result (λ first. IsFirst board.now count first) }
+{
+    match Board::new(alloc, board.program(), board.limits(), board.limit()) {
+        Ok(opened) => followed(board, count, opened),
+        Err(fault) => Err(BackFault::NoBoard(fault)),
+    }
+}
+
+// A new board after the first so many steps of a board's history.
+fn followed(board: &Board, count: u64, opened: Board) -> Result<Board, BackFault>
+    requires { IsNew board.now.program board.now.limits board.now.limit opened }
+    ensures fault { OnErr result (result ≡ Err BackFault.NoSuchCore) }
+    ensures stranger { OnErr result (HasStranger board.now) }
+    ensures ok { IfOk result (λ first. IsFirst board.now count first) }
+{
+    let mut first = opened;
+    match follow(board, count.min(board.made()), &mut first) {
+        Ok(()) => Ok(first),
+        Err(Stranger) => Err(BackFault::NoSuchCore),
+    }
+}
+
+// A step of a history is of a core that the program has not.
+#[derive(Clone, Copy, PartialEq, Eq, Debug)]
+struct Stranger;
+
+// Makes the first so many steps of a board's history.
+fn follow(board: &Board, count: u64, first: &mut Board) -> Result<(), Stranger>
+    requires within { count ≤ length board.now.history }
+    requires new { IsNew board.now.program board.now.limits board.now.limit first.old }
+    ensures ok { OnOk result (IsFirst board.now count first.new) }
+    ensures err { OnErr result (HasStranger board.now) }
+{
+    'steps: for made in 0..count {
+        match follow_step(board, made, first) {
+            Ok(()) => {}
+            Err(stranger) => return Err(stranger),
+        }
+    }
+    Ok(())
+}
+
+// Makes the next step of a board's history.
+fn follow_step(board: &Board, made: u64, first: &mut Board) -> Result<(), Stranger>
+    requires within { made < length board.now.history }
+    requires so_far { IsFirst board.now made first.old }
+    ensures ok { OnOk result (IsFirst board.now (made + 1) first.new) }
+    ensures err { OnErr result (HasStranger board.now) }
+{
+    board.is_run();
+    let _made = board.made();
+    let Some((core, _outcome)) = board.history().get(made as usize) else {
+        unreachable!()
+    };
+    match first.step(core) {
+        Ok(_outcome) => {
+            first.is_run();
+            Ok(())
+        }
+        Err(StepFault::NoSuchCore) => Err(Stranger),
+        Err(StepFault::LimitReached) => unreachable!(),
+    }
+}

@@ -1,0 +1,12 @@
+//! A board as it was before its last steps.
+//!
+//! Promised: what [`first_steps`] gives is a board of the same program and limits whose history is the first steps of the given
+//! one's. A board's machine is the run of its history, so it is the machine as it was behind these steps. Stands on `tm_hist`.
+#![tactic(auto)]
+
+mod back;
+
+pub use back::{BackFault, first_steps};
+
+#[cfg(test)]
+mod tests;

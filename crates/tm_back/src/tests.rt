@@ -1,0 +1,50 @@
+//! A history of two cores, and each of its beginnings.
+
+use crate::{BackFault, first_steps};
+use ia_image::load;
+use std::test::Fail;
+use tm_core::Limits;
+use tm_hist::Board;
+
+const LIMITS: Limits = Limits {
+    read_lines: 512,
+    write_lines: 512,
+};
+
+// XBEGIN at 100h with fallback 115h, a load of [1000h], INC EAX, a store to [1000h], XEND at 111h, and two HLT.
+const INCREMENT: [u8; 22] = [
+    0xc7, 0xf8, 0x0f, 0, 0, 0, 0xa1, 0, 0x10, 0, 0, 0x40, 0xa3, 0, 0x10, 0, 0, 0x0f, 0x01, 0xd5,
+    0xf4, 0xf4,
+];
+
+#[test]
+fn each_beginning(rt: HostRuntime) -> Result<(), Fail> {
+    let program = load(rt.alloc(), &INCREMENT, 0x100, 22, 65536, &[0x100, 0x100])?;
+    let mut board = Board::new(rt.alloc(), &program, LIMITS, 100)?;
+    for core in [0, 1, 0, 1, 0, 1, 0, 1, 1, 0, 1] {
+        let _ = board.step(core);
+    }
+    for count in 0..=12_u64 {
+        match first_steps(rt.alloc(), &board, count) {
+            Ok(first) => {
+                assert_eq!(rt; first.made(), count.min(11));
+                for index in 0..11_usize {
+                    let known = if (index as u64) < count {
+                        board.history().get(index)
+                    } else {
+                        None
+                    };
+                    assert_eq!(rt; first.history().get(index), known);
+                }
+                if count >= 11 {
+                    assert_eq!(rt; first.machine().view(), board.machine().view());
+                }
+            }
+            Err(BackFault::NoBoard(_)) | Err(BackFault::NoSuchCore) => assert!(rt;
+                false,
+                "refused"
+            ),
+        }
+    }
+    Ok(())
+}
