@@ -2,4 +2,3 @@ pub mod Faults
 pub mod Files
 pub mod ProgramFile
 pub mod Settings
-pub mod Warned

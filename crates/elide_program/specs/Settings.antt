@@ -1,9 +1,8 @@
 -- What the options of a command line say of a machine (docs/FORMATS.md, "Options of the command line").
-use Rattle.std.specs.Prelude.{◌≡◌, ℕ, ◌^◌, List, nat_lt, if◌then◌else◌, Option, Some, None, option_and_then, option_map}
+use Rattle.std.specs.Prelude.{◌≡◌, ℕ, ◌^◌, List, nat_lt, if◌then◌else◌, Option, Some, None, option_and_then}
 use Rattle.std.specs.Option.{option_copied}
 use Rattle.ia_lex.specs.Numbers.{word_number}
 use Rattle.elide_args.specs.declared.subcommand.MachineOptions.{MachineOptions}
-use Rattle.elide_program.specs.declared.settings.Dump.{Dump}
 use Rattle.elide_program.specs.declared.settings.Settings.{Settings}
 
 abbrev pub below : ℕ → ℕ → Option ℕ

@@ -5,6 +5,7 @@ ghost use Rattle.elide_program.specs.Faults.{program_line, program_number, unrea
 
 use crate::paths::ReadFault;
 use ia_asm::AsmFault;
+use ia_elf::ElfFault;
 use ia_image::{ImageFault, LoadFault};
 use ia_text::WriteFault;
 use std::alloc::AllocError;
@@ -22,6 +23,9 @@ pub enum ProgramFault {
     /// FILE is no image text.
     #[error("{0}")]
     Image(ImageFault),
+    /// FILE is an ELF file that is no program for this machine.
+    #[error("{0}")]
+    Elf(ElfFault),
     /// The program is not loaded.
     #[error("{0}")]
     Load(LoadFault),
@@ -42,6 +46,7 @@ impl ProgramFault {
             ProgramFault::Write(fault) => fault.code(),
             ProgramFault::Assemble(fault) => fault.code(),
             ProgramFault::Image(fault) => fault.code(),
+            ProgramFault::Elf(fault) => fault.code(),
             ProgramFault::Load(fault) => fault.code(),
             ProgramFault::Input => 80,
             ProgramFault::TooLong => 82,

@@ -1,16 +1,18 @@
-//! FILE as a program: image text, or a source that is assembled.
+//! FILE as a program: image text, an executable in ELF, or a source that is assembled.
 
-ghost use Rattle.std.specs.Prelude.{◌≡◌, ◌≤◌, IfOk, MatchResult, length, min, replicate};
+ghost use Rattle.std.specs.Prelude.{◌≡◌, ◌≤◌, ◌↔◌, IfErr, IfOk, IsTrue, MatchResult, None, length, min, replicate};
 ghost use Rattle.elide_program.specs.Faults.{unread, unread_source};
 ghost use Rattle.elide_program.specs.Files.{Gives, Tells, most_bytes};
-ghost use Rattle.elide_program.specs.ProgramFile.{is_image};
+ghost use Rattle.elide_program.specs.ProgramFile.{IsSource, is_image};
+ghost use Rattle.ia_elf.specs.Fields.{IsMagic};
 
 use crate::entries::EntryList;
 use crate::fault::{ProgramFault, ProgramRefusal};
 use crate::paths::{Paths, ReadFault};
 use crate::settings::Settings;
 use ia_asm::{AsmFault, ProgramImage, assemble_image};
-use ia_image::{ImageText, Program, load, read_image};
+use ia_elf::{Elf, is_elf, read_elf};
+use ia_image::{ImageText, LoadFault, Program, load, read_image};
 use std::alloc::Global;
 
 /// A program as it is written in a file.
@@ -18,6 +20,8 @@ use std::alloc::Global;
 pub enum ProgramFile<'a> {
     /// As image text.
     Image(ImageText),
+    /// As an executable in ELF.
+    Elf(Elf<'a>),
     /// As a source, which is assembled, without its listing.
     Source(ProgramImage<'a>),
 }
@@ -59,15 +63,30 @@ pub fn is_image(text: &[u8]) -> bool
     text.starts_with(b"image 1 ")
 }
 
+/// Whether a text is a source: it begins neither as image text does nor as an ELF file.
+pub fn is_source(text: &[u8]) -> bool
+    ensures { IsTrue result ↔ IsSource text.now }
+{
+    !is_image(text) && !is_elf(text)
+}
+
 impl<'a> ProgramFile<'a> {
-    ghost use Rattle.elide_program.specs.ProgramFile.{IsFile, file_base, file_bytes, file_code_len, file_symbol};
+    ghost use Rattle.elide_program.specs.ProgramFile.{IsFile, IsFileSymbol, TellsElf, TellsLoad};
+    ghost use Rattle.elide_program.specs.ProgramFile.{file_base, file_bytes, file_code_len, file_end, file_start};
     ghost use Rattle.elide_program.specs.ProgramFile.{loaded};
 
-    /// A text as a program: image text where it begins with `image 1 `, else a source.
+    /// A text as a program: image text where it begins with `image 1 `, an executable where it begins with the bytes
+    /// 7f 45 4c 46, else a source.
     pub fn read(alloc: Global, text: &'a [u8]) -> Result<ProgramFile<'a>, ProgramRefusal>
-        ensures { IfOk result (λ file. IsFile text.now file) }
+        ensures file { IfOk result (λ file. IsFile text.now file) }
+        ensures fault { IfErr result (λ refusal. IsMagic text.now → TellsElf text.now refusal) }
     {
-        if is_image(text) {
+        if is_elf(text) {
+            match read_elf(alloc, text) {
+                Ok(elf) => Ok(ProgramFile::Elf(elf)),
+                Err(fault) => Err(ProgramRefusal::Fault(ProgramFault::Elf(fault))),
+            }
+        } else if is_image(text) {
             match read_image(alloc, text) {
                 Ok(image) => Ok(ProgramFile::Image(image)),
                 Err(fault) => Err(ProgramRefusal::Fault(ProgramFault::Image(fault))),
@@ -86,6 +105,7 @@ impl<'a> ProgramFile<'a> {
     {
         match self {
             ProgramFile::Image(image) => image.bytes.as_slice(),
+            ProgramFile::Elf(elf) => elf.bytes(),
             ProgramFile::Source(program) => program.image.as_slice(),
         }
     }
@@ -96,6 +116,7 @@ impl<'a> ProgramFile<'a> {
     {
         match self {
             ProgramFile::Image(image) => image.base,
+            ProgramFile::Elf(elf) => elf.base(),
             ProgramFile::Source(program) => program.base,
         }
     }
@@ -106,31 +127,56 @@ impl<'a> ProgramFile<'a> {
     {
         match self {
             ProgramFile::Image(image) => image.code_len,
+            ProgramFile::Elf(elf) => elf.code_len(),
             ProgramFile::Source(program) => program.code_len,
         }
     }
 
-    /// The address of a symbol of the source.
+    /// Where each core starts that is told nothing else: of an executable the entry, else the base.
+    pub fn start(&self) -> u32
+        ensures { result ≡ file_start self.now }
+    {
+        match self {
+            ProgramFile::Elf(elf) => elf.entry(),
+            _ => self.base(),
+        }
+    }
+
+    // The first address above the program, with the zeros that an executable wants behind its bytes.
+    fn end(&self) -> u64
+        ensures { result ≡ file_end self.now }
+    {
+        match self {
+            ProgramFile::Elf(elf) => u64::from(elf.end()),
+            _ => u64::from(self.base()) + self.bytes().len() as u64,
+        }
+    }
+
+    /// The address of a symbol of a source or an executable.
     pub fn symbol(&self, name: &str) -> Option<u32>
-        ensures { result ≡ file_symbol self.now name.now }
+        ensures { IsFileSymbol self.now name.now result }
     {
         match self {
             ProgramFile::Image(_) => None,
+            ProgramFile::Elf(elf) => elf.symbol(name.as_bytes()),
             ProgramFile::Source(program) => program.address(name.as_bytes()),
         }
     }
 
     /// Where each core starts.
     pub fn starts(&self, alloc: Global, settings: &Settings<'_>) -> Result<Vec<u32>, ProgramRefusal>
-        ensures { IfOk result (λ starts. length starts.items ≤ 64 → length starts.items ≡ settings.now.cores) }
+        ensures cores { IfOk result (λ starts. length starts.items ≤ 64 → length starts.items ≡ settings.now.cores) }
+        ensures default { IfOk result (λ starts. settings.now.entries ≡ None
+            → starts.items ≡ replicate (min settings.now.cores 65) (file_start self.now)) }
     {
         match settings.entries {
             Some(list) => starts_of(alloc, list, settings.cores, self),
-            None => same_start(alloc, self.base(), settings.cores),
+            None => same_start(alloc, self.start(), settings.cores),
         }
     }
 
-    /// The program, with the memory size that is asked for and a core for each of these starts.
+    /// The program, with the memory size that is asked for and a core for each of these starts. Behind the tests of
+    /// [`ia_image::load`] it is [`LoadFault::TooLarge`] where the zeros of an executable pass the memory's end.
     pub fn load(
         &self,
         alloc: Global,
@@ -139,6 +185,8 @@ impl<'a> ProgramFile<'a> {
     ) -> Result<Program, ProgramRefusal>
         ensures program { IfOk result (λ program. program ≡ loaded self.now settings.now.memory starts.now) }
         ensures few { IfOk result (λ program. length program.entries ≤ 64) }
+        ensures fits { IfOk result (λ _. file_end self.now ≤ settings.now.memory) }
+        ensures fault { IfErr result (λ refusal. TellsLoad self.now settings.now.memory starts.now refusal) }
     {
         let loaded = load(
             alloc,
@@ -151,6 +199,9 @@ impl<'a> ProgramFile<'a> {
         match loaded {
             Ok(program) => {
                 let _cores = program.cores();
+                if self.end() > u64::from(settings.memory) {
+                    return Err(ProgramRefusal::Fault(ProgramFault::Load(LoadFault::TooLarge)));
+                }
                 Ok(program)
             }
             Err(fault) => Err(ProgramRefusal::Fault(ProgramFault::Load(fault))),

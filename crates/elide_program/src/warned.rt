@@ -1,10 +1,11 @@
 //! The warnings of a program, told as its file is read.
 
-ghost use Rattle.std.specs.Prelude.{◌≤◌, IfOk, None, length};
-ghost use Rattle.elide_program.specs.Warned.{program_warnings};
+ghost use Rattle.std.specs.Prelude.{◌≤◌, [], IfOk, None, length};
+ghost use Rattle.elide_program.specs.ProgramFile.{IsSource};
+ghost use Rattle.ia_warn.specs.Warnings.{warnings};
 ghost use Rattle.ia_text.specs.Writing.{Writes};
 
-use crate::file::is_image;
+use crate::file::is_source;
 use crate::paths::{Paths, ReadFault, Text};
 use ia_text::{Failed, Out};
 use ia_warn::warn;
@@ -66,13 +67,14 @@ fn is_path(program: Option<&str>, path: &str) -> bool {
     }
 }
 
-// Tells the warnings of a program's text. Image text has none.
+// Tells the warnings of a program's text (docs/FORMATS.md, "Warnings"). Image text and executables have none.
 fn warn_of<E: Out>(text: &[u8], err: &mut E) -> Result<(), Failed>
-    ensures { Writes (E.device err.old) (E.device err.new) (program_warnings text.now) result }
+    ensures source { IsSource text.now → Writes (E.device err.old) (E.device err.new) (warnings text.now) result }
+    ensures other { ¬ IsSource text.now → Writes (E.device err.old) (E.device err.new) [] result }
 {
-    if is_image(text) {
-        Ok(())
-    } else {
+    if is_source(text) {
         warn(text, err)
+    } else {
+        Ok(())
     }
 }
