@@ -1,9 +1,10 @@
-//! Labels of a source.
+//! Labels of a program.
 
+use ia_elf::Symbol;
 use ia_item::Name;
 use std::alloc::{AllocError, Global};
 
-/// A label of a source, and where it stands.
+/// A label of a source or a symbol of an executable, and where it stands.
 #[derive(Debug, Drop)]
 pub struct Label {
     name: Vec<u8>,
@@ -18,6 +19,14 @@ impl Label {
         Ok(Label {
             name: whole,
             address,
+        })
+    }
+
+    /// The symbol of an executable.
+    pub(crate) fn of_symbol(alloc: Global, symbol: Symbol<'_>) -> Result<Label, AllocError> {
+        Ok(Label {
+            name: Vec::from_slice(alloc, symbol.name)?,
+            address: symbol.value,
         })
     }
 

@@ -1,21 +1,25 @@
-//! The places of a source.
+//! The places of a program's text.
 
 ghost use Rattle.ia_item.specs.Fits.{AllFit};
 ghost use Rattle.ia_layout.specs.Contents.{IsBounded};
 
 use crate::label::Label;
+use ia_elf::{Elf, ElfFault, is_elf, read_elf};
 use ia_item::{Entry, Item};
 use ia_layout::{Layout, PlacedEntry, base_of, entry_count, tail_base, text_end};
 use ia_source::{SourceFault, entries};
 use indexmap::IndexMap;
 use std::alloc::{AllocError, Global};
 
-/// The lines of a source by the addresses of their instructions, and its labels. Of image text there are none.
+/// The lines of a source by the addresses of their instructions, and its labels; of an executable its symbols alone. Of
+/// image text there are none.
 #[derive(Drop)]
 pub struct Places {
     lines: IndexMap<u32, u32>,
     labels: Vec<Label>,
     end: u32,
+    // Where the code of an executable ends, whose places are told by its symbols.
+    code_end: u32,
 }
 
 impl Places {
@@ -25,11 +29,20 @@ impl Places {
             lines: IndexMap::new(alloc),
             labels: Vec::new(alloc),
             end: 0,
+            code_end: 0,
         }
     }
 
-    /// The places of a program's text: those of a source, and none of image text. Nor has a source that is refused any.
+    /// The places of a program's text: those of a source or an executable, and none of image text. Nor has a text that is
+    /// refused any.
     pub fn of_text(alloc: Global, text: &[u8]) -> Result<Places, AllocError> {
+        if is_elf(text) {
+            return match read_elf(alloc, text) {
+                Ok(elf) => Places::of_elf(alloc, &elf),
+                Err(ElfFault::NoMemory) => Err(AllocError),
+                Err(_) => Ok(Places::none(alloc)),
+            };
+        }
         if text.starts_with(b"image 1 ") {
             return Ok(Places::none(alloc));
         }
@@ -38,6 +51,21 @@ impl Places {
             Err(SourceFault::NoMemory) => Err(AllocError),
             Err(SourceFault::Line { .. }) => Ok(Places::none(alloc)),
         }
+    }
+
+    // The places of an executable: its symbols, in the order of the table, but for those above its memory.
+    fn of_elf(alloc: Global, elf: &Elf<'_>) -> Result<Places, AllocError> {
+        let mut places = Places::none(alloc);
+        places.end = elf.end();
+        places.code_end = elf.base().saturating_add(elf.code_len());
+        for index in 0..elf.symbol_count() {
+            if let Some(symbol) = elf.symbol_at(index) {
+                if elf.base() <= symbol.value && symbol.value < elf.end() {
+                    places.labels.push(Label::of_symbol(alloc, symbol)?)?;
+                }
+            }
+        }
+        Ok(places)
     }
 
     // The places of what a source asks for.
@@ -83,7 +111,16 @@ impl Places {
         self.lines.get(&address).copied()
     }
 
-    /// The labels, in the order of the source.
+    /// The symbol of an executable's code with the greatest address up to this one, of an address in the code.
+    pub fn code_label(&self, address: u32) -> Option<&Label> {
+        if address < self.code_end {
+            last_up_to(self.labels.as_slice(), address)
+        } else {
+            None
+        }
+    }
+
+    /// The labels, in the order of the source or of the table of symbols.
     pub fn labels(&self) -> &[Label] {
         self.labels.as_slice()
     }
@@ -91,5 +128,24 @@ impl Places {
     /// The address behind the last byte of the image.
     pub fn end(&self) -> u32 {
         self.end
+    }
+}
+
+// The label with the greatest address up to this one; of several the first.
+fn last_up_to(labels: &[Label], address: u32) -> Option<&Label> {
+    let mut last = None;
+    for label in labels {
+        if label.address() <= address && is_later(label, last) {
+            last = Some(label);
+        }
+    }
+    last
+}
+
+// Whether a label stands above the last one so far.
+fn is_later(label: &Label, last: Option<&Label>) -> bool {
+    match last {
+        Some(last) => last.address() < label.address(),
+        None => true,
     }
 }

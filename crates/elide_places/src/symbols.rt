@@ -27,6 +27,16 @@ pub fn push_symbols(row: &mut SymbolText, places: &Places, line: u32) {
     }
 }
 
+/// Writes where an instruction of an executable stands: the symbol of its code at the address or the last below it, with the
+/// distance, as `insert+0x1c`; nothing where there is none. A name past the room is told as `..`.
+pub fn push_code_place(row: &mut SymbolText, places: &Places, address: u32) {
+    row.clear();
+    if let Some(label) = places.code_label(address) {
+        push_cut(row, label.name());
+        push_distance(row, address.saturating_sub(label.address()));
+    }
+}
+
 // One more name.
 fn push_name(row: &mut SymbolText, name: &[u8]) {
     if !row.is_empty() {
@@ -42,10 +52,17 @@ fn push_below(row: &mut SymbolText, places: &Places, line: u32) {
     }
     if let Some(label) = last_below(places.labels(), line) {
         let distance = line.saturating_mul(64).saturating_sub(label.address());
+        push_cut(row, label.name());
+        push_distance(row, distance);
+    }
+}
+
+// Adds a distance, as `+0x40`, unless it is 0.
+fn push_distance(row: &mut SymbolText, distance: u32) {
+    if distance != 0 {
         let mut sum = ArrayString::<16>::new();
         // There is room for a number of 32 bits.
         let _ = write!(sum, "+0x{distance:x}");
-        push_cut(row, label.name());
         push_cut(row, sum.as_str().as_bytes());
     }
 }
