@@ -4,7 +4,17 @@
 //! what to do, and an example.
 
 /// The texts, in the order of the numbers.
-pub const FAULTS: [&str; 8] = [BYTES, SOURCE, IMAGE, MACHINE, HISTORY, WORK, SESSION, FILES];
+pub const FAULTS: [&str; 9] = [
+    BYTES,
+    SOURCE,
+    IMAGE,
+    MACHINE,
+    HISTORY,
+    WORK,
+    SESSION,
+    FILES,
+    EXECUTABLES,
+];
 
 const BYTES: &str = "\
 1 Short
@@ -71,8 +81,8 @@ const IMAGE: &str = "\
     To do: give the source an instruction, or the image text a line of digits.
     Example: an image text of the line `image 1 100 0` alone
 21 TooLarge
-    The program ends above the memory.
-    To do: ask for more by --mem, or give the source an `org` further down.
+    The program ends above the memory, of an executable with the zeros behind its bytes.
+    To do: ask for more by --mem, give the source an `org` further down, or link the executable at a lower address.
     Example: elide run large.asm --in-turn, where the image ends above 65536
 22 BadMemorySize
     The size of the memory is no multiple of 4096, below 4096 * (cores + 1), or above 268435456.
@@ -84,7 +94,8 @@ const IMAGE: &str = "\
     Example: --cores 0
 24 EntryOutsideCode
     A core is to begin at an address that is no byte of the code.
-    To do: --entry takes addresses of code, or labels of the section .text.
+    To do: --entry takes addresses of code, or labels of the section .text; an executable without --entry needs ENTRY in
+    its linker script.
     Example: --entry count, a label of data
 25 CodeTooLong
     The first line of the image text says more code than there are bytes.
@@ -220,4 +231,39 @@ const FILES: &str = "\
     There is no memory to read the words of the command line.
     To do: give the process more.
     Example: ulimit -v 3000; elide run examples/increment.img --in-turn
+";
+
+const EXECUTABLES: &str = "\
+90 NotForThisMachine
+    FILE is an ELF file, but none of 32 bits, lowest byte first, for the Intel 80386.
+    To do: compile with `gcc -m32 -march=i486`, as docs/C.md says; `readelf -h` tells what a file is for.
+    Example: gcc prog.c, without -m32
+91 Damaged
+    FILE is an ELF file, but a header, a segment, the symbol table or a name of one does not lie in it or breaks the form.
+    To do: the file was cut off or written over; link it again.
+    Example: the first 60 bytes of a program
+92 NotAnExecutable
+    FILE is an ELF file that is relocatable or shared, or asks for a program interpreter or dynamic linking.
+    To do: link it with `-static -nostdlib -no-pie`, and without -shared, -r and -c.
+    Example: prog.o
+93 NothingToLoad
+    FILE is an ELF file, but no loadable segment of it has executable bytes.
+    To do: give the program code, and the linker script a segment for it with the flag PF_X, as examples/c/elide.ld does.
+    Example: a program of data alone
+94 TooHigh
+    A loadable segment of the ELF file ends above 268,435,456, the end of the largest memory.
+    To do: link it at a lower address: with the linker script examples/c/elide.ld, or by -Wl,-Ttext=0x1000.
+    Example: a program that ld puts at 0x08048000 with 256 MiB of zeros behind it
+95 Overlap
+    A loadable segment of the ELF file begins below the end of one that stands before it in the table.
+    To do: let the sections of the linker script stand in ascending order, each behind the end of the one before.
+    Example: -Wl,-Ttext=0x1000,-Tdata=0x1000
+96 CodeNotInFront
+    A segment of the ELF file that is not executable, but has bytes, begins below the end of one that is.
+    To do: link with a script that puts all code first, as examples/c/elide.ld does, by -Wl,-T,elide.ld.
+    Example: a program linked without a script, whose headers the linker loads in front
+97 NoMemory
+    There is no memory for the bytes of an ELF file.
+    To do: give the process more, or link the segments closer to each other.
+    Example: a segment at 0x1000 and one at 0xfffff00 in a process of 100 MB
 ";
