@@ -1,0 +1,109 @@
+//! A fault with its place.
+
+ghost use Rattle.std.specs.Prelude.{◌≡◌, ◌≤◌, ◌+◌, ◌-◌, IfOk, MatchOption, length};
+ghost use Rattle.ia_diagnosis.specs.Diagnoses.{HasNoLine, IsPlaced};
+
+use crate::line::line_at;
+use crate::meaning::Meaning;
+use crate::operand::bad_operand;
+use crate::range::{range, short_jump};
+use crate::symbol::{symbol_twice, unknown_symbol};
+use crate::token::bad_token;
+use crate::word::not_in_subset;
+use ia_asm::AsmFault;
+use std::alloc::{AllocError, Global};
+
+/// A fault of a source, where it stands, and what is meant.
+#[derive(Clone, Copy, Debug)]
+pub struct Diagnosis<'a> {
+    /// The fault, with its line.
+    pub fault: AsmFault,
+    /// The text of that line.
+    pub text: &'a [u8],
+    /// Where on the line it stands, in bytes, from 1.
+    pub column: usize,
+    /// How many bytes are at fault.
+    pub length: usize,
+    /// What is meant.
+    pub meaning: Meaning<'a>,
+}
+
+/// A part of a line that is at fault, and what is meant.
+#[derive(Clone, Copy, Debug)]
+pub struct Finding<'a> {
+    /// Where the part begins, in bytes of the line.
+    pub start: usize,
+    /// Where it ends.
+    pub end: usize,
+    /// What is meant.
+    pub meaning: Meaning<'a>,
+}
+
+/// A line of a source that is at fault.
+#[derive(Clone, Copy, Debug)]
+pub struct FaultyLine<'a> {
+    /// The whole source.
+    pub source: &'a [u8],
+    /// The line's number, from 1.
+    pub number: u32,
+    /// Its text.
+    pub text: &'a [u8],
+}
+
+// Where the fault of a line stands, and what is meant.
+fn found<'a>(
+    alloc: Global,
+    line: FaultyLine<'a>,
+    fault: AsmFault,
+) -> Result<Finding<'a>, AllocError> {
+    match fault {
+        AsmFault::BadToken(_) => bad_token(alloc, line.text),
+        AsmFault::NotInSubset(_) => not_in_subset(alloc, line.text),
+        AsmFault::SymbolTwice(_) => symbol_twice(alloc, line),
+        AsmFault::BadOperand(_) => bad_operand(alloc, line.text),
+        AsmFault::UnknownSymbol(_) => unknown_symbol(alloc, line),
+        AsmFault::Range(_) => range(alloc, line.text),
+        AsmFault::ShortJumpTooFar(_) => short_jump(alloc, line.text),
+        AsmFault::NoMemory => Err(AllocError),
+    }
+}
+
+// A place within a line: where it begins, and how many bytes it has.
+fn within(text: &[u8], finding: &Finding<'_>) -> (usize, usize)
+    ensures { result.0 + result.1 ≤ length text.now }
+{
+    let start = finding.start.min(text.len());
+    let end = finding.end.min(text.len()).max(start);
+    (start, end - start)
+}
+
+/// A fault of a source with its place. None where the source has no such line.
+pub fn diagnosis_of<'a>(
+    alloc: Global,
+    source: &'a [u8],
+    fault: AsmFault,
+) -> Result<Option<Diagnosis<'a>>, AllocError>
+    ensures { IfOk result (λ told. MatchOption told (HasNoLine source.now fault)
+        (λ d. (d.fault ≡ fault) × IsPlaced source.now d)) }
+{
+    let Some(number) = fault.line() else {
+        return Err(AllocError);
+    };
+    let Some((_start, text)) = line_at(source, number) else {
+        return Ok(None);
+    };
+    let line = FaultyLine {
+        source,
+        number,
+        text,
+    };
+    let finding = found(alloc, line, fault)?;
+    let (start, length) = within(text, &finding);
+    Ok(Some(Diagnosis {
+        fault,
+        text,
+        column: start + 1,
+        length,
+        meaning: finding.meaning,
+    }))
+}

@@ -1,0 +1,74 @@
+//! The lines of a source.
+
+ghost use Rattle.std.specs.Prelude.{◌≡◌, ◌≤◌, MatchOption, None, Some, length};
+ghost use Rattle.ia_diagnosis.specs.Diagnoses.{line_at};
+
+use crate::piece::{Piece, next_piece};
+use ia_lex::first_line;
+
+/// The line of this number, from 1, and where it begins.
+pub fn line_at(source: &[u8], number: u32) -> Option<(usize, &[u8])>
+    ensures { MatchOption result (line_at source.now number ≡ None) (λ found. line_at source.now number ≡ Some found.1.now) }
+{
+    let mut place = 0;
+    let mut above = number.saturating_sub(1);
+    'lines: while place < source.len() {
+        let (line, taken) = first_line(&source[place..]);
+        if above == 0 {
+            return Some((place, line));
+        }
+        above -= 1;
+        place += taken;
+    }
+    None
+}
+
+/// A line's label and what stands behind it.
+#[derive(Clone, Copy, Debug)]
+pub struct Head<'a> {
+    /// The label.
+    pub label: Option<Piece<'a>>,
+    /// Whether a colon stands behind the label.
+    pub has_colon: bool,
+    /// Where the rest begins.
+    pub rest: usize,
+}
+
+impl Head<'_> {
+    /// A line without a label.
+    const BARE: Head<'static> = Head {
+        label: None,
+        has_colon: false,
+        rest: 0,
+    };
+}
+
+/// The label of a line: a word that may be one with a colon behind it, or alone, or before the name of an instruction or a
+/// directive.
+pub fn head_of<'a>(line: &'a [u8]) -> Head<'a> {
+    let Some(first) = next_piece(line, 0) else {
+        return Head::BARE;
+    };
+    if !first.is_label() {
+        return Head::BARE;
+    }
+    let rest = first.end();
+    match next_piece(line, rest) {
+        None => Head {
+            label: Some(first),
+            has_colon: false,
+            rest,
+        },
+        Some(colon) if colon.is_mark(b':') => Head {
+            label: Some(first),
+            has_colon: true,
+            rest: colon.end(),
+        },
+        Some(keyword) if keyword.is_keyword() => Head {
+            label: Some(first),
+            has_colon: false,
+            rest,
+        },
+        Some(_) => Head::BARE,
+    }
+}

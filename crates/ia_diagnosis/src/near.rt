@@ -1,0 +1,105 @@
+//! Names that are near another one.
+
+use ia_insn::Mnemonic;
+use std::alloc::{AllocError, Global};
+use std::str;
+use strsim::osa_distance;
+
+/// Longer names are near none.
+const MOST: usize = 64;
+
+/// The nearest of names that were seen.
+#[derive(Clone, Copy, Debug)]
+pub struct Nearest<'w, 'a> {
+    word: &'w [u8],
+    // How many edits a name may be away.
+    room: usize,
+    /// The nearest name so far.
+    pub name: Option<&'a [u8]>,
+}
+
+impl<'w, 'a> Nearest<'w, 'a> {
+    /// Of no names.
+    pub fn new(word: &'w [u8]) -> Nearest<'w, 'a> {
+        Nearest {
+            word,
+            room: room_of(word),
+            name: None,
+        }
+    }
+
+    /// The same with one more name.
+    pub fn with(self, alloc: Global, name: &'a [u8]) -> Result<Nearest<'w, 'a>, AllocError> {
+        let Some(away) = distance(alloc, self.word, name, self.room)? else {
+            return Ok(self);
+        };
+        if away > self.room || (self.name.is_some() && away == self.room) {
+            return Ok(self);
+        }
+        Ok(Nearest {
+            word: self.word,
+            room: away,
+            name: Some(name),
+        })
+    }
+}
+
+/// How many edits a name may be away from a word: a third of its letters, one of three.
+pub fn room_of(word: &[u8]) -> usize {
+    word.len().max(3) / 3
+}
+
+/// How many edits lead from a word to a name, in any case; none where the lengths differ by more than the room, or a text is
+/// long.
+pub fn distance(
+    alloc: Global,
+    word: &[u8],
+    name: &[u8],
+    room: usize,
+) -> Result<Option<usize>, AllocError> {
+    if word.len() > MOST || name.len() > MOST || word.len().abs_diff(name.len()) > room {
+        return Ok(None);
+    }
+    match (str::from_utf8(word), str::from_utf8(name)) {
+        (Ok(word), Ok(name)) => {
+            if word.eq_ignore_ascii_case(name) {
+                return Ok(Some(0));
+            }
+            Ok(Some(osa_distance(alloc, word, name)?))
+        }
+        _ => Ok(None),
+    }
+}
+
+/// Directives and prefixes, and the usual names of jumps.
+const OTHERS: [&str; 29] = [
+    "section", "org", "bits", "global", "db", "dd", "resb", "align", "equ", "lock", "je", "jne",
+    "jz", "jnz", "jb", "jbe", "ja", "jae", "jl", "jle", "jg", "jge", "js", "jns", "jc", "jnc",
+    "sete", "setne", "cmove",
+];
+
+// The nearest with the names of instructions among these.
+fn with_mnemonics<'w>(
+    alloc: Global,
+    nearest: Nearest<'w, 'static>,
+    mnemonics: &'static [Mnemonic],
+) -> Result<Nearest<'w, 'static>, AllocError> {
+    let mut nearest = nearest;
+    for mnemonic in mnemonics {
+        nearest = nearest.with(alloc, mnemonic.stem())?;
+    }
+    Ok(nearest)
+}
+
+/// The name of an instruction or a directive that is near a word.
+pub fn near_keyword(alloc: Global, word: &[u8]) -> Result<Option<&'static [u8]>, AllocError> {
+    let mut nearest = Nearest::new(word);
+    for name in OTHERS {
+        nearest = nearest.with(alloc, name.as_bytes())?;
+    }
+    nearest = with_mnemonics(alloc, nearest, Mnemonic::moves())?;
+    nearest = with_mnemonics(alloc, nearest, Mnemonic::arithmetic())?;
+    nearest = with_mnemonics(alloc, nearest, Mnemonic::jumps())?;
+    nearest = with_mnemonics(alloc, nearest, Mnemonic::bare_names())?;
+    Ok(nearest.name)
+}

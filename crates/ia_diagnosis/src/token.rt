@@ -1,0 +1,64 @@
+//! Bytes that are no token.
+
+use crate::diagnosis::Finding;
+use crate::meaning::Meaning;
+use crate::piece::{Piece, next_piece, pieces};
+use ia_lex::{LexFault, tokens};
+use std::alloc::{AllocError, Global};
+
+// Whether a part of a line is no token.
+fn is_bad(alloc: Global, piece: &Piece<'_>) -> Result<bool, AllocError> {
+    match tokens(alloc, piece.text) {
+        Ok(_tokens) => Ok(false),
+        Err(LexFault::BadToken) => Ok(true),
+        Err(LexFault::NoMemory) => Err(AllocError),
+    }
+}
+
+/// The first part of a line that is no token.
+pub fn bad_token<'a>(alloc: Global, line: &'a [u8]) -> Result<Finding<'a>, AllocError> {
+    let found = pieces(alloc, line)?;
+    for piece in found.as_slice() {
+        if is_bad(alloc, piece)? {
+            return Ok(meant(line, piece));
+        }
+    }
+    Ok(Finding {
+        start: 0,
+        end: line.len(),
+        meaning: Meaning::NoCharacter,
+    })
+}
+
+// What is meant by a part that is no token.
+fn meant<'a>(line: &'a [u8], piece: &Piece<'a>) -> Finding<'a> {
+    if piece.is_mark(b'%') {
+        return preprocessor(line, piece);
+    }
+    let meaning = if piece.is_number() {
+        Meaning::NoNumber(piece.text)
+    } else if piece.text.starts_with(b"'") || piece.text.starts_with(b"\"") {
+        Meaning::NoQuote
+    } else {
+        Meaning::NoCharacter
+    };
+    Finding {
+        start: piece.start,
+        end: piece.end(),
+        meaning,
+    }
+}
+
+// What is meant by `%`: the word behind it is of a preprocessor.
+fn preprocessor<'a>(line: &'a [u8], percent: &Piece<'a>) -> Finding<'a> {
+    let end = match next_piece(line, percent.end()) {
+        Some(word) if word.is_word() && word.start == percent.end() => word.end(),
+        _ => percent.end(),
+    };
+    let text = line.get(percent.start..end).unwrap_or(percent.text);
+    Finding {
+        start: percent.start,
+        end,
+        meaning: Meaning::NoPreprocessor(text),
+    }
+}
