@@ -1,0 +1,86 @@
+//! The options of a subcommand, by their names.
+
+use elide_args::{MachineOptions, ScheduleOptions, Subcommand};
+
+/// The path of the program.
+pub fn file_of<'s>(subcommand: &'s Subcommand<'_>) -> Option<&'s str> {
+    match subcommand {
+        Subcommand::Asm(options) => Some(options.file),
+        Subcommand::Dis(options) => Some(options.file),
+        other => Some(machine_of(other)?.file),
+    }
+}
+
+/// The machine of a subcommand that makes one.
+pub fn machine_of<'s, 'a>(subcommand: &'s Subcommand<'a>) -> Option<&'s MachineOptions<'a>> {
+    match subcommand {
+        Subcommand::Run(options) => Some(&options.machine),
+        Subcommand::Threads(options) => Some(&options.machine),
+        Subcommand::Replay(options) => Some(&options.machine),
+        Subcommand::Debug(options) => Some(&options.machine),
+        Subcommand::Hunt(options) => Some(&options.machine),
+        Subcommand::Outcomes(options) => Some(&options.machine),
+        Subcommand::Stats(options) => Some(&options.machine),
+        Subcommand::Draw(options) => Some(&options.machine),
+        _ => None,
+    }
+}
+
+/// The schedule of a subcommand that runs one.
+pub fn schedule_of<'s, 'a>(subcommand: &'s Subcommand<'a>) -> Option<&'s ScheduleOptions<'a>> {
+    match subcommand {
+        Subcommand::Run(options) => Some(&options.schedule),
+        Subcommand::Replay(options) => Some(&options.schedule),
+        Subcommand::Stats(options) => Some(&options.schedule),
+        Subcommand::Draw(options) => Some(&options.schedule),
+        _ => None,
+    }
+}
+
+/// The path of `--record`.
+pub fn record_of<'s>(subcommand: &'s Subcommand<'_>) -> Option<&'s str> {
+    match subcommand {
+        Subcommand::Run(options) => options.record,
+        Subcommand::Threads(options) => options.record,
+        Subcommand::Replay(options) => options.record,
+        Subcommand::Hunt(options) => options.record,
+        Subcommand::Stats(options) => options.record,
+        Subcommand::Draw(options) => options.record,
+        _ => None,
+    }
+}
+
+/// The value of an option that takes a number, where it is given.
+pub fn number_text<'s>(subcommand: &'s Subcommand<'_>, name: &str) -> Option<&'s str> {
+    let of_machine = match machine_of(subcommand) {
+        Some(machine) => match name {
+            "--cores" => machine.cores,
+            "--mem" => machine.memory,
+            "--reads" => machine.reads,
+            "--writes" => machine.writes,
+            _ => None,
+        },
+        None => None,
+    };
+    match of_machine {
+        Some(text) => Some(text),
+        None => own_number_text(subcommand, name),
+    }
+}
+
+// The same of the options that a subcommand has beside those of its machine.
+fn own_number_text<'s>(subcommand: &'s Subcommand<'_>, name: &str) -> Option<&'s str> {
+    match (subcommand, name) {
+        (Subcommand::Threads(options), "--budget") => options.budget,
+        (Subcommand::Threads(options), "--burst") => options.burst,
+        (Subcommand::Hunt(options), "--seed") => options.seed,
+        (Subcommand::Hunt(options), "--limit") => options.limit,
+        (Subcommand::Hunt(options), "--jobs") => options.jobs,
+        (Subcommand::Outcomes(options), "--limit") => options.limit,
+        (Subcommand::Draw(options), "--from") => options.from,
+        (Subcommand::Draw(options), "--to") => options.to,
+        (other, "--limit") => schedule_of(other)?.limit,
+        (other, "--random") => schedule_of(other)?.random,
+        _ => None,
+    }
+}

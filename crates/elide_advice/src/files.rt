@@ -1,0 +1,44 @@
+//! Files that are not read or written.
+
+use crate::asked::{file_of, record_of, schedule_of};
+use crate::page::Page;
+use elide_args::Subcommand;
+use elide_program::{MOST_BYTES, Paths, ReadFault};
+use ia_text::Out;
+use std::fmt;
+use std::fmt::Write;
+
+// The path of the schedule.
+fn schedule_path<'s>(subcommand: &'s Subcommand<'_>) -> Option<&'s str> {
+    schedule_of(subcommand)?.path
+}
+
+/// Writes which of the files cannot be read.
+pub fn advise_input<P: Paths, O: Out>(
+    subcommand: &Subcommand<'_>,
+    paths: &mut P,
+    page: &mut Page<'_, O>,
+) -> fmt::Result {
+    for path in [file_of(subcommand), schedule_path(subcommand)] {
+        if let Some(path) = path {
+            // Whether it can be read shows at its first byte.
+            if let Err(ReadFault::Failed) = paths.read(path, 0) {
+                return writeln!(page, "{path}: cannot be read; is it there?");
+            }
+        }
+    }
+    Ok(())
+}
+
+/// Writes how long a file may be.
+pub fn advise_length<O: Out>(page: &mut Page<'_, O>) -> fmt::Result {
+    writeln!(page, "a file has {MOST_BYTES} bytes at most")
+}
+
+/// Writes which file cannot be written.
+pub fn advise_output<O: Out>(subcommand: &Subcommand<'_>, page: &mut Page<'_, O>) -> fmt::Result {
+    match record_of(subcommand) {
+        Some(path) => writeln!(page, "{path}: cannot be written"),
+        None => Ok(()),
+    }
+}

@@ -1,0 +1,111 @@
+//! Machines that are not made.
+
+use crate::asked::{machine_of, number_text};
+use crate::page::Page;
+use elide_args::{MachineOptions, Subcommand};
+use elide_program::number_of;
+use ia_image::LoadFault;
+use ia_text::Out;
+use std::fmt;
+use std::fmt::Write;
+
+/// The bytes of the least memory of a core, and of a machine's own.
+const PAGE: u64 = 4096;
+
+/// The most bytes of memory.
+const MOST: u32 = 268_435_456;
+
+// The value of an option, or what it is where it is not given.
+fn number_or(text: Option<&str>, default: u32) -> u32 {
+    match text {
+        Some(_) => number_of(text, "").unwrap_or(default),
+        None => default,
+    }
+}
+
+/// How many cores there are.
+pub fn cores_of(machine: &MachineOptions<'_>) -> u32 {
+    number_or(machine.cores, 1)
+}
+
+/// How many bytes of memory there are.
+pub fn memory_of(machine: &MachineOptions<'_>) -> u32 {
+    number_or(machine.memory, 65_536)
+}
+
+/// Writes why a program is not loaded into a machine.
+pub fn advise_load<O: Out>(
+    subcommand: &Subcommand<'_>,
+    fault: LoadFault,
+    page: &mut Page<'_, O>,
+) -> fmt::Result {
+    let Some(machine) = machine_of(subcommand) else {
+        return Ok(());
+    };
+    let file = machine.file;
+    let memory = memory_of(machine);
+    match fault {
+        LoadFault::Empty => writeln!(page, "{file}: a program has one byte at least"),
+        LoadFault::BadCores => writeln!(page, "--cores {}: 1 to 64", cores_of(machine)),
+        LoadFault::BadMemorySize => advise_memory(cores_of(machine), memory, page),
+        LoadFault::TooLarge => writeln!(page, "{file}: the program ends above --mem {memory}"),
+        LoadFault::CodeTooLong => {
+            writeln!(
+                page,
+                "{file}: its first line says more bytes of code than there are"
+            )
+        }
+        LoadFault::EntryOutsideCode => match machine.entry {
+            Some(entry) => writeln!(page, "--entry {entry}: an entry is the address of code"),
+            None => writeln!(page, "{file}: its base is no address of code"),
+        },
+        LoadFault::NoMemory => Ok(()),
+    }
+}
+
+// Why there is no memory of this size.
+fn advise_memory<O: Out>(cores: u32, memory: u32, page: &mut Page<'_, O>) -> fmt::Result {
+    let least = PAGE.saturating_mul(u64::from(cores).saturating_add(1));
+    if u64::from(memory) < least {
+        let noun = if cores == 1 {
+            "core needs"
+        } else {
+            "cores need"
+        };
+        writeln!(page, "{cores} {noun} --mem {least} or more")
+    } else if memory > MOST {
+        writeln!(page, "--mem {memory}: {MOST} at most")
+    } else {
+        writeln!(page, "--mem {memory}: a multiple of {PAGE}")
+    }
+}
+
+/// Writes which limits on lines are none.
+pub fn advise_limits<O: Out>(subcommand: &Subcommand<'_>, page: &mut Page<'_, O>) -> fmt::Result {
+    for name in ["--reads", "--writes"] {
+        let value = number_or(number_text(subcommand, name), 512);
+        if value < 1 || value > 4096 {
+            writeln!(page, "{name} {value}: 1 to 4096 lines")?;
+        }
+    }
+    Ok(())
+}
+
+/// Writes why there is no room for so many steps.
+pub fn advise_steps<O: Out>(subcommand: &Subcommand<'_>, page: &mut Page<'_, O>) -> fmt::Result {
+    match subcommand {
+        Subcommand::Threads(options) => {
+            let cores = cores_of(&options.machine);
+            let budget = number_or(options.budget, 0);
+            let steps = u64::from(cores).saturating_mul(u64::from(budget));
+            writeln!(
+                page,
+                "--cores {cores} times --budget {budget}: {steps} steps; 1 to 16777216 are made"
+            )
+        }
+        other => match number_text(other, "--limit") {
+            Some(limit) => writeln!(page, "--limit {limit}: 1 to 16777216"),
+            None => Ok(()),
+        },
+    }
+}

@@ -1,0 +1,143 @@
+//! Options that are misused.
+
+use crate::asked::{machine_of, number_text, schedule_of};
+use crate::machine::cores_of;
+use crate::page::Page;
+use elide_args::{HuntOptions, ScheduleOptions, Subcommand};
+use elide_program::number_of;
+use ia_text::Out;
+use std::fmt;
+use std::fmt::Write;
+
+/// Writes how an option is used.
+pub fn advise_misuse<O: Out>(
+    subcommand: &Subcommand<'_>,
+    name: &str,
+    page: &mut Page<'_, O>,
+) -> fmt::Result {
+    match (name, subcommand) {
+        ("--steps", other) => match schedule_of(other) {
+            Some(schedule) => advise_steps(schedule, page),
+            None => Ok(()),
+        },
+        ("--entry", other) => advise_entry(other, page),
+        ("--check", Subcommand::Hunt(options)) => advise_check(options, page),
+        ("--stop", _) => writeln!(
+            page,
+            "--stop takes #BP, #DE, #UD, #GP, HLT, range, code-store, fetch or not-in-subset"
+        ),
+        ("--runs", _) => writeln!(page, "--runs takes a count K, or A..B with A below B"),
+        ("--method", _) => writeln!(page, "--method takes uniform, bursts, pct or mix"),
+        ("--show", _) => writeln!(
+            page,
+            "--show takes registers of cores and symbols, as 'eax@0 count'"
+        ),
+        ("--dump", _) => writeln!(page, "--dump takes ADDRESS:BYTES, as 0x1000:4"),
+        ("--record", _) => writeln!(page, "--record takes another path than FILE"),
+        ("--json", _) => writeln!(page, "--json goes with --stats"),
+        ("--core", _) => writeln!(page, "--core takes numbers of cores, each once, as 0,2"),
+        ("FAULT", _) => writeln!(
+            page,
+            "no fault has this number or name; elide explain lists them"
+        ),
+        (number, other) => advise_number(other, number, page),
+    }
+}
+
+// How a number is written.
+fn advise_number<O: Out>(
+    subcommand: &Subcommand<'_>,
+    name: &str,
+    page: &mut Page<'_, O>,
+) -> fmt::Result {
+    let Some(text) = number_text(subcommand, name) else {
+        return writeln!(page, "{name} is wanted, with a number");
+    };
+    if number_of(Some(text), "").is_err() {
+        return writeln!(page, "{name}: '{text}' is no number below 4294967296");
+    }
+    match name {
+        "--from" => writeln!(page, "--from {text}: a step of the run, counted from 1"),
+        "--to" => writeln!(page, "--to {text}: a step of the run, not before --from"),
+        "--jobs" => writeln!(page, "--jobs {text}: 1 to 1024"),
+        "--limit" if is_listed(subcommand) => {
+            writeln!(page, "--limit goes with --in-turn and --random")
+        }
+        _ => writeln!(page, "{name} {text}: 1 or more"),
+    }
+}
+
+// Whether the steps stand in a list.
+fn is_listed(subcommand: &Subcommand<'_>) -> bool {
+    match schedule_of(subcommand) {
+        Some(schedule) => schedule.steps.is_some() || schedule.path.is_some(),
+        None => false,
+    }
+}
+
+// Which of the options of a schedule are given, and what is wrong with a list of steps.
+fn advise_steps<O: Out>(schedule: &ScheduleOptions<'_>, page: &mut Page<'_, O>) -> fmt::Result {
+    let given = [
+        schedule.steps.is_some(),
+        schedule.path.is_some(),
+        schedule.in_turn,
+        schedule.random.is_some(),
+    ];
+    match (
+        given.iter().filter(|is_given| **is_given).count(),
+        schedule.steps,
+    ) {
+        (1, Some(list)) => advise_list(list, page),
+        (0, _) => writeln!(
+            page,
+            "one of --steps, --schedule, --in-turn and --random is wanted"
+        ),
+        _ => writeln!(
+            page,
+            "only one of --steps, --schedule, --in-turn and --random is taken"
+        ),
+    }
+}
+
+// What is wrong with a list of steps.
+fn advise_list<O: Out>(list: &str, page: &mut Page<'_, O>) -> fmt::Result {
+    for (index, character) in list.chars().enumerate() {
+        if !character.is_ascii_digit() && !character.is_ascii_whitespace() {
+            let column = index.saturating_add(1);
+            return writeln!(
+                page,
+                "--steps: '{character}' at column {column}; numbers are separated by spaces"
+            );
+        }
+    }
+    writeln!(page, "--steps takes core numbers of 0 to 255")
+}
+
+// What is wrong with a list of entries.
+fn advise_entry<O: Out>(subcommand: &Subcommand<'_>, page: &mut Page<'_, O>) -> fmt::Result {
+    let Some(machine) = machine_of(subcommand) else {
+        return Ok(());
+    };
+    let list = machine.entry.unwrap_or("");
+    let cores = cores_of(machine);
+    let count = list.split(',').count();
+    if count != 1 && count != cores as usize {
+        let noun = if cores == 1 { "core" } else { "cores" };
+        return writeln!(page, "--entry: {count} entries for {cores} {noun}");
+    }
+    writeln!(
+        page,
+        "--entry {list}: an entry is an address or a symbol of the source"
+    )
+}
+
+// What is wrong with what is checked.
+fn advise_check<O: Out>(options: &HuntOptions<'_>, page: &mut Page<'_, O>) -> fmt::Result {
+    if options.checks.is_empty() {
+        return writeln!(page, "one of --check, --stop and --expect-halt is wanted");
+    }
+    writeln!(
+        page,
+        "--check takes a comparison, as 'count == 6', or bytes, as count:4=06000000"
+    )
+}

@@ -1,0 +1,44 @@
+//! The device that advice is written on.
+
+use elide_setup::Gathered;
+use ia_text::Out;
+use std::fmt;
+
+/// A device that text is formatted to.
+#[derive(Drop)]
+pub struct Page<'o, O> {
+    out: Gathered<'o, O>,
+}
+
+impl<'o, O: Out> Page<'o, O> {
+    /// Writes to this device.
+    pub fn new(out: &'o mut O) -> Page<'o, O> {
+        Page {
+            out: Gathered::new(out),
+        }
+    }
+
+    /// Writes bytes.
+    pub fn put(&mut self, bytes: &[u8]) -> fmt::Result {
+        self.out.put(bytes).map_err(|_| fmt::Error)
+    }
+
+    /// Writes a byte so many times.
+    pub fn put_times(&mut self, byte: u8, count: usize) -> fmt::Result {
+        for _ in 0..count {
+            self.put(&[byte])?;
+        }
+        Ok(())
+    }
+
+    /// Hands on what was written.
+    pub fn finish(&mut self) -> fmt::Result {
+        self.out.finish().map_err(|_| fmt::Error)
+    }
+}
+
+impl<O: Out> fmt::Write for Page<'_, O> {
+    fn write_str(&mut self, text: &str) -> fmt::Result {
+        self.put(text.as_bytes())
+    }
+}

@@ -1,0 +1,69 @@
+//! The faults of a source.
+
+use crate::excerpt::{Excerpt, write_excerpt};
+use crate::page::Page;
+use elide_program::{MOST_BYTES, Paths};
+use ia_asm::AsmFault;
+use ia_diagnosis::{Diagnosis, diagnose};
+use ia_text::Out;
+use std::alloc::Global;
+use std::fmt;
+use std::fmt::Write;
+
+/// Writes where the faults of a source stand and what is meant. The first one was told.
+pub fn advise_source<P: Paths, O: Out>(
+    alloc: Global,
+    path: &str,
+    fault: AsmFault,
+    paths: &mut P,
+    page: &mut Page<'_, O>,
+) -> fmt::Result {
+    let Ok(text) = paths.read(path, MOST_BYTES) else {
+        return Ok(());
+    };
+    let Ok(found) = diagnose(alloc, text.as_slice()) else {
+        return Ok(());
+    };
+    // The file may be another one by now.
+    match found.told.first() {
+        Some(first) if first.fault == fault => {}
+        _ => return Ok(()),
+    }
+    for (index, diagnosis) in found.told.iter().enumerate() {
+        if index > 0 {
+            write_fault(diagnosis.fault, page)?;
+        }
+        write_diagnosis(path, diagnosis, page)?;
+    }
+    if found.more {
+        page.put(b"there are more faults\n")?;
+    }
+    Ok(())
+}
+
+// The line that tells a fault.
+fn write_fault<O: Out>(fault: AsmFault, page: &mut Page<'_, O>) -> fmt::Result {
+    match fault.line() {
+        Some(line) => writeln!(page, "fault {} {fault} line {line}", fault.code()),
+        None => writeln!(page, "fault {} {fault}", fault.code()),
+    }
+}
+
+fn write_diagnosis<O: Out>(
+    path: &str,
+    diagnosis: &Diagnosis<'_>,
+    page: &mut Page<'_, O>,
+) -> fmt::Result {
+    let number = match diagnosis.fault.line() {
+        Some(line) => line as usize,
+        None => 0,
+    };
+    let excerpt = Excerpt {
+        path,
+        number,
+        text: diagnosis.text,
+        column: diagnosis.column,
+        length: diagnosis.length,
+    };
+    write_excerpt(&excerpt, &diagnosis.meaning, page)
+}
