@@ -9,7 +9,7 @@ mod progress;
 
 use ahead::ReadAhead;
 use arguments::{MOST, ROOM, Words, words_from};
-use elide_command::{HostPaths, command};
+use elide_command::{HostPaths, Terminals, command};
 use ia_text::{Out, ToWriter};
 use progress::ProgressLine;
 use std::io;
@@ -31,8 +31,12 @@ fn main(rt: HostRuntime) -> ExitCode {
     let mut paths = HostPaths::new(&rt);
     let mut input = FromReader::new(ReadAhead::new(rt.stdin()));
     let mut out = ToWriter::new(io::writer(&rt));
-    let is_terminal = stderr.is_terminal();
-    let mut progress = ProgressLine::new(&rt, ToWriter::new(&stderr), is_terminal);
+    let terminals = Terminals {
+        input: rt.stdin().is_terminal(),
+        output: rt.stdout().is_terminal(),
+        errors: stderr.is_terminal(),
+    };
+    let mut progress = ProgressLine::new(&rt, ToWriter::new(&stderr), terminals.errors);
     let status = command(
         &rt,
         words.as_slice(),
@@ -40,6 +44,7 @@ fn main(rt: HostRuntime) -> ExitCode {
         &mut input,
         &mut out,
         &mut err,
+        terminals,
         &mut progress,
     );
     ExitCode::from(status)

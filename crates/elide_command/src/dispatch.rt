@@ -3,6 +3,7 @@
 ghost use Rattle.std.specs.Prelude.{◌≤◌};
 
 use crate::telling::tell;
+use elide_advice::advise;
 use elide_args::{NotASubcommand, Subcommand, subcommand_of};
 use elide_asm::{asm, dis};
 use elide_debug::debug;
@@ -13,7 +14,7 @@ use elide_outcomes::{Answer as Searched, outcomes};
 use elide_program::{Paths, WarnedPaths};
 use elide_replay::{Agreement, replay};
 use elide_run::{Ending, run};
-use elide_setup::{Fault, Progress, Refusal};
+use elide_setup::{Fault, Progress, Refusal, Terminals};
 use elide_stats::stats;
 use elide_threads::threads;
 use ia_text::Out;
@@ -27,7 +28,8 @@ use tm_debug::In;
 /// The words are the arguments without the program's name. A fault is one line on `err`, as `fault 23 BadCores`, or with the
 /// line of a text as `fault 27 BadImageText line 3`; a misused option is `usage: ` and its name. Nothing is written on
 /// `out` then, unless the fault came while writing there. Warnings of a source stand on `err` before. Telling them takes no
-/// memory. Long work tells `progress` how far it is. Waits only for `input` and for workers.
+/// memory. `terminals` tells which of these devices are a terminal's: where `err` is, what is meant by a fault follows its line.
+/// Long work tells `progress` how far it is. Waits only for `input` and for workers.
 pub fn command<
     R: Threads + Wait + Sync + AllocGlobal,
     P: Paths,
@@ -42,17 +44,24 @@ pub fn command<
     input: &mut I,
     out: &mut O,
     err: &mut E,
+    terminals: Terminals,
     progress: &mut G,
 ) -> u8
     ensures { result ≤ 3 }
 {
     match subcommand_of(rt.alloc(), words, out, err) {
         Ok(subcommand) => {
-            match obey_warned(rt, &subcommand, paths, input, out, err, progress) {
+            match obey_warned(rt, &subcommand, paths, input, out, err, terminals, progress) {
                 Ok(Answer::Done) => 0,
                 Ok(Answer::Differs) => 1,
                 Ok(Answer::Fails) => 3,
-                Err(refusal) => tell(refusal, err),
+                Err(refusal) => {
+                    let status = tell(refusal, err);
+                    if terminals.errors {
+                        advise(rt.alloc(), &subcommand, refusal, paths, err);
+                    }
+                    status
+                }
             }
         }
         Err(NotASubcommand::Helped) => 0,
@@ -88,10 +97,11 @@ fn obey_warned<
     input: &mut I,
     out: &mut O,
     err: &mut E,
+    terminals: Terminals,
     progress: &mut G,
 ) -> Result<Answer, Refusal> {
     let mut warned = WarnedPaths::new(paths, err, program_of(subcommand));
-    obey(rt, subcommand, &mut warned, input, out, progress)
+    obey(rt, subcommand, &mut warned, input, out, terminals, progress)
 }
 
 // The path of the program that a subcommand works on.
@@ -118,6 +128,7 @@ fn obey<R: Threads + Wait + Sync + AllocGlobal, P: Paths, I: In, O: Out, G: Prog
     paths: &mut P,
     input: &mut I,
     out: &mut O,
+    terminals: Terminals,
     progress: &mut G,
 ) -> Result<Answer, Refusal> {
     let alloc = rt.alloc();
@@ -126,7 +137,7 @@ fn obey<R: Threads + Wait + Sync + AllocGlobal, P: Paths, I: In, O: Out, G: Prog
         Subcommand::Dis(options) => dis(alloc, options, paths, out)?,
         Subcommand::Explain(options) => explain(options, out)?,
         Subcommand::Threads(options) => threads(rt, options, paths, out, progress)?,
-        Subcommand::Debug(options) => debug(rt, alloc, options, paths, input, out)?,
+        Subcommand::Debug(options) => debug(rt, alloc, options, paths, input, out, terminals)?,
         Subcommand::Draw(options) => draw(alloc, options, paths, out, progress)?,
         Subcommand::Stats(options) => stats(alloc, options, paths, out, progress)?,
         Subcommand::Run(options) => {

@@ -11,4 +11,4 @@ mod telling;
 
 pub use dispatch::command;
 pub use elide_program::{HostPaths, Paths, ReadFault, Text};
-pub use elide_setup::{Progress, Silent};
+pub use elide_setup::{Progress, Silent, Terminals};
