@@ -35,11 +35,13 @@ pub fn counted<G: Progress>(
                 total: 0,
             };
             let cores = counter.machine.cores();
-            let made = course.walk(alloc, cores, keeps, &mut counter, progress)?;
-            Ok(Tally {
-                total: counter.total,
-                made,
-            })
+            let walked = course.walk(alloc, cores, keeps, &mut counter, progress);
+            let total = counter.total;
+            drop(counter);
+            match walked {
+                Ok(made) => Ok(Tally { total, made }),
+                Err(refusal) => Err(refusal),
+            }
         }
     }
 }
@@ -76,14 +78,39 @@ pub fn watched<G: Progress>(
     progress: &mut G,
 ) -> Result<Timeline, Refusal> {
     let machine = machine_of(alloc, setup)?;
-    let cores = machine.cores();
-    let timeline = Timeline::new(alloc, cores, window)?;
-    let mut watcher = Watcher { machine, timeline };
-    course.walk(alloc, cores, false, &mut watcher, progress)?;
-    let Watcher {
-        machine: _,
-        mut timeline,
-    } = watcher;
-    timeline.finish()?;
-    Ok(timeline)
+    match Timeline::new(alloc, machine.cores(), window) {
+        Ok(timeline) => watched_by(alloc, course, Watcher { machine, timeline }, progress),
+        Err(refused) => {
+            drop(machine);
+            Err(Refusal::from(refused))
+        }
+    }
+}
+
+fn watched_by<G: Progress>(
+    alloc: Global,
+    course: &Course,
+    mut watcher: Watcher,
+    progress: &mut G,
+) -> Result<Timeline, Refusal> {
+    match watch(alloc, course, &mut watcher, progress) {
+        Ok(()) => Ok(watcher.into_timeline()),
+        Err(refusal) => {
+            drop(watcher);
+            Err(refusal)
+        }
+    }
+}
+
+// Makes the steps of a schedule, and tells a timeline of them.
+fn watch<G: Progress>(
+    alloc: Global,
+    course: &Course,
+    watcher: &mut Watcher,
+    progress: &mut G,
+) -> Result<(), Refusal> {
+    let cores = watcher.machine.cores();
+    course.walk(alloc, cores, false, watcher, progress)?;
+    watcher.timeline.finish()?;
+    Ok(())
 }

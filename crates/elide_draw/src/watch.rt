@@ -17,6 +17,17 @@ pub struct Watcher {
     pub timeline: Timeline,
 }
 
+impl Watcher {
+    /// The timeline.
+    pub fn into_timeline(self) -> Timeline {
+        let Watcher {
+            machine: _,
+            timeline,
+        } = self;
+        timeline
+    }
+}
+
 impl StepMaker for Watcher {
     fn make_step(&mut self, core: u8) -> Result<Outcome, Refusal> {
         watch_step(&mut self.machine, core, &mut self.timeline)

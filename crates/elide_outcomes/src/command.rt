@@ -35,24 +35,75 @@ pub fn outcomes<P: Paths, O: Out>(
     let settings = Settings::read(&options.machine)?;
     let most = limit_of(options.limit)?;
     let text = read_file(options.machine.file, paths)?;
-    let file = ProgramFile::read(alloc, text.as_slice())?;
-    let items = items_of(alloc, options.show, &file)?;
-    let setup = Setup::of_file(alloc, &settings, &file)?;
+    outcomes_of_text(alloc, options, &settings, most, text.as_slice(), out)
+}
+
+// The same of a program's text. What is made in one of these functions is lent to the next, so that each has little to drop.
+fn outcomes_of_text<O: Out>(
+    alloc: Global,
+    options: &OutcomesOptions<'_>,
+    settings: &Settings<'_>,
+    most: u32,
+    text: &[u8],
+    out: &mut O,
+) -> Result<Answer, Refusal>
+    requires { 1 ≤ most }
+{
+    let file = ProgramFile::read(alloc, text)?;
+    let told = outcomes_of_file(alloc, options, settings, most, &file, out);
+    drop(file);
+    told
+}
+
+// The same of a program's file that was read.
+fn outcomes_of_file<O: Out>(
+    alloc: Global,
+    options: &OutcomesOptions<'_>,
+    settings: &Settings<'_>,
+    most: u32,
+    file: &ProgramFile<'_>,
+    out: &mut O,
+) -> Result<Answer, Refusal>
+    requires { 1 ≤ most }
+{
+    let items = items_of(alloc, options.show, file)?;
+    let setup = Setup::of_file(alloc, settings, file)?;
     let trial = Trial {
         program: &setup.program,
         limits: setup.limits,
         items: items.as_slice(),
     };
-    let search = search(alloc, &trial, most)?;
-    let order = order_of(alloc, &search)?;
-    let mut page = Gathered::new(out);
-    tell(&search, order.as_slice(), &mut page)?;
-    page.finish()?;
-    Ok(if search.is_cut {
+    outcomes_of_trial(alloc, &trial, most, out)
+}
+
+// The same of a machine, with what is shown of it.
+fn outcomes_of_trial<O: Out>(
+    alloc: Global,
+    trial: &Trial<'_>,
+    most: u32,
+    out: &mut O,
+) -> Result<Answer, Refusal>
+    requires { 1 ≤ most }
+{
+    let search = search(alloc, trial, most)?;
+    let told = tell_in_order(alloc, &search, out);
+    let answer = if search.is_cut {
         Answer::Cut
     } else {
         Answer::Whole
-    })
+    };
+    drop(search);
+    told?;
+    Ok(answer)
+}
+
+// Prints the outcomes in the order of their values.
+fn tell_in_order<O: Out>(alloc: Global, search: &Search, out: &mut O) -> Result<(), Refusal> {
+    let order = order_of(alloc, search)?;
+    let mut page = Gathered::new(out);
+    tell(search, order.as_slice(), &mut page)?;
+    page.finish()?;
+    Ok(())
 }
 
 // The most states, 1 or more.

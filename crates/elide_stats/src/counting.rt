@@ -3,9 +3,9 @@
 use crate::asked::Asked;
 use crate::hits::{CoreBytes, Hits};
 use elide_program::Paths;
-use elide_setup::{Course, Fault, Progress, Refusal, Setup, StepMaker};
+use elide_setup::{Course, Fault, Progress, Refusal, StepMaker};
 use ia_image::Program;
-use std::alloc::Global;
+use std::alloc::{AllocError, Global};
 use tm_core::{Limits, Machine, Outcome, RunFault};
 use tm_hist::Board;
 use tm_stats::{Conflicts, RunCounts};
@@ -20,22 +20,6 @@ pub struct Counting {
     counts: RunCounts,
     conflicts: Conflicts,
     bytes: CoreBytes,
-}
-
-/// Runs a schedule, counts its steps, and writes the schedule that came about where there is a path.
-pub fn counted<P: Paths, G: Progress>(
-    alloc: Global,
-    setup: &Setup,
-    course: &Course,
-    path: Option<&str>,
-    paths: &mut P,
-    progress: &mut G,
-) -> Result<Counting, Refusal> {
-    let mut counting = Counting::new(alloc, &setup.program, setup.limits)?;
-    let cores = counting.machine.cores();
-    course.check_cores(cores)?;
-    course.walk_recorded(alloc, cores, path, &mut counting, paths, progress)?;
-    Ok(counting)
 }
 
 impl StepMaker for Counting {
@@ -55,16 +39,32 @@ impl StepMaker for Counting {
 impl Counting {
     /// Before the first step of a program.
     pub fn new(alloc: Global, program: &Program, limits: Limits) -> Result<Counting, Refusal> {
-        let machine = Machine::new(alloc, program, limits);
         let Ok(bytes) = CoreBytes::new(alloc, program.cores()) else {
             return Err(no_memory());
         };
-        Ok(Counting {
-            machine: machine.map_err(Fault::Machine)?,
-            counts: RunCounts::new(alloc),
-            conflicts: Conflicts::new(alloc),
-            bytes,
-        })
+        match Machine::new(alloc, program, limits) {
+            Ok(machine) => Ok(Counting {
+                machine,
+                counts: RunCounts::new(alloc),
+                conflicts: Conflicts::new(alloc),
+                bytes,
+            }),
+            Err(fault) => Err(Refusal::Fault(Fault::Machine(fault))),
+        }
+    }
+
+    /// Runs a schedule, counts its steps, and writes the schedule that came about where there is a path.
+    pub fn run_course<P: Paths, G: Progress>(
+        &mut self,
+        alloc: Global,
+        course: &Course,
+        path: Option<&str>,
+        paths: &mut P,
+        progress: &mut G,
+    ) -> Result<(), Refusal> {
+        let cores = self.machine.cores();
+        course.check_cores(cores)?;
+        course.walk_recorded(alloc, cores, path, self, paths, progress)
     }
 
     /// Makes the steps of a board's history.
@@ -85,15 +85,20 @@ impl Counting {
         Ok(())
     }
 
-    /// The counts of the steps, and of the transactions that were hit.
-    pub fn into_counts(self) -> (RunCounts, Conflicts) {
-        let Counting {
-            machine: _,
-            counts,
-            conflicts,
-            bytes: _,
-        } = self;
-        (counts, conflicts)
+    /// Brings the counts into the order in which they are told.
+    pub fn sort(&mut self) -> Result<(), AllocError> {
+        self.counts.sort()?;
+        self.conflicts.sort()
+    }
+
+    /// The counts of the steps.
+    pub fn counts(&self) -> &RunCounts {
+        &self.counts
+    }
+
+    /// The counts of the transactions that were hit.
+    pub fn conflicts(&self) -> &Conflicts {
+        &self.conflicts
     }
 
     // Counts the transactions of other cores that a step of a core has hit.

@@ -1,8 +1,7 @@
 //! What is told of a run, row by row.
 
-use crate::counting::{Counting, no_memory};
+use crate::counting::Counting;
 use crate::labels::Labels;
-use elide_setup::Refusal;
 use serde::Serialize;
 use std::alloc::{AllocError, Global};
 use tm_stats::{Conflict, Conflicts, PlaceCause, PlaceSize, RunCounts, Spread, Tally, spread_from};
@@ -117,13 +116,17 @@ pub struct HitRow {
 }
 
 impl Report {
-    /// What is told of the steps that were counted.
-    pub fn of(alloc: Global, counting: Counting, labels: &Labels<'_>) -> Result<Report, Refusal> {
-        let (mut counts, mut conflicts) = counting.into_counts();
-        let mut report = Report::begun(alloc, &counts);
-        match report.fill(alloc, &mut counts, &mut conflicts, labels) {
+    /// What is told of the steps that were counted, once these are sorted.
+    pub fn of(
+        alloc: Global,
+        counting: &mut Counting,
+        labels: &Labels<'_>,
+    ) -> Result<Report, AllocError> {
+        counting.sort()?;
+        let mut report = Report::begun(alloc, counting.counts());
+        match report.fill(alloc, counting.counts(), counting.conflicts(), labels) {
             Ok(()) => Ok(report),
-            Err(_) => Err(no_memory()),
+            Err(refused) => Err(refused),
         }
     }
 
@@ -143,12 +146,10 @@ impl Report {
     fn fill(
         &mut self,
         alloc: Global,
-        counts: &mut RunCounts,
-        conflicts: &mut Conflicts,
+        counts: &RunCounts,
+        conflicts: &Conflicts,
         labels: &Labels<'_>,
     ) -> Result<(), AllocError> {
-        counts.sort()?;
-        conflicts.sort()?;
         self.transactions = places_of(alloc, counts, labels)?;
         self.aborts = aborts_of(alloc, &counts.causes)?;
         self.sizes = sizes_of(alloc, counts)?;

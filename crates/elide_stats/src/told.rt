@@ -1,7 +1,7 @@
 //! What is printed of a run that was counted.
 
 use crate::columns::put_columns;
-use crate::counting::Counting;
+use crate::counting::{Counting, no_memory};
 use crate::json::put_json;
 use crate::labels::Labels;
 use crate::report::Report;
@@ -14,18 +14,41 @@ use tm_hist::Board;
 /// Prints what the transactions of a run of the program of this file came to.
 pub fn tell_counting<O: Out>(
     alloc: Global,
-    counting: Counting,
+    counting: &mut Counting,
     file: &ProgramFile<'_>,
     is_json: bool,
     out: &mut O,
 ) -> Result<(), Refusal> {
     let labels = Labels::of_file(alloc, file)?;
-    let report = Report::of(alloc, counting, &labels)?;
+    tell_labelled(alloc, counting, &labels, is_json, out)
+}
+
+// The same with the symbols of the file.
+fn tell_labelled<O: Out>(
+    alloc: Global,
+    counting: &mut Counting,
+    labels: &Labels<'_>,
+    is_json: bool,
+    out: &mut O,
+) -> Result<(), Refusal> {
+    match Report::of(alloc, counting, labels) {
+        Ok(report) => tell_report(alloc, &report, is_json, out),
+        Err(_) => Err(no_memory()),
+    }
+}
+
+// Prints a report.
+fn tell_report<O: Out>(
+    alloc: Global,
+    report: &Report,
+    is_json: bool,
+    out: &mut O,
+) -> Result<(), Refusal> {
     let mut page = Gathered::new(out);
     if is_json {
-        put_json(alloc, &report, &mut page)?;
+        put_json(alloc, report, &mut page)?;
     } else {
-        put_columns(&report, &mut page)?;
+        put_columns(report, &mut page)?;
     }
     page.finish()?;
     Ok(())
@@ -44,6 +67,11 @@ pub fn tell_counts<O: Out, G: Progress>(
     let mut counting = Counting::new(alloc, board.program(), board.limits())?;
     let counted = counting.run_history(board, progress);
     progress.end();
-    counted?;
-    tell_counting(alloc, counting, file, is_json, out)
+    let told = match counted {
+        Ok(()) => tell_counting(alloc, &mut counting, file, is_json, out),
+        Err(refusal) => Err(refusal),
+    };
+    // Dropped by a call: what a machine and its counts own is much.
+    drop(counting);
+    told
 }
