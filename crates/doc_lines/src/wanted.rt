@@ -11,7 +11,7 @@ pub struct Told<'a> {
     pub err: &'a str,
 }
 
-/// How many bytes the outputs of a command take, and its input gives, before they fail.
+/// How many bytes the outputs of a command take, and its input gives, before they fail; and whether they are a terminal's.
 #[derive(Clone, Copy, Debug)]
 pub struct Room {
     /// Standard input.
@@ -20,7 +20,12 @@ pub struct Room {
     pub out: usize,
     /// Standard error.
     pub err: usize,
+    /// Whether all three are a terminal's.
+    pub is_terminal: bool,
 }
+
+// The line that says that the devices are a terminal's.
+const AT_TERMINAL: &str = "at a terminal";
 
 /// Whether the lines below a command say just this status, standard output and standard error. `before` is what the row's
 /// command before printed.
@@ -28,12 +33,14 @@ pub fn is_wanted(lines: &[&str], told: Told<'_>, before: &str) -> bool {
     is_status(lines, told.status) && is_output(lines, told.out, before) && is_error(lines, told.err)
 }
 
-/// How many bytes the input gives and the outputs take: those of the lines `gives N`, `takes N` and `hears N`, or all.
+/// How many bytes the input gives and the outputs take: those of the lines `gives N`, `takes N` and `hears N`, or all. A line
+/// `at a terminal` says that they are a terminal's.
 pub fn room_of(lines: &[&str]) -> Room {
     Room {
         input: number_behind(lines, "gives "),
         out: number_behind(lines, "takes "),
         err: number_behind(lines, "hears "),
+        is_terminal: lines.contains(&AT_TERMINAL),
     }
 }
 
@@ -80,10 +87,10 @@ fn is_error(lines: &[&str], said: &str) -> bool {
     left.is_empty()
 }
 
-// Whether a line is the exit status, or the room of a device.
+// Whether a line is the exit status, or says what its devices are.
 fn is_setting(line: &str) -> bool {
     let marks = ["exit ", "gives ", "takes ", "hears "];
-    marks.iter().any(|mark| line.starts_with(*mark))
+    line == AT_TERMINAL || marks.iter().any(|mark| line.starts_with(*mark))
 }
 
 fn is_of_output(line: &str) -> bool {

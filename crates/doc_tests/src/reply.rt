@@ -1,7 +1,7 @@
 //! What a command line of `elide` comes to.
 
 use doc_lines::{Room, Told};
-use elide_command::{Paths, Silent, command};
+use elide_command::{Paths, Silent, Terminals, command};
 use ia_text::ToWriter;
 use std::alloc::{AllocError, Global};
 use std::io;
@@ -37,6 +37,7 @@ pub const ALL: Room = Room {
     input: usize::MAX,
     out: usize::MAX,
     err: usize::MAX,
+    is_terminal: false,
 };
 
 /// Runs a command over these files and this input; its input gives and its outputs take so many bytes and then fail.
@@ -62,6 +63,7 @@ pub fn reply_to<R: Threads + Wait + Sync + AllocGlobal, P: Paths>(
         &mut input,
         &mut out,
         &mut err,
+        terminals_of(room),
         &mut Silent,
     );
     Ok(Reply {
@@ -69,6 +71,15 @@ pub fn reply_to<R: Threads + Wait + Sync + AllocGlobal, P: Paths>(
         out: out.writer.text(alloc)?,
         err: err.writer.text(alloc)?,
     })
+}
+
+// All devices, or none.
+fn terminals_of(room: Room) -> Terminals {
+    if room.is_terminal {
+        Terminals::ALL
+    } else {
+        Terminals::NONE
+    }
 }
 
 // An input in memory that gives so many bytes.
