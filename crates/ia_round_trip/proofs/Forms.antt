@@ -23,10 +23,10 @@ use Rattle.ia_insn.specs.Mnemonics.{unary_mnemonic, mnemonic_of}
 use Rattle.ia_item.specs.Fields.{with_number, with_displacement, with_disp}
 use Rattle.ia_text.specs.declared.arg.Arg.{Arg}
 use Rattle.ia_text.specs.Arguments.{operand_arg, says_short, shown_arg, target as jump_target}
-use Rattle.ia_source.specs.declared.shape.OperandShape.{OperandShape}
-use Rattle.ia_source.specs.declared.shape.OperandShape.TheVariants as shape
-use Rattle.ia_source.specs.declared.shape.OperandShapes.TheVariants.{One}
-use Rattle.ia_source.specs.Forms.{op_of, target}
+use Rattle.ia_form.specs.declared.shape.OperandShape.{OperandShape}
+use Rattle.ia_form.specs.declared.shape.OperandShape.TheVariants as shape
+use Rattle.ia_form.specs.declared.shape.OperandShapes.TheVariants.{One}
+use Rattle.ia_form.specs.Forms.{op_of, target}
 use Rattle.ia_source.specs.Operands.{Operands, empty_operands}
 use Rattle.ia_round_trip.specs.Operands.{FitsArg, operands_for, args_of}
 use Rattle.ia_round_trip.specs.Resolution.{op_with_number, op_with_displacement, by_op}

@@ -13,7 +13,7 @@ use Rattle.ia_text.specs.declared.arg.Arg.{Arg}
 use Rattle.ia_text.specs.declared.arg.Arg.TheVariants as arg
 use Rattle.ia_text.specs.Names.{register_name}
 use Rattle.ia_text.specs.Arguments.{first_arg, second_arg, third_arg}
-use Rattle.ia_source.specs.declared.shape.OperandShape.TheVariants as shape
+use Rattle.ia_form.specs.declared.shape.OperandShape.TheVariants as shape
 use Rattle.ia_source.specs.declared.operand.OperandPrefix.TheVariants.{Register}
 use Rattle.ia_source.specs.Keywords.{or_else}
 use Rattle.ia_source.specs.Commas.{is_comma, onto_first, between_commas}

@@ -4,9 +4,9 @@ use Rattle.std.specs.Prelude.{◌&&◌, ◌||◌, ◌==◌, option_map}
 use Rattle.ia_lex.specs.Terms.{AtomContent, NumberAtom, SymbolAtom, TermContent}
 use Rattle.ia_text.specs.declared.arg.Arg.{Arg}
 use Rattle.ia_text.specs.declared.arg.Arg.TheVariants as arg
-use Rattle.ia_source.specs.declared.shape.OperandShape.{OperandShape}
-use Rattle.ia_source.specs.declared.shape.OperandShape.TheVariants as shape
-use Rattle.ia_source.specs.declared.shape.OperandShapes.{OperandShapes}
+use Rattle.ia_form.specs.declared.shape.OperandShape.{OperandShape}
+use Rattle.ia_form.specs.declared.shape.OperandShape.TheVariants as shape
+use Rattle.ia_form.specs.declared.shape.OperandShapes.{OperandShapes}
 use Rattle.ia_source.specs.Symbols.{atom_in_scope, term_in_scope, terms_in_scope}
 use Rattle.ia_source.specs.Operands.{Operands, with_shape, with_terms, with_operand, by_operands}
 use Rattle.ia_round_trip.specs.Operands.{part_of, operand_for, operands_for}

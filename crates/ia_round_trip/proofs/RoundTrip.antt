@@ -12,7 +12,7 @@ use Rattle.ia_item.specs.Fields.{field_of, with_number, Holds}
 use Rattle.ia_text.specs.Text.{insn_text}
 use Rattle.ia_source.specs.Contents.{ItemContent, Code}
 use Rattle.ia_source.specs.Symbols.{terms_in_scope}
-use Rattle.ia_source.specs.Forms.{by_op, op_of}
+use Rattle.ia_form.specs.Forms.{by_op, op_of}
 use Rattle.ia_source.specs.Operands.{Operands, empty_operands}
 use Rattle.ia_source.specs.Statements.{add_some, code_item, with_flags, in_next_line}
 use Rattle.ia_source.specs.Source.{or_bad, head_onto, tokens_onto, line_onto}

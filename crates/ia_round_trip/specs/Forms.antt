@@ -4,7 +4,7 @@ use Rattle.ia_insn.specs.declared.op.Insn.{Insn}
 use Rattle.ia_insn.specs.Encoding.{is_encodable}
 use Rattle.ia_insn.specs.Mnemonics.{mnemonic_of}
 use Rattle.ia_lex.specs.Terms.{TermContent}
-use Rattle.ia_source.specs.Forms.{instruction_of}
+use Rattle.ia_form.specs.Forms.{instruction_of}
 use Rattle.ia_source.specs.Operands.{Operands, empty_operands}
 use Rattle.ia_round_trip.specs.Operands.{operands_for, args_of}
 use Rattle.ia_round_trip.specs.Resolution.{resolved_insn}

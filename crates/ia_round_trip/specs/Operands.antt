@@ -12,7 +12,7 @@ use Rattle.ia_lex.specs.Terms.{TermContent, NumberAtom}
 use Rattle.ia_text.specs.declared.arg.Arg.{Arg}
 use Rattle.ia_text.specs.declared.arg.Arg.TheVariants as arg
 use Rattle.ia_text.specs.Arguments.{first_arg, second_arg, third_arg}
-use Rattle.ia_source.specs.declared.shape.OperandShape.TheVariants as shape
+use Rattle.ia_form.specs.declared.shape.OperandShape.TheVariants as shape
 use Rattle.ia_source.specs.Operands.{Operand, Operands, operand_of, operands_of, with_operand, by_operands}
 use Rattle.ia_source.specs.Operands.{empty_operands}
 use Rattle.ia_round_trip.specs.PrintedTokens.{arg_tokens, args_tokens}

@@ -6,9 +6,9 @@ use Rattle.ia_word.specs.declared.width.Width.{Width}
 use Rattle.ia_lex.specs.Tokens.{Lexeme, Word, Number, Text as Quoted, Mark}
 use Rattle.ia_lex.specs.Terms.{AtomContent, TermContent, atom_of, sign_of, by_atom, by_sign, terms_at, expression_at}
 use Rattle.ia_insn.specs.declared.operand.Mem.{Mem}
-use Rattle.ia_source.specs.declared.shape.OperandShape.{OperandShape}
-use Rattle.ia_source.specs.declared.shape.OperandShape.TheVariants as shape
-use Rattle.ia_source.specs.declared.shape.OperandShapes.{OperandShapes}
+use Rattle.ia_form.specs.declared.shape.OperandShape.{OperandShape}
+use Rattle.ia_form.specs.declared.shape.OperandShape.TheVariants as shape
+use Rattle.ia_form.specs.declared.shape.OperandShapes.{OperandShapes}
 use Rattle.ia_source.specs.declared.operand.OperandPrefix.{OperandPrefix}
 use Rattle.ia_source.specs.declared.operand.OperandPrefix.TheVariants as prefix
 use Rattle.ia_source.specs.MemoryOperands.{MemoryOperand, Piece, Register, Scaled, Valued, with_register, with_scaled, with_term, keep_terms, keep_mem, with_piece, by_new_piece, by_piece, memory_end, memory_from, memory_of, piece_at, nowhere}

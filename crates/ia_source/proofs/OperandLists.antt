@@ -3,9 +3,9 @@ use Rattle.std.proofs.Common.{◌≡◌, List, ◌∷◌, Option, Some, None, re
 use Rattle.std.specs.Prelude.{option_map}
 use Rattle.ia_lex.specs.Tokens.{Lexeme}
 use Rattle.ia_lex.specs.Terms.{TermContent}
-use Rattle.ia_source.specs.declared.shape.OperandShape.{OperandShape}
-use Rattle.ia_source.specs.declared.shape.OperandShape.TheVariants as shape
-use Rattle.ia_source.specs.declared.shape.OperandShapes.{OperandShapes}
+use Rattle.ia_form.specs.declared.shape.OperandShape.{OperandShape}
+use Rattle.ia_form.specs.declared.shape.OperandShape.TheVariants as shape
+use Rattle.ia_form.specs.declared.shape.OperandShapes.{OperandShapes}
 use Rattle.ia_source.specs.Operands.{Operand, Operands, operand_of, with_shape, with_terms, with_operand, by_operand, by_operands, operands_from, terms_placed, placed_by}
 
 -- the shape of an operand whose terms are placed is its own, and the terms are where `with_terms` puts them

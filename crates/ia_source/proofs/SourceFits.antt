@@ -23,7 +23,7 @@ use Rattle.ia_source.specs.Contents.{ItemContent, EntryContent, Label, Equ, Code
 use Rattle.ia_source.specs.Fits.{FitsTerms, FitsAnyTerms, FitsContent}
 use Rattle.ia_source.specs.Symbols.{term_in_scope, terms_in_scope, whole_of}
 use Rattle.ia_source.specs.Commas.{between_commas}
-use Rattle.ia_source.specs.Forms.{op_of, by_op, instruction_of}
+use Rattle.ia_form.specs.Forms.{op_of, by_op, instruction_of}
 use Rattle.ia_source.specs.Operands.{Operands, operands_of, expression_of}
 use Rattle.ia_source.specs.Heads.{Head, head_of}
 use Rattle.ia_source.specs.Statements.{StateContent, add, add_some, expression_in, code_item, byte_item, value_item, Values, plain_number, number_bytes, with_run, with_entries, by_number, value_onto, by_value, no_value, values_onto, named_section, only_number, is_32, is_symbol, is_power, align_item, org_item, equ_item, if_fits, directive_onto, statement_onto, with_label, behind}

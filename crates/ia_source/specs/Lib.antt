@@ -1,6 +1,5 @@
 pub mod Contents
 pub mod Keywords
-pub mod Forms
 pub mod Commas
 pub mod MemoryOperands
 pub mod Addends

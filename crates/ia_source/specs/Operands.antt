@@ -8,10 +8,10 @@ use Rattle.ia_lex.specs.Tokens.{Lexeme, Word, Mark}
 use Rattle.ia_lex.specs.Terms.{TermContent, expression_at}
 use Rattle.ia_lex.specs.declared.terms.Term.{Term}
 use Rattle.arrayvec.specs.ArrayVec.{ArrayVec}
-use Rattle.ia_source.specs.declared.shape.OperandShape.{OperandShape}
-use Rattle.ia_source.specs.declared.shape.OperandShape.TheVariants as shape
-use Rattle.ia_source.specs.declared.shape.OperandShapes.{OperandShapes}
-use Rattle.ia_source.specs.declared.shape.OperandShapes.TheVariants.{Nothing, One, Two, Three}
+use Rattle.ia_form.specs.declared.shape.OperandShape.{OperandShape}
+use Rattle.ia_form.specs.declared.shape.OperandShape.TheVariants as shape
+use Rattle.ia_form.specs.declared.shape.OperandShapes.{OperandShapes}
+use Rattle.ia_form.specs.declared.shape.OperandShapes.TheVariants.{Nothing, One, Two, Three}
 use Rattle.ia_source.specs.declared.operand.OperandPrefix.{OperandPrefix}
 use Rattle.ia_source.specs.declared.operand.OperandPrefix.TheVariants.{Register, Size, Near, Short}
 use Rattle.ia_source.specs.declared.operand.Operands.{Operands as CodeOperands}

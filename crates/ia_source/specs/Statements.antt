@@ -23,7 +23,7 @@ use Rattle.ia_source.specs.Contents.{ItemContent, EntryContent, Equ, Code, Byte,
 use Rattle.ia_source.specs.Contents.{Org, entry_content}
 use Rattle.ia_source.specs.Symbols.{is_local, whole_of, term_in_scope, terms_in_scope}
 use Rattle.ia_source.specs.Commas.{between_commas}
-use Rattle.ia_source.specs.Forms.{instruction_of}
+use Rattle.ia_form.specs.Forms.{instruction_of}
 use Rattle.ia_source.specs.Operands.{Operands, operands_of, expression_of}
 
 -- a line's number, the last label that is not local, the section in force, and whether `org` or anything placed stood

@@ -10,8 +10,8 @@ ghost use Rattle.ia_source.specs.Operands.{operands_from, operands_of, operand_c
 
 use crate::comma::{first_piece, is_mark};
 use crate::memory::read_memory;
-use crate::shape::{OperandShape, OperandShapes};
 use crate::sum::whole_expression;
+use ia_form::{OperandShape, OperandShapes};
 use ia_insn::Mem;
 use ia_lex::{Expression, Token, find_word, register_of};
 use ia_word::Width;

@@ -1,10 +1,10 @@
 //! The forms of instructions: which operands a mnemonic takes.
 
 ghost use Rattle.std.specs.Prelude.{◌≡◌};
-ghost use Rattle.ia_source.specs.Forms.{same_width, target, one_operand, sized_operand, pair, test_form, xchg_form};
-ghost use Rattle.ia_source.specs.Forms.{load_form, store_form, number_form, shift_form, lea_form, imul_form, push_form};
-ghost use Rattle.ia_source.specs.Forms.{call_form, ret_form, jmp_form, jcc_form, nop_form, with_number, no_operands};
-ghost use Rattle.ia_source.specs.Forms.{op_of, instruction_of};
+ghost use Rattle.ia_form.specs.Forms.{same_width, target, one_operand, sized_operand, pair, test_form, xchg_form};
+ghost use Rattle.ia_form.specs.Forms.{load_form, store_form, number_form, shift_form, lea_form, imul_form, push_form};
+ghost use Rattle.ia_form.specs.Forms.{call_form, ret_form, jmp_form, jcc_form, nop_form, with_number, no_operands};
+ghost use Rattle.ia_form.specs.Forms.{op_of, instruction_of};
 
 use crate::shape::{OperandShape, OperandShapes};
 use ia_insn::{Count, Insn, Mnemonic, Op, Operand, is_encodable};

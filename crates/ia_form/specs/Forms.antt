@@ -16,10 +16,10 @@ use Rattle.ia_insn.specs.declared.operand.Operand.TheVariants.{Reg, Imm, Mem as 
 use Rattle.ia_insn.specs.Encoding.{is_encodable}
 use Rattle.ia_insn.specs.declared.mnemonic.Mnemonic.{Mnemonic}
 use Rattle.ia_insn.specs.declared.mnemonic.Mnemonic.TheVariants as name
-use Rattle.ia_source.specs.declared.shape.OperandShape.{OperandShape}
-use Rattle.ia_source.specs.declared.shape.OperandShape.TheVariants.{Register, Memory as InMemory, Number, Near, Short}
-use Rattle.ia_source.specs.declared.shape.OperandShapes.{OperandShapes}
-use Rattle.ia_source.specs.declared.shape.OperandShapes.TheVariants.{Nothing, One, Two, Three}
+use Rattle.ia_form.specs.declared.shape.OperandShape.{OperandShape}
+use Rattle.ia_form.specs.declared.shape.OperandShape.TheVariants.{Register, Memory as InMemory, Number, Near, Short}
+use Rattle.ia_form.specs.declared.shape.OperandShapes.{OperandShapes}
+use Rattle.ia_form.specs.declared.shape.OperandShapes.TheVariants.{Nothing, One, Two, Three}
 
 abbrev pub same_width : Width → Width → Bool
 same_width B B = true
