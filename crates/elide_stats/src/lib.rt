@@ -2,17 +2,14 @@
 //!
 //! Promises no more than safety: what a schedule comes to, why a transaction aborts and whom a step hits is proved of
 //! `tm_core`, and that counts are those of the steps that were told of `tm_stats`; what is printed is compared by
-//! `doc_tests`. Stands on `elide_setup`, `tm_core` and `tm_stats`, and on `tm_hist` for histories.
+//! `doc_tests`. Stands on `elide_report` for what is printed, on `elide_setup`, `tm_core` and `tm_stats`, and on `tm_hist` for
+//! histories.
 #![tactic(auto)]
 
 mod asked;
-mod columns;
 mod command;
 mod counting;
 mod hits;
-mod json;
-mod labels;
-mod report;
 mod told;
 
 pub use command::stats;

@@ -1,11 +1,8 @@
 //! What is printed of a run that was counted.
 
-use crate::columns::put_columns;
 use crate::counting::{Counting, no_memory};
-use crate::json::put_json;
-use crate::labels::Labels;
-use crate::report::Report;
 use elide_program::ProgramFile;
+use elide_report::{Labels, Report, json_line, put_columns};
 use elide_setup::{Gathered, Progress, Refusal};
 use ia_text::Out;
 use std::alloc::Global;
@@ -19,19 +16,24 @@ pub fn tell_counting<O: Out>(
     is_json: bool,
     out: &mut O,
 ) -> Result<(), Refusal> {
-    let labels = Labels::of_file(alloc, file)?;
-    tell_labelled(alloc, counting, &labels, is_json, out)
+    if counting.sort().is_err() {
+        return Err(no_memory());
+    }
+    match Labels::of_file(alloc, file) {
+        Ok(labels) => tell_labelled(alloc, counting, &labels, is_json, out),
+        Err(refused) => Err(Refusal::from(refused)),
+    }
 }
 
-// The same with the symbols of the file.
+// The same with the symbols of the file, of a run whose counts are sorted.
 fn tell_labelled<O: Out>(
     alloc: Global,
-    counting: &mut Counting,
+    counting: &Counting,
     labels: &Labels<'_>,
     is_json: bool,
     out: &mut O,
 ) -> Result<(), Refusal> {
-    match Report::of(alloc, counting, labels) {
+    match Report::of(alloc, counting.counts(), counting.conflicts(), labels) {
         Ok(report) => tell_report(alloc, &report, is_json, out),
         Err(_) => Err(no_memory()),
     }
@@ -52,6 +54,17 @@ fn tell_report<O: Out>(
     }
     page.finish()?;
     Ok(())
+}
+
+// Prints a report as JSON.
+fn put_json<O: Out>(alloc: Global, report: &Report, out: &mut O) -> Result<(), Refusal> {
+    match json_line(alloc, report) {
+        Ok(line) => {
+            out.put(line.as_bytes())?;
+            Ok(())
+        }
+        Err(_) => Err(no_memory()),
+    }
 }
 
 /// Makes the steps of a board again on a machine of their own, and prints what its transactions came to. The file is that

@@ -1,13 +1,12 @@
 //! What is told of a run, row by row.
 
-use crate::counting::Counting;
 use crate::labels::Labels;
 use serde::Serialize;
 use std::alloc::{AllocError, Global};
 use tm_stats::{Conflict, Conflicts, PlaceCause, PlaceSize, RunCounts, Spread, Tally, spread_from};
 
 /// What is told of a run. Addresses have eight hexadecimal digits.
-#[derive(Debug, Drop, Serialize)]
+#[derive(Drop, Serialize)]
 pub struct Report {
     /// How the steps divide.
     pub steps: StepsRow,
@@ -24,7 +23,7 @@ pub struct Report {
 }
 
 /// How the steps of a run divide.
-#[derive(Debug, Drop, Serialize)]
+#[derive(Drop, Serialize)]
 pub struct StepsRow {
     /// All of them.
     pub all: u64,
@@ -41,7 +40,7 @@ pub struct StepsRow {
 }
 
 /// The transactions of a place.
-#[derive(Debug, Drop, Serialize)]
+#[derive(Drop, Serialize)]
 pub struct PlaceRow {
     /// The address of the XBEGIN.
     pub place: String,
@@ -58,7 +57,7 @@ pub struct PlaceRow {
 }
 
 /// The aborts of a place for a cause.
-#[derive(Debug, Drop, Serialize)]
+#[derive(Drop, Serialize)]
 pub struct AbortRow {
     /// The address of the XBEGIN.
     pub place: String,
@@ -69,7 +68,7 @@ pub struct AbortRow {
 }
 
 /// A size of the transactions of a place that committed.
-#[derive(Debug, Drop, Serialize)]
+#[derive(Drop, Serialize)]
 pub struct SizeRow {
     /// The address of the XBEGIN.
     pub place: String,
@@ -84,7 +83,7 @@ pub struct SizeRow {
 }
 
 /// The transactions that were doomed on a line.
-#[derive(Debug, Drop, Serialize)]
+#[derive(Drop, Serialize)]
 pub struct LineRow {
     /// The address of the line's first byte.
     pub line: String,
@@ -95,7 +94,7 @@ pub struct LineRow {
 }
 
 /// The transactions of a place that steps of a place doomed on a line.
-#[derive(Debug, Drop, Serialize)]
+#[derive(Drop, Serialize)]
 pub struct HitRow {
     /// The address of the line's first byte.
     pub line: String,
@@ -116,15 +115,15 @@ pub struct HitRow {
 }
 
 impl Report {
-    /// What is told of the steps that were counted, once these are sorted.
+    /// What is told of the steps that were counted and of the transactions that they hit, both sorted.
     pub fn of(
         alloc: Global,
-        counting: &mut Counting,
+        counts: &RunCounts,
+        conflicts: &Conflicts,
         labels: &Labels<'_>,
     ) -> Result<Report, AllocError> {
-        counting.sort()?;
-        let mut report = Report::begun(alloc, counting.counts());
-        match report.fill(alloc, counting.counts(), counting.conflicts(), labels) {
+        let mut report = Report::begun(alloc, counts);
+        match report.fill(alloc, counts, conflicts, labels) {
             Ok(()) => Ok(report),
             Err(refused) => Err(refused),
         }

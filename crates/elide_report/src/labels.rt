@@ -1,15 +1,21 @@
 //! What places and lines of memory are called.
 
 use elide_program::ProgramFile;
+use ia_asm::ProgramImage;
+use ia_elf::Elf;
 use ia_item::Name;
 use std::alloc::{AllocError, Global};
 
-/// The symbols of a source that stand in its image, by their addresses. An image text has none.
+/// The symbols of a source or of an executable that stand in its image, by their addresses. An image text has none.
 #[derive(Drop)]
 pub struct Labels<'a> {
     list: Vec<Label<'a>>,
+    // The address of the image's first byte.
+    first: u32,
     // The address behind the code.
     code_end: u32,
+    // The address behind the image.
+    end: u64,
 }
 
 // A symbol with its address.
@@ -22,22 +28,51 @@ struct Label<'a> {
 impl<'a> Labels<'a> {
     /// The symbols of a file.
     pub fn of_file(alloc: Global, file: &ProgramFile<'a>) -> Result<Labels<'a>, AllocError> {
-        let mut list = Vec::new(alloc);
-        let first = u64::from(file.base());
-        let end = first.saturating_add(file.bytes().len() as u64);
-        if let ProgramFile::Source(program) = file {
-            for (name, address) in program.symbols.iter() {
-                if (first..end).contains(&u64::from(*address)) {
-                    let label = Label {
-                        address: *address,
-                        name: *name,
-                    };
-                    list.push(label).map_err(|_| AllocError)?;
-                }
+        let mut labels = Labels {
+            list: Vec::new(alloc),
+            first: file.base(),
+            code_end: file.base().saturating_add(file.code_len()),
+            end: end_of(file),
+        };
+        match labels.add_all(file) {
+            Ok(()) => Ok(labels),
+            Err(refused) => Err(refused),
+        }
+    }
+
+    // Adds the symbols of a file, in the order of the source or of the table.
+    fn add_all(&mut self, file: &ProgramFile<'a>) -> Result<(), AllocError> {
+        match file {
+            ProgramFile::Image(_) => Ok(()),
+            ProgramFile::Source(program) => self.add_source(program),
+            ProgramFile::Elf(elf) => self.add_executable(elf),
+        }
+    }
+
+    fn add_source(&mut self, program: &ProgramImage<'a>) -> Result<(), AllocError> {
+        for (name, address) in program.symbols.iter() {
+            self.add(*name, *address)?;
+        }
+        Ok(())
+    }
+
+    fn add_executable(&mut self, elf: &Elf<'a>) -> Result<(), AllocError> {
+        for index in 0..elf.symbol_count() {
+            if let Some(symbol) = elf.symbol_at(index) {
+                self.add(Name::new(symbol.name), symbol.value)?;
             }
         }
-        let code_end = file.base().saturating_add(file.code_len());
-        Ok(Labels { list, code_end })
+        Ok(())
+    }
+
+    // Adds a symbol, where it stands in the image.
+    fn add(&mut self, name: Name<'a>, address: u32) -> Result<(), AllocError> {
+        if address < self.first || u64::from(address) >= self.end {
+            return Ok(());
+        }
+        self.list
+            .push(Label { address, name })
+            .map_err(|_| AllocError)
     }
 
     /// The nearest symbol of the code at or below an address, with the distance, as `start.next+0x19`; a dash, where
@@ -87,6 +122,14 @@ impl<'a> Labels<'a> {
             text.push_str("-")?;
         }
         Ok(text)
+    }
+}
+
+// The address behind the image; of an executable behind its memory, zeros that it does not store with it.
+fn end_of(file: &ProgramFile<'_>) -> u64 {
+    match file {
+        ProgramFile::Elf(elf) => u64::from(elf.end()),
+        _ => u64::from(file.base()).saturating_add(file.bytes().len() as u64),
     }
 }
 

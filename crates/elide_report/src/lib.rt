@@ -1,0 +1,15 @@
+//! What `elide stats` tells of the steps that were counted: in columns, and as JSON.
+//!
+//! Promises no more than safety: that the counts are those of the steps that were told of is proved of `tm_stats`; what is
+//! printed is compared by `doc_tests`. Stands on `tm_stats` for the counts and on `elide_program` for the symbols of a program.
+#![tactic(auto)]
+
+mod columns;
+mod json;
+mod labels;
+mod report;
+
+pub use columns::put_columns;
+pub use json::json_line;
+pub use labels::Labels;
+pub use report::Report;
