@@ -1,5 +1,6 @@
 pub mod Types
 pub mod Theorem
+pub mod Seen
 pub mod StepRefinement
 pub mod Representation
 pub mod ExplainedViews

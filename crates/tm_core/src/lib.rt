@@ -9,7 +9,7 @@
 //!
 //! A step is explained by calls that are asked before it, and that change nothing: `Machine::hit` (whom it hits, on which
 //! line), `Machine::abort_reason` (why it is an abort), `Machine::counts` (how large the sets are) and `Machine::reach`
-//! (which bytes it loads and stores).
+//! (which bytes it loads and stores). `Machine::seen` tells a byte of memory as a core sees it.
 //!
 //! Stands on `tm_rule` (one instruction), `tm_status`, `tm_sets` (read and write sets), `tm_buffer` (a transaction's
 //! bytes) and `ia_image` (programs). Memory is asked for only where a machine is made and by the answers of `run` and
@@ -31,6 +31,7 @@ mod limits;
 mod machine;
 pub mod memory;
 mod opening;
+mod seen;
 mod start;
 mod step;
 mod transaction;
