@@ -1,0 +1,55 @@
+//! The status of a core's last abort.
+
+ghost use Rattle.std.specs.Prelude.{◌≡◌};
+ghost use Rattle.std.specs.List.{slice_get};
+ghost use Rattle.std.specs.Option.{option_and_then};
+ghost use Rattle.tm_hist.specs.History.{pairs_of};
+ghost use Rattle.gdb_target.specs.Shown.{last_status, own_status, status_of};
+
+use tm_core::Outcome;
+use tm_hist::History;
+
+fn status_of(outcome: Outcome) -> Option<u32>
+    ensures { result ≡ status_of outcome }
+{
+    match outcome {
+        Outcome::Aborted(status) => Some(status),
+        Outcome::Plain
+        | Outcome::Loaded
+        | Outcome::Stopped(_)
+        | Outcome::Idle
+        | Outcome::Begun
+        | Outcome::Inside
+        | Outcome::Committed => None,
+    }
+}
+
+// The status of the step at an index, where it is an abort of this core.
+fn status_at(history: History, index: usize, core: u8) -> Option<u32>
+    ensures { result ≡ option_and_then (own_status core) (slice_get (pairs_of history.entry) index) }
+{
+    match history.get(index) {
+        Some((owner, outcome)) => {
+            if owner == core {
+                status_of(outcome)
+            } else {
+                None
+            }
+        }
+        None => None,
+    }
+}
+
+/// The status of a core's last abort in a history, and 0 before its first.
+pub fn last_status(history: History, core: u8) -> u32
+    ensures { result ≡ last_status core (pairs_of history.entry) }
+{
+    let mut index = history.len();
+    'steps: while index > 0 {
+        index -= 1;
+        if let Some(status) = status_at(history, index, core) {
+            return status;
+        }
+    }
+    0
+}
