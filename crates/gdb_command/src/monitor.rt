@@ -1,0 +1,55 @@
+//! What `monitor` asks.
+
+ghost use Rattle.std.specs.Prelude.{◌<◌, IfSome};
+
+use crate::command::Monitor;
+use crate::parts::split_at;
+
+// The most bytes of such a command that are read.
+const MOST_BYTES: usize = 64;
+
+/// What the hex digits of a command of `monitor` ask: `why`, `sets`, or `history` with a decimal number, 10 where there is
+/// none.
+pub fn monitor_in(digits: &[u8]) -> Monitor {
+    let mut bytes = [0; MOST_BYTES];
+    let count = digits.len() / 2;
+    if count > MOST_BYTES || hex::decode_to_slice(digits, &mut bytes[..count]).is_err() {
+        return Monitor::Other;
+    }
+    let (word, argument) = split_at(b' ', &bytes[..count]);
+    if word == b"why".as_slice() {
+        Monitor::Why
+    } else if word == b"sets".as_slice() {
+        Monitor::Sets
+    } else if word == b"history".as_slice() {
+        match decimal_in(argument) {
+            Some(number) => Monitor::History(number),
+            None => Monitor::Other,
+        }
+    } else {
+        Monitor::Other
+    }
+}
+
+// The number of at most three decimal digits, 10 where there are none.
+fn decimal_in(text: &[u8]) -> Option<u32> {
+    match text {
+        [] => Some(10),
+        [ones] => digit_of(*ones),
+        [tens, ones] => Some(10 * digit_of(*tens)? + digit_of(*ones)?),
+        [hundreds, tens, ones] => {
+            Some(100 * digit_of(*hundreds)? + 10 * digit_of(*tens)? + digit_of(*ones)?)
+        }
+        _ => None,
+    }
+}
+
+fn digit_of(byte: u8) -> Option<u32>
+    ensures { IfSome result (λ digit. digit < 10) }
+{
+    if byte.is_ascii_digit() {
+        Some(u32::from(byte - b'0'))
+    } else {
+        None
+    }
+}
