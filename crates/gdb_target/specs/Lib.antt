@@ -1,3 +1,4 @@
 pub mod Shown
 pub mod Registers
 pub mod Memory
+pub mod Parts
