@@ -1,7 +1,7 @@
 //! Commands.
 
 /// So many units from a place on.
-#[derive(Clone, Copy, PartialEq, Eq, Debug)]
+#[derive(Clone, Copy, PartialEq, Eq, Debug, Default)]
 pub struct Span {
     /// The place of the first.
     pub at: u32,

@@ -1,0 +1,17 @@
+//! A target of gdb's remote serial protocol: a board that gdb looks at and moves.
+//!
+//! Promised: a step is one step of the core that it names, so that the history is the old one and one pair more; a
+//! continued run adds steps at the end; steps back leave the board of the first steps; and points, reads and queries
+//! change no board. Stands on `tm_hist` (boards), `tm_back` (boards of first steps), `gdb_target` (what is shown),
+//! `gdb_command` (commands), `gdb_packet` (packets) and `tm_debug` (devices that are read).
+#![tactic(auto)]
+
+mod back;
+mod moves;
+mod points;
+mod stop;
+mod target;
+
+pub use points::{MOST_POINTS, Points};
+pub use stop::Stop;
+pub use target::Target;
