@@ -40,32 +40,30 @@ pub enum Monitor {
     Other,
 }
 
-/// What a packet tells to do. A core is told by its number, 0 for the first.
+/// What a packet asks, which changes nothing. A thread is told by its number, 1 for the first core.
 #[derive(Clone, Copy, PartialEq, Eq, Debug)]
-pub enum Command {
+pub enum Question {
     /// What the target can do: `qSupported`.
     Supported,
-    /// No packet is acknowledged from now on: `QStartNoAckMode`.
+    /// That no packet is acknowledged from now on: `QStartNoAckMode`.
     NoAcknowledgements,
     /// Why the target stands: `?`.
     Status,
-    /// The selected core: `qC`.
+    /// The selected thread: `qC`.
     CurrentThread,
     /// Whether the target was there before: `qAttached`.
     Attached,
     /// A part of the target's description: `qXfer:features:read`.
     Description(Span),
-    /// A part of the list of cores: `qXfer:threads:read`.
+    /// A part of the list of threads: `qXfer:threads:read`.
     Threads(Span),
-    /// The numbers of the cores: `qfThreadInfo`.
+    /// The numbers of the threads: `qfThreadInfo`.
     FirstThreads,
     /// Further numbers: `qsThreadInfo`.
     MoreThreads,
-    /// Whether there is a thread of this number, 1 for the first core: `T`.
+    /// Whether there is a thread of this number: `T`.
     IsAlive(u32),
-    /// Selects a thread, 1 for the first core, 0 for any: `Hg`.
-    Select(u32),
-    /// Selects a thread for moves, which name theirs: `Hc`.
+    /// That moves are of a thread, which each names itself: `Hc`.
     SelectForMoves,
     /// All registers: `g`.
     Registers,
@@ -73,11 +71,28 @@ pub enum Command {
     Register(u32),
     /// Memory: `m`.
     Memory(Span),
-    /// Writes to registers or memory, which are refused: `G`, `P`, `M` and `X`.
+    /// That registers or memory be written, which is refused: `G`, `P`, `M` and `X`.
     Write,
     /// The moves that there are: `vCont?`.
     Moves,
-    /// One step of a thread, 1 for the first core, 0 for the selected one: `s`, `vCont;s`.
+    /// Something of the target's own: `qRcmd`.
+    Monitor(Monitor),
+    /// The end of the session: `D`.
+    Detach,
+    /// The end of the session, without an answer: `k`.
+    Kill,
+    /// The end of the session: `vKill`.
+    KillAnswered,
+    /// One of all these with a number that is none.
+    Malformed,
+    /// Anything else.
+    Unknown,
+}
+
+/// How a packet moves the target.
+#[derive(Clone, Copy, PartialEq, Eq, Debug)]
+pub enum Move {
+    /// One step of a thread, 0 for the selected one: `s`, `vCont;s`.
     Step(u32),
     /// Steps until something stops them: `c`, `vCont;c`.
     Continue,
@@ -85,20 +100,26 @@ pub enum Command {
     StepBack,
     /// Takes steps back until something stops that: `bc`.
     ContinueBack,
+}
+
+/// What a packet sets, which moves nothing.
+#[derive(Clone, Copy, PartialEq, Eq, Debug)]
+pub enum Setting {
+    /// Selects a thread, 0 for any: `Hg`.
+    Select(u32),
     /// Sets a point: `Z`.
     Insert(Point),
     /// Takes a point away: `z`.
     Remove(Point),
-    /// A command of the target's own: `qRcmd`.
-    Monitor(Monitor),
-    /// The end of the session, which the target outlives: `D`.
-    Detach,
-    /// The end of the session and of the target: `k`.
-    Kill,
-    /// The same, and it is answered: `vKill`.
-    KillAnswered,
-    /// One of these with a number that is none.
-    Malformed,
-    /// Any other.
-    Unknown,
+}
+
+/// What a packet tells.
+#[derive(Clone, Copy, PartialEq, Eq, Debug)]
+pub enum Command {
+    /// It asks.
+    Ask(Question),
+    /// It moves.
+    Move(Move),
+    /// It sets.
+    Set(Setting),
 }

@@ -1,6 +1,6 @@
 //! A board that gdb looks at and moves.
 
-ghost use Rattle.std.specs.Prelude.{◌≡◌, ◌<◌, length};
+ghost use Rattle.std.specs.Prelude.{◌≡◌, ◌<◌, IfSome, length};
 
 use crate::points::Points;
 use crate::stop::Stop;
@@ -20,6 +20,8 @@ pub struct Target {
 }
 
 impl Target {
+    ghost use Rattle.tm_gdb.specs.Answers.{core_of, thread_core};
+
     /// A target whose first core is selected, without points.
     pub fn new(board: Board) -> Target
         ensures { result.board ≡ board }
@@ -34,6 +36,7 @@ impl Target {
 
     /// The selected core, which the board has.
     pub fn core(&self) -> u8
+        ensures core { result ≡ core_of self.now }
         ensures views { result < length self.now.board.machine.views }
         ensures entries { result < length self.now.board.program.entries }
         ensures few { result < 64 }
@@ -44,6 +47,20 @@ impl Target {
             self.selected
         } else {
             0
+        }
+    }
+
+    /// The core of a thread: 1 is the first core's, 0 the selected one's.
+    pub fn thread_core(&self, thread: u32) -> Option<u8>
+        ensures core { result ≡ thread_core self.now thread }
+        ensures exists { IfSome result (λ core. core < length self.now.board.program.entries) }
+    {
+        if thread == 0 {
+            Some(self.core())
+        } else if thread <= u32::from(self.board.cores()) {
+            Some((thread - 1) as u8)
+        } else {
+            None
         }
     }
 }

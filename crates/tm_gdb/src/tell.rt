@@ -1,0 +1,58 @@
+//! What is told of a board.
+
+ghost use Rattle.std.specs.Prelude.{◌≡◌, []};
+ghost use Rattle.tm_gdb.specs.Answers.{TellsMemory, TellsRegister, TellsRegisters};
+
+use crate::target::Target;
+use gdb_command::Span;
+use gdb_packet::Bytes;
+use gdb_target::{CoreShown, REGISTERS, push_description, push_memory, push_part, push_register};
+use gdb_target::{push_registers, push_thread_list};
+use ia_text::page::push;
+
+/// All registers of the selected core: `g`.
+pub fn tell_registers(target: &Target, row: &mut Bytes)
+    requires { row.old.items ≡ [] }
+    ensures { TellsRegisters target.now row.new.items }
+{
+    push_registers(row, &CoreShown::of(&target.board, target.core()));
+}
+
+/// One register of the selected core: `p`.
+pub fn tell_register(target: &Target, number: u32, row: &mut Bytes)
+    requires { row.old.items ≡ [] }
+    ensures { TellsRegister target.now number row.new.items }
+{
+    let shown = CoreShown::of(&target.board, target.core());
+    if number < u32::from(REGISTERS) {
+        push_register(row, &shown, number as u8);
+    } else {
+        push(row, b"E01");
+    }
+}
+
+/// Memory as the selected core sees it: `m`.
+pub fn tell_memory(target: &Target, span: Span, row: &mut Bytes)
+    requires { row.old.items ≡ [] }
+    ensures { TellsMemory target.now span.at span.count row.new.items }
+{
+    push_memory(row, target.board.machine(), target.core(), span.at, span.count);
+}
+
+/// A part of the target's description.
+pub fn tell_description(span: Span, row: &mut Bytes)
+    requires { row.old.items ≡ [] }
+{
+    let mut text = Bytes::new();
+    push_description(&mut text);
+    push_part(row, text.as_slice(), span.at, span.count);
+}
+
+/// A part of the list of the cores.
+pub fn tell_threads(target: &Target, span: Span, row: &mut Bytes)
+    requires { row.old.items ≡ [] }
+{
+    let mut text = Bytes::new();
+    push_thread_list(&mut text, target.board.machine());
+    push_part(row, text.as_slice(), span.at, span.count);
+}
