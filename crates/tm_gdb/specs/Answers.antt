@@ -2,6 +2,10 @@
 use Rattle.std.specs.Prelude.{◌≡◌, ℕ, ◌-◌, ◌==◌, if◌then◌else◌, List, Option, Some, None, codes, length, nat_le, nat_lt}
 use Rattle.gdb_command.specs.declared.command.Command.{Command}
 use Rattle.gdb_command.specs.declared.command.Command.TheVariants as command
+use Rattle.gdb_command.specs.declared.command.Move.{Move}
+use Rattle.gdb_command.specs.declared.command.Move.TheVariants as move
+use Rattle.gdb_command.specs.declared.command.Question.{Question}
+use Rattle.gdb_command.specs.declared.command.Question.TheVariants as question
 use Rattle.gdb_target.specs.declared.shown.CoreShown.{CoreShown}
 use Rattle.gdb_target.specs.Memory.{memory_text}
 use Rattle.gdb_target.specs.Registers.{register_of, register_text, registers_text}
@@ -41,10 +45,10 @@ abbrev pub TellsMemory : Target → ℕ → ℕ → List ℕ → Type 0
 TellsMemory target at count text = text ≡ memory_text target.board.machine (core_of target) at count
 
 -- what is promised of the texts that tell of the board
-abbrev pub Tells : Command → Target → List ℕ → Type 0
-Tells command.Registers target text = TellsRegisters target text
-Tells (command.Register number) target text = TellsRegister target number text
-Tells (command.Memory span) target text = TellsMemory target span.at span.count text
+abbrev pub Tells : Question → Target → List ℕ → Type 0
+Tells question.Registers target text = TellsRegisters target text
+Tells (question.Register number) target text = TellsRegister target number text
+Tells (question.Memory span) target text = TellsMemory target span.at span.count text
 Tells _ target text = Unit {0}
 
 -- one step of this core, and none where the history is full
@@ -52,10 +56,15 @@ abbrev pub MakesStep : Option ℕ → ShownBoard → ShownBoard → Type 0
 MakesStep None old new = new ≡ old
 MakesStep (Some core) old new = (IsFull old → new ≡ old) × ((IsFull old → ⊥) → IsOneMore old new core)
 
--- steps, steps back, and nothing else, move a board
-abbrev pub Moves : Command → Target → ShownBoard → Type 0
-Moves (command.Step thread) target new = MakesStep (thread_core target thread) target.board new
-Moves command.Continue target new = IsLater target.board new
-Moves command.StepBack target new = IsFirst target.board (length target.board.history - 1) new
-Moves command.ContinueBack target new = (count : ℕ) × IsFirst target.board count new
-Moves _ target new = new ≡ target.board
+-- what a move does to the board
+abbrev pub Moves : Move → Target → ShownBoard → Type 0
+Moves (move.Step thread) target new = MakesStep (thread_core target thread) target.board new
+Moves move.Continue target new = IsLater target.board new
+Moves move.StepBack target new = IsFirst target.board (length target.board.history - 1) new
+Moves move.ContinueBack target new = (count : ℕ) × IsFirst target.board count new
+
+-- what a command does and tells: moves alone change the board
+abbrev pub Answers : Command → Target → ShownBoard → List ℕ → Type 0
+Answers (command.Ask asked) target new text = (new ≡ target.board) × Tells asked target text
+Answers (command.Move moved) target new text = Moves moved target new
+Answers (command.Set setting) target new text = new ≡ target.board

@@ -6,12 +6,17 @@
 //! `gdb_command` (commands), `gdb_packet` (packets) and `tm_debug` (devices that are read).
 #![tactic(auto)]
 
+mod answer;
 mod back;
+mod monitor;
 mod moves;
 mod points;
 mod stop;
 mod target;
+mod tell;
+mod text;
 
+pub use answer::carry_out;
 pub use points::{MOST_POINTS, Points};
 pub use stop::Stop;
 pub use target::Target;

@@ -6,8 +6,10 @@ ghost use Rattle.tm_gdb.specs.Answers.{TellsMemory, TellsRegister, TellsRegister
 use crate::target::Target;
 use gdb_command::Span;
 use gdb_packet::Bytes;
-use gdb_target::{CoreShown, REGISTERS, push_description, push_memory, push_part, push_register};
-use gdb_target::{push_registers, push_thread_list};
+use gdb_target::{
+    CoreShown, REGISTERS, push_description, push_memory, push_part, push_register, push_registers,
+    push_thread_list,
+};
 use ia_text::page::push;
 
 /// All registers of the selected core: `g`.
@@ -36,7 +38,13 @@ pub fn tell_memory(target: &Target, span: Span, row: &mut Bytes)
     requires { row.old.items ≡ [] }
     ensures { TellsMemory target.now span.at span.count row.new.items }
 {
-    push_memory(row, target.board.machine(), target.core(), span.at, span.count);
+    push_memory(
+        row,
+        target.board.machine(),
+        target.core(),
+        span.at,
+        span.count,
+    );
 }
 
 /// A part of the target's description.
