@@ -1,6 +1,7 @@
 //! The answer to a command.
 
 ghost use Rattle.std.specs.Prelude.{◌≡◌, ◌≤◌, [], OnErr, OnOk, length};
+ghost use Rattle.tm_hist.specs.Board.{SameBoard};
 ghost use Rattle.tm_gdb.specs.Answers.{Answers, MakesStep, Moves, Tells, thread_core};
 
 use crate::monitor::monitor_text;
@@ -69,7 +70,8 @@ fn tell(alloc: Global, target: &Target, asked: Question, row: &mut Bytes) -> Res
 
 // One step of a thread, and why the target then stands; nothing for a thread that there is not.
 fn make_step(target: &mut Target, thread: u32) -> Option<Stop>
-    ensures { MakesStep (thread_core target.old thread) target.old.board target.new.board }
+    ensures made { MakesStep (thread_core target.old thread) target.old.board target.new.board }
+    ensures same { SameBoard target.old.board target.new.board }
 {
     match target.thread_core(thread) {
         Some(core) => Some(target.step(core)),
@@ -82,6 +84,7 @@ fn make_step(target: &mut Target, thread: u32) -> Option<Stop>
 fn make_move(alloc: Global, target: &mut Target, asked: Move) -> Result<Option<Stop>, AllocError>
     ensures ok { OnOk result (Moves asked target.old target.new.board) }
     ensures err { OnErr result (target.new.board ≡ target.old.board) }
+    ensures same { SameBoard target.old.board target.new.board }
 {
     match asked {
         Move::Step(thread) => Ok(make_step(target, thread)),
@@ -149,6 +152,7 @@ pub fn carry_out(
     requires { row.old.items ≡ [] }
     ensures ok { OnOk result (Answers command target.old target.new.board row.new.items) }
     ensures err { OnErr result (target.new.board ≡ target.old.board) }
+    ensures same { SameBoard target.old.board target.new.board }
 {
     match command {
         Command::Ask(asked) => tell(alloc, target, asked, row),

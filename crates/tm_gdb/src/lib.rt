@@ -11,6 +11,7 @@ mod back;
 mod monitor;
 mod moves;
 mod points;
+mod session;
 mod stop;
 mod target;
 mod tell;
@@ -18,5 +19,6 @@ mod text;
 
 pub use answer::carry_out;
 pub use points::{MOST_POINTS, Points};
+pub use session::serve;
 pub use stop::Stop;
 pub use target::Target;

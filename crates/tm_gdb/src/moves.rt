@@ -1,7 +1,7 @@
 //! Moves forward.
 
 ghost use Rattle.std.specs.Prelude.{◌≡◌, ◌<◌, IfSome, length};
-ghost use Rattle.tm_hist.specs.Board.{IsFull};
+ghost use Rattle.tm_hist.specs.Board.{IsFull, SameBoard};
 ghost use Rattle.tm_gdb.specs.Moves.{IsLater, IsOneMore};
 
 use crate::points::changed;
@@ -15,6 +15,7 @@ impl Target {
         requires { core < length self.old.board.program.entries }
         ensures full { IsFull self.old.board → self.new.board ≡ self.old.board }
         ensures made { (IsFull self.old.board → ⊥) → IsOneMore self.old.board self.new.board core }
+        ensures same { SameBoard self.old.board self.new.board }
         ensures points { self.new.points ≡ self.old.points }
     {
         self.selected = core;

@@ -1,0 +1,262 @@
+//! A session: bytes are read, and the packets among them answered.
+
+ghost use Rattle.std.specs.Prelude.{◌≡◌, ℕ, List, Err, IfErr, IfOk, OnErr, OnOk, []};
+ghost use Rattle.gdb_packet.specs.Packet.{framed};
+ghost use Rattle.ia_text.specs.Writing.{Rose, Wrote};
+ghost use Rattle.tm_hist.specs.Board.{SameBoard};
+ghost use Rattle.tm_debug.specs.Faults.{session_board, session_code};
+ghost use Rattle.tm_gdb.specs.Answers.{Answers};
+
+use crate::answer::carry_out;
+use crate::target::Target;
+use gdb_command::{Command, Question, read_command};
+use gdb_packet::{Bytes, Heard, Reader, write_packet};
+use ia_text::{Failed, Out};
+use std::alloc::Global;
+use std::sync::Wait;
+use tm_debug::{In, SessionFault};
+use tm_hist::Board;
+
+/// What ends a session before its input or gdb does.
+#[derive(Clone, Copy, PartialEq, Eq, Debug)]
+pub enum Interruption {
+    /// The device that packets come from failed.
+    Read,
+    /// The device that answers go to failed.
+    Write,
+    /// There was no memory for an answer.
+    NoMemory,
+}
+
+/// What a session keeps.
+#[derive(Drop)]
+pub struct Session {
+    target: Target,
+    reader: Reader,
+    // Whether packets are acknowledged.
+    acknowledges: bool,
+    // The last answer, which gdb may ask to hear once more.
+    last: Bytes,
+}
+
+// Writes bytes.
+fn put<O: Out>(bytes: &[u8], out: &mut O) -> Result<(), Interruption>
+    ensures kept { OnOk result ((O.device out.new).failures ≡ (O.device out.old).failures) }
+    ensures err { IfErr result (λ fault. fault ≡ Interruption.Write) }
+    ensures rose { OnErr result (Rose (O.device out.old).failures (O.device out.new).failures) }
+{
+    match out.put(bytes) {
+        Ok(()) => Ok(()),
+        Err(Failed) => Err(Interruption::Write),
+    }
+}
+
+// Writes the packet that tells these bytes.
+fn put_packet<O: Out>(bytes: &Bytes, out: &mut O) -> Result<(), Interruption>
+    ensures wrote { OnOk result (Wrote (O.device out.old) (O.device out.new) (framed bytes.now.items)) }
+    ensures err { IfErr result (λ fault. fault ≡ Interruption.Write) }
+    ensures rose { OnErr result (Rose (O.device out.old).failures (O.device out.new).failures) }
+{
+    match write_packet(bytes.as_slice(), out) {
+        Ok(()) => Ok(()),
+        Err(_) => Err(Interruption::Write),
+    }
+}
+
+// The next byte, or nothing at the end.
+fn next_byte<I: In>(input: &mut I) -> Result<Option<u8>, Interruption>
+    ensures kept { OnOk result (I.failed input.new ≡ I.failed input.old) }
+    ensures err { IfErr result (λ fault. fault ≡ Interruption.Read) }
+    ensures rose { OnErr result (Rose (I.failed input.old) (I.failed input.new)) }
+{
+    let mut byte = [0];
+    match input.get(&mut byte) {
+        Ok(count) => Ok(if count == 0 { None } else { Some(byte[0]) }),
+        Err(Failed) => Err(Interruption::Read),
+    }
+}
+
+// Whether a command ends the session.
+fn ends(command: Command) -> bool {
+    match command {
+        Command::Ask(Question::Detach)
+        | Command::Ask(Question::Kill)
+        | Command::Ask(Question::KillAnswered) => true,
+        _ => false,
+    }
+}
+
+impl Session {
+    fn new(board: Board) -> Session
+        ensures { result.target.board ≡ board }
+    {
+        Session {
+            target: Target::new(board),
+            reader: Reader::new(),
+            acknowledges: true,
+            last: Bytes::new(),
+        }
+    }
+
+    // Does what a command says and writes its answer.
+    fn reply<O: Out>(
+        &mut self,
+        alloc: Global,
+        command: Command,
+        out: &mut O,
+    ) -> Result<(), Interruption>
+        ensures ok { OnOk result ((text : List ℕ)
+            × Answers command self.old.target self.new.target.board text
+            × Wrote (O.device out.old) (O.device out.new) (framed text)) }
+        ensures same { SameBoard self.old.target.board self.new.target.board }
+        ensures read { result ≡ Err Interruption.Read → ⊥ }
+        ensures rose { result ≡ Err Interruption.Write
+            → Rose (O.device out.old).failures (O.device out.new).failures }
+        ensures memory { result ≡ Err Interruption.NoMemory
+            → (self.new.target.board ≡ self.old.target.board) × (O.device out.new ≡ O.device out.old) }
+    {
+        let mut row = Bytes::new();
+        match carry_out(alloc, &mut self.target, command, &mut row) {
+            Ok(()) => {}
+            Err(_) => return Err(Interruption::NoMemory),
+        }
+        let written = put_packet(&row, out);
+        self.last = row;
+        written
+    }
+
+    // Answers a packet, and tells whether the session goes on.
+    fn respond<O: Out>(
+        &mut self,
+        alloc: Global,
+        packet: &[u8],
+        out: &mut O,
+    ) -> Result<bool, Interruption>
+        ensures same { SameBoard self.old.target.board self.new.target.board }
+        ensures kept { OnOk result ((O.device out.new).failures ≡ (O.device out.old).failures) }
+        ensures read { result ≡ Err Interruption.Read → ⊥ }
+        ensures rose { result ≡ Err Interruption.Write
+            → Rose (O.device out.old).failures (O.device out.new).failures }
+    {
+        let command = read_command(packet);
+        self.acknowledge(out)?;
+        self.reply(alloc, command, out)?;
+        if command == Command::Ask(Question::NoAcknowledgements) {
+            self.acknowledges = false;
+        }
+        Ok(!ends(command))
+    }
+
+    // Tells gdb that a packet was received, where it wants to know.
+    fn acknowledge<O: Out>(&self, out: &mut O) -> Result<(), Interruption>
+        ensures kept { OnOk result ((O.device out.new).failures ≡ (O.device out.old).failures) }
+        ensures err { IfErr result (λ fault. fault ≡ Interruption.Write) }
+        ensures rose { OnErr result (Rose (O.device out.old).failures (O.device out.new).failures) }
+    {
+        if self.acknowledges {
+            put(b"+", out)
+        } else {
+            Ok(())
+        }
+    }
+
+    // Hears a byte, and tells whether the session goes on. A packet that was damaged or is too long is refused by a `-`.
+    // The target stands whenever a byte is heard, so that an interrupt stops nothing.
+    fn hear<O: Out>(&mut self, alloc: Global, byte: u8, out: &mut O) -> Result<bool, Interruption>
+        ensures same { SameBoard self.old.target.board self.new.target.board }
+        ensures kept { OnOk result ((O.device out.new).failures ≡ (O.device out.old).failures) }
+        ensures read { result ≡ Err Interruption.Read → ⊥ }
+        ensures rose { result ≡ Err Interruption.Write
+            → Rose (O.device out.old).failures (O.device out.new).failures }
+    {
+        match self.reader.hear(byte) {
+            Heard::Packet(bytes) => self.respond(alloc, bytes.as_slice(), out),
+            Heard::Damaged => refuse(out),
+            Heard::TooLong => refuse(out),
+            Heard::Resend => self.resend(out),
+            Heard::Nothing => Ok(true),
+            Heard::Interrupt => Ok(true),
+            Heard::Received => Ok(true),
+            Heard::Stray(_) => Ok(true),
+        }
+    }
+
+    // Writes the last answer once more.
+    fn resend<O: Out>(&self, out: &mut O) -> Result<bool, Interruption>
+        ensures kept { OnOk result ((O.device out.new).failures ≡ (O.device out.old).failures) }
+        ensures err { IfErr result (λ fault. fault ≡ Interruption.Write) }
+        ensures rose { OnErr result (Rose (O.device out.old).failures (O.device out.new).failures) }
+    {
+        match put_packet(&self.last, out) {
+            Ok(()) => Ok(true),
+            Err(fault) => Err(fault),
+        }
+    }
+}
+
+// Tells gdb to send its packet once more.
+fn refuse<O: Out>(out: &mut O) -> Result<bool, Interruption>
+    ensures kept { OnOk result ((O.device out.new).failures ≡ (O.device out.old).failures) }
+    ensures err { IfErr result (λ fault. fault ≡ Interruption.Write) }
+    ensures rose { OnErr result (Rose (O.device out.old).failures (O.device out.new).failures) }
+{
+    match put(b"-", out) {
+        Ok(()) => Ok(true),
+        Err(fault) => Err(fault),
+    }
+}
+
+// Hears the bytes of the input, up to its end or that of the session.
+fn serve_bytes<W: Wait, I: In, O: Out>(
+    rt: &W,
+    alloc: Global,
+    session: &mut Session,
+    input: &mut I,
+    out: &mut O,
+) -> Result<(), Interruption>
+    ensures same { SameBoard session.old.target.board session.new.target.board }
+    ensures read { result ≡ Err Interruption.Read → Rose (I.failed input.old) (I.failed input.new) }
+    ensures write { result ≡ Err Interruption.Write
+        → Rose (O.device out.old).failures (O.device out.new).failures }
+{
+    'bytes: for _ in rt.forever() {
+        let found = next_byte(input)?;
+        let byte = match found {
+            Some(byte) => byte,
+            None => return Ok(()),
+        };
+        let goes_on = session.hear(alloc, byte, out)?;
+        if !goes_on {
+            return Ok(());
+        }
+    }
+    unreachable!()
+}
+
+/// Answers the packets of an input with a board, up to gdb's `detach` or `kill` or the input's end, and gives the board
+/// back after the steps that were made. Waits for its input only.
+///
+/// A packet that was damaged or is too long is refused by a `-`, and other bytes between packets are not answered.
+/// [`SessionFault`] tells what ended the session before: a device that failed (76, 77), or want of memory for the board
+/// of the first steps or for the lines of a set (78).
+pub fn serve<W: Wait, I: In, O: Out>(
+    rt: &W,
+    alloc: Global,
+    board: Board,
+    input: &mut I,
+    out: &mut O,
+) -> Result<Board, SessionFault>
+    ensures ok { IfOk result (SameBoard board) }
+    ensures fault { IfErr result (λ fault. SameBoard board (session_board fault)) }
+    ensures read { IfErr result (λ fault. session_code fault ≡ 76 → Rose (I.failed input.old) (I.failed input.new)) }
+    ensures write { IfErr result (λ fault. session_code fault ≡ 77
+        → Rose (O.device out.old).failures (O.device out.new).failures) }
+{
+    let mut session = Session::new(board);
+    match serve_bytes(rt, alloc, &mut session, input, out) {
+        Ok(()) => Ok(session.target.board),
+        Err(Interruption::Read) => Err(SessionFault::Read(session.target.board)),
+        Err(Interruption::Write) => Err(SessionFault::Write(session.target.board)),
+        Err(Interruption::NoMemory) => Err(SessionFault::NoMemory(session.target.board)),
+    }
+}
