@@ -57,9 +57,9 @@ impl Target {
     fn again(&self, board: &mut Board, made: u64) -> Option<Place> {
         let (core, _outcome) = self.board.history().get(made as usize)?;
         let stops = self.points.stop(board.machine(), core);
-        let before = self.points.watched(board.machine());
+        let before = self.points.watched(board.machine(), core);
         let _ = board.step(core);
-        let after = self.points.watched(board.machine());
+        let after = self.points.watched(board.machine(), core);
         match changed(&before, &after) {
             Some(index) => Some(Place {
                 made,
@@ -96,7 +96,7 @@ impl Target {
         Ok(place)
     }
 
-    /// Takes steps back, to before the latest one whose core was at a breakpoint or that changed a watchpoint's bytes, and
+    /// Takes steps back, to before the latest one whose core was at a breakpoint or saw a watchpoint change, and
     /// all where there is none.
     pub fn go_back(&mut self, alloc: Global) -> Result<Stop, BackFault>
         ensures ok { OnOk result ((count : ℕ) × IsFirst self.old.board count self.new.board) }

@@ -68,9 +68,9 @@ impl Target {
             self.selected = core;
             return Some(Stop::Break);
         }
-        let before = self.points.watched(self.board.machine());
+        let before = self.points.watched(self.board.machine(), core);
         let stop = self.step(core);
-        let after = self.points.watched(self.board.machine());
+        let after = self.points.watched(self.board.machine(), core);
         match (changed(&before, &after), stop) {
             (Some(index), _) => Some(Stop::Watch(self.points.watch_address(index))),
             (None, Stop::Stepped) => None,
@@ -78,7 +78,7 @@ impl Target {
         }
     }
 
-    /// Steps of the cores in turn, until one is at a breakpoint, a watchpoint's bytes change, all cores have stopped or the
+    /// Steps of the cores in turn, until one is at a breakpoint, what the core sees at a watchpoint changes, all cores have stopped or the
     /// history is full. The first step is made also at a breakpoint.
     pub fn go_on(&mut self) -> Stop
         ensures later { IsLater self.old.board self.new.board }

@@ -20,15 +20,24 @@ pub struct Points {
     watches: ArrayVec<Span, MOST_POINTS>,
 }
 
-/// What memory holds at the watchpoints.
+/// What a core sees at the watchpoints.
 pub type Watched = ArrayVec<u64, MOST_POINTS>;
 
-// The bytes of a watchpoint as a number; those behind the end of memory are 0.
-fn value_at(memory: &[u8], span: Span) -> u64 {
+// A byte as a core sees it, and 0 where memory has none.
+fn byte_at(machine: &Machine, core: u8, address: u32) -> u8 {
+    if (address as usize) < machine.view().len() {
+        machine.seen(core, address).unwrap_or(0)
+    } else {
+        0
+    }
+}
+
+// The bytes of a watchpoint as a number, as a core sees them.
+fn value_at(machine: &Machine, core: u8, span: Span) -> u64 {
     let mut value = 0_u64;
     for index in 0..span.count.min(MOST_WATCHED) {
-        let byte = memory.get(span.at as usize + index as usize).copied();
-        value = value.wrapping_mul(256) | u64::from(byte.unwrap_or(0));
+        let byte = byte_at(machine, core, span.at.wrapping_add(index));
+        value = value.wrapping_mul(256) | u64::from(byte);
     }
     value
 }
@@ -99,11 +108,11 @@ impl Points {
         is_to_execute(state) && self.breaks.as_slice().contains(&regs.eip)
     }
 
-    /// What memory holds at the watchpoints, without the bytes of open transactions.
-    pub fn watched(&self, machine: &Machine) -> Watched {
+    /// What a core sees at the watchpoints. gdb reads them so too: what it finds unchanged it does not tell.
+    pub fn watched(&self, machine: &Machine, core: u8) -> Watched {
         let mut row = Watched::new();
         for span in self.watches.as_slice() {
-            let _ = row.try_push(value_at(machine.view(), *span));
+            let _ = row.try_push(value_at(machine, core, *span));
         }
         row
     }

@@ -19,7 +19,7 @@ pub enum Stop {
     Begin,
     /// The core whose turn it is is at a breakpoint.
     Break,
-    /// The last step changed the bytes of the watchpoint at this address.
+    /// The core sees other bytes at the watchpoint of this address than before its last step.
     Watch(u32),
 }
 
