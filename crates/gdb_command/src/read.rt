@@ -1,7 +1,8 @@
 //! Packets as commands.
 
-ghost use Rattle.std.specs.Prelude.{◌≡◌};
-ghost use Rattle.gdb_command.specs.Commands.{span_in};
+ghost use Rattle.std.specs.Prelude.{◌≡◌, IfSome};
+ghost use Rattle.gdb_command.specs.Commands.{known_command, letter_move, letter_question, span_in, with_number, with_span};
+ghost use Rattle.gdb_command.specs.Numbers.{number_in};
 
 use crate::command::{Command, Move, Point, PointKind, Question, Setting, Span};
 use crate::number::number_in;
@@ -108,33 +109,100 @@ fn read_set(text: &[u8]) -> Question {
     }
 }
 
-// What a packet asks that is told by its first letter.
-fn read_question(packet: &[u8]) -> Question {
-    match packet {
-        [b'?', ..] => Question::Status,
-        [b'g', ..] => Question::Registers,
-        [b'p', text @ ..] => number_in(text).map_or(Question::Malformed, Question::Register),
-        [b'm', text @ ..] => span_in(text).map_or(Question::Malformed, Question::Memory),
-        [b'T', text @ ..] => number_in(text).map_or(Question::Malformed, Question::IsAlive),
-        [b'q', text @ ..] => read_query(text),
-        [b'Q', text @ ..] => read_set(text),
-        [b'D', ..] => Question::Detach,
-        [b'k', ..] => Question::Kill,
-        [b'G', ..] | [b'P', ..] | [b'M', ..] | [b'X', ..] => Question::Write,
-        _ => Question::Unknown,
+// The question about a register or a thread, or a malformed one.
+fn register_question(text: &[u8]) -> Question
+    ensures { result ≡ with_number Question.Register (number_in text.now) }
+{
+    match number_in(text) {
+        Some(number) => Question::Register(number),
+        None => Question::Malformed,
+    }
+}
+
+fn thread_question(text: &[u8]) -> Question
+    ensures { result ≡ with_number Question.IsAlive (number_in text.now) }
+{
+    match number_in(text) {
+        Some(number) => Question::IsAlive(number),
+        None => Question::Malformed,
+    }
+}
+
+fn memory_question(text: &[u8]) -> Question
+    ensures { result ≡ with_span Question.Memory (span_in text.now) }
+{
+    match span_in(text) {
+        Some(span) => Question::Memory(span),
+        None => Question::Malformed,
+    }
+}
+
+// The question of a letter and the text behind it, for letters whose text is a number, a span or nothing.
+fn letter_question(letter: u8, text: &[u8]) -> Option<Question>
+    ensures { result ≡ letter_question letter text.now }
+{
+    if letter == b'?' {
+        Some(Question::Status)
+    } else if letter == b'g' {
+        Some(Question::Registers)
+    } else if letter == b'p' {
+        Some(register_question(text))
+    } else if letter == b'm' {
+        Some(memory_question(text))
+    } else if letter == b'T' {
+        Some(thread_question(text))
+    } else {
+        None
+    }
+}
+
+// The move of a letter.
+fn letter_move(letter: u8) -> Option<Move>
+    ensures { result ≡ letter_move letter }
+{
+    if letter == b's' {
+        Some(Move::Step(0))
+    } else if letter == b'c' {
+        Some(Move::Continue)
+    } else {
+        None
+    }
+}
+
+// The command of a letter and the text behind it, for any other letter.
+fn other_command(letter: u8, text: &[u8]) -> Command {
+    match letter {
+        b'b' => read_back(text),
+        b'v' => read_long(text),
+        b'H' => read_select(text),
+        b'Z' => read_insert(text),
+        b'z' => read_remove(text),
+        b'q' => Command::Ask(read_query(text)),
+        b'Q' => Command::Ask(read_set(text)),
+        b'D' => Command::Ask(Question::Detach),
+        b'k' => Command::Ask(Question::Kill),
+        b'G' | b'P' | b'M' | b'X' => Command::Ask(Question::Write),
+        _ => Command::Ask(Question::Unknown),
     }
 }
 
 /// The command that a packet's bytes tell.
-pub fn read_command(packet: &[u8]) -> Command {
-    match packet {
-        [b's', ..] => Command::Move(Move::Step(0)),
-        [b'c', ..] => Command::Move(Move::Continue),
-        [b'b', text @ ..] => read_back(text),
-        [b'v', text @ ..] => read_long(text),
-        [b'H', text @ ..] => read_select(text),
-        [b'Z', text @ ..] => read_insert(text),
-        [b'z', text @ ..] => read_remove(text),
-        _ => Command::Ask(read_question(packet)),
+///
+/// Of the moves `s` and `c` and the questions `?`, `g`, `p`, `m` and `T` the clause says which; what each other packet is
+/// read as is not promised.
+pub fn read_command(packet: &[u8]) -> Command
+    ensures { IfSome (known_command packet.now) (λ known. result ≡ known) }
+{
+    if packet.is_empty() {
+        return Command::Ask(Question::Unknown);
+    }
+    let letter = packet[0];
+    let text = &packet[1..];
+    if let Some(asked) = letter_move(letter) {
+        return Command::Move(asked);
+    }
+    match letter_question(letter, text) {
+        Some(asked) => Command::Ask(asked),
+        None => other_command(letter, text),
     }
 }
