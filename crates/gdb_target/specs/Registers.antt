@@ -1,7 +1,7 @@
 -- Registers as gdb reads them: two hex digits a byte, in the order of the bytes in memory, and x for a byte that is not
 -- there (gdb manual, appendix E.2, `g` and `p`); their order is that of the target description (appendix G.5.5, "i386
 -- Features").
-use Rattle.std.specs.Prelude.{ℕ, ◌+◌, ◌*◌, ◌==◌, if◌then◌else◌, List, bit_or, nat_lt, replicate, slice_index}
+use Rattle.std.specs.Prelude.{ℕ, ◌*◌, ◌==◌, if◌then◌else◌, List, bit_or, nat_lt, replicate, slice_index}
 use Rattle.std.specs.List.{flat_map, range_with_len}
 use Rattle.std.specs.Int.{w32, to_le_bytes}
 use Rattle.hex.specs.Hex.{encode_lower}

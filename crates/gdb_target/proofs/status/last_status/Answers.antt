@@ -1,4 +1,4 @@
-use Rattle.std.proofs.Common.{◌≡◌, ◌-◌, ◌+◌, suc, ap, sym, ◌∙◌, arith, take}
+use Rattle.std.proofs.Common.{◌≡◌, ◌-◌, suc, ap, sym, ◌∙◌, arith, take}
 use Rattle.tm_hist.specs.History.{pairs_of}
 use Rattle.gdb_target.specs.Shown.{last_status}
 use Rattle.gdb_target.proofs.Statuses.{last_is, last_is_not}
