@@ -1,3 +1,4 @@
 pub mod Moves
 pub mod Stops
 pub mod Answers
+pub mod Sessions

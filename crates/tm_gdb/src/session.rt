@@ -6,6 +6,7 @@ ghost use Rattle.ia_text.specs.Writing.{Rose, Wrote};
 ghost use Rattle.tm_hist.specs.Board.{SameBoard};
 ghost use Rattle.tm_debug.specs.Faults.{session_board, session_code};
 ghost use Rattle.tm_gdb.specs.Answers.{Answers};
+ghost use Rattle.tm_gdb.specs.Sessions.{IsAnswered, acknowledgement};
 
 use crate::answer::carry_out;
 use crate::target::Target;
@@ -41,6 +42,7 @@ pub struct Session {
 
 // Writes bytes.
 fn put<O: Out>(bytes: &[u8], out: &mut O) -> Result<(), Interruption>
+    ensures wrote { OnOk result (Wrote (O.device out.old) (O.device out.new) bytes.now) }
     ensures kept { OnOk result ((O.device out.new).failures ≡ (O.device out.old).failures) }
     ensures err { IfErr result (λ fault. fault ≡ Interruption.Write) }
     ensures rose { OnErr result (Rose (O.device out.old).failures (O.device out.new).failures) }
@@ -132,6 +134,8 @@ impl Session {
         packet: &[u8],
         out: &mut O,
     ) -> Result<bool, Interruption>
+        ensures answered { OnOk result (IsAnswered packet.now self.old.acknowledges self.old.target self.new.target.board
+            (O.device out.old) (O.device out.new)) }
         ensures same { SameBoard self.old.target.board self.new.target.board }
         ensures kept { OnOk result ((O.device out.new).failures ≡ (O.device out.old).failures) }
         ensures read { result ≡ Err Interruption.Read → ⊥ }
@@ -149,6 +153,8 @@ impl Session {
 
     // Tells gdb that a packet was received, where it wants to know.
     fn acknowledge<O: Out>(&self, out: &mut O) -> Result<(), Interruption>
+        ensures wrote { OnOk result (Wrote (O.device out.old) (O.device out.new)
+            (acknowledgement self.now.acknowledges)) }
         ensures kept { OnOk result ((O.device out.new).failures ≡ (O.device out.old).failures) }
         ensures err { IfErr result (λ fault. fault ≡ Interruption.Write) }
         ensures rose { OnErr result (Rose (O.device out.old).failures (O.device out.new).failures) }
