@@ -1,12 +1,12 @@
 //! A session: bytes are read, and the packets among them answered.
 
-ghost use Rattle.std.specs.Prelude.{◌≡◌, ℕ, List, Err, IfErr, IfOk, OnErr, OnOk, []};
+ghost use Rattle.std.specs.Prelude.{◌≡◌, ◌∷◌, ℕ, List, Err, IfErr, IfOk, OnErr, OnOk, []};
 ghost use Rattle.gdb_packet.specs.Packet.{framed};
 ghost use Rattle.ia_text.specs.Writing.{Rose, Wrote};
 ghost use Rattle.tm_hist.specs.Board.{SameBoard};
 ghost use Rattle.tm_debug.specs.Faults.{session_board, session_code};
 ghost use Rattle.tm_gdb.specs.Answers.{Answers};
-ghost use Rattle.tm_gdb.specs.Sessions.{IsAnswered, acknowledgement};
+ghost use Rattle.tm_gdb.specs.Sessions.{IsAnswered, IsHeard, acknowledgement};
 
 use crate::answer::carry_out;
 use crate::target::Target;
@@ -110,6 +110,7 @@ impl Session {
         ensures ok { OnOk result ((text : List ℕ)
             × Answers command self.old.target self.new.target.board text
             × Wrote (O.device out.old) (O.device out.new) (framed text)) }
+        ensures reader { self.new.reader ≡ self.old.reader }
         ensures same { SameBoard self.old.target.board self.new.target.board }
         ensures read { result ≡ Err Interruption.Read → ⊥ }
         ensures rose { result ≡ Err Interruption.Write
@@ -136,6 +137,7 @@ impl Session {
     ) -> Result<bool, Interruption>
         ensures answered { OnOk result (IsAnswered packet.now self.old.acknowledges self.old.target self.new.target.board
             (O.device out.old) (O.device out.new)) }
+        ensures reader { self.new.reader ≡ self.old.reader }
         ensures same { SameBoard self.old.target.board self.new.target.board }
         ensures kept { OnOk result ((O.device out.new).failures ≡ (O.device out.old).failures) }
         ensures read { result ≡ Err Interruption.Read → ⊥ }
@@ -169,6 +171,8 @@ impl Session {
     // Hears a byte, and tells whether the session goes on. A packet that was damaged or is too long is refused by a `-`.
     // The target stands whenever a byte is heard, so that an interrupt stops nothing.
     fn hear<O: Out>(&mut self, alloc: Global, byte: u8, out: &mut O) -> Result<bool, Interruption>
+        ensures heard { OnOk result (IsHeard byte self.old.reader self.new.reader self.old.acknowledges self.old.target
+            self.new.target.board (O.device out.old) (O.device out.new)) }
         ensures same { SameBoard self.old.target.board self.new.target.board }
         ensures kept { OnOk result ((O.device out.new).failures ≡ (O.device out.old).failures) }
         ensures read { result ≡ Err Interruption.Read → ⊥ }
@@ -202,6 +206,7 @@ impl Session {
 
 // Tells gdb to send its packet once more.
 fn refuse<O: Out>(out: &mut O) -> Result<bool, Interruption>
+    ensures wrote { OnOk result (Wrote (O.device out.old) (O.device out.new) (45 ∷ [])) }
     ensures kept { OnOk result ((O.device out.new).failures ≡ (O.device out.old).failures) }
     ensures err { IfErr result (λ fault. fault ≡ Interruption.Write) }
     ensures rose { OnErr result (Rose (O.device out.old).failures (O.device out.new).failures) }
