@@ -78,8 +78,8 @@ impl Target {
         }
     }
 
-    /// Steps of the cores in turn, until one is at a breakpoint, what the core sees at a watchpoint changes, all cores have stopped or the
-    /// history is full. The first step is made also at a breakpoint.
+    /// Steps of the cores in turn, until one is at a breakpoint, what it sees at a watchpoint changes, all cores have
+    /// stopped or the history is full. The first step is made also at a breakpoint.
     pub fn go_on(&mut self) -> Stop
         ensures later { IsLater self.old.board self.new.board }
         ensures points { self.new.points ≡ self.old.points }
