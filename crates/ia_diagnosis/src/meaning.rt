@@ -41,12 +41,10 @@ pub enum Meaning<'a> {
     NoBracket,
     /// A scale of an index that is none.
     NoScale,
-    /// A register of 8 bits where one of 32 belongs.
-    ByteRegister(&'a [u8]),
-    /// A register of 32 bits where one of 8 belongs.
-    DwordRegister(&'a [u8]),
-    /// A size word that is not the other operand's.
-    OtherSize(&'a [u8]),
+    /// A register or a size word of 8 bits where one of 32 belongs.
+    TooNarrow(&'a [u8]),
+    /// A register or a size word of 32 bits where one of 8 belongs.
+    TooWide(&'a [u8]),
     /// An operand is missing.
     TooFew,
     /// An operand is left over.
@@ -136,9 +134,8 @@ impl fmt::Display for Meaning<'_> {
             | Meaning::NoRegister(_)
             | Meaning::NoSize(_)
             | Meaning::NoPointer(_)
-            | Meaning::ByteRegister(_)
-            | Meaning::DwordRegister(_)
-            | Meaning::OtherSize(_)
+            | Meaning::TooNarrow(_)
+            | Meaning::TooWide(_)
             | Meaning::NoForm(_)
             | Meaning::NoNumber(_) => fmt_operand(*self, f),
             Meaning::OutOfRange(field) => write!(f, "out of range: {field}"),
@@ -192,9 +189,8 @@ fn fmt_operand<W: fmt::Write>(meaning: Meaning<'_>, f: &mut fmt::Formatter<W>) -
         Meaning::NoPointer(word) => {
             write!(f, "{} is not written: dword [..] or byte [..]", Told(word))
         }
-        Meaning::ByteRegister(word) => write!(f, "{} has 8 bits; 32 are wanted", Told(word)),
-        Meaning::DwordRegister(word) => write!(f, "{} has 32 bits; 8 are wanted", Told(word)),
-        Meaning::OtherSize(word) => write!(f, "{} is not the other operand's size", Told(word)),
+        Meaning::TooNarrow(word) => write!(f, "{} has 8 bits; 32 are wanted", Told(word)),
+        Meaning::TooWide(word) => write!(f, "{} has 32 bits; 8 are wanted", Told(word)),
         Meaning::NoForm(word) => write!(f, "operands fit no form of {}", Told(word)),
         _ => Ok(()),
     }

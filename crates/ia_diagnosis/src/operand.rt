@@ -287,14 +287,14 @@ fn of_word<'a>(piece: &Piece<'a>) -> Option<Meaning<'a>> {
 fn other_width<'a>(piece: &Piece<'a>) -> Option<(&'static [u8], Meaning<'a>)> {
     let word = piece.text;
     if piece.is_named("byte") {
-        return Some((b"dword", Meaning::OtherSize(word)));
+        return Some((b"dword", Meaning::TooNarrow(word)));
     }
     if piece.is_named("dword") {
-        return Some((b"byte", Meaning::OtherSize(word)));
+        return Some((b"byte", Meaning::TooWide(word)));
     }
     match register_of(word) {
-        Some((Width::B, _number)) => Some((b"ecx", Meaning::ByteRegister(word))),
-        Some((Width::D, _number)) => Some((b"cl", Meaning::DwordRegister(word))),
+        Some((Width::B, _number)) => Some((b"ecx", Meaning::TooNarrow(word))),
+        Some((Width::D, _number)) => Some((b"cl", Meaning::TooWide(word))),
         _ => None,
     }
 }
