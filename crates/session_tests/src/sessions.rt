@@ -99,6 +99,62 @@ fn a_run_goes_on_behind_the_last_step(rt: HostRuntime) {
 }
 
 #[test]
+fn steps_are_taken_back(rt: HostRuntime) {
+    answers(
+        &rt,
+        rt.alloc(),
+        board(&rt, rt.alloc(), &[0x100, 0x100], 4),
+        b"run 4\nstep 0\nback 2\nstep 1\nback 3\nback 1\nrun 1\n",
+        b"0 begun\n1 begun\n0 inside\n1 inside\nerror 74\nat step 2\n1 inside\nat step 0\nerror 73\n0 begun\nbye\n",
+        1,
+    );
+}
+
+// Along this plan a session of two cores answers these lines so, and makes so many steps.
+fn answers_along<R: Abort + Wait>(
+    rt: &R,
+    alloc: Global,
+    plan: &[u8],
+    lines: &[u8],
+    text: &[u8],
+    made: u64,
+) {
+    let mut input = FromReader::new(Cursor::new(lines));
+    let mut out = ToVec::new(Vec::new(alloc));
+    let board = board(rt, alloc, &[0x100, 0x100], 100);
+    let plan = Vec::from_slice(alloc, plan).expect(rt, "memory");
+    match serve_in(rt, alloc, Manner::Plain, plan, board, &mut input, &mut out) {
+        Ok(board) => assert_eq!(rt; board.made(), made),
+        Err(fault) => assert!(rt; false, "fault {}", fault.code()),
+    }
+    assert_eq!(rt; out.bytes.as_slice(), text);
+}
+
+#[test]
+fn a_plan_is_followed(rt: HostRuntime) {
+    answers_along(
+        &rt,
+        rt.alloc(),
+        &[0, 1, 1, 0, 9],
+        b"next 2\nback 1\nnext 1\nstep 0\nnext 2\nnext 3\nnext 0\nnext\nnext 1 1\n",
+        b"0 begun\n1 begun\nat step 1\n1 begun\n0 inside\n0 inside\nerror 72\nerror 72\nerror 73\nerror 71\nerror 71\nbye\n",
+        4,
+    );
+}
+
+#[test]
+fn a_plan_ends(rt: HostRuntime) {
+    answers_along(
+        &rt,
+        rt.alloc(),
+        &[0, 0, 1],
+        b"break 0x106\nnext 5\nnext 100000\nnext 1\nnext 100001\nrun 1\n",
+        b"ok\n0 begun\nbreak 0 00000106\n0 inside\n1 begun\nthe schedule has ended\nthe schedule has ended\nerror 73\n0 inside\nbye\n",
+        4,
+    );
+}
+
+#[test]
 fn ranges_that_are_met(rt: HostRuntime) -> Result<(), Fail> {
     let mut text = Vec::from_slice(rt.alloc(), b"ok\nok\n")?;
     for row in 0..16_u8 {
@@ -209,10 +265,17 @@ fn a_spoken_session(rt: HostRuntime) {
     let mut input = FromReader::new(Cursor::new(lines.as_slice()));
     let mut out = ToVec::new(Vec::new(rt.alloc()));
     let board = board(&rt, rt.alloc(), &[0x100], 1);
-    let board = serve_in(&rt, rt.alloc(), Manner::Spoken, board, &mut input, &mut out).expect(
+    let plan = Vec::new(rt.alloc());
+    let board = serve_in(
         &rt,
-        "it is served",
-    );
+        rt.alloc(),
+        Manner::Spoken,
+        plan,
+        board,
+        &mut input,
+        &mut out,
+    )
+    .expect(&rt, "it is served");
     assert_eq!(rt; board.made(), 1);
     assert_eq!(rt;
         out.bytes.as_slice(),

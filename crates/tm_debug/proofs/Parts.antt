@@ -5,7 +5,8 @@ use Rattle.ia_text.specs.Listing.{listing_line, shown_bytes}
 use Rattle.ia_text.specs.Writing.{Device, Stopped, Writes, Wrote}
 use Rattle.ia_text.proofs.Writing.{writes_stopped, writes_then, wrote_none, wrote_then}
 use Rattle.tm_debug.specs.declared.state.RunCheck.{RunCheck}
-use Rattle.tm_debug.specs.declared.state.RunCheck.TheVariants.{AllStopped, AtBreakpoint, Full, Go}
+use Rattle.tm_debug.specs.declared.state.RunCheck.TheVariants.{AllStopped, AtBreakpoint, Full, Go, NoCore, PlanEnded}
+use Rattle.tm_debug.specs.declared.state.Way.{Way}
 use Rattle.tm_debug.specs.Session.{GoAnswer, IsRunOf, NextLine, RunBroken, RunWhole, SessionValue, run_check, run_ending, some_lines}
 
 pub no_lines : (d : Device) (n : ℕ) (code : List ℕ) (at : ℕ) → n ≡ 0 → Wrote d d (some_lines n code at)
@@ -35,12 +36,12 @@ lines_then {T} {E} {a} {b} c n m shown code rest at next r h em es er en wrote w
 
 -- ---- runs
 
-abbrev pub SoFar : ℕ → SessionValue → SessionValue → Device → Device → Type 0
-SoFar n p q a b = (text : List ℕ) × IsRunOf n p text q × Wrote a b text
+abbrev pub SoFar : Way → ℕ → SessionValue → SessionValue → Device → Device → Type 0
+SoFar way n p q a b = (text : List ℕ) × IsRunOf way n p text q × Wrote a b text
 
-ran_more : (n : ℕ) (p q s : SessionValue) (core : ℕ) (text line : List ℕ) → run_check q (n == 0) ≡ Go core → IsRunOf n p text q → GoAnswer q core line s → IsRunOf (n + 1) p (text ++ line) s
-ran_more n p q s core text line turn ran go =
-    let more : IsRunOf (suc n) p (text ++ line) s = record {
+ran_more : (way : Way) (n : ℕ) (p q s : SessionValue) (core : ℕ) (text line : List ℕ) → run_check way q (n == 0) ≡ Go core → IsRunOf way n p text q → GoAnswer q core line s → IsRunOf way (n + 1) p (text ++ line) s
+ran_more way n p q s core text line turn ran go =
+    let more : IsRunOf way (suc n) p (text ++ line) s = record {
       before = q;
       lines = text;
       core = core;
@@ -51,18 +52,18 @@ ran_more n p q s core text line turn ran go =
       line = ap (λ l. text ++ l) go.2;
     } in
     let same : suc n ≡ n + 1 = omega arith in
-    subst (λ (k : ℕ). IsRunOf k p (text ++ line) s) same more
+    subst (λ (k : ℕ). IsRunOf way k p (text ++ line) s) same more
 
-pub steps_more : {a b c : Device} (n : ℕ) (p q s : SessionValue) (core : ℕ) → run_check q (n == 0) ≡ Go core → SoFar n p q a b → (line : List ℕ) × GoAnswer q core line s × Wrote b c line → SoFar (n + 1) p s a c
-steps_more n p q s core turn so_far told = (so_far.0 ++ told.0, ran_more n p q s core so_far.0 told.0 turn so_far.1 told.1, wrote_then so_far.2 told.2)
+pub steps_more : {a b c : Device} (way : Way) (n : ℕ) (p q s : SessionValue) (core : ℕ) → run_check way q (n == 0) ≡ Go core → SoFar way n p q a b → (line : List ℕ) × GoAnswer q core line s × Wrote b c line → SoFar way (n + 1) p s a c
+steps_more way n p q s core turn so_far told = (so_far.0 ++ told.0, ran_more way n p q s core so_far.0 told.0 turn so_far.1 told.1, wrote_then so_far.2 told.2)
 
 pub on_err : {T E : Type 0} (r : Result T E) (P : Type 0) → P → OnErr r P
 on_err (Ok x) P h = tt
 on_err (Err e) P h = h
 
 -- the next line was not written whole
-next_broken : {a b c : Device} (count n : ℕ) (p q s : SessionValue) (turn : RunCheck) (line : List ℕ) → n < count → turn ≡ run_check q (n == 0) → NextLine turn q line s → SoFar n p q a b → Stopped b c line → RunBroken count p a c s
-next_broken {a} {b} {c} count n p q s turn line below same next so_far stopped = record {
+next_broken : {a b c : Device} (way : Way) (count n : ℕ) (p q s : SessionValue) (turn : RunCheck) (line : List ℕ) → n < count → turn ≡ run_check way q (n == 0) → NextLine turn q line s → SoFar way n p q a b → Stopped b c line → RunBroken way count p a c s
+next_broken {a} {b} {c} way count n p q s turn line below same next so_far stopped = record {
   count = n;
   below = below;
   lines = so_far.0;
@@ -76,19 +77,21 @@ next_broken {a} {b} {c} count n p q s turn line below same next so_far stopped =
 }
 
 -- the line of a step was not written whole
-pub step_broken : {a b c : Device} (count n : ℕ) (p q s : SessionValue) (core : ℕ) → n < count → run_check q (n == 0) ≡ Go core → SoFar n p q a b → (line : List ℕ) × GoAnswer q core line s × Stopped b c line → RunBroken count p a c s
-step_broken count n p q s core below turn so_far told = next_broken count n p q s (Go core) told.0 below (sym turn) told.1 so_far told.2
+pub step_broken : {a b c : Device} (way : Way) (count n : ℕ) (p q s : SessionValue) (core : ℕ) → n < count → run_check way q (n == 0) ≡ Go core → SoFar way n p q a b → (line : List ℕ) × GoAnswer q core line s × Stopped b c line → RunBroken way count p a c s
+step_broken way count n p q s core below turn so_far told = next_broken way count n p q s (Go core) told.0 below (sym turn) told.1 so_far told.2
 
 ending_line : (turn : RunCheck) (q : SessionValue) → ((core : ℕ) → turn ≡ Go core → ⊥) → NextLine turn q (run_ending q.manner turn) q
 ending_line AllStopped q ends = (refl, refl)
+ending_line PlanEnded q ends = (refl, refl)
+ending_line (NoCore number) q ends = (refl, refl)
 ending_line Full q ends = (refl, refl)
 ending_line (AtBreakpoint core address) q ends = (refl, refl)
 ending_line (Go core) q ends = absurd (ends core refl)
 
 -- a test ends the run
-pub run_ended : {E : Type 0} (a b c : Device) (count n : ℕ) (p q : SessionValue) (turn : RunCheck) (r : Result (Unit {0}) E) → n < count → turn ≡ run_check q (n == 0) → ((core : ℕ) → turn ≡ Go core → ⊥) → SoFar n p q a b → Writes b c (run_ending q.manner turn) r →
-    OnOk r ((text : List ℕ) × RunWhole count p text q × Wrote a c text) × OnErr r (RunBroken count p a c q)
-run_ended a b c count n p q turn (Ok done) below same ends so_far writes = (
+pub run_ended : {E : Type 0} (a b c : Device) (way : Way) (count n : ℕ) (p q : SessionValue) (turn : RunCheck) (r : Result (Unit {0}) E) → n < count → turn ≡ run_check way q (n == 0) → ((core : ℕ) → turn ≡ Go core → ⊥) → SoFar way n p q a b → Writes b c (run_ending q.manner turn) r →
+    OnOk r ((text : List ℕ) × RunWhole way count p text q × Wrote a c text) × OnErr r (RunBroken way count p a c q)
+run_ended a b c way count n p q turn (Ok done) below same ends so_far writes = (
   (
     so_far.0 ++ run_ending q.manner turn,
     record {
@@ -103,7 +106,7 @@ run_ended a b c count n p q turn (Ok done) below same ends so_far writes = (
   ),
   tt,
 )
-run_ended a b c count n p q turn (Err fault) below same ends so_far writes = (
+run_ended a b c way count n p q turn (Err fault) below same ends so_far writes = (
   tt,
-  next_broken count n p q q turn (run_ending q.manner turn) below same (ending_line turn q ends) so_far writes,
+  next_broken way count n p q q turn (run_ending q.manner turn) below same (ending_line turn q ends) so_far writes,
 )

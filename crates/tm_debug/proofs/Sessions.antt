@@ -18,6 +18,8 @@ use Rattle.tm_debug.specs.Commands.{command_of}
 use Rattle.tm_debug.specs.Words.{first_word}
 use Rattle.std.proofs.lemmas.Bool.{lt-ltb}
 use Rattle.tm_debug.specs.declared.interruption.Interruption.TheVariants as interruption
+use Rattle.tm_debug.specs.declared.state.Way.{Way}
+use Rattle.tm_debug.specs.declared.state.Way.TheVariants.{AlongPlan, InTurn}
 use Rattle.tm_debug.specs.Session.{AnswersBroken, Ends, SessionValue, bye_line, is_run_length, run_broken_by}
 use Rattle.tm_debug.specs.Serving.{AnswersLines, BeginsLine, PromptedBroken, Responds, RespondsBroken, FailsToRead, FailsToWrite, FindsNoMemory, FirstLine, IsEnded, IsLine, LinesRead, Replies, RepliesBroken, ServesInput, WantsMemory, first_request, request_by, request_of}
 use Rattle.tm_debug.proofs.Bytewise.{GivesLine}
@@ -289,13 +291,15 @@ never_read old new whole broken p q interruption.Read ends e = absurd ends
 never_read old new whole broken p q interruption.Write ends e = cc
 never_read old new whole broken p q interruption.NoMemory ends e = cc
 
-run_rose : (number : ℕ) (q s : SessionValue) (b : Bool) (d1 d2 : Device) → run_broken_by b number q d1 d2 s → Rose d1.failures d2.failures
-run_rose number q s true d1 d2 broken = rose_after broken.wrote.failures broken.stopped.failures
-run_rose number q s false d1 d2 broken = broken.2.failures
+run_rose : (way : Way) (number : ℕ) (q s : SessionValue) (b : Bool) (d1 d2 : Device) → run_broken_by b way number q d1 d2 s → Rose d1.failures d2.failures
+run_rose way number q s true d1 d2 broken = rose_after broken.wrote.failures broken.stopped.failures
+run_rose way number q s false d1 d2 broken = broken.2.failures
 
 broken_rose : (command : Command) (q s : SessionValue) (d1 d2 : Device) → AnswersBroken command q d1 d2 s → Rose d1.failures d2.failures
-broken_rose (command.Run number) q s d1 d2 broken = run_rose number q s (is_run_length number) d1 d2 broken
+broken_rose (command.Run number) q s d1 d2 broken = run_rose InTurn number q s (is_run_length number) d1 d2 broken
+broken_rose (command.Next number) q s d1 d2 broken = run_rose AlongPlan number q s (is_run_length number) d1 d2 broken
 broken_rose (command.Step core) q s d1 d2 broken = broken.2.failures
+broken_rose (command.Back count) q s d1 d2 broken = broken.2.failures
 broken_rose (command.Break address) q s d1 d2 broken = broken.2.failures
 broken_rose (command.Clear address) q s d1 d2 broken = broken.2.failures
 broken_rose (command.Regs core) q s d1 d2 broken = broken.2.failures

@@ -14,6 +14,8 @@ unfoldable pub name_of : List ℕ → Option CommandName
 name_of word =
     if pointwise nat_eq word (codes "step") then Some name.Step
     else if pointwise nat_eq word (codes "run") then Some name.Run
+    else if pointwise nat_eq word (codes "next") then Some name.Next
+    else if pointwise nat_eq word (codes "back") then Some name.Back
     else if pointwise nat_eq word (codes "break") then Some name.Break
     else if pointwise nat_eq word (codes "clear") then Some name.Clear
     else if pointwise nat_eq word (codes "regs") then Some name.Regs
@@ -56,6 +58,10 @@ command_named name.Step first second third =
     command_with (λ number. command.Step number) (one_number name.Step first second)
 command_named name.Run first second third =
     command_with (λ number. command.Run number) (one_number name.Run first second)
+command_named name.Next first second third =
+    command_with (λ number. command.Next number) (one_number name.Next first second)
+command_named name.Back first second third =
+    command_with (λ number. command.Back number) (one_number name.Back first second)
 command_named name.Break first second third =
     command_with (λ number. command.Break number) (one_number name.Break first second)
 command_named name.Clear first second third =

@@ -4,6 +4,8 @@ use Rattle.std.specs.Prelude.{ℕ, List, ◌++◌, codes}
 unfoldable pub help_text : List ℕ
 help_text = codes "step C     one step of core C\n"
     ++ codes "run N      1 to 100000 steps, of each core in turn\n"
+    ++ codes "next N     the next 1 to 100000 steps of the schedule\n"
+    ++ codes "back N     takes the last N steps back\n"
     ++ codes "break A    runs stop before the instruction at address A\n"
     ++ codes "clear A    they no longer do\n"
     ++ codes "regs C     the state and the registers of core C\n"

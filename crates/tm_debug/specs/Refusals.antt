@@ -6,7 +6,7 @@ use Rattle.tm_debug.specs.declared.command.CommandName.TheVariants as name
 use Rattle.tm_debug.specs.declared.manner.Manner.{Manner}
 use Rattle.tm_debug.specs.declared.manner.Manner.TheVariants.{Plain, Spoken}
 use Rattle.tm_debug.specs.declared.refusal.Range.{Range}
-use Rattle.tm_debug.specs.declared.refusal.Range.TheVariants.{Addresses, Bytes, Lines, Steps}
+use Rattle.tm_debug.specs.declared.refusal.Range.TheVariants.{Addresses, Bytes, Lines, Made, Steps}
 use Rattle.tm_debug.specs.declared.refusal.Refusal.{Refusal}
 use Rattle.tm_debug.specs.declared.refusal.Refusal.TheVariants.{UnknownCommand, LongLine, BadArgument, NoSuchCore}
 use Rattle.tm_debug.specs.declared.refusal.Refusal.TheVariants.{OutOfRange, LimitReached, TooManyBreakpoints}
@@ -34,6 +34,8 @@ plain_line TooManyBreakpoints = codes "error 75\n"
 unfoldable pub arguments_line : CommandName → List ℕ
 arguments_line name.Step = codes "error 71: step takes a core\n"
 arguments_line name.Run = codes "error 71: run takes a number of steps\n"
+arguments_line name.Next = codes "error 71: next takes a number of steps\n"
+arguments_line name.Back = codes "error 71: back takes a number of steps\n"
 arguments_line name.Break = codes "error 71: break takes an address\n"
 arguments_line name.Clear = codes "error 71: clear takes an address\n"
 arguments_line name.Regs = codes "error 71: regs takes a core\n"
@@ -45,7 +47,8 @@ arguments_line name.Quit = codes "error 71: quit stands alone\n"
 
 -- the range of a number
 unfoldable pub range_line : Range → List ℕ
-range_line Steps = codes "error 73: run takes 1 to 100000 steps\n"
+range_line Steps = codes "error 73: run and next take 1 to 100000 steps\n"
+range_line Made = codes "error 73: back takes 1 step or more, at most as many as were made\n"
 range_line Addresses = codes "error 73: addresses are below 0x100000000\n"
 range_line Bytes = codes "error 73: mem takes 1 to 256 bytes, all of them in memory\n"
 range_line Lines = codes "error 73: list takes 1 to 64 lines, the first of them in the code\n"

@@ -30,6 +30,8 @@ request_for (Ok command.Quit) = Leave
 request_for (Ok command.Help) = Do command.Help
 request_for (Ok (command.Step core)) = Do (command.Step core)
 request_for (Ok (command.Run number)) = Do (command.Run number)
+request_for (Ok (command.Next number)) = Do (command.Next number)
+request_for (Ok (command.Back count)) = Do (command.Back count)
 request_for (Ok (command.Break address)) = Do (command.Break address)
 request_for (Ok (command.Clear address)) = Do (command.Clear address)
 request_for (Ok (command.Regs core)) = Do (command.Regs core)
@@ -189,11 +191,13 @@ FailsToWriteIn Spoken input left from old new board =
     (Stopped old new prompt_text × (left ≡ input) × (board ≡ from.board))
     ⊎ BehindPrompt Spoken old (λ between. FailsToWrite input left from between new board)
 
--- the commands whose answer takes memory: that of a core's sets alone does
+-- the commands that take memory: a core's sets, and to take steps back, which makes a board of its own
 abbrev pub TakesMemory : Command → Type 0
 TakesMemory (command.Sets core) = ⊤
+TakesMemory (command.Back count) = ⊤
 TakesMemory (command.Step core) = ⊥
 TakesMemory (command.Run number) = ⊥
+TakesMemory (command.Next number) = ⊥
 TakesMemory (command.Break address) = ⊥
 TakesMemory (command.Clear address) = ⊥
 TakesMemory (command.Regs core) = ⊥

@@ -2,7 +2,8 @@
 use Rattle.std.specs.Prelude.{◌≡◌, ◌⊎◌, ℕ, zero, suc, ◌+◌, ◌-◌, ◌%◌, ◌^◌, ◌<◌, ◌==◌, ◌&&◌, ◌||◌, Bool, true, false}
 use Rattle.std.specs.Prelude.{not, if◌then◌else◌, List, [], ◌∷◌, ◌++◌, codes, drop, take, length, nat_eq, nat_le}
 use Rattle.std.specs.Prelude.{nat_lt, Option, Some, None, is_some, Result, Ok, Err}
-use Rattle.std.specs.List.{flat_map, list_any, position, remove}
+use Rattle.std.specs.Fmt.{decimal}
+use Rattle.std.specs.List.{flat_map, list_any, position, remove, slice_get}
 use Rattle.std.specs.List.Sorted.{IsStrictlyIncreasing}
 use Rattle.std.specs.FinSet as set
 use Rattle.ia_image.specs.Program.{ProgramValue as Program, code_of}
@@ -18,40 +19,50 @@ use Rattle.tm_hist.specs.Board.{IsHistory, SameBoard, ShownBoard as Board, stop_
 use Rattle.tm_hist.specs.Lines.{core_text, dump_lines, outcome_line, state_word}
 use Rattle.ia_text.specs.TextLine.{line_end, number_text}
 use Rattle.tm_hist.specs.Machine.{shown_regs, shown_state}
+use Rattle.tm_back.specs.Back.{IsFirst}
 use Rattle.tm_debug.specs.declared.command.Command.{Command}
-use Rattle.tm_debug.specs.declared.command.Command.TheVariants.{Step, Run, Break, Clear, Regs, Mem, Sets}
+use Rattle.tm_debug.specs.declared.command.Command.TheVariants.{Step, Run, Next, Back, Break, Clear, Regs, Mem, Sets}
 use Rattle.tm_debug.specs.declared.command.Command.TheVariants.{List as Listing, Help, Quit}
 use Rattle.tm_debug.specs.declared.manner.Manner.{Manner}
 use Rattle.tm_debug.specs.declared.manner.Manner.TheVariants.{Plain}
-use Rattle.tm_debug.specs.declared.refusal.Range.TheVariants.{Addresses, Bytes, Lines, Steps}
+use Rattle.tm_debug.specs.declared.refusal.Range.TheVariants.{Addresses, Bytes, Lines, Made, Steps}
 use Rattle.tm_debug.specs.declared.refusal.Refusal.{Refusal}
 use Rattle.tm_debug.specs.declared.refusal.Refusal.TheVariants.{LimitReached, NoSuchCore, OutOfRange}
 use Rattle.tm_debug.specs.declared.refusal.Refusal.TheVariants.{TooManyBreakpoints}
 use Rattle.tm_debug.specs.declared.interruption.Interruption.{Interruption}
 use Rattle.tm_debug.specs.declared.interruption.Interruption.TheVariants as interruption
 use Rattle.tm_debug.specs.declared.state.RunCheck.{RunCheck}
-use Rattle.tm_debug.specs.declared.state.RunCheck.TheVariants.{AllStopped, Full, AtBreakpoint, Go}
+use Rattle.tm_debug.specs.declared.state.RunCheck.TheVariants.{AllStopped, PlanEnded, Full, NoCore, AtBreakpoint, Go}
+use Rattle.tm_debug.specs.declared.state.Way.{Way}
+use Rattle.tm_debug.specs.declared.state.Way.TheVariants.{AlongPlan, InTurn}
 use Rattle.tm_debug.specs.declared.state.SessionState.{SessionState}
 use Rattle.tm_debug.specs.Help.{help_text}
 use Rattle.tm_debug.specs.Refusals.{refusal_line}
 
--- between two lines: how it speaks, the board, the breakpoints, and the number behind that of the core that was stepped
--- last, 0 before the first step
+-- between two lines: how it speaks, the plan (the core of each step), the board, the breakpoints, and the number behind
+-- that of the core that was stepped last, 0 before the first step
 pub record SessionValue : Type 0 where
   pub manner : Manner
+  pub plan : List ℕ
   pub board : Board
   pub breaks : List ℕ
   pub next : ℕ
 
 abbrev pub value_of : SessionState → SessionValue
-value_of state = record { manner = state.manner; board = state.board; breaks = state.breakpoints.items; next = state.next }
+value_of state = record {
+  manner = state.manner;
+  plan = state.plan.items;
+  board = state.board;
+  breaks = state.breakpoints.items;
+  next = state.next;
+}
 
 -- before the first line
-abbrev pub start_in : Manner → Board → SessionValue
-start_in manner board = record { manner = manner; board = board; breaks = []; next = 0 }
+abbrev pub start_in : Manner → List ℕ → Board → SessionValue
+start_in manner plan board = record { manner = manner; plan = plan; board = board; breaks = []; next = 0 }
 
 abbrev pub start : Board → SessionValue
-start board = start_in Plain board
+start board = start_in Plain [] board
 
 abbrev pub cores_of : SessionValue → ℕ
 cores_of session = length session.board.program.entries
@@ -105,23 +116,36 @@ abbrev pub is_midway : CoreState → Bool
 is_midway Mid = true
 is_midway _ = false
 
--- before a step of a run, in this order: whether all cores have stopped, the history is full, or a breakpoint stands at
--- the address that the core shows, which is not asked before the first step, nor in the midst of an instruction
-abbrev pub run_check_by : Option ℕ → Bool → SessionValue → RunCheck
-run_check_by None first session = AllStopped
-run_check_by (Some core) first session =
+-- before a step of a run by this core, in this order: whether the history is full, or a breakpoint stands at the address
+-- that the core shows, which is not asked before the first step, nor in the midst of an instruction
+abbrev pub core_check : ℕ → Bool → SessionValue → RunCheck
+core_check core first session =
     if nat_eq (length session.board.history) session.board.limit then Full
     else if not first && not (is_midway (shown_state session.board.machine core))
     && list_any (λ b. b == (shown_regs session.board.machine core).eip) session.breaks
     then AtBreakpoint core (shown_regs session.board.machine core).eip
     else Go core
 
-unfoldable pub run_check : SessionValue → Bool → RunCheck
-run_check session first = run_check_by (next_running session) first session
+-- in turn, first whether all cores have stopped
+abbrev pub turn_check : Option ℕ → Bool → SessionValue → RunCheck
+turn_check None first session = AllStopped
+turn_check (Some core) first session = core_check core first session
+
+-- along the plan, first whether it has a step behind those that are made, and of a core that there is
+abbrev pub plan_check : Option ℕ → Bool → SessionValue → RunCheck
+plan_check None first session = PlanEnded
+plan_check (Some core) first session =
+    if nat_lt core (cores_of session) then core_check core first session else NoCore (cores_of session)
+
+unfoldable pub run_check : Way → SessionValue → Bool → RunCheck
+run_check InTurn session first = turn_check (next_running session) first session
+run_check AlongPlan session first = plan_check (slice_get session.plan (length session.board.history)) first session
 
 -- the line that ends a run
 abbrev pub run_ending : Manner → RunCheck → List ℕ
 run_ending manner AllStopped = codes "all stopped\n"
+run_ending manner PlanEnded = codes "the schedule has ended\n"
+run_ending manner (NoCore count) = refusal_line manner (NoSuchCore count)
 run_ending manner Full = refusal_line manner LimitReached
 run_ending manner (AtBreakpoint core address) = break_line core address
 run_ending manner (Go core) = []
@@ -132,34 +156,37 @@ pub record IsStep (from : SessionValue) (core : ℕ) (outcome : Outcome) (to : S
   pub history : to.board.history ≡ from.board.history ++ (core, outcome) ∷ []
   pub law : IsHistory to.board
   pub manner : to.manner ≡ from.manner
+  pub plan : to.plan ≡ from.plan
   pub breaks : to.breaks ≡ from.breaks
   pub next : to.next ≡ core + 1
 
 -- the last of some steps of a run
-pub record LastStep (ran : List ℕ → SessionValue → Type 0) (first : Bool) (text : List ℕ)
+pub record LastStep (way : Way) (ran : List ℕ → SessionValue → Type 0) (first : Bool) (text : List ℕ)
     (to : SessionValue) : Type 0 where
   pub before : SessionValue
   pub lines : List ℕ
   pub core : ℕ
   pub outcome : Outcome
   pub steps_before : ran lines before
-  pub goes_on : run_check before first ≡ Go core
+  pub goes_on : run_check way before first ≡ Go core
   pub step : IsStep before core outcome to
   pub line : text ≡ lines ++ outcome_line core outcome
 
 -- so many steps of a run lead from p to q, with these outcome lines
-abbrev pub IsRunOf : ℕ → SessionValue → List ℕ → SessionValue → Type 0
-IsRunOf zero from text to = (text ≡ []) × (to ≡ from)
-IsRunOf (suc number) from text to = LastStep (λ lines before. IsRunOf number from lines before) (number == 0) text to
+abbrev pub IsRunOf : Way → ℕ → SessionValue → List ℕ → SessionValue → Type 0
+IsRunOf way zero from text to = (text ≡ []) × (to ≡ from)
+IsRunOf way (suc number) from text to =
+    LastStep way (λ lines before. IsRunOf way number from lines before) (number == 0) text to
 
 -- a run of n steps, or up to a test that ends it
-pub record RunWhole (number : ℕ) (from : SessionValue) (text : List ℕ) (to : SessionValue) : Type 0 where
+pub record RunWhole (way : Way) (number : ℕ) (from : SessionValue) (text : List ℕ) (to : SessionValue) : Type 0 where
   pub count : ℕ
   pub lines : List ℕ
   pub tail : List ℕ
-  pub ran : IsRunOf count from lines to
-  pub end : ((count ≡ number) × (tail ≡ [])) ⊎ ((count < number) × (tail ≡ run_ending to.manner (run_check to (count == 0)))
-      × ((core : ℕ) → run_check to (count == 0) ≡ Go core → ⊥))
+  pub ran : IsRunOf way count from lines to
+  pub end : ((count ≡ number) × (tail ≡ []))
+      ⊎ ((count < number) × (tail ≡ run_ending to.manner (run_check way to (count == 0)))
+      × ((core : ℕ) → run_check way to (count == 0) ≡ Go core → ⊥))
   pub whole : text ≡ lines ++ tail
 
 -- ---- the answer of a command at p: its text, and what it leads to
@@ -181,48 +208,82 @@ abbrev pub GoAnswer : SessionValue → ℕ → List ℕ → SessionValue → Typ
 GoAnswer from core text to = (outcome : Outcome) × IsStep from core outcome to × (text ≡ outcome_line core outcome)
 
 -- 1 to 100000 steps
-abbrev pub run_by : Bool → ℕ → SessionValue → List ℕ → SessionValue → Type 0
-run_by true number from text to = RunWhole number from text to
-run_by false number from text to = (text ≡ refusal_line from.manner (OutOfRange Steps)) × (to ≡ from)
+abbrev pub run_by : Bool → Way → ℕ → SessionValue → List ℕ → SessionValue → Type 0
+run_by true way number from text to = RunWhole way number from text to
+run_by false way number from text to = (text ≡ refusal_line from.manner (OutOfRange Steps)) × (to ≡ from)
 
 abbrev pub is_run_length : ℕ → Bool
 is_run_length number = nat_le 1 number && nat_le number 100000
 
-abbrev pub RunAnswer : ℕ → SessionValue → List ℕ → SessionValue → Type 0
-RunAnswer number from text to = run_by (is_run_length number) number from text to
+abbrev pub RunAnswer : Way → ℕ → SessionValue → List ℕ → SessionValue → Type 0
+RunAnswer way number from text to = run_by (is_run_length number) way number from text to
 
 -- the line behind some steps of a run: that of one more step, or the one that a test ends the run with
 abbrev pub NextLine : RunCheck → SessionValue → List ℕ → SessionValue → Type 0
 NextLine (Go core) from line to = GoAnswer from core line to
 NextLine AllStopped from line to = (line ≡ run_ending from.manner AllStopped) × (to ≡ from)
+NextLine PlanEnded from line to = (line ≡ run_ending from.manner PlanEnded) × (to ≡ from)
+NextLine (NoCore count) from line to = (line ≡ run_ending from.manner (NoCore count)) × (to ≡ from)
 NextLine Full from line to = (line ≡ run_ending from.manner Full) × (to ≡ from)
 NextLine (AtBreakpoint core address) from line to = (line ≡ run_ending from.manner (AtBreakpoint core address))
     × (to ≡ from)
 
 -- a run of n steps that was broken off: the lines of some steps were written, and a beginning of the next line
-pub record RunBroken (number : ℕ) (from : SessionValue) (old new : Device) (to : SessionValue) : Type 0 where
+pub record RunBroken (way : Way) (number : ℕ) (from : SessionValue) (old new : Device) (to : SessionValue) : Type 0 where
   pub count : ℕ
   pub below : count < number
   pub lines : List ℕ
   pub before : SessionValue
-  pub ran : IsRunOf count from lines before
+  pub ran : IsRunOf way count from lines before
   pub between : Device
   pub wrote : Wrote old between lines
   pub last : List ℕ
-  pub next_line : NextLine (run_check before (count == 0)) before last to
+  pub next_line : NextLine (run_check way before (count == 0)) before last to
   pub stopped : Stopped between new last
 
 -- a beginning of an answer was written
 abbrev pub AnswerStopped : (List ℕ → SessionValue → Type 0) → Device → Device → SessionValue → Type 0
 AnswerStopped answer old new to = (text : List ℕ) × answer text to × Stopped old new text
 
-abbrev pub run_broken_by : Bool → ℕ → SessionValue → Device → Device → SessionValue → Type 0
-run_broken_by true number from old new to = RunBroken number from old new to
-run_broken_by false number from old new to =
+abbrev pub run_broken_by : Bool → Way → ℕ → SessionValue → Device → Device → SessionValue → Type 0
+run_broken_by true way number from old new to = RunBroken way number from old new to
+run_broken_by false way number from old new to =
     AnswerStopped (λ text after. (text ≡ refusal_line from.manner (OutOfRange Steps)) × (after ≡ from)) old new to
 
-abbrev pub RunAnswerBroken : ℕ → SessionValue → Device → Device → SessionValue → Type 0
-RunAnswerBroken number from old new to = run_broken_by (is_run_length number) number from old new to
+abbrev pub RunAnswerBroken : Way → ℕ → SessionValue → Device → Device → SessionValue → Type 0
+RunAnswerBroken way number from old new to = run_broken_by (is_run_length number) way number from old new to
+
+-- the number of 8 bits behind that of the core of a step
+abbrev pub next_by : Option (ℕ × Outcome) → ℕ
+next_by None = 0
+next_by (Some pair) = (pair.0 + 1) % 2 ^ 8
+
+-- how many steps are made
+abbrev pub made_line : ℕ → List ℕ
+made_line made = codes "at step " ++ decimal made ++ line_end
+
+-- the number behind that of the core that was stepped last, 0 before the first step
+abbrev pub next_behind : List (ℕ × Outcome) → ℕ
+next_behind history = next_by (slice_get history (length history - 1))
+
+-- the last so many steps are taken back: the board is that of the steps before them, and the breakpoints stay
+pub record IsBack (from : SessionValue) (count : ℕ) (to : SessionValue) : Type 0 where
+  pub board : IsFirst from.board (length from.board.history - count) to.board
+  pub manner : to.manner ≡ from.manner
+  pub plan : to.plan ≡ from.plan
+  pub breaks : to.breaks ≡ from.breaks
+  pub next : to.next ≡ next_behind to.board.history
+
+-- 1 step or more, and no more than were made
+abbrev pub is_behind : SessionValue → ℕ → Bool
+is_behind session count = nat_le 1 count && nat_le count (length session.board.history)
+
+abbrev pub back_by : Bool → SessionValue → ℕ → List ℕ → SessionValue → Type 0
+back_by true from count text to = IsBack from count to × (text ≡ made_line (length from.board.history - count))
+back_by false from count text to = (text ≡ refusal_line from.manner (OutOfRange Made)) × (to ≡ from)
+
+abbrev pub BackAnswer : SessionValue → ℕ → List ℕ → SessionValue → Type 0
+BackAnswer from count text to = back_by (is_behind from count) from count text to
 
 -- ok, or the refusal
 abbrev pub done_line : Manner → Result (Unit {0}) Refusal → List ℕ
@@ -230,7 +291,13 @@ done_line manner (Ok done) = ok_line
 done_line manner (Err refusal) = refusal_line manner refusal
 
 abbrev pub with_breaks : SessionValue → List ℕ → SessionValue
-with_breaks session breaks = record { manner = session.manner; board = session.board; breaks = breaks; next = session.next }
+with_breaks session breaks = record {
+  manner = session.manner;
+  plan = session.plan;
+  board = session.board;
+  breaks = breaks;
+  next = session.next;
+}
 
 -- a breakpoint is set at most once, and at most 64 are
 abbrev pub set_at : Option ℕ → SessionValue → ℕ → Result (Unit {0}) Refusal × SessionValue
@@ -298,7 +365,9 @@ TellsAnswer answer old new to result = (text : List ℕ) × answer text to × Wr
 -- what each command answers at p, and what it leads to
 abbrev pub Answers : Command → SessionValue → List ℕ → SessionValue → Type 0
 Answers (Step core) from text to = StepAnswer from core text to
-Answers (Run number) from text to = RunAnswer number from text to
+Answers (Run number) from text to = RunAnswer InTurn number from text to
+Answers (Next number) from text to = RunAnswer AlongPlan number from text to
+Answers (Back count) from text to = BackAnswer from count text to
 Answers (Break address) from text to =
     (text ≡ done_line from.manner (set_break from address).0) × (to ≡ (set_break from address).1)
 Answers (Clear address) from text to =
@@ -312,8 +381,10 @@ Answers Quit from text to = (text ≡ bye_line) × (to ≡ from)
 
 -- the same where the writing of it failed
 abbrev pub AnswersBroken : Command → SessionValue → Device → Device → SessionValue → Type 0
-AnswersBroken (Run number) from old new to = RunAnswerBroken number from old new to
+AnswersBroken (Run number) from old new to = RunAnswerBroken InTurn number from old new to
+AnswersBroken (Next number) from old new to = RunAnswerBroken AlongPlan number from old new to
 AnswersBroken (Step core) from old new to = AnswerStopped (Answers (Step core) from) old new to
+AnswersBroken (Back count) from old new to = AnswerStopped (Answers (Back count) from) old new to
 AnswersBroken (Break address) from old new to = AnswerStopped (Answers (Break address) from) old new to
 AnswersBroken (Clear address) from old new to = AnswerStopped (Answers (Clear address) from) old new to
 AnswersBroken (Regs core) from old new to = AnswerStopped (Answers (Regs core) from) old new to

@@ -84,6 +84,8 @@ pub fn end_run<O: Out>(manner: Manner, check: RunCheck, out: &mut O) -> Result<(
 {
     match check {
         RunCheck::AllStopped => out.put(b"all stopped\n")?,
+        RunCheck::PlanEnded => out.put(b"the schedule has ended\n")?,
+        RunCheck::NoCore(count) => refuse(manner, Refusal::NoSuchCore(count), out)?,
         RunCheck::Full => refuse(manner, Refusal::LimitReached, out)?,
         RunCheck::AtBreakpoint(core, address) => {
             let mut row = TextLine::new();

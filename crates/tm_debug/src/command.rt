@@ -13,6 +13,8 @@ use crate::words::split_word;
 pub enum CommandName {
     Step,
     Run,
+    Next,
+    Back,
     Break,
     Clear,
     Regs,
@@ -30,6 +32,10 @@ pub enum Command {
     Step(u64),
     /// So many steps, round by round.
     Run(u64),
+    /// So many steps of the plan.
+    Next(u64),
+    /// Takes so many steps back.
+    Back(u64),
     /// Sets a breakpoint at this address.
     Break(u64),
     /// Takes the breakpoint at this address away.
@@ -56,6 +62,10 @@ fn name_of(word: &[u8]) -> Option<CommandName>
         Some(CommandName::Step)
     } else if word == b"run".as_slice() {
         Some(CommandName::Run)
+    } else if word == b"next".as_slice() {
+        Some(CommandName::Next)
+    } else if word == b"back".as_slice() {
+        Some(CommandName::Back)
     } else if word == b"break".as_slice() {
         Some(CommandName::Break)
     } else if word == b"clear".as_slice() {
@@ -126,6 +136,8 @@ fn command_named(
     match name {
         CommandName::Step => Ok(Command::Step(one(name, first, second)?)),
         CommandName::Run => Ok(Command::Run(one(name, first, second)?)),
+        CommandName::Next => Ok(Command::Next(one(name, first, second)?)),
+        CommandName::Back => Ok(Command::Back(one(name, first, second)?)),
         CommandName::Break => Ok(Command::Break(one(name, first, second)?)),
         CommandName::Clear => Ok(Command::Clear(one(name, first, second)?)),
         CommandName::Regs => Ok(Command::Regs(one(name, first, second)?)),

@@ -14,6 +14,8 @@ fn lines() -> &'static [u8]
     b"\
 step C     one step of core C
 run N      1 to 100000 steps, of each core in turn
+next N     the next 1 to 100000 steps of the schedule
+back N     takes the last N steps back
 break A    runs stop before the instruction at address A
 clear A    they no longer do
 regs C     the state and the registers of core C

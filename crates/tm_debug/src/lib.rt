@@ -11,6 +11,7 @@
 #![tactic(auto)]
 
 mod answer;
+mod back;
 mod command;
 mod help;
 mod input;

@@ -16,8 +16,10 @@ use thiserror::Error;
 /// The numbers that a command takes within a range.
 #[derive(Clone, Copy, PartialEq, Eq, Debug, Drop)]
 pub enum Range {
-    /// Steps of a run: 1 to 100,000.
+    /// Steps of a run, in turn or along the plan: 1 to 100,000.
     Steps,
+    /// Steps that are taken back: 1 to as many as were made.
+    Made,
     /// Addresses of breakpoints, below 2^32.
     Addresses,
     /// Bytes of memory: 1 to 256, all of them in memory.
@@ -91,6 +93,8 @@ fn arguments_line(name: CommandName) -> &'static [u8]
     match name {
         CommandName::Step => b"error 71: step takes a core\n",
         CommandName::Run => b"error 71: run takes a number of steps\n",
+        CommandName::Next => b"error 71: next takes a number of steps\n",
+        CommandName::Back => b"error 71: back takes a number of steps\n",
         CommandName::Break => b"error 71: break takes an address\n",
         CommandName::Clear => b"error 71: clear takes an address\n",
         CommandName::Regs => b"error 71: regs takes a core\n",
@@ -108,7 +112,8 @@ fn range_line(range: Range) -> &'static [u8]
     ensures { result.now ≡ range_line range }
 {
     match range {
-        Range::Steps => b"error 73: run takes 1 to 100000 steps\n",
+        Range::Steps => b"error 73: run and next take 1 to 100000 steps\n",
+        Range::Made => { b"error 73: back takes 1 step or more, at most as many as were made\n" }
         Range::Addresses => b"error 73: addresses are below 0x100000000\n",
         Range::Bytes => b"error 73: mem takes 1 to 256 bytes, all of them in memory\n",
         Range::Lines => b"error 73: list takes 1 to 64 lines, the first of them in the code\n",

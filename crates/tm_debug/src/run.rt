@@ -1,4 +1,4 @@
-//! Steps of a run, round by round.
+//! Steps of a run, round by round or along the plan.
 
 ghost use Rattle.std.specs.Prelude.{◌≡◌, ◌<◌, ◌≤◌, List, ℕ, OnErr, OnOk, length};
 ghost use Rattle.ia_text.specs.Writing.{Wrote};
@@ -8,7 +8,7 @@ ghost use Rattle.tm_debug.specs.Session.{value_of};
 
 use crate::answer::end_run;
 use crate::refusal::{Range, Refusal, refuse};
-use crate::state::{RunCheck, SessionState};
+use crate::state::{RunCheck, SessionState, Way};
 use ia_text::{Out, WriteFault};
 use tm_hist::write_outcome;
 
@@ -25,35 +25,45 @@ fn go<O: Out>(state: &mut SessionState, core: u8, out: &mut O) -> Result<(), Wri
     }
 }
 
-fn run_steps<O: Out>(state: &mut SessionState, count: u64, out: &mut O) -> Result<(), WriteFault>
-    ensures ok { OnOk result ((text : List ℕ) × RunWhole count (value_of state.old) text (value_of state.new)
+fn run_steps<O: Out>(
+    state: &mut SessionState,
+    way: Way,
+    count: u64,
+    out: &mut O,
+) -> Result<(), WriteFault>
+    ensures ok { OnOk result ((text : List ℕ) × RunWhole way count (value_of state.old) text (value_of state.new)
         × Wrote (O.device out.old) (O.device out.new) text) }
-    ensures err { OnErr result (RunBroken count (value_of state.old) (O.device out.old) (O.device out.new)
+    ensures err { OnErr result (RunBroken way count (value_of state.old) (O.device out.old) (O.device out.new)
         (value_of state.new)) }
 {
     'steps: for done in 0..count {
-        let check = state.check_run(done == 0);
+        let check = state.check_run(way, done == 0);
         match check {
             RunCheck::Go(core) => go(state, core, out)?,
-            RunCheck::AllStopped | RunCheck::Full | RunCheck::AtBreakpoint(_, _) => return end_run(
-                state.manner,
-                check,
-                out,
-            ),
+            RunCheck::AllStopped
+            | RunCheck::PlanEnded
+            | RunCheck::Full
+            | RunCheck::NoCore(_)
+            | RunCheck::AtBreakpoint(_, _) => return end_run(state.manner, check, out),
         }
     }
     Ok(())
 }
 
-/// So many steps, of the cores in turn that have not stopped, or fewer where a test ends the run.
-pub fn run<O: Out>(state: &mut SessionState, count: u64, out: &mut O) -> Result<(), WriteFault>
-    ensures ok { OnOk result ((text : List ℕ) × RunAnswer count (value_of state.old) text (value_of state.new)
+/// So many steps, of the cores in turn that have not stopped or of those of the plan, or fewer where a test ends the run.
+pub fn run<O: Out>(
+    state: &mut SessionState,
+    way: Way,
+    count: u64,
+    out: &mut O,
+) -> Result<(), WriteFault>
+    ensures ok { OnOk result ((text : List ℕ) × RunAnswer way count (value_of state.old) text (value_of state.new)
         × Wrote (O.device out.old) (O.device out.new) text) }
-    ensures err { OnErr result (RunAnswerBroken count (value_of state.old) (O.device out.old) (O.device out.new)
+    ensures err { OnErr result (RunAnswerBroken way count (value_of state.old) (O.device out.old) (O.device out.new)
         (value_of state.new)) }
 {
     if (1..=100_000).contains(&count) {
-        run_steps(state, count, out)
+        run_steps(state, way, count, out)
     } else {
         refuse(state.manner, Refusal::OutOfRange(Range::Steps), out)
     }

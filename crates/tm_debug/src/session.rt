@@ -9,6 +9,7 @@ ghost use Rattle.tm_debug.specs.Serving.{TakesMemory, WantsMemory, request_of};
 ghost use Rattle.tm_debug.specs.Faults.{session_board, session_code};
 
 use crate::answer::{clear_breakpoint, list, mem, regs, set_breakpoint, step};
+use crate::back::back;
 use crate::command::{Command, read_command};
 use crate::help::help;
 use crate::input::In;
@@ -19,7 +20,7 @@ use crate::prompt::prompt;
 use crate::refusal::{Refusal, refuse};
 use crate::run::run;
 use crate::sets::sets;
-use crate::state::SessionState;
+use crate::state::{SessionState, Way};
 use crate::words::split_word;
 use ia_text::{Out, WriteFault};
 use std::alloc::Global;
@@ -39,7 +40,7 @@ pub enum SessionFault {
     /// missing; of a run, a rest of the outcome line of its last step.
     #[error("Write")]
     Write(Board),
-    /// There was no memory for the answer to `sets` (78). The answers before it were written.
+    /// There was no memory for the answer to `sets`, or for the board of `back` (78). The answers before it were written.
     #[error("NoMemory")]
     NoMemory(Board),
 }
@@ -124,7 +125,9 @@ fn act<O: Out>(
 {
     match command {
         Command::Step(core) => answer_result(step(state, core, out)),
-        Command::Run(count) => answer_result(run(state, count, out)),
+        Command::Run(count) => answer_result(run(state, Way::InTurn, count, out)),
+        Command::Next(count) => answer_result(run(state, Way::AlongPlan, count, out)),
+        Command::Back(count) => back(alloc, state, count, out),
         Command::Break(address) => answer_result(set_breakpoint(state, address, out)),
         Command::Clear(address) => answer_result(clear_breakpoint(state, address, out)),
         Command::Regs(core) => answer_result(regs(state, core, out)),
@@ -331,13 +334,7 @@ impl<'a, I: In, O: Out> Session<'a, I, O> {
             (O.device self.entry.out.now) (O.device self.exit.1.0.now) (session_board fault)) }
     {
         let Session { input, out, board } = self;
-        serve_from(
-            rt,
-            alloc,
-            SessionState::new(Manner::Plain, board),
-            input,
-            out,
-        )
+        serve_from(rt, alloc, SessionState::plain(alloc, board), input, out)
     }
 }
 
@@ -368,32 +365,39 @@ pub fn serve<W: Wait, I: In, O: Out>(
 }
 
 /// Answers the lines of an input with a board in this manner: plainly as [`serve`] does, or spoken, with a prompt before
-/// each line is read.
+/// each line is read. The plan has the core of each step that `next` makes: the first is that of the board's first step.
 pub fn serve_in<W: Wait, I: In, O: Out>(
     rt: &W,
     alloc: Global,
     manner: Manner,
+    plan: Vec<u8>,
     board: Board,
     input: &mut I,
     out: &mut O,
 ) -> Result<Board, SessionFault>
     ensures ok { IfOk result (λ last. BehindPrompt manner (O.device out.old) (λ begun. ServesInput
-        (I.remaining input.old) (I.remaining input.new) (start_in manner board) begun (O.device out.new) last)) }
+        (I.remaining input.old) (I.remaining input.new) (start_in manner plan.items board) begun (O.device out.new) last)) }
     ensures read { IfErr result (λ fault. session_code fault ≡ 76 → Rose (I.failed input.old) (I.failed input.new)) }
     ensures read_lines { IfErr result (λ fault. session_code fault ≡ 76
         → BehindPrompt manner (O.device out.old) (λ begun. FailsToRead (I.remaining input.old)
-        (I.remaining input.new) (start_in manner board) begun (O.device out.new) (session_board fault))) }
+        (I.remaining input.new) (start_in manner plan.items board) begun (O.device out.new) (session_board fault))) }
     ensures write { IfErr result (λ fault. session_code fault ≡ 77
         → Rose (O.device out.old).failures (O.device out.new).failures) }
     ensures written { IfErr result (λ fault. session_code fault ≡ 77
-        → FailsToWriteIn manner (I.remaining input.old) (I.remaining input.new) (start_in manner board)
+        → FailsToWriteIn manner (I.remaining input.old) (I.remaining input.new) (start_in manner plan.items board)
         (O.device out.old) (O.device out.new) (session_board fault)) }
     ensures memory { IfErr result (λ fault. session_code fault ≡ 78
         → BehindPrompt manner (O.device out.old) (λ begun. FindsNoMemory (I.remaining input.old)
-        (I.remaining input.new) (start_in manner board) begun (O.device out.new) (session_board fault))) }
+        (I.remaining input.new) (start_in manner plan.items board) begun (O.device out.new) (session_board fault))) }
 {
     match prompt(manner, out) {
-        Ok(()) => serve_from(rt, alloc, SessionState::new(manner, board), input, out),
+        Ok(()) => serve_from(
+            rt,
+            alloc,
+            SessionState::new(manner, plan, board),
+            input,
+            out,
+        ),
         Err(_) => Err(SessionFault::Write(board)),
     }
 }

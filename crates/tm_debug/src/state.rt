@@ -1,26 +1,38 @@
 //! What a session keeps between two lines.
 
-ghost use Rattle.std.specs.Prelude.{◌≡◌, ◌↔◌, ℕ, ◌+◌, ◌<◌, ◌≤◌, ◌^◌, ◌++◌, ◌∷◌, [], Err, IfOk, IfSome, OnErr, is_some};
+ghost use Rattle.std.specs.Prelude.{◌≡◌, ◌↔◌, ℕ, ◌+◌, ◌<◌, ◌≤◌, ◌^◌, ◌++◌, ◌∷◌, [], Err, IfOk, IfSome, OnErr, Some, is_some};
 ghost use Rattle.std.specs.Prelude.{length};
 ghost use Rattle.tm_hist.specs.Board.{IsFull, stop_shown};
 ghost use Rattle.tm_hist.specs.Machine.{shown_regs, shown_state};
-ghost use Rattle.tm_debug.specs.Session.{IsStep, is_midway, is_stopped, value_of, next_running, running_from, start_in, run_check};
+ghost use Rattle.tm_debug.specs.Session.{IsStep, core_check, is_midway, is_stopped, next_running, plan_check};
+ghost use Rattle.tm_debug.specs.Session.{run_check, running_from, start, start_in, value_of};
 
 use crate::manner::Manner;
 use arrayvec::ArrayVec;
+use std::alloc::Global;
 use tm_core::{CoreState, Outcome};
 use tm_hist::{Board, StepFault};
 
 /// The most breakpoints that are set at once.
 pub const MOST_BREAKPOINTS: usize = 64;
 
-/// How the session speaks, its board, its breakpoints, and the number behind that of the core that was stepped last.
+/// How the session speaks, its plan, its board, its breakpoints, and the number behind that of the core that was stepped last.
 #[derive(Drop)]
 pub struct SessionState {
     pub manner: Manner,
+    pub plan: Vec<u8>,
     pub board: Board,
     pub breakpoints: ArrayVec<u32, MOST_BREAKPOINTS>,
     pub next: u8,
+}
+
+/// How a run picks the core of each step.
+#[derive(Clone, Copy, PartialEq, Eq, Debug)]
+pub enum Way {
+    /// The next one that has not stopped, round by round.
+    InTurn,
+    /// The one that the plan has behind the steps that are made.
+    AlongPlan,
 }
 
 /// What the tests before a step of a run come to.
@@ -28,6 +40,10 @@ pub struct SessionState {
 pub enum RunCheck {
     /// All cores have stopped.
     AllStopped,
+    /// The plan has no further step.
+    PlanEnded,
+    /// The plan's next step is of a core that there is not, of so many.
+    NoCore(u8),
     /// The history is full.
     Full,
     /// This core is at this breakpoint.
@@ -78,15 +94,23 @@ fn running_from(board: &Board, core: u32, left: u8) -> Option<u8>
 
 impl SessionState {
     /// A session's state before its first line.
-    pub fn new(manner: Manner, board: Board) -> SessionState
-        ensures { value_of result ≡ start_in manner board }
+    pub fn new(manner: Manner, plan: Vec<u8>, board: Board) -> SessionState
+        ensures { value_of result ≡ start_in manner plan.items board }
     {
         SessionState {
             manner,
+            plan,
             board,
             breakpoints: ArrayVec::new(),
             next: 0,
         }
+    }
+
+    /// The same of a session that speaks plainly and has no plan.
+    pub fn plain(alloc: Global, board: Board) -> SessionState
+        ensures { value_of result ≡ start board }
+    {
+        SessionState::new(Manner::Plain, Vec::new(alloc), board)
     }
 
     // The core whose turn it is.
@@ -122,14 +146,45 @@ impl SessionState {
 
     /// The tests before a step of a run.
     #[tactic(auto, unfolding(crate::specs::Session::run_check))]
-    pub fn check_run(&self, first: bool) -> RunCheck
-        ensures check { result ≡ run_check (value_of self.now) first }
+    pub fn check_run(&self, way: Way, first: bool) -> RunCheck
+        ensures check { result ≡ run_check way (value_of self.now) first }
         ensures room { (core : ℕ) → result ≡ RunCheck.Go core → (core < length self.now.board.program.entries)
             × (IsFull self.now.board → ⊥) }
     {
-        let Some(core) = self.next_running() else {
-            return RunCheck::AllStopped;
-        };
+        match way {
+            Way::InTurn => match self.next_running() {
+                Some(core) => self.check_core(core, first),
+                None => RunCheck::AllStopped,
+            },
+            Way::AlongPlan => match self.plan.get(self.board.made() as usize) {
+                Some(core) => self.check_planned(*core, first),
+                None => RunCheck::PlanEnded,
+            },
+        }
+    }
+
+    // The tests before a step of a core that the plan has.
+    fn check_planned(&self, core: u8, first: bool) -> RunCheck
+        ensures check { result ≡ plan_check (Some core) first (value_of self.now) }
+        ensures room { (go : ℕ) → result ≡ RunCheck.Go go → (go < length self.now.board.program.entries)
+            × (IsFull self.now.board → ⊥) }
+    {
+        let count = core_count(&self.board);
+        if core < count {
+            self.check_core(core, first)
+        } else {
+            RunCheck::NoCore(count)
+        }
+    }
+
+    // The tests before a step of this core.
+    fn check_core(&self, core: u8, first: bool) -> RunCheck
+        requires exists { core < length self.now.board.machine.views }
+        requires known { core < length self.now.board.program.entries }
+        ensures check { result ≡ core_check core first (value_of self.now) }
+        ensures room { (go : ℕ) → result ≡ RunCheck.Go go → (go < length self.now.board.program.entries)
+            × (IsFull self.now.board → ⊥) }
+    {
         if self.board.made() == self.board.limit() {
             return RunCheck::Full;
         }

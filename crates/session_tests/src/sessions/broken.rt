@@ -158,3 +158,27 @@ fn sets_want_memory(rt: HostRuntime) -> Result<(), Fail> {
     }
     Ok(())
 }
+
+// The same of the board of `back`.
+#[test]
+fn a_step_back_wants_memory(rt: HostRuntime) -> Result<(), Fail> {
+    let mut input = FromReader::new(b"run 2\nback 1\nstep 0\n".as_slice());
+    let mut out = ToVec::new(Vec::with_capacity(rt.alloc(), 100)?);
+    let board = board(&rt, rt.alloc(), &[0x100], 100);
+    match Session::new(board, &mut input, &mut out).serve(&rt, rt.alloc()) {
+        Ok(board) => {
+            assert_eq!(rt; board.made(), 2);
+            assert_eq!(rt;
+                out.bytes.as_slice(),
+                b"0 begun\n0 inside\nat step 1\n0 inside\nbye\n".as_slice()
+            );
+        }
+        Err(fault) => {
+            assert_eq!(rt; fault.code(), 78);
+            assert_eq!(rt; fault.board().made(), 2);
+            assert_eq!(rt; out.bytes.as_slice(), b"0 begun\n0 inside\n".as_slice());
+            assert_eq!(rt; (input.failures(), out.failures()), (0, 0));
+        }
+    }
+    Ok(())
+}

@@ -1,0 +1,74 @@
+//! Steps that are taken back.
+
+ghost use Rattle.std.specs.Prelude.{◌≡◌, ◌≤◌, OnErr, OnOk, length};
+ghost use Rattle.ia_text.specs.Writing.{Writes};
+ghost use Rattle.tm_debug.specs.Session.{AnswerStopped, BackAnswer, Ends, IsBack, made_line, next_behind, value_of};
+
+use crate::interruption::{Interruption, answer_result};
+use crate::refusal::{Range, Refusal, refuse};
+use crate::state::SessionState;
+use ia_text::page::push;
+use ia_text::text_line::TextLine;
+use ia_text::{Out, WriteFault};
+use itoa::Buffer;
+use std::alloc::{AllocError, Global};
+use tm_back::first_steps;
+use tm_hist::Board;
+
+// The number behind that of the core that was stepped last.
+fn next_behind(board: &Board) -> u8
+    ensures { result ≡ next_behind board.now.history }
+{
+    let history = board.history();
+    match history.get(history.len().saturating_sub(1)) {
+        Some((core, _outcome)) => core.wrapping_add(1),
+        None => 0,
+    }
+}
+
+// Takes the last so many steps back. Where there is no memory for the board before them, nothing changes.
+fn take_back(alloc: Global, state: &mut SessionState, count: u64) -> Result<(), AllocError>
+    requires { count ≤ length state.old.board.history }
+    ensures ok { OnOk result (IsBack (value_of state.old) count (value_of state.new)) }
+    ensures err { OnErr result (value_of state.new ≡ value_of state.old) }
+{
+    let left = state.board.made() - count;
+    // A board that was made has limits within their ranges, and its history cores of its program: what is refused is memory.
+    let Ok(first) = first_steps(alloc, &state.board, left) else {
+        return Err(AllocError);
+    };
+    state.next = next_behind(&first);
+    state.board = first;
+    Ok(())
+}
+
+fn write_made<O: Out>(made: u64, out: &mut O) -> Result<(), WriteFault>
+    ensures { Writes (O.device out.old) (O.device out.new) (made_line made) result }
+{
+    let mut row = TextLine::new();
+    push(&mut row, b"at step ");
+    push(&mut row, Buffer::new().format(made).as_bytes());
+    push(&mut row, b"\n");
+    out.put(row.as_slice())?;
+    Ok(())
+}
+
+/// Takes the last so many steps back, and tells how many are made then.
+pub fn back<O: Out>(
+    alloc: Global,
+    state: &mut SessionState,
+    count: u64,
+    out: &mut O,
+) -> Result<(), Interruption>
+    ensures { Ends (BackAnswer (value_of state.old) count) (AnswerStopped (BackAnswer (value_of state.old) count))
+        (O.device out.old) (O.device out.new) (value_of state.old) (value_of state.new) result }
+{
+    let made = state.board.made();
+    if count < 1 || count > made {
+        return answer_result(refuse(state.manner, Refusal::OutOfRange(Range::Made), out));
+    }
+    match take_back(alloc, state, count) {
+        Ok(()) => answer_result(write_made(made - count, out)),
+        Err(_) => Err(Interruption::NoMemory),
+    }
+}
