@@ -66,13 +66,16 @@ pub record IsPicture (found : Found) (options : DrawOptions) : Type 0 where
 -- the subcommand of this name, with these values
 abbrev pub Asks : Found → List ℕ → Subcommand → Type 0
 Asks found name (Asm options) = (name ≡ codes "asm") × (first_value found (codes "FILE") ≡ Some options.file.now)
-Asks found name (Dis options) = (name ≡ codes "dis") × (first_value found (codes "FILE") ≡ Some options.file.now)
+Asks found name (Dis options) =
+    (name ≡ codes "dis") × (first_value found (codes "FILE") ≡ Some options.file.now)
+    × IsFlag found (codes "labels") options.shows_labels
 Asks found name (Run options) =
     (name ≡ codes "run") × IsMachine found options.machine × IsSchedule found options.schedule
 Asks found name (Threads options) = (name ≡ codes "threads") × IsWork found options
 Asks found name (Replay options) =
     (name ≡ codes "replay") × IsMachine found options.machine × IsSchedule found options.schedule
-Asks found name (Debug options) = (name ≡ codes "debug") × IsMachine found options.machine
+Asks found name (Debug options) =
+    (name ≡ codes "debug") × IsMachine found options.machine × IsSchedule found options.schedule
 Asks found name (Hunt options) = (name ≡ codes "hunt") × IsMachine found options.machine
 Asks found name (Outcomes options) = (name ≡ codes "outcomes") × IsSearch found options
 Asks found name (Stats options) = (name ≡ codes "stats") × IsCounting found options

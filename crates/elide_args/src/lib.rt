@@ -14,8 +14,8 @@ mod words;
 
 pub use hunt_options::HuntOptions;
 pub use subcommand::{
-    AsmOptions, DebugOptions, DisOptions, DrawOptions, ExplainOptions, MachineOptions,
+    AsmOptions, CommandLine, DebugOptions, DisOptions, DrawOptions, ExplainOptions, MachineOptions,
     OutcomesOptions, ReplayOptions, RunOptions, ScheduleOptions, StatsOptions, Subcommand,
     ThreadsOptions,
 };
-pub use words::{NotASubcommand, subcommand_of};
+pub use words::{NotASubcommand, command_line_of};

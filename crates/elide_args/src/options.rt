@@ -54,6 +54,12 @@ pub const LIST: OptionText = OptionText {
     help: "Prints the listing in place of the image text",
 };
 
+pub const LABELS: OptionText = OptionText {
+    name: "labels",
+    form: Form::Flag,
+    help: "Prints each label above the instruction that it stands before",
+};
+
 pub const CORES: OptionText = OptionText {
     name: "cores",
     form: Form::Value("N"),
@@ -244,4 +250,10 @@ pub const COUNTS_JSON: OptionText = OptionText {
     name: "json",
     form: Form::Flag,
     help: "With --stats: prints one JSON object in place of columns",
+};
+
+pub const COLOR: OptionText = OptionText {
+    name: "color",
+    form: Form::Value("WHEN"),
+    help: "Paints messages and listings: auto, where it is a terminal's and NO_COLOR is not set, always or never [default: auto]",
 };

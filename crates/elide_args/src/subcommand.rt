@@ -2,6 +2,15 @@
 
 use crate::hunt_options::HuntOptions;
 
+/// What the words of a command line come to.
+#[derive(Debug, Drop)]
+pub struct CommandLine<'a> {
+    /// The subcommand.
+    pub subcommand: Subcommand<'a>,
+    /// `--color`: when messages and listings are painted.
+    pub color: Option<&'a str>,
+}
+
 /// A subcommand with its options.
 #[derive(Debug, Drop)]
 pub enum Subcommand<'a> {
@@ -43,6 +52,8 @@ pub struct AsmOptions<'a> {
 pub struct DisOptions<'a> {
     /// The path of the program.
     pub file: &'a str,
+    /// `--labels`: whether labels are printed, too.
+    pub shows_labels: bool,
 }
 
 /// The options of `run`.
@@ -99,6 +110,8 @@ pub struct ReplayOptions<'a> {
 pub struct DebugOptions<'a> {
     /// The machine.
     pub machine: MachineOptions<'a>,
+    /// The schedule that `next` goes along, where one is given.
+    pub schedule: ScheduleOptions<'a>,
 }
 
 /// The options of `explain`.
@@ -168,7 +181,7 @@ pub struct MachineOptions<'a> {
     pub dump: Option<&'a str>,
 }
 
-/// The options that give a schedule, of which a command takes exactly one.
+/// The options that give a schedule, of which a command takes exactly one; `debug` takes none, too.
 #[derive(Clone, Copy, Debug)]
 pub struct ScheduleOptions<'a> {
     /// `--steps`: a list of core numbers.

@@ -1,9 +1,10 @@
 //! The subcommands, as data.
 
 use crate::options::{
-    BUDGET, BURST, CHECK, CORE, CORES, COUNTS, COUNTS_JSON, DUMP, ENTRY, EXPECT_HALT, FAULT, FILE,
-    FROM, IN_TURN, JOBS, JSON, LIMIT, LIST, MEM, METHOD, OptionText, RANDOM, READS, RECORD,
-    RECORD_FIRST, RUNS, SCHEDULE, SEED, SHOW, SOURCE, STATES, STEPS, STOP, TO, TRACE, WHY, WRITES,
+    BUDGET, BURST, CHECK, COLOR, CORE, CORES, COUNTS, COUNTS_JSON, DUMP, ENTRY, EXPECT_HALT, FAULT,
+    FILE, FROM, IN_TURN, JOBS, JSON, LABELS, LIMIT, LIST, MEM, METHOD, OptionText, RANDOM, READS,
+    RECORD, RECORD_FIRST, RUNS, SCHEDULE, SEED, SHOW, SOURCE, STATES, STEPS, STOP, TO, TRACE, WHY,
+    WRITES,
 };
 
 /// A subcommand.
@@ -28,14 +29,14 @@ const ASM: SubcommandText = SubcommandText {
     name: "asm",
     about: "Assembles a source and prints its image text",
     example: "Example: elide asm examples/elision.asm --list",
-    options: &[SOURCE, LIST],
+    options: &[SOURCE, LIST, COLOR],
 };
 
 const DIS: SubcommandText = SubcommandText {
     name: "dis",
     about: "Prints the instructions of a program's code",
     example: "Example: elide dis examples/increment.img",
-    options: &[FILE],
+    options: &[FILE, LABELS, COLOR],
 };
 
 const RUN: SubcommandText = SubcommandText {
@@ -59,6 +60,7 @@ const RUN: SubcommandText = SubcommandText {
         RANDOM,
         LIMIT,
         RECORD,
+        COLOR,
     ],
 };
 
@@ -80,6 +82,7 @@ const THREADS: SubcommandText = SubcommandText {
         COUNTS,
         COUNTS_JSON,
         RECORD_FIRST,
+        COLOR,
     ],
 };
 
@@ -89,15 +92,18 @@ const REPLAY: SubcommandText = SubcommandText {
     example: "Example: elide replay examples/conflict.img --cores 2 --steps \"0 0 1 1 0 0 0 1\"",
     options: &[
         FILE, CORES, MEM, ENTRY, READS, WRITES, DUMP, STEPS, SCHEDULE, WHY, IN_TURN, RANDOM, LIMIT,
-        RECORD,
+        RECORD, COLOR,
     ],
 };
 
 const DEBUG: SubcommandText = SubcommandText {
     name: "debug",
-    about: "Answers commands that are read from standard input: step, run, break, clear, regs, mem, sets, list, quit",
-    example: "Example: elide debug examples/conflict.img --cores 2",
-    options: &[FILE, CORES, MEM, ENTRY, READS, WRITES, DUMP],
+    about: "Answers commands that are read from standard input, of which `help` prints a list; goes along a schedule, and back",
+    example: "Example: elide debug examples/conflict.img --cores 2 --random 7",
+    options: &[
+        FILE, CORES, MEM, ENTRY, READS, WRITES, DUMP, STEPS, SCHEDULE, IN_TURN, RANDOM, LIMIT,
+        COLOR,
+    ],
 };
 
 const HUNT: SubcommandText = SubcommandText {
@@ -120,6 +126,7 @@ const HUNT: SubcommandText = SubcommandText {
         LIMIT,
         JOBS,
         RECORD,
+        COLOR,
     ],
 };
 
@@ -127,7 +134,7 @@ const OUTCOMES: SubcommandText = SubcommandText {
     name: "outcomes",
     about: "Searches all schedules of a small program and prints each outcome",
     example: "Example: elide outcomes examples/litmus/store-buffering.asm --cores 2 --show 'eax@0 eax@1'",
-    options: &[FILE, CORES, MEM, ENTRY, READS, WRITES, SHOW, STATES],
+    options: &[FILE, CORES, MEM, ENTRY, READS, WRITES, SHOW, STATES, COLOR],
 };
 
 const STATS: SubcommandText = SubcommandText {
@@ -136,7 +143,7 @@ const STATS: SubcommandText = SubcommandText {
     example: "Example: elide stats examples/elision.asm --cores 4 --random 7",
     options: &[
         FILE, CORES, MEM, ENTRY, READS, WRITES, STEPS, SCHEDULE, IN_TURN, RANDOM, LIMIT, RECORD,
-        JSON,
+        JSON, COLOR,
     ],
 };
 
@@ -146,7 +153,7 @@ const DRAW: SubcommandText = SubcommandText {
     example: "Example: elide draw examples/elision.asm --cores 4 --random 7 --from 380 --to 560 > timeline.svg",
     options: &[
         FILE, CORES, MEM, ENTRY, READS, WRITES, STEPS, SCHEDULE, IN_TURN, RANDOM, LIMIT, RECORD,
-        FROM, TO, CORE,
+        FROM, TO, CORE, COLOR,
     ],
 };
 
@@ -154,5 +161,5 @@ const EXPLAIN: SubcommandText = SubcommandText {
     name: "explain",
     about: "Prints what a fault means, and what to do",
     example: "Example: elide explain 16",
-    options: &[FAULT],
+    options: &[FAULT, COLOR],
 };

@@ -7,7 +7,7 @@ ghost use Rattle.elide_args.specs.Asked.{Asks, IsCounting, IsMachine, IsPicture,
 use crate::hunt_options::HuntOptions;
 use crate::line::command_line;
 use crate::subcommand::{
-    AsmOptions, DebugOptions, DisOptions, DrawOptions, ExplainOptions, MachineOptions,
+    AsmOptions, CommandLine, DebugOptions, DisOptions, DrawOptions, ExplainOptions, MachineOptions,
     OutcomesOptions, ReplayOptions, RunOptions, ScheduleOptions, StatsOptions, Subcommand,
     ThreadsOptions,
 };
@@ -31,14 +31,14 @@ pub enum NotASubcommand {
     NotWritten,
 }
 
-/// The subcommand that the arguments make, given without the program's name. Where they make none, the text that they ask for is
+/// What the arguments ask for, given without the program's name. Where they make no subcommand, the text that they ask for is
 /// written on `out`, and one that refuses them on `err`.
-pub fn subcommand_of<'a, O: Out, E: Out>(
+pub fn command_line_of<'a, O: Out, E: Out>(
     alloc: Global,
     words: &'a [&'a str],
     out: &mut O,
     err: &mut E,
-) -> Result<Subcommand<'a>, NotASubcommand> {
+) -> Result<CommandLine<'a>, NotASubcommand> {
     let Ok(line) = command_line(alloc) else {
         return Err(NotASubcommand::NoMemory);
     };
@@ -82,9 +82,17 @@ impl<O: Out> fmt::Write for Device<'_, O> {
     }
 }
 
-// The subcommand that was met.
-fn asked<'a>(alloc: Global, matches: &ArgMatches<'a>) -> Option<Subcommand<'a>> {
+// What the words came to.
+fn asked<'a>(alloc: Global, matches: &ArgMatches<'a>) -> Option<CommandLine<'a>> {
     let (name, options) = matches.subcommand()?;
+    Some(CommandLine {
+        subcommand: any_named(alloc, name, options)?,
+        color: options.get_str("color"),
+    })
+}
+
+// The subcommand of a name, with these options.
+fn any_named<'a>(alloc: Global, name: &str, options: &ArgMatches<'a>) -> Option<Subcommand<'a>> {
     if name == "hunt" {
         return match hunt_of(alloc, options) {
             Ok(hunt) => hunt.map(Subcommand::Hunt),
@@ -107,7 +115,10 @@ fn subcommand_named<'a>(name: &str, options: &ArgMatches<'a>) -> Option<Subcomma
             file,
             lists: options.get_flag("list"),
         })),
-        "dis" => Some(Subcommand::Dis(DisOptions { file })),
+        "dis" => Some(Subcommand::Dis(DisOptions {
+            file,
+            shows_labels: options.get_flag("labels"),
+        })),
         "run" => Some(Subcommand::Run(RunOptions {
             machine: machine_of(file, options),
             schedule: schedule_of(options),
@@ -125,6 +136,7 @@ fn subcommand_named<'a>(name: &str, options: &ArgMatches<'a>) -> Option<Subcomma
         })),
         "debug" => Some(Subcommand::Debug(DebugOptions {
             machine: machine_of(file, options),
+            schedule: schedule_of(options),
         })),
         "outcomes" => Some(Subcommand::Outcomes(OutcomesOptions {
             machine: machine_of(file, options),
