@@ -1,28 +1,26 @@
 //! `elide debug`.
 //!
 //! Promised: what [`debug`] writes are the answers of a session (`tm_debug`) to the input, with the machine that the options say and
-//! room for 1,000,000 steps: spoken where input and output are a terminal's, and plain else. Stands on `elide_setup` and `tm_debug`.
+//! room for 1,000,000 steps: spoken where input and output are a terminal's, and plain else. Which schedule `next` goes along is
+//! compared by `doc_tests`. Stands on `elide_session` and `tm_debug`.
 #![tactic(auto)]
 
-ghost use Rattle.std.specs.Prelude.{◌≡◌, IfOk, OnOk};
-ghost use Rattle.elide_debug.specs.Served.{IsOpened, IsServed, manner_at};
+ghost use Rattle.std.specs.Prelude.{◌≡◌, OnOk};
+ghost use Rattle.elide_debug.specs.Served.{IsServed, manner_at};
 ghost use Rattle.elide_setup.specs.Faults.{fault_number};
 ghost use Rattle.tm_debug.specs.Faults.{session_code};
 
 use elide_args::DebugOptions;
-use elide_program::{Paths, Settings};
-use elide_setup::{Fault, Refusal, Terminals, new_board, prepared};
+use elide_program::Paths;
+use elide_session::opened;
+use elide_setup::{Fault, Refusal, Terminals};
 use ia_text::Out;
 use std::alloc::Global;
 use std::sync::Wait;
 use tm_debug::{In, Manner, SessionFault, serve_in};
-use tm_hist::Board;
 
-/// How many steps a session can make.
-const MOST_STEPS: u64 = 1_000_000;
-
-/// Answers the commands of the input. The machine is that of the options, and the session can make 1,000,000 steps. It is spoken
-/// where input and output are a terminal's.
+/// Answers the commands of the input. The machine is that of the options, and the session can make 1,000,000 steps. `next` goes
+/// along the schedule of the options, where there is one. It is spoken where input and output are a terminal's.
 pub fn debug<R: Wait, P: Paths, I: In, O: Out>(
     rt: &R,
     alloc: Global,
@@ -35,8 +33,8 @@ pub fn debug<R: Wait, P: Paths, I: In, O: Out>(
     ensures { OnOk result (IsServed options.now terminals (I.remaining input.old) (I.remaining input.new) (O.device out.old)
         (O.device out.new)) }
 {
-    let board = opened(alloc, options, paths)?;
-    match serve_in(rt, alloc, manner_at(terminals), board, input, out) {
+    let (board, plan) = opened(alloc, &options.machine, &options.schedule, paths)?;
+    match serve_in(rt, alloc, manner_at(terminals), plan, board, input, out) {
         Ok(_board) => Ok(()),
         Err(fault) => Err(Refusal::Fault(fault_of(&fault))),
     }
@@ -51,19 +49,6 @@ fn manner_at(terminals: Terminals) -> Manner
     } else {
         Manner::Plain
     }
-}
-
-// A board before its first step.
-fn opened<P: Paths>(
-    alloc: Global,
-    options: &DebugOptions<'_>,
-    paths: &mut P,
-) -> Result<Board, Refusal>
-    ensures { IfOk result (λ board. IsOpened options.now board) }
-{
-    let settings = Settings::read(&options.machine)?;
-    let setup = prepared(alloc, options.machine.file, &settings, paths)?;
-    new_board(alloc, &setup, MOST_STEPS)
 }
 
 // Why a session ended early. The board that comes with it is not asked for.

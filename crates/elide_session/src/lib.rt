@@ -1,0 +1,83 @@
+//! What `elide debug` and `elide gdb` begin with: a board, and the schedule that a session goes along.
+//!
+//! Promised: the board is that of the options before its first step, with room for 1,000,000 steps; where no schedule is asked for
+//! there is none. Which steps a schedule has is compared by `doc_tests`. Stands on `elide_setup`.
+#![tactic(auto)]
+
+ghost use Rattle.std.specs.Prelude.{◌≡◌, [], IfOk, false};
+ghost use Rattle.elide_session.specs.Opened.{IsOpened, is_scheduled};
+
+use elide_args::{MachineOptions, ScheduleOptions};
+use elide_program::{Paths, Settings};
+use elide_setup::{Course, Fault, Refusal, Setup, Silent, new_board, prepared, scheduled};
+use std::alloc::Global;
+use tm_core::Machine;
+use tm_hist::Board;
+
+/// How many steps a session can make.
+const MOST_STEPS: u64 = 1_000_000;
+
+/// The board of a machine before its first step, with room for 1,000,000 of them, and the core of each step of the schedule: none,
+/// where no schedule is asked for.
+pub fn opened<P: Paths>(
+    alloc: Global,
+    machine: &MachineOptions<'_>,
+    schedule: &ScheduleOptions<'_>,
+    paths: &mut P,
+) -> Result<(Board, Vec<u8>), Refusal>
+    ensures board { IfOk result (λ r. IsOpened machine.now r.0) }
+    ensures plan { IfOk result (λ r. is_scheduled schedule.now ≡ false → r.1.items ≡ []) }
+{
+    if is_scheduled(schedule) {
+        return opened_scheduled(alloc, machine, schedule, paths);
+    }
+    let settings = Settings::read(machine)?;
+    let setup = prepared(alloc, machine.file, &settings, paths)?;
+    let board = new_board(alloc, &setup, MOST_STEPS)?;
+    Ok((board, Vec::new(alloc)))
+}
+
+// Whether a schedule is asked for. A limit alone is refused where the schedule is read.
+fn is_scheduled(schedule: &ScheduleOptions<'_>) -> bool
+    ensures { result ≡ is_scheduled schedule.now }
+{
+    schedule.steps.is_some()
+        || schedule.path.is_some()
+        || schedule.in_turn
+        || schedule.random.is_some()
+        || schedule.limit.is_some()
+}
+
+// The same as `opened`, where a schedule is asked for.
+fn opened_scheduled<P: Paths>(
+    alloc: Global,
+    machine: &MachineOptions<'_>,
+    schedule: &ScheduleOptions<'_>,
+    paths: &mut P,
+) -> Result<(Board, Vec<u8>), Refusal>
+    ensures board { IfOk result (λ r. IsOpened machine.now r.0) }
+{
+    let (setup, course) = scheduled(alloc, machine, schedule, paths)?;
+    course.check_cores(setup.program.cores())?;
+    let board = new_board(alloc, &setup, MOST_STEPS)?;
+    let plan = plan_of(alloc, &setup, course)?;
+    Ok((board, plan))
+}
+
+// The core of each step of a schedule: of one that is drawn, as a run on a machine of its own draws it.
+fn plan_of(alloc: Global, setup: &Setup, course: Course) -> Result<Vec<u8>, Refusal> {
+    match course {
+        Course::Listed(steps) => Ok(steps),
+        drawn => {
+            let machine = Machine::new(alloc, &setup.program, setup.limits);
+            let mut machine = machine.map_err(Fault::Machine)?;
+            drawn.walk(
+                alloc,
+                setup.program.cores(),
+                true,
+                &mut machine,
+                &mut Silent,
+            )
+        }
+    }
+}
