@@ -7,6 +7,7 @@ ghost use Rattle.ia_text.specs.Writing.{Writes};
 
 use crate::file::is_source;
 use crate::paths::{Paths, ReadFault, Text};
+use elide_color::{PaintedWords, Painting};
 use ia_text::{Failed, Out};
 use ia_warn::warn;
 
@@ -17,19 +18,23 @@ pub struct WarnedPaths<'a, P, E> {
     err: &'a mut E,
     // The path of the program, until its warnings are told.
     program: Option<&'a str>,
+    // How they are painted.
+    painting: Painting,
 }
 
 impl<'a, P: Paths, E: Out> WarnedPaths<'a, P, E> {
-    /// These files, one of which is a program, and the device that its warnings are told on.
+    /// These files, one of which is a program, and the device that its warnings are told on, painted so.
     pub fn new(
         paths: &'a mut P,
         err: &'a mut E,
         program: Option<&'a str>,
+        painting: Painting,
     ) -> WarnedPaths<'a, P, E> {
         WarnedPaths {
             paths,
             err,
             program,
+            painting,
         }
     }
 }
@@ -43,7 +48,7 @@ impl<P: Paths, E: Out> Paths for WarnedPaths<'_, P, E> {
                 if is_path(self.program, path) {
                     self.program = None;
                     // A warning that is not written whole has no further place to be told.
-                    let _ = warn_of(bytes.as_slice(), self.err);
+                    let _ = warn_painted(bytes.as_slice(), self.painting, &mut *self.err);
                 }
                 Ok(bytes)
             }
@@ -65,6 +70,12 @@ fn is_path(program: Option<&str>, path: &str) -> bool {
         Some(program) => program == path,
         None => false,
     }
+}
+
+// Tells the warnings of a program's text, painted so.
+fn warn_painted<E: Out>(text: &[u8], painting: Painting, err: &mut E) -> Result<(), Failed> {
+    let mut err = PaintedWords::new(err, painting);
+    warn_of(text, &mut err)
 }
 
 // Tells the warnings of a program's text (docs/FORMATS.md, "Warnings"). Image text and executables have none.
