@@ -1,12 +1,14 @@
 //! `elide dis`.
 
+use crate::labels::list_labelled;
 use elide_args::DisOptions;
+use elide_places::Places;
 use elide_program::{Paths, ProgramFault, ProgramFile, ProgramRefusal, read_file};
 use ia_image::LoadFault;
 use ia_text::{Out, disassemble};
 use std::alloc::Global;
 
-/// Prints the listing of the code.
+/// Prints the listing of the code, with its labels where they are asked for.
 pub fn dis<P: Paths, O: Out>(
     alloc: Global,
     options: &DisOptions<'_>,
@@ -15,12 +17,18 @@ pub fn dis<P: Paths, O: Out>(
 ) -> Result<(), ProgramRefusal> {
     let text = read_file(options.file, paths)?;
     let file = ProgramFile::read(alloc, text.as_slice())?;
-    match code_of(&file) {
-        Some(code) => match disassemble(code, file.base(), out) {
-            Ok(()) => Ok(()),
-            Err(fault) => Err(ProgramRefusal::Fault(ProgramFault::Write(fault))),
-        },
-        None => Err(ProgramRefusal::Fault(ProgramFault::Load(LoadFault::CodeTooLong))),
+    let Some(code) = code_of(&file) else {
+        return Err(ProgramRefusal::Fault(ProgramFault::Load(LoadFault::CodeTooLong)));
+    };
+    let written = if options.shows_labels {
+        let places = Places::of_text(alloc, text.as_slice())?;
+        list_labelled(alloc, code, file.base(), &places, out)?
+    } else {
+        disassemble(code, file.base(), out)
+    };
+    match written {
+        Ok(()) => Ok(()),
+        Err(fault) => Err(ProgramRefusal::Fault(ProgramFault::Write(fault))),
     }
 }
 
