@@ -1,5 +1,5 @@
 -- The line of an abort with its reason (docs/FORMATS.md, "Why a transaction aborted").
-use Rattle.std.specs.Prelude.{ℕ, List, [], ◌++◌, codes, Option, Some, None, length, ◌==◌, if◌then◌else◌}
+use Rattle.std.specs.Prelude.{ℕ, List, [], ◌++◌, codes, Option, Some, None}
 use Rattle.std.specs.Fmt.{decimal}
 use Rattle.ia_insn.specs.declared.op.Insn.{Insn}
 use Rattle.ia_text.specs.Number.{eight_digits, hex_digits}
@@ -12,12 +12,11 @@ use Rattle.tm_why.specs.declared.reason.Reason.{Reason}
 use Rattle.tm_why.specs.declared.row.StandingHit.{StandingHit}
 use Rattle.tm_model.specs.declared.explain.AbortReason.{AbortReason}
 use Rattle.tm_model.specs.declared.explain.AbortReason.TheVariants as cause
+use Rattle.elide_why.specs.Subset.{outside_text, symbols_text}
+use Rattle.elide_why.specs.declared.outside.Outside.{Outside}
 use Rattle.elide_why.specs.declared.words.Words.{Words}
 
 -- a line by its number, with the symbols that stand on it
-abbrev pub symbols_text : List ℕ → List ℕ
-symbols_text symbols = if length symbols == 0 then [] else codes " (" ++ symbols ++ codes ")"
-
 abbrev pub line_text : ℕ → Words → List ℕ
 line_text line words = codes "line " ++ hex_digits line ++ symbols_text words.symbols.items
 
@@ -40,13 +39,18 @@ abbrev pub no_room_text : Kind → ℕ → Words → List ℕ
 no_room_text Read line words = codes "reads: no room for " ++ line_text line words
 no_room_text Write line words = codes "writes: no room for " ++ line_text line words
 
+-- where the subset ends, the code that stands there
+abbrev pub outside_words : Option Outside → List ℕ
+outside_words None = []
+outside_words (Some outside) = outside_text outside
+
 abbrev pub cause_text : AbortReason → Reason → Words → List ℕ
 cause_text cause.Conflict why words = codes "conflict" ++ hit_words why.transaction.hit words
 cause_text (cause.Capacity kind line) why words = no_room_text kind line words
 cause_text cause.Nest why words = codes "nested deeper than 7"
 cause_text (cause.Explicit argument) why words = codes "xabort 0x" ++ hex_digits argument
 cause_text cause.Breakpoint why words = codes "#BP"
-cause_text (cause.Stop stop) why words = stop_word stop
+cause_text (cause.Stop stop) why words = stop_word stop ++ outside_words words.outside
 cause_text cause.NotAllowed why words = codes "not in a transaction: "
 
 -- of a transaction that was hit alone it is told when it began

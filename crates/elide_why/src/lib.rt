@@ -1,18 +1,24 @@
 //! `--why`: the lines of a run's aborts go on with the reason of each.
 //!
-//! Promised: the line of an abort is the text of `specs/Lines.antt` for its reason. Which steps are told of, and what the
+//! Promised: the line of an abort is the text of `specs/Lines.antt` for its reason, that of a stop where the subset ends the one
+//! of `specs/Subset.antt`, and the code that is told is the program's. Which steps are told of, and what the
 //! places of the source say, is compared by `doc_tests`. Stands on `tm_why` for the reasons and on `elide_places` for the
 //! symbols and lines of a source.
 #![tactic(auto)]
 
 mod history;
 mod lines;
+mod outside;
+mod page;
 mod placed;
+mod subset;
 mod teller;
 mod words;
 
 pub use history::tell_history;
 pub use lines::write_abort;
+pub use outside::Outside;
 pub use placed::scheduled_places;
+pub use subset::write_stop;
 pub use teller::Teller;
 pub use words::{PlaceText, Words};

@@ -1,17 +1,17 @@
 //! The line of an abort with its reason.
 
 ghost use Rattle.std.specs.Prelude.{◌≡◌, ◌+◌, ◌≤◌, ◌++◌, length};
-ghost use Rattle.std.specs.Fmt.{decimal};
 ghost use Rattle.arrayvec.specs.ArrayVec.{array_vec_len};
 ghost use Rattle.ia_text.specs.Writing.{Writes};
 ghost use Rattle.elide_why.specs.Lines.{abort_back, abort_front, abort_line, begun_text, begun_told, cause_text};
-ghost use Rattle.elide_why.specs.Lines.{hit_words, insn_words, line_text, no_room_text, symbols_text, use_word};
+ghost use Rattle.elide_why.specs.Lines.{hit_words, insn_words, line_text, no_room_text, outside_words, use_word};
 
+use crate::page::push_decimal;
+use crate::subset::{push_outside, push_symbols};
 use crate::words::Words;
 use ia_insn::Insn;
 use ia_text::page::{Page, push, push_eight, push_hex};
 use ia_text::{Out, WriteFault, write_insn};
-use itoa::Buffer;
 use tm_core::AbortReason;
 use tm_hist::stop_text;
 use tm_sets::Kind;
@@ -24,7 +24,7 @@ pub fn write_abort<O: Out>(
     core: u8,
     status: u32,
     reason: &Reason,
-    words: &Words,
+    words: &Words<'_>,
     out: &mut O,
 ) -> Result<(), WriteFault>
     ensures { Writes (O.device out.old) (O.device out.new) (abort_line core status reason.now words.now) result }
@@ -51,7 +51,7 @@ fn write_words<O: Out>(insn: Option<Insn>, at: u32, out: &mut O) -> Result<(), W
 
 // What stands before the instruction that is told.
 #[tactic(auto, unfolding(crate::specs::Lines::abort_front))]
-fn push_front(page: &mut Page, core: u8, status: u32, reason: &Reason, words: &Words)
+fn push_front(page: &mut Page, core: u8, status: u32, reason: &Reason, words: &Words<'_>)
     requires { array_vec_len page.old ≡ 0 }
     ensures { page.new.items ≡ page.old.items ++ abort_front core status reason.now words.now }
 {
@@ -98,16 +98,7 @@ fn push_begun(page: &mut Page, begun: Option<u64>)
     }
 }
 
-// A number in decimal digits.
-fn push_decimal(page: &mut Page, number: u64)
-    requires { array_vec_len page.old + 40 ≤ 4096 }
-    ensures text { page.new.items ≡ page.old.items ++ decimal number }
-    ensures len { array_vec_len page.new ≤ array_vec_len page.old + 40 }
-{
-    push(page, Buffer::new().format(number).as_bytes());
-}
-
-fn push_cause(page: &mut Page, reason: &Reason, words: &Words)
+fn push_cause(page: &mut Page, reason: &Reason, words: &Words<'_>)
     requires { array_vec_len page.old + 1800 ≤ 4096 }
     ensures { page.new.items ≡ page.old.items ++ cause_text reason.now.cause reason.now words.now }
 {
@@ -123,13 +114,26 @@ fn push_cause(page: &mut Page, reason: &Reason, words: &Words)
             push_hex(page, u32::from(argument));
         }
         AbortReason::Breakpoint => push(page, b"#BP"),
-        AbortReason::Stop(stop) => push(page, stop_text(stop)),
+        AbortReason::Stop(stop) => {
+            push(page, stop_text(stop));
+            push_code(page, words);
+        }
         AbortReason::NotAllowed => push(page, b"not in a transaction: "),
     }
 }
 
+// Where the subset ends, the code that stands there.
+fn push_code(page: &mut Page, words: &Words<'_>)
+    requires { array_vec_len page.old + 160 ≤ 4096 }
+    ensures { page.new.items ≡ page.old.items ++ outside_words words.now.outside }
+{
+    if let Some(outside) = &words.outside {
+        push_outside(page, outside);
+    }
+}
+
 // Which line was hit, how, when, by whom, and where the instruction stands that did.
-fn push_hit(page: &mut Page, hit: Option<StandingHit>, words: &Words)
+fn push_hit(page: &mut Page, hit: Option<StandingHit>, words: &Words<'_>)
     requires { array_vec_len page.old + 1700 ≤ 4096 }
     ensures { page.new.items ≡ page.old.items ++ hit_words hit words.now }
 {
@@ -159,7 +163,7 @@ fn use_word(kind: Kind) -> &'static [u8]
 }
 
 // What had no room, and on which line.
-fn push_no_room(page: &mut Page, kind: Kind, line: u32, words: &Words)
+fn push_no_room(page: &mut Page, kind: Kind, line: u32, words: &Words<'_>)
     requires { array_vec_len page.old + 200 ≤ 4096 }
     ensures { page.new.items ≡ page.old.items ++ no_room_text kind line words.now }
 {
@@ -171,7 +175,7 @@ fn push_no_room(page: &mut Page, kind: Kind, line: u32, words: &Words)
 }
 
 // A line by its number, and the symbols on it.
-fn push_line(page: &mut Page, line: u32, words: &Words)
+fn push_line(page: &mut Page, line: u32, words: &Words<'_>)
     requires { array_vec_len page.old + 130 ≤ 4096 }
     ensures text { page.new.items ≡ page.old.items ++ line_text line words.now }
     ensures len { array_vec_len page.new ≤ array_vec_len page.old + 130 }
@@ -179,17 +183,4 @@ fn push_line(page: &mut Page, line: u32, words: &Words)
     push(page, b"line ");
     push_hex(page, line);
     push_symbols(page, words.symbols.as_slice());
-}
-
-// The symbols, where there are any.
-fn push_symbols(page: &mut Page, symbols: &[u8])
-    requires { array_vec_len page.old + length symbols.now + 3 ≤ 4096 }
-    ensures text { page.new.items ≡ page.old.items ++ symbols_text symbols.now }
-    ensures len { array_vec_len page.new ≤ array_vec_len page.old + length symbols.now + 3 }
-{
-    if !symbols.is_empty() {
-        push(page, b" (");
-        push(page, symbols);
-        push(page, b")");
-    }
 }

@@ -1,16 +1,19 @@
 //! Steps that are made and told.
 
 use crate::lines::write_abort;
+use crate::outside::Outside;
+use crate::subset::write_stop;
 use crate::words::Words;
 use elide_places::Places;
 use elide_setup::{Fault, Refusal};
 use ia_image::Program;
 use ia_text::Out;
-use tm_core::{Machine, Outcome, RunFault};
+use tm_core::{Machine, Outcome, RunFault, Stop};
 use tm_hist::write_outcome;
 use tm_why::{Asked, Watch};
 
-/// Makes the steps of a run and tells of each that aborts why it does, and of the others where they are asked for.
+/// Makes the steps of a run and tells of each that aborts why it does, of each that stops where the subset ends which code stands
+/// there, and of the others where they are asked for.
 #[derive(Drop)]
 pub struct Teller<'a> {
     program: &'a Program,
@@ -57,6 +60,10 @@ impl<'a> Teller<'a> {
             (Outcome::Aborted(status), Some(reason)) => {
                 let words = Words::of(self.program, self.path, self.places, &reason);
                 write_abort(core, status, &reason, &words, out)?;
+            }
+            (Outcome::Stopped(Stop::NotInSubset), _) => {
+                let outside = Outside::at(self.program, self.places, asked.eip);
+                write_stop(core, &outside, out)?;
             }
             _ if self.traces => write_outcome(core, &outcome, out)?,
             _ => {}

@@ -1,12 +1,16 @@
 //! What the text of a program says of a reason.
 
+ghost use Rattle.std.specs.Prelude.{◌≡◌};
+ghost use Rattle.elide_why.specs.Words.{IsOutsideOf};
+
+use crate::outside::Outside;
 use arrayvec::ArrayVec;
 use elide_places::{Places, SymbolText, push_symbols};
 use ia_image::Program;
 use ia_insn::Insn;
 use ia_text::page::{push, push_eight};
 use itoa::Buffer;
-use tm_core::AbortReason;
+use tm_core::{AbortReason, Stop};
 use tm_why::Reason;
 
 /// How many bytes of a path are told.
@@ -17,7 +21,7 @@ pub type PlaceText = ArrayVec<u8, 1100>;
 
 /// What the text of a program says of a reason.
 #[derive(Drop)]
-pub struct Words {
+pub struct Words<'a> {
     /// The symbols on the line that the reason tells of; none, where it tells of no line.
     pub symbols: SymbolText,
     /// The address of the instruction that the reason tells of: the one by which another core hit, or else the one that
@@ -27,11 +31,15 @@ pub struct Words {
     pub place: PlaceText,
     /// What it is, where the reason tells it.
     pub insn: Option<Insn>,
+    /// The code where the subset ends, where it does.
+    pub outside: Option<Outside<'a>>,
 }
 
-impl Words {
+impl<'a> Words<'a> {
     /// What a program, of the source or image at this path and with these places, says of a reason.
-    pub fn of(program: &Program, path: &str, places: &Places, reason: &Reason) -> Words {
+    pub fn of(program: &'a Program, path: &str, places: &Places, reason: &Reason) -> Words<'a>
+        ensures { IsOutsideOf program.now reason.now.cause reason.now.eip result.outside }
+    {
         let mut symbols = SymbolText::new();
         if let Some(line) = line_of(reason) {
             push_symbols(&mut symbols, places, line);
@@ -46,7 +54,18 @@ impl Words {
             } else {
                 None
             },
+            outside: outside_of(program, places, reason),
         }
+    }
+}
+
+// The code where the subset ends, where a reason tells that it does.
+fn outside_of<'a>(program: &'a Program, places: &Places, reason: &Reason) -> Option<Outside<'a>>
+    ensures { IsOutsideOf program.now reason.now.cause reason.now.eip result }
+{
+    match reason.cause {
+        AbortReason::Stop(Stop::NotInSubset) => Some(Outside::at(program, places, reason.eip)),
+        _ => None,
     }
 }
 

@@ -1,0 +1,17 @@
+//! Code that is no instruction of the subset.
+
+ghost use Rattle.std.specs.Prelude.{◌≤◌, length};
+
+use elide_places::SymbolText;
+
+/// Code that is no instruction of the subset.
+#[derive(Drop)]
+pub struct Outside<'a> {
+    /// The code from the address on, up to 15 bytes.
+    pub code: &'a [u8],
+    /// The address.
+    pub address: u32,
+    /// Of an executable the symbol there, or the last one below with the distance.
+    pub place: SymbolText,
+    pub ghost short: { length code.now ≤ 15 },
+}
