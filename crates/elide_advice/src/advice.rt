@@ -19,15 +19,17 @@ use tm_core::{MachineFault, RunFault};
 use tm_hist::{BoardFault, StepFault};
 
 /// Writes where the fault of a command stands and what is meant, for a person at a terminal. FILE and a schedule's file are read
-/// again. Nothing is written where there is nothing to add, and it ends where no memory is left or the device fails.
+/// again. Nothing is written where there is nothing to add, and it ends where no memory is left or the device fails. Painted
+/// or not, the text is the same.
 pub fn advise<P: Paths, O: Out>(
     alloc: Global,
     subcommand: &Subcommand<'_>,
     refusal: Refusal,
     paths: &mut P,
+    is_painted: bool,
     err: &mut O,
 ) {
-    let mut page = Page::new(err);
+    let mut page = Page::new(err, is_painted);
     let written = match refusal {
         Refusal::Usage(name) => advise_misuse(subcommand, name, &mut page),
         Refusal::Fault(fault) => advise_fault(alloc, subcommand, fault, paths, &mut page),

@@ -31,6 +31,7 @@ pub fn schedule_of<'s, 'a>(subcommand: &'s Subcommand<'a>) -> Option<&'s Schedul
     match subcommand {
         Subcommand::Run(options) => Some(&options.schedule),
         Subcommand::Replay(options) => Some(&options.schedule),
+        Subcommand::Debug(options) => Some(&options.schedule),
         Subcommand::Stats(options) => Some(&options.schedule),
         Subcommand::Draw(options) => Some(&options.schedule),
         _ => None,

@@ -1,6 +1,7 @@
 //! A line of a text with a part that is marked.
 
 use crate::page::Page;
+use elide_color::Style;
 use ia_text::Out;
 use std::fmt;
 use std::fmt::{Display, Write};
@@ -80,19 +81,37 @@ pub fn write_excerpt<O: Out, M: Display>(
     let gutter = digits(excerpt.number);
     let window = window_of(excerpt);
     page.put_times(b' ', gutter)?;
+    write_place(b"-->", page)?;
     writeln!(
         page,
-        "--> {}:{}:{}",
+        " {}:{}:{}",
         excerpt.path, excerpt.number, excerpt.column
     )?;
     page.put_times(b' ', gutter)?;
-    page.put(b" |\n")?;
-    write!(page, "{} | ", excerpt.number)?;
+    write_place(b" |", page)?;
+    page.put(b"\n")?;
+    write_number(excerpt.number, page)?;
     write_window(excerpt.text, window, page)?;
     page.put_times(b' ', gutter)?;
-    page.put(b" | ")?;
+    write_place(b" |", page)?;
+    page.put(b" ")?;
     write_mark(window, page)?;
     writeln!(page, " {meaning}")
+}
+
+// A part of the frame.
+fn write_place<O: Out>(part: &[u8], page: &mut Page<'_, O>) -> fmt::Result {
+    page.begin(Style::Place)?;
+    page.put(part)?;
+    page.end()
+}
+
+// The number of the line.
+fn write_number<O: Out>(number: usize, page: &mut Page<'_, O>) -> fmt::Result {
+    page.begin(Style::Place)?;
+    write!(page, "{number} |")?;
+    page.end()?;
+    page.put(b" ")
 }
 
 // The bytes that are shown.
@@ -115,5 +134,7 @@ fn write_mark<O: Out>(window: Window, page: &mut Page<'_, O>) -> fmt::Result {
         page.put(b"   ")?;
     }
     page.put_times(b' ', window.mark)?;
-    page.put_times(b'^', window.marked)
+    page.begin(Style::Fault)?;
+    page.put_times(b'^', window.marked)?;
+    page.end()
 }

@@ -57,7 +57,7 @@ pub fn advise_load<O: Out>(
         }
         LoadFault::EntryOutsideCode => match machine.entry {
             Some(entry) => writeln!(page, "--entry {entry}: an entry is the address of code"),
-            None => writeln!(page, "{file}: its base is no address of code"),
+            None => writeln!(page, "{file}: its entry is no address of code"),
         },
         LoadFault::NoMemory => Ok(()),
     }

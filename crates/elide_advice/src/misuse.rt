@@ -35,6 +35,7 @@ pub fn advise_misuse<O: Out>(
         ("--dump", _) => writeln!(page, "--dump takes ADDRESS:BYTES, as 0x1000:4"),
         ("--record", _) => writeln!(page, "--record takes another path than FILE"),
         ("--json", _) => writeln!(page, "--json goes with --stats"),
+        ("--color", _) => writeln!(page, "--color takes auto, always or never"),
         ("--core", _) => writeln!(page, "--core takes numbers of cores, each once, as 0,2"),
         ("FAULT", _) => writeln!(
             page,

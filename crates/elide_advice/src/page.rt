@@ -1,20 +1,41 @@
 //! The device that advice is written on.
 
+use elide_color::{ENDING, Style};
 use elide_setup::Gathered;
 use ia_text::Out;
 use std::fmt;
 
-/// A device that text is formatted to.
+/// A device that text is formatted to, painted or not.
 #[derive(Drop)]
 pub struct Page<'o, O> {
     out: Gathered<'o, O>,
+    is_painted: bool,
 }
 
 impl<'o, O: Out> Page<'o, O> {
     /// Writes to this device.
-    pub fn new(out: &'o mut O) -> Page<'o, O> {
+    pub fn new(out: &'o mut O, is_painted: bool) -> Page<'o, O> {
         Page {
             out: Gathered::new(out),
+            is_painted,
+        }
+    }
+
+    /// Begins text of a style, which [`Page::end`] ends.
+    pub fn begin(&mut self, style: Style) -> fmt::Result {
+        if self.is_painted {
+            self.put(style.beginning())
+        } else {
+            Ok(())
+        }
+    }
+
+    /// Ends text of a style.
+    pub fn end(&mut self) -> fmt::Result {
+        if self.is_painted {
+            self.put(ENDING)
+        } else {
+            Ok(())
         }
     }
 

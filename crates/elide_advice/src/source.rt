@@ -2,6 +2,7 @@
 
 use crate::excerpt::{Excerpt, write_excerpt};
 use crate::page::Page;
+use elide_color::Style;
 use elide_program::{MOST_BYTES, Paths};
 use ia_asm::AsmFault;
 use ia_diagnosis::{Diagnosis, diagnose};
@@ -43,9 +44,12 @@ pub fn advise_source<P: Paths, O: Out>(
 
 // The line that tells a fault.
 fn write_fault<O: Out>(fault: AsmFault, page: &mut Page<'_, O>) -> fmt::Result {
+    page.begin(Style::Fault)?;
+    write!(page, "fault {} ", fault.code())?;
+    page.end()?;
     match fault.line() {
-        Some(line) => writeln!(page, "fault {} {fault} line {line}", fault.code()),
-        None => writeln!(page, "fault {} {fault}", fault.code()),
+        Some(line) => writeln!(page, "{fault} line {line}"),
+        None => writeln!(page, "{fault}"),
     }
 }
 

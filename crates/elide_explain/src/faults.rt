@@ -177,7 +177,7 @@ const WORK: &str = "\
 const SESSION: &str = "\
 70 UnknownCommand
     `error 70` of the debugger: a word that is no command, or a line of more than 256 bytes.
-    To do: step, run, break, clear, regs, mem, sets, list, quit.
+    To do: `help` lists the commands.
     Example: STEP 0
 71 BadArgument
     `error 71` of the debugger: too many or too few arguments, or one that is no number.
@@ -190,11 +190,12 @@ const SESSION: &str = "\
 73 OutOfRange
     A part of memory that is to be printed or checked passes the memory's end, or a core that is to be shown is not there;
     `error 73` of the debugger also where a count is not in its range.
-    To do: --dump takes ADDRESS:BYTES below --mem; run takes 1 to 100000, mem 1 to 256, list 1 to 64.
+    To do: --dump takes ADDRESS:BYTES below --mem; run and next take 1 to 100000, mem 1 to 256, list 1 to 64;
+    back takes as many steps as were made, or fewer.
     Example: --dump 0xffff:2 of a memory of 65536 bytes
 74 LimitReached
     `error 74` of the debugger: the session has made 1,000,000 steps.
-    To do: begin another session.
+    To do: begin another session, or go back.
     Example: run 100000 for the eleventh time
 75 TooManyBreakpoints
     `error 75` of the debugger: 64 breakpoints are set.
@@ -209,7 +210,7 @@ const SESSION: &str = "\
     To do: make room, or let the reader read to the end.
     Example: elide debug examples/increment.img > /dev/full
 78 NoMemory
-    The session has no memory for its line and its breakpoints.
+    There is no memory for the answer to `sets`, or for the machine of `back`.
     To do: give the process more.
     Example: ulimit -v 20000; elide debug large.img
 ";

@@ -1,0 +1,64 @@
+//! Texts that no command of the worked rows comes to.
+
+ghost use Rattle.std.specs.Prelude.{None};
+
+use crate::advise;
+use elide_args::{ExplainOptions, Subcommand};
+use elide_program::{Paths, ReadFault, Text};
+use elide_setup::{Fault, Refusal};
+use ia_text::{Failed, ToVec};
+use std::alloc::Global;
+use std::process::Abort;
+use std::test::Fail;
+
+// Files of which none is there.
+#[derive(Clone, Copy, Debug)]
+struct NoFiles;
+
+impl Paths for NoFiles {
+    ghost content = { λ _ _. None };
+
+    fn read(&mut self, _path: &str, _most: usize) -> Result<Vec<u8>, ReadFault> {
+        Err(ReadFault::Failed)
+    }
+
+    fn write<T: Text>(&mut self, _path: &str, _text: &T) -> Result<(), Failed> {
+        Err(Failed)
+    }
+
+    fn is_same_file(&mut self, _path: &str, _other: &str) -> bool {
+        false
+    }
+}
+
+// Beside this refusal stands this text.
+fn tells(rt: &impl Abort, alloc: Global, refusal: Refusal, text: &[u8]) {
+    let subcommand = Subcommand::Explain(ExplainOptions { fault: None });
+    let mut out = ToVec::new(Vec::new(alloc));
+    advise(alloc, &subcommand, refusal, &mut NoFiles, false, &mut out);
+    assert_eq!(rt; out.bytes.as_slice(), text);
+}
+
+#[test]
+fn a_thread_that_is_not_started(rt: HostRuntime) -> Result<(), Fail> {
+    let refusal = Refusal::Fault(Fault::SpawnRefused);
+    tells(
+        &rt,
+        rt.alloc(),
+        refusal,
+        b"the system starts no further thread\n",
+    );
+    Ok(())
+}
+
+#[test]
+fn a_number_that_is_left_out(rt: HostRuntime) -> Result<(), Fail> {
+    let refusal = Refusal::Usage("--budget");
+    tells(
+        &rt,
+        rt.alloc(),
+        refusal,
+        b"--budget is wanted, with a number\n",
+    );
+    Ok(())
+}
