@@ -1,15 +1,17 @@
 //! `elide` simulates a multicore IA-32 machine with Intel Restricted Transactional Memory.
 //!
-//! `main` hands in the arguments, the files and the standard streams; the rest is [`elide_command::command`].
+//! `main` hands in the arguments, the files, the standard streams and what the environment asks for; the rest is [`elide_command::command`].
 #![tactic(auto)]
 
 mod ahead;
 mod arguments;
+mod environment;
 mod progress;
 
 use ahead::ReadAhead;
 use arguments::{MOST, ROOM, Words, words_from};
-use elide_command::{HostPaths, Terminals, command};
+use elide_command::{HostPaths, Surroundings, Terminals, command};
+use environment::asks_for_no_colors;
 use ia_text::{Out, ToWriter};
 use progress::ProgressLine;
 use std::io;
@@ -36,6 +38,10 @@ fn main(rt: HostRuntime) -> ExitCode {
         output: rt.stdout().is_terminal(),
         errors: stderr.is_terminal(),
     };
+    let surroundings = Surroundings {
+        terminals,
+        is_plain: asks_for_no_colors(&rt),
+    };
     let mut progress = ProgressLine::new(&rt, ToWriter::new(&stderr), terminals.errors);
     let status = command(
         &rt,
@@ -44,7 +50,7 @@ fn main(rt: HostRuntime) -> ExitCode {
         &mut input,
         &mut out,
         &mut err,
-        terminals,
+        surroundings,
         &mut progress,
     );
     ExitCode::from(status)

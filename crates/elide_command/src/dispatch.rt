@@ -2,10 +2,12 @@
 
 ghost use Rattle.std.specs.Prelude.{◌≤◌};
 
+use crate::surroundings::Surroundings;
 use crate::telling::tell;
 use elide_advice::advise;
-use elide_args::{NotASubcommand, Subcommand, subcommand_of};
+use elide_args::{CommandLine, NotASubcommand, Subcommand, command_line_of};
 use elide_asm::{asm, dis};
+use elide_color::{Colors, PaintedWords, Painting, When};
 use elide_debug::debug;
 use elide_draw::draw;
 use elide_explain::explain;
@@ -28,8 +30,9 @@ use tm_debug::In;
 /// The words are the arguments without the program's name. A fault is one line on `err`, as `fault 23 BadCores`, or with the
 /// line of a text as `fault 27 BadImageText line 3`; a misused option is `usage: ` and its name. Nothing is written on
 /// `out` then, unless the fault came while writing there. Warnings of a source stand on `err` before. Telling them takes no
-/// memory. `terminals` tells which of these devices are a terminal's: where `err` is, what is meant by a fault follows its line.
-/// Long work tells `progress` how far it is. Waits only for `input` and for workers.
+/// memory. `surroundings` tells which of these devices are a terminal's: where `err` is, what is meant by a fault follows its
+/// line, and messages and listings are painted as `--color` says. Long work tells `progress` how far it is. Waits only for
+/// `input` and for workers.
 pub fn command<
     R: Threads + Wait + Sync + AllocGlobal,
     P: Paths,
@@ -44,21 +47,30 @@ pub fn command<
     input: &mut I,
     out: &mut O,
     err: &mut E,
-    terminals: Terminals,
+    surroundings: Surroundings,
     progress: &mut G,
 ) -> u8
     ensures { result ≤ 3 }
 {
-    match subcommand_of(rt.alloc(), words, out, err) {
-        Ok(subcommand) => {
-            match obey_warned(rt, &subcommand, paths, input, out, err, terminals, progress) {
+    match command_line_of(rt.alloc(), words, out, err) {
+        Ok(line) => {
+            let look = Look::new(&line, surroundings);
+            match obey_warned(rt, &line.subcommand, paths, input, out, err, look, progress) {
                 Ok(Answer::Done) => 0,
                 Ok(Answer::Differs) => 1,
                 Ok(Answer::Fails) => 3,
                 Err(refusal) => {
-                    let status = tell(refusal, err);
-                    if terminals.errors {
-                        advise(rt.alloc(), &subcommand, refusal, paths, err);
+                    let status = tell(refusal, look.colors.errors, err);
+                    if look.terminals.errors {
+                        let is_painted = look.colors.errors;
+                        advise(
+                            rt.alloc(),
+                            &line.subcommand,
+                            refusal,
+                            paths,
+                            is_painted,
+                            err,
+                        );
                     }
                     status
                 }
@@ -66,8 +78,65 @@ pub fn command<
         }
         Err(NotASubcommand::Helped) => 0,
         Err(NotASubcommand::Misused) => 2,
-        Err(NotASubcommand::NotWritten) => tell(Refusal::Fault(Fault::Output), err),
-        Err(NotASubcommand::NoMemory) => tell(Refusal::Fault(Fault::NoWords), err),
+        Err(NotASubcommand::NotWritten) => tell_early(Fault::Output, surroundings, err),
+        Err(NotASubcommand::NoMemory) => tell_early(Fault::NoWords, surroundings, err),
+    }
+}
+
+// Tells a fault where `--color` is not read.
+fn tell_early<E: Out>(fault: Fault, surroundings: Surroundings, err: &mut E) -> u8
+    ensures { result ≤ 2 }
+{
+    let colors = surroundings.colors(When::Auto);
+    tell(Refusal::Fault(fault), colors.errors, err)
+}
+
+// How what a command writes looks.
+#[derive(Clone, Copy, Debug)]
+struct Look {
+    // Which devices are a terminal's.
+    terminals: Terminals,
+    // Which of them are painted on.
+    colors: Colors,
+    // Whether `--color` has a value that says nothing. Then it counts as left out.
+    is_misused: bool,
+}
+
+impl Look {
+    fn new(line: &CommandLine<'_>, surroundings: Surroundings) -> Look {
+        let when = When::read(line.color);
+        Look {
+            terminals: surroundings.terminals,
+            colors: surroundings.colors(when.unwrap_or(When::Auto)),
+            is_misused: when.is_none(),
+        }
+    }
+
+    // How warnings are painted.
+    fn warnings(self) -> Painting {
+        if self.colors.errors {
+            Painting::Warning
+        } else {
+            Painting::Plain
+        }
+    }
+
+    // How a listing is painted.
+    fn listing(self) -> Painting {
+        if self.colors.output {
+            Painting::Listing
+        } else {
+            Painting::Plain
+        }
+    }
+
+    // How what `asm` prints is painted: its listing is, and image text is not.
+    fn assembly(self, lists: bool) -> Painting {
+        if lists {
+            self.listing()
+        } else {
+            Painting::Plain
+        }
     }
 }
 
@@ -97,11 +166,14 @@ fn obey_warned<
     input: &mut I,
     out: &mut O,
     err: &mut E,
-    terminals: Terminals,
+    look: Look,
     progress: &mut G,
 ) -> Result<Answer, Refusal> {
-    let mut warned = WarnedPaths::new(paths, err, program_of(subcommand));
-    obey(rt, subcommand, &mut warned, input, out, terminals, progress)
+    if look.is_misused {
+        return Err(Refusal::Usage("--color"));
+    }
+    let mut warned = WarnedPaths::new(paths, err, program_of(subcommand), look.warnings());
+    obey(rt, subcommand, &mut warned, input, out, look, progress)
 }
 
 // The path of the program that a subcommand works on.
@@ -128,16 +200,22 @@ fn obey<R: Threads + Wait + Sync + AllocGlobal, P: Paths, I: In, O: Out, G: Prog
     paths: &mut P,
     input: &mut I,
     out: &mut O,
-    terminals: Terminals,
+    look: Look,
     progress: &mut G,
 ) -> Result<Answer, Refusal> {
     let alloc = rt.alloc();
     match subcommand {
-        Subcommand::Asm(options) => asm(alloc, options, paths, out)?,
-        Subcommand::Dis(options) => dis(alloc, options, paths, out)?,
+        Subcommand::Asm(options) => {
+            let mut out = PaintedWords::new(out, look.assembly(options.lists));
+            asm(alloc, options, paths, &mut out)?;
+        }
+        Subcommand::Dis(options) => {
+            let mut out = PaintedWords::new(out, look.listing());
+            dis(alloc, options, paths, &mut out)?;
+        }
         Subcommand::Explain(options) => explain(options, out)?,
         Subcommand::Threads(options) => threads(rt, options, paths, out, progress)?,
-        Subcommand::Debug(options) => debug(rt, alloc, options, paths, input, out, terminals)?,
+        Subcommand::Debug(options) => debug(rt, alloc, options, paths, input, out, look.terminals)?,
         Subcommand::Draw(options) => draw(alloc, options, paths, out, progress)?,
         Subcommand::Stats(options) => stats(alloc, options, paths, out, progress)?,
         Subcommand::Run(options) => {

@@ -1,13 +1,16 @@
 //! How a command's end is told. Takes no memory.
 
-ghost use Rattle.std.specs.Prelude.{◌≡◌, ◌≤◌, ◌+◌, ◌++◌, ◌∷◌, [], ℕ, List, codes};
+ghost use Rattle.std.specs.Prelude.{◌≡◌, ◌≤◌, ◌+◌, ◌++◌, ◌∷◌, [], ℕ, List, codes, length};
 ghost use Rattle.ia_text.specs.Writing.{Writes};
 ghost use Rattle.arrayvec.specs.ArrayVec.{array_vec_len};
+ghost use Rattle.elide_color.specs.Painting.{painted};
+ghost use Rattle.elide_color.specs.declared.style.Style.TheVariants as style;
 ghost use Rattle.elide_command.specs.Telling.{refusal_text};
 ghost use Rattle.elide_setup.specs.Faults.{refusal_status};
 ghost use Rattle.elide_setup.specs.Told.{fault_back, fault_front};
 
 use arrayvec::{ArrayString, ArrayVec};
+use elide_color::{Style, push_painted};
 use elide_setup::{Fault, Refusal, push_back, push_front};
 use ia_text::page::push;
 use ia_text::{Failed, Out};
@@ -19,32 +22,35 @@ type Line = ArrayVec<u8, 160>;
 // A fault's name. The longest has some 20 bytes.
 type Name = ArrayString<64>;
 
-/// Tells why a command ended, and gives its status.
-pub fn tell<E: Out>(refusal: Refusal, err: &mut E) -> u8
+/// Tells why a command ended, painted or not, and gives its status.
+pub fn tell<E: Out>(refusal: Refusal, is_painted: bool, err: &mut E) -> u8
     ensures status { result ≡ refusal_status refusal }
     ensures most { result ≤ 2 }
 {
     // A line that is not written whole has no further place to be told.
-    let _ = write_refusal(refusal, err);
+    let _ = write_refusal(refusal, is_painted, err);
     refusal.status()
 }
 
-fn write_refusal<E: Out>(refusal: Refusal, err: &mut E) -> Result<(), Failed>
-    ensures { (name : List ℕ) × Writes (E.device err.old) (E.device err.new) (refusal_text refusal name) result }
+fn write_refusal<E: Out>(refusal: Refusal, is_painted: bool, err: &mut E) -> Result<(), Failed>
+    ensures { (name : List ℕ) × Writes (E.device err.old) (E.device err.new)
+        (refusal_text is_painted refusal name) result }
 {
     match refusal {
-        Refusal::Fault(fault) => write_fault(fault, err),
-        Refusal::Usage(name) => write_usage(name, err),
+        Refusal::Fault(fault) => write_fault(fault, is_painted, err),
+        Refusal::Usage(name) => write_usage(name, is_painted, err),
     }
 }
 
 // `fault`, its number, its name, and the line of a text that it is told of.
-fn write_fault<E: Out>(fault: Fault, err: &mut E) -> Result<(), Failed>
+fn write_fault<E: Out>(fault: Fault, is_painted: bool, err: &mut E) -> Result<(), Failed>
     ensures { (name : List ℕ) × Writes (E.device err.old) (E.device err.new)
-        (fault_front fault ++ name ++ fault_back fault) result }
+        (painted is_painted style.Fault (fault_front fault) ++ name ++ fault_back fault) result }
 {
+    let mut front = Line::new();
+    push_front(&mut front, fault);
     let mut line = Line::new();
-    push_front(&mut line, fault);
+    push_painted(&mut line, is_painted, Style::Fault, front.as_slice());
     push_name(&mut line, fault);
     push_back(&mut line, fault);
     err.put(line.as_slice())
@@ -61,10 +67,21 @@ fn push_name(line: &mut Line, fault: Fault)
     push(line, name.as_str().as_bytes());
 }
 
-fn write_usage<E: Out>(name: &str, err: &mut E) -> Result<(), Failed>
-    ensures { Writes (E.device err.old) (E.device err.new) (codes "usage: " ++ name.now ++ 10 ∷ []) result }
+fn write_usage<E: Out>(name: &str, is_painted: bool, err: &mut E) -> Result<(), Failed>
+    ensures { Writes (E.device err.old) (E.device err.new)
+        (painted is_painted style.Fault (codes "usage: ") ++ (name.now ++ 10 ∷ [])) result }
 {
-    err.put(b"usage: ")?;
+    put_front(b"usage: ", is_painted, err)?;
     err.put(name.as_bytes())?;
     err.put(b"\n")
+}
+
+// Puts what a line begins with.
+fn put_front<E: Out>(front: &[u8], is_painted: bool, err: &mut E) -> Result<(), Failed>
+    requires { length front.now + 11 ≤ 160 }
+    ensures { Writes (E.device err.old) (E.device err.new) (painted is_painted style.Fault front.now) result }
+{
+    let mut line = Line::new();
+    push_painted(&mut line, is_painted, Style::Fault, front);
+    err.put(line.as_slice())
 }

@@ -1,0 +1,17 @@
+//! What the environment asks for. Takes no memory.
+
+use std::env::FillError;
+use std::rt::Env;
+
+/// A value of more bytes than these is set as much as one of fewer.
+const ROOM: usize = 64;
+
+/// Whether no colours are asked for: NO_COLOR is set, and not empty (no-color.org).
+pub fn asks_for_no_colors<E: Env>(env: &E) -> bool {
+    let mut row = [0; ROOM];
+    match env.var("NO_COLOR", &mut row) {
+        Ok(count) => count > 0,
+        Err(FillError::TooLong) => true,
+        Err(FillError::NotPresent) => false,
+    }
+}

@@ -1,0 +1,35 @@
+//! What stands around a command.
+
+ghost use Rattle.std.specs.Prelude.{◌≡◌};
+ghost use Rattle.elide_color.specs.Colors.{is_painted};
+
+use elide_color::{Colors, When};
+use elide_setup::Terminals;
+
+/// What stands around a command: its devices, and what its user asks of all programs.
+#[derive(Clone, Copy, PartialEq, Eq, Debug)]
+pub struct Surroundings {
+    /// Which of the devices are a terminal's.
+    pub terminals: Terminals,
+    /// Whether no colours are asked for: NO_COLOR is set, and not empty (no-color.org).
+    pub is_plain: bool,
+}
+
+impl Surroundings {
+    /// Files, pipes or memory.
+    pub const NONE: Surroundings = Surroundings {
+        terminals: Terminals::NONE,
+        is_plain: false,
+    };
+
+    /// Which devices text is painted on.
+    pub fn colors(self, when: When) -> Colors
+        ensures output { result.output ≡ is_painted when self.terminals.output self.is_plain }
+        ensures errors { result.errors ≡ is_painted when self.terminals.errors self.is_plain }
+    {
+        Colors {
+            output: when.is_painted(self.terminals.output, self.is_plain),
+            errors: when.is_painted(self.terminals.errors, self.is_plain),
+        }
+    }
+}
