@@ -3,21 +3,21 @@
 # The options of a subcommand.
 _elide_options() {
     case $1 in
-    asm) echo '--help --list' ;;
-    dis) echo '--help' ;;
-    run) echo '--help --cores --mem --entry --reads --writes --dump --steps --schedule --trace --why --expect-halt --in-turn --random --limit --record' ;;
-    threads) echo '--help --cores --mem --entry --reads --writes --dump --budget --burst --why --stats --json --record' ;;
-    replay) echo '--help --cores --mem --entry --reads --writes --dump --steps --schedule --why --in-turn --random --limit --record' ;;
-    debug) echo '--help --cores --mem --entry --reads --writes --dump' ;;
-    hunt) echo '--help --cores --mem --entry --reads --writes --check --stop --expect-halt --runs --seed --method --limit --jobs --record' ;;
-    outcomes) echo '--help --cores --mem --entry --reads --writes --show --limit' ;;
-    stats) echo '--help --cores --mem --entry --reads --writes --steps --schedule --in-turn --random --limit --record --json' ;;
-    draw) echo '--help --cores --mem --entry --reads --writes --steps --schedule --in-turn --random --limit --record --from --to --core' ;;
-    explain) echo '--help' ;;
+    asm) echo '--help --list --color' ;;
+    dis) echo '--help --labels --color' ;;
+    run) echo '--help --cores --mem --entry --reads --writes --dump --steps --schedule --trace --why --expect-halt --in-turn --random --limit --record --color' ;;
+    threads) echo '--help --cores --mem --entry --reads --writes --dump --budget --burst --why --stats --json --record --color' ;;
+    replay) echo '--help --cores --mem --entry --reads --writes --dump --steps --schedule --why --in-turn --random --limit --record --color' ;;
+    debug) echo '--help --cores --mem --entry --reads --writes --dump --steps --schedule --in-turn --random --limit --color' ;;
+    hunt) echo '--help --cores --mem --entry --reads --writes --check --stop --expect-halt --runs --seed --method --limit --jobs --record --color' ;;
+    outcomes) echo '--help --cores --mem --entry --reads --writes --show --limit --color' ;;
+    stats) echo '--help --cores --mem --entry --reads --writes --steps --schedule --in-turn --random --limit --record --json --color' ;;
+    draw) echo '--help --cores --mem --entry --reads --writes --steps --schedule --in-turn --random --limit --record --from --to --core --color' ;;
+    explain) echo '--help --color' ;;
     esac
 }
 
-# What stands behind an option of a subcommand: a path, or another value.
+# What stands behind an option of a subcommand: a path, one of these words, or another value.
 _elide_value() {
     case "$1 $2" in
     'run --schedule' | \
@@ -25,11 +25,24 @@ _elide_value() {
     'threads --record' | \
     'replay --schedule' | \
     'replay --record' | \
+    'debug --schedule' | \
     'hunt --record' | \
     'stats --schedule' | \
     'stats --record' | \
     'draw --schedule' | \
     'draw --record') echo path ;;
+    'asm --color' | \
+    'dis --color' | \
+    'run --color' | \
+    'threads --color' | \
+    'replay --color' | \
+    'debug --color' | \
+    'hunt --color' | \
+    'outcomes --color' | \
+    'stats --color' | \
+    'draw --color' | \
+    'explain --color') echo 'auto always never' ;;
+    'hunt --method') echo 'uniform bursts pct mix' ;;
     'run --cores' | \
     'run --mem' | \
     'run --entry' | \
@@ -62,6 +75,9 @@ _elide_value() {
     'debug --reads' | \
     'debug --writes' | \
     'debug --dump' | \
+    'debug --steps' | \
+    'debug --random' | \
+    'debug --limit' | \
     'hunt --cores' | \
     'hunt --mem' | \
     'hunt --entry' | \
@@ -71,7 +87,6 @@ _elide_value() {
     'hunt --stop' | \
     'hunt --runs' | \
     'hunt --seed' | \
-    'hunt --method' | \
     'hunt --limit' | \
     'hunt --jobs' | \
     'outcomes --cores' | \
@@ -117,12 +132,13 @@ _elide_choices() {
     case $(_elide_value "$1" "$2") in
     path) echo files ;;
     other) ;;
-    *)
+    '')
         case $3 in
         -*) _elide_options "$1" ;;
         *) if _elide_takes_file "$1"; then echo files; elif [ "$1" = help ]; then echo "$_elide_commands"; fi ;;
         esac
         ;;
+    *) _elide_value "$1" "$2" ;;
     esac
 }
 

@@ -6,9 +6,12 @@ complete -c elide -n __fish_use_subcommand -l version -d 'Print version'
 complete -c elide -n __fish_use_subcommand -f -a asm -d 'Assembles a source and prints its image text'
 complete -c elide -n '__fish_seen_subcommand_from asm' -l help -d 'Print help'
 complete -c elide -n '__fish_seen_subcommand_from asm' -l list -d 'Prints the listing in place of the image text'
+complete -c elide -n '__fish_seen_subcommand_from asm' -l color -x -a 'auto always never' -d 'Paints messages and listings: auto, where it is a terminal\'s and NO_COLOR is not set, always or never [default: auto]'
 
 complete -c elide -n __fish_use_subcommand -f -a dis -d 'Prints the instructions of a program\'s code'
 complete -c elide -n '__fish_seen_subcommand_from dis' -l help -d 'Print help'
+complete -c elide -n '__fish_seen_subcommand_from dis' -l labels -d 'Prints each label above the instruction that it stands before'
+complete -c elide -n '__fish_seen_subcommand_from dis' -l color -x -a 'auto always never' -d 'Paints messages and listings: auto, where it is a terminal\'s and NO_COLOR is not set, always or never [default: auto]'
 
 complete -c elide -n __fish_use_subcommand -f -a run -d 'Runs a schedule of core steps and prints the state'
 complete -c elide -n '__fish_seen_subcommand_from run' -l help -d 'Print help'
@@ -27,6 +30,7 @@ complete -c elide -n '__fish_seen_subcommand_from run' -l in-turn -d 'The schedu
 complete -c elide -n '__fish_seen_subcommand_from run' -l random -x -d 'The schedule: each core that has not stopped as likely as another'
 complete -c elide -n '__fish_seen_subcommand_from run' -l limit -x -d 'The most steps of a run [default: 1000000]'
 complete -c elide -n '__fish_seen_subcommand_from run' -l record -r -F -d 'Writes the schedule that came about to this file'
+complete -c elide -n '__fish_seen_subcommand_from run' -l color -x -a 'auto always never' -d 'Paints messages and listings: auto, where it is a terminal\'s and NO_COLOR is not set, always or never [default: auto]'
 
 complete -c elide -n __fish_use_subcommand -f -a threads -d 'Runs each core on a thread of its own and prints the state'
 complete -c elide -n '__fish_seen_subcommand_from threads' -l help -d 'Print help'
@@ -42,6 +46,7 @@ complete -c elide -n '__fish_seen_subcommand_from threads' -l why -d 'Prints eac
 complete -c elide -n '__fish_seen_subcommand_from threads' -l stats -d 'Prints what the transactions came to, by the place of their XBEGIN, in place of the state'
 complete -c elide -n '__fish_seen_subcommand_from threads' -l json -d 'With --stats: prints one JSON object in place of columns'
 complete -c elide -n '__fish_seen_subcommand_from threads' -l record -r -F -d 'Writes the schedule that came about to this file, before the state is printed'
+complete -c elide -n '__fish_seen_subcommand_from threads' -l color -x -a 'auto always never' -d 'Paints messages and listings: auto, where it is a terminal\'s and NO_COLOR is not set, always or never [default: auto]'
 
 complete -c elide -n __fish_use_subcommand -f -a replay -d 'Runs a schedule, compares it with a serial run on one memory, and prints the state and `agree` or `differ`'
 complete -c elide -n '__fish_seen_subcommand_from replay' -l help -d 'Print help'
@@ -58,8 +63,9 @@ complete -c elide -n '__fish_seen_subcommand_from replay' -l in-turn -d 'The sch
 complete -c elide -n '__fish_seen_subcommand_from replay' -l random -x -d 'The schedule: each core that has not stopped as likely as another'
 complete -c elide -n '__fish_seen_subcommand_from replay' -l limit -x -d 'The most steps of a run [default: 1000000]'
 complete -c elide -n '__fish_seen_subcommand_from replay' -l record -r -F -d 'Writes the schedule that came about to this file'
+complete -c elide -n '__fish_seen_subcommand_from replay' -l color -x -a 'auto always never' -d 'Paints messages and listings: auto, where it is a terminal\'s and NO_COLOR is not set, always or never [default: auto]'
 
-complete -c elide -n __fish_use_subcommand -f -a debug -d 'Answers commands that are read from standard input: step, run, break, clear, regs, mem, sets, list, quit'
+complete -c elide -n __fish_use_subcommand -f -a debug -d 'Answers commands that are read from standard input, of which `help` prints a list; goes along a schedule, and back'
 complete -c elide -n '__fish_seen_subcommand_from debug' -l help -d 'Print help'
 complete -c elide -n '__fish_seen_subcommand_from debug' -l cores -x -d 'Number of cores, 1 to 64 [default: 1]'
 complete -c elide -n '__fish_seen_subcommand_from debug' -l mem -x -d 'Memory size: a multiple of 4096, at least 4096 * (cores + 1), at most 268435456 [default: 65536]'
@@ -67,6 +73,12 @@ complete -c elide -n '__fish_seen_subcommand_from debug' -l entry -x -d 'Where t
 complete -c elide -n '__fish_seen_subcommand_from debug' -l reads -x -d 'Lines of 64 bytes that a transaction can read, 1 to 4096 [default: 512]'
 complete -c elide -n '__fish_seen_subcommand_from debug' -l writes -x -d 'Lines of 64 bytes that a transaction can write, 1 to 4096 [default: 512]'
 complete -c elide -n '__fish_seen_subcommand_from debug' -l dump -x -d 'Prints this part of memory after the cores'
+complete -c elide -n '__fish_seen_subcommand_from debug' -l steps -x -d 'The schedule: core numbers, as "0 1 0 1"'
+complete -c elide -n '__fish_seen_subcommand_from debug' -l schedule -r -F -d 'The schedule: a file whose first line is `schedule 1` or `schedule 2`'
+complete -c elide -n '__fish_seen_subcommand_from debug' -l in-turn -d 'The schedule: round by round over the cores that have not stopped'
+complete -c elide -n '__fish_seen_subcommand_from debug' -l random -x -d 'The schedule: each core that has not stopped as likely as another'
+complete -c elide -n '__fish_seen_subcommand_from debug' -l limit -x -d 'The most steps of a run [default: 1000000]'
+complete -c elide -n '__fish_seen_subcommand_from debug' -l color -x -a 'auto always never' -d 'Paints messages and listings: auto, where it is a terminal\'s and NO_COLOR is not set, always or never [default: auto]'
 
 complete -c elide -n __fish_use_subcommand -f -a hunt -d 'Runs a program by many random schedules until a check fails, and shortens the schedule that fails'
 complete -c elide -n '__fish_seen_subcommand_from hunt' -l help -d 'Print help'
@@ -80,10 +92,11 @@ complete -c elide -n '__fish_seen_subcommand_from hunt' -l stop -x -d 'A core th
 complete -c elide -n '__fish_seen_subcommand_from hunt' -l expect-halt -d 'A run that ends with a core that has not stopped fails (status 3)'
 complete -c elide -n '__fish_seen_subcommand_from hunt' -l runs -x -d 'How many runs are made, or their numbers from A up to B - 1'
 complete -c elide -n '__fish_seen_subcommand_from hunt' -l seed -x -d 'What the schedules are drawn from, with the number of the run'
-complete -c elide -n '__fish_seen_subcommand_from hunt' -l method -x -d 'How the core of each step is drawn: uniform, bursts, pct (random priorities), or mix, a third of the runs each'
+complete -c elide -n '__fish_seen_subcommand_from hunt' -l method -x -a 'uniform bursts pct mix' -d 'How the core of each step is drawn: uniform, bursts, pct (random priorities), or mix, a third of the runs each'
 complete -c elide -n '__fish_seen_subcommand_from hunt' -l limit -x -d 'The most steps of a run [default: 1000000]'
 complete -c elide -n '__fish_seen_subcommand_from hunt' -l jobs -x -d 'How many threads make runs, 1 to 1024 [default: one a processor]'
 complete -c elide -n '__fish_seen_subcommand_from hunt' -l record -r -F -d 'Writes the schedule that came about to this file'
+complete -c elide -n '__fish_seen_subcommand_from hunt' -l color -x -a 'auto always never' -d 'Paints messages and listings: auto, where it is a terminal\'s and NO_COLOR is not set, always or never [default: auto]'
 
 complete -c elide -n __fish_use_subcommand -f -a outcomes -d 'Searches all schedules of a small program and prints each outcome'
 complete -c elide -n '__fish_seen_subcommand_from outcomes' -l help -d 'Print help'
@@ -94,6 +107,7 @@ complete -c elide -n '__fish_seen_subcommand_from outcomes' -l reads -x -d 'Line
 complete -c elide -n '__fish_seen_subcommand_from outcomes' -l writes -x -d 'Lines of 64 bytes that a transaction can write, 1 to 4096 [default: 512]'
 complete -c elide -n '__fish_seen_subcommand_from outcomes' -l show -x -d 'What is shown where all cores have stopped: registers of cores, as eax@0, and doublewords at sums of symbols and numbers'
 complete -c elide -n '__fish_seen_subcommand_from outcomes' -l limit -x -d 'The most states; where there are more, the status is 3 [default: 1000000]'
+complete -c elide -n '__fish_seen_subcommand_from outcomes' -l color -x -a 'auto always never' -d 'Paints messages and listings: auto, where it is a terminal\'s and NO_COLOR is not set, always or never [default: auto]'
 
 complete -c elide -n __fish_use_subcommand -f -a stats -d 'Runs a schedule of core steps and prints what its transactions came to, by the place of their XBEGIN'
 complete -c elide -n '__fish_seen_subcommand_from stats' -l help -d 'Print help'
@@ -109,6 +123,7 @@ complete -c elide -n '__fish_seen_subcommand_from stats' -l random -x -d 'The sc
 complete -c elide -n '__fish_seen_subcommand_from stats' -l limit -x -d 'The most steps of a run [default: 1000000]'
 complete -c elide -n '__fish_seen_subcommand_from stats' -l record -r -F -d 'Writes the schedule that came about to this file'
 complete -c elide -n '__fish_seen_subcommand_from stats' -l json -d 'Prints one JSON object in place of columns'
+complete -c elide -n '__fish_seen_subcommand_from stats' -l color -x -a 'auto always never' -d 'Paints messages and listings: auto, where it is a terminal\'s and NO_COLOR is not set, always or never [default: auto]'
 
 complete -c elide -n __fish_use_subcommand -f -a draw -d 'Runs a schedule of core steps and draws a timeline of it, as SVG'
 complete -c elide -n '__fish_seen_subcommand_from draw' -l help -d 'Print help'
@@ -126,10 +141,12 @@ complete -c elide -n '__fish_seen_subcommand_from draw' -l record -r -F -d 'Writ
 complete -c elide -n '__fish_seen_subcommand_from draw' -l from -x -d 'The first step that is drawn, counted from 1 [default: 1]'
 complete -c elide -n '__fish_seen_subcommand_from draw' -l to -x -d 'The last step that is drawn [default: the last]'
 complete -c elide -n '__fish_seen_subcommand_from draw' -l core -x -d 'The cores that are drawn, in this order [default: all]'
+complete -c elide -n '__fish_seen_subcommand_from draw' -l color -x -a 'auto always never' -d 'Paints messages and listings: auto, where it is a terminal\'s and NO_COLOR is not set, always or never [default: auto]'
 
 complete -c elide -n __fish_use_subcommand -f -a explain -d 'Prints what a fault means, and what to do'
 complete -c elide -n '__fish_seen_subcommand_from explain' -l help -d 'Print help'
 complete -c elide -n '__fish_seen_subcommand_from explain' -f
+complete -c elide -n '__fish_seen_subcommand_from explain' -l color -x -a 'auto always never' -d 'Paints messages and listings: auto, where it is a terminal\'s and NO_COLOR is not set, always or never [default: auto]'
 
 complete -c elide -n __fish_use_subcommand -f -a help -d 'Print this message or the help of the given subcommand'
 complete -c elide -n '__fish_seen_subcommand_from help' -f -a 'asm dis run threads replay debug hunt outcomes stats draw explain'

@@ -12,7 +12,10 @@ $1 == "option" && $4 ~ /Word$/ { if ($3 == "FILE") files = files $2 " | " }
 
 $1 == "option" && $4 !~ /Word$/ {
     options[$2] = options[$2] " --" $3
-    if ($5 == "PATH") paths = paths "'" $2 " --" $3 "' | "
+    if ($8 != "") {
+        if (!($8 in chosen)) sets[++set_count] = $8
+        chosen[$8] = chosen[$8] "'" $2 " --" $3 "' | "
+    } else if ($5 == "PATH") paths = paths "'" $2 " --" $3 "' | "
     else if ($4 != "Flag") values = values "'" $2 " --" $3 "' | "
 }
 
@@ -29,9 +32,10 @@ function print_options(    i) {
     print "    esac\n}\n"
 }
 
-function print_values() {
-    print "# What stands behind an option of a subcommand: a path, or another value.\n_elide_value() {\n    case \"$1 $2\" in"
+function print_values(    i) {
+    print "# What stands behind an option of a subcommand: a path, one of these words, or another value.\n_elide_value() {\n    case \"$1 $2\" in"
     print arm(paths, "echo path")
+    for (i = 1; i <= set_count; i++) print arm(chosen[sets[i]], "echo '" sets[i] "'")
     print arm(values, "echo other")
     print "    esac\n}\n"
 }

@@ -3,7 +3,8 @@
 #
 #   program ABOUT VERSION EXAMPLE
 #   command NAME ABOUT EXAMPLE
-#   option COMMAND NAME FORM VALUE DEFAULT HELP     in the order of the help; VALUE and DEFAULT are empty where there is none
+#   option COMMAND NAME FORM VALUE DEFAULT HELP WORDS     in the order of the help; VALUE and DEFAULT are empty where there is
+#                                                         none, WORDS where a value is more than one of a few words
 #
 # What it cannot read is told, with status 1, so that no option is left out in silence.
 
@@ -91,13 +92,20 @@ function form_of(name,    form) {
     fail(name ": an unknown form of an option")
 }
 
+# The words of which a value is one, by its name.
+function few_words(value) {
+    if (value == "WHEN") return "auto always never"
+    if (value == "METHOD") return "uniform bursts pct mix"
+    return ""
+}
+
 function print_command(constant,    command, i, name) {
     command = the_text(constant, "name")
     print "command", command, the_text(constant, "about"), the_text(constant, "example")
     for (i = 1; i <= words[constant, "options"]; i++) {
         name = word[constant, "options", i]
         print "option", command, the_text(name, "name"), form_of(name), text[name, "form", 1], text[name, "form", 2], \
-            the_text(name, "help")
+            the_text(name, "help"), few_words(text[name, "form", 1])
     }
 }
 

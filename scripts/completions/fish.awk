@@ -25,7 +25,7 @@ $1 == "command" {
 $1 == "option" && $4 ~ /Word$/ && $3 != "FILE" { print within($2) " -f" }
 
 $1 == "option" && $4 !~ /Word$/ {
-    print within($2) " -l " $3 ($4 == "Flag" ? "" : $5 == "PATH" ? " -r -F" : " -x") " -d " quoted($7)
+    print within($2) " -l " $3 ($4 == "Flag" ? "" : $5 == "PATH" ? " -r -F" : " -x") ($8 == "" ? "" : " -a " quoted($8)) " -d " quoted($7)
 }
 
 END {

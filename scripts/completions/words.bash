@@ -3,12 +3,13 @@ _elide_choices() {
     case $(_elide_value "$1" "$2") in
     path) echo files ;;
     other) ;;
-    *)
+    '')
         case $3 in
         -*) _elide_options "$1" ;;
         *) if _elide_takes_file "$1"; then echo files; elif [ "$1" = help ]; then echo "$_elide_commands"; fi ;;
         esac
         ;;
+    *) _elide_value "$1" "$2" ;;
     esac
 }
 

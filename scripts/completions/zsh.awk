@@ -23,7 +23,10 @@ function coloned(text) {
 function quoted(text) { return quote text quote }
 
 # What completes a value or a word of this name.
-function action(value) { return value == "FILE" || value == "PATH" ? "_files" : " " }
+function action(value) {
+    if ($8 != "") return "(" $8 ")"
+    return value == "FILE" || value == "PATH" ? "_files" : " "
+}
 
 function spec(    value) {
     if ($4 == "Word") return "1:" $3 ":" action($3)
