@@ -12,5 +12,5 @@ mod words;
 pub use document::{Exercise, exercises};
 pub use printed::is_as_shown;
 pub use table::{PartHead, TablePart, parts};
-pub use wanted::{Room, Told, is_wanted, room_of};
+pub use wanted::{Devices, Room, Told, is_wanted, room_of};
 pub use words::{CommandWords, line_of};

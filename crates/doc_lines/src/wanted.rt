@@ -11,7 +11,18 @@ pub struct Told<'a> {
     pub err: &'a str,
 }
 
-/// How many bytes the outputs of a command take, and its input gives, before they fail; and whether they are a terminal's.
+/// What the three devices of a command are.
+#[derive(Clone, Copy, PartialEq, Eq, Debug)]
+pub enum Devices {
+    /// Files.
+    Files,
+    /// A terminal's, where no colours are asked for.
+    PlainTerminal,
+    /// A terminal's.
+    Terminal,
+}
+
+/// How many bytes the outputs of a command take, and its input gives, before they fail; and what these devices are.
 #[derive(Clone, Copy, Debug)]
 pub struct Room {
     /// Standard input.
@@ -20,12 +31,14 @@ pub struct Room {
     pub out: usize,
     /// Standard error.
     pub err: usize,
-    /// Whether all three are a terminal's.
-    pub is_terminal: bool,
+    /// What all three are.
+    pub devices: Devices,
 }
 
-// The line that says that the devices are a terminal's.
-const AT_TERMINAL: &str = "at a terminal";
+// The lines that say that the devices are a terminal's.
+const AT_PLAIN_TERMINAL: &str = "at a terminal";
+
+const AT_TERMINAL: &str = "at a terminal in colours";
 
 /// Whether the lines below a command say just this status, standard output and standard error. `before` is what the row's
 /// command before printed.
@@ -34,13 +47,24 @@ pub fn is_wanted(lines: &[&str], told: Told<'_>, before: &str) -> bool {
 }
 
 /// How many bytes the input gives and the outputs take: those of the lines `gives N`, `takes N` and `hears N`, or all. A line
-/// `at a terminal` says that they are a terminal's.
+/// `at a terminal`, or `at a terminal in colours`, says that they are a terminal's.
 pub fn room_of(lines: &[&str]) -> Room {
     Room {
         input: number_behind(lines, "gives "),
         out: number_behind(lines, "takes "),
         err: number_behind(lines, "hears "),
-        is_terminal: lines.contains(&AT_TERMINAL),
+        devices: devices_of(lines),
+    }
+}
+
+// What the devices are: files, where nothing is said.
+fn devices_of(lines: &[&str]) -> Devices {
+    if lines.contains(&AT_TERMINAL) {
+        Devices::Terminal
+    } else if lines.contains(&AT_PLAIN_TERMINAL) {
+        Devices::PlainTerminal
+    } else {
+        Devices::Files
     }
 }
 
@@ -90,7 +114,8 @@ fn is_error(lines: &[&str], said: &str) -> bool {
 // Whether a line is the exit status, or says what its devices are.
 fn is_setting(line: &str) -> bool {
     let marks = ["exit ", "gives ", "takes ", "hears "];
-    line == AT_TERMINAL || marks.iter().any(|mark| line.starts_with(*mark))
+    let is_device = line == AT_TERMINAL || line == AT_PLAIN_TERMINAL;
+    is_device || marks.iter().any(|mark| line.starts_with(*mark))
 }
 
 fn is_of_output(line: &str) -> bool {

@@ -1,7 +1,7 @@
 //! What a command line of `elide` comes to.
 
-use doc_lines::{Room, Told};
-use elide_command::{Paths, Silent, Terminals, command};
+use doc_lines::{Devices, Room, Told};
+use elide_command::{Paths, Silent, Surroundings, Terminals, command};
 use ia_text::ToWriter;
 use std::alloc::{AllocError, Global};
 use std::io;
@@ -37,7 +37,7 @@ pub const ALL: Room = Room {
     input: usize::MAX,
     out: usize::MAX,
     err: usize::MAX,
-    is_terminal: false,
+    devices: Devices::Files,
 };
 
 /// Runs a command over these files and this input; its input gives and its outputs take so many bytes and then fail.
@@ -63,7 +63,7 @@ pub fn reply_to<R: Threads + Wait + Sync + AllocGlobal, P: Paths>(
         &mut input,
         &mut out,
         &mut err,
-        terminals_of(room),
+        surroundings_of(room.devices),
         &mut Silent,
     );
     Ok(Reply {
@@ -73,12 +73,18 @@ pub fn reply_to<R: Threads + Wait + Sync + AllocGlobal, P: Paths>(
     })
 }
 
-// All devices, or none.
-fn terminals_of(room: Room) -> Terminals {
-    if room.is_terminal {
-        Terminals::ALL
-    } else {
-        Terminals::NONE
+// What stands around a command with such devices.
+fn surroundings_of(devices: Devices) -> Surroundings {
+    match devices {
+        Devices::Files => Surroundings::NONE,
+        Devices::PlainTerminal => Surroundings {
+            terminals: Terminals::ALL,
+            is_plain: true,
+        },
+        Devices::Terminal => Surroundings {
+            terminals: Terminals::ALL,
+            is_plain: false,
+        },
     }
 }
 
