@@ -113,7 +113,16 @@ fn a_prompt_is_cut(rt: HostRuntime) {
             room,
         });
         let board = board(&rt, rt.alloc(), &[0x100], 100);
-        match serve_in(&rt, rt.alloc(), Manner::Spoken, board, &mut input, &mut out) {
+        let plan = Vec::new(rt.alloc());
+        match serve_in(
+            &rt,
+            rt.alloc(),
+            Manner::Spoken,
+            plan,
+            board,
+            &mut input,
+            &mut out,
+        ) {
             Ok(board) => assert_eq!(rt; (room, board.made()), (text.len(), 1)),
             Err(fault) => {
                 assert_eq!(rt; fault.code(), 77);
