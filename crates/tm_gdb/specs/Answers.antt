@@ -13,7 +13,7 @@ use Rattle.gdb_target.specs.Shown.{IsShown}
 use Rattle.tm_back.specs.Back.{IsFirst}
 use Rattle.tm_hist.specs.Board.{IsFull, ShownBoard}
 use Rattle.tm_gdb.specs.declared.target.Target.{Target}
-use Rattle.tm_gdb.specs.Moves.{IsLater, IsOneMore}
+use Rattle.tm_gdb.specs.Moves.{GoesOn, IsOneMore}
 
 abbrev pub cores_of : Target → ℕ
 cores_of target = length target.board.program.entries
@@ -59,7 +59,7 @@ MakesStep (Some core) old new = (IsFull old → new ≡ old) × ((IsFull old →
 -- what a move does to the board
 abbrev pub Moves : Move → Target → ShownBoard → Type 0
 Moves (move.Step thread) target new = MakesStep (thread_core target thread) target.board new
-Moves move.Continue target new = IsLater target.board new
+Moves move.Continue target new = GoesOn target.plan.items target.board new
 Moves move.StepBack target new = IsFirst target.board (length target.board.history - 1) new
 Moves move.ContinueBack target new = (count : ℕ) × IsFirst target.board count new
 

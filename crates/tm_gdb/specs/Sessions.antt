@@ -1,6 +1,8 @@
 -- What a session does of the bytes that it hears (gdb manual, appendix E.1, "Overview").
 use Rattle.std.specs.Prelude.{◌≡◌, ℕ, Bool, if◌then◌else◌, List, [], ◌∷◌, ◌++◌, IfSome}
 use Rattle.gdb_command.specs.declared.command.Command.{Command}
+use Rattle.gdb_command.specs.declared.command.Command.TheVariants as command
+use Rattle.gdb_command.specs.declared.command.Question.TheVariants as question
 use Rattle.gdb_command.specs.Commands.{known_command}
 use Rattle.gdb_packet.specs.declared.heard.Heard.{Heard}
 use Rattle.gdb_packet.specs.declared.heard.Heard.TheVariants.{Nothing, Packet, Damaged, TooLong, Interrupt, Received, Resend}
@@ -17,6 +19,11 @@ use Rattle.tm_gdb.specs.Answers.{Answers}
 abbrev pub acknowledgement : Bool → List ℕ
 acknowledgement wanted = if wanted then 43 ∷ [] else []
 
+-- what is written of an answer: nothing of the one to `k`, which wants none
+abbrev pub reply_text : Command → List ℕ → List ℕ
+reply_text (command.Ask question.Kill) text = []
+reply_text _ text = framed text
+
 -- a packet was acknowledged, and what it tells was done and answered
 pub record IsAnswered (packet : List ℕ) (wanted : Bool) (target : Target) (new : ShownBoard) (before after : Device)
     : Type 0 where
@@ -24,7 +31,7 @@ pub record IsAnswered (packet : List ℕ) (wanted : Bool) (target : Target) (new
   pub is_told : IfSome (known_command packet) (λ known. command ≡ known)
   pub text : List ℕ
   pub answers : Answers command target new text
-  pub wrote : Wrote before after (acknowledgement wanted ++ framed text)
+  pub wrote : Wrote before after (acknowledgement wanted ++ reply_text command text)
 
 -- what is done of what was heard: a packet is answered, one that was damaged or is too long is refused by a -, and of all
 -- else the board stays as it is

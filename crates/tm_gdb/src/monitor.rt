@@ -2,22 +2,21 @@
 
 use crate::target::Target;
 use crate::text::Text;
+use crate::why::{write_core, write_reasons};
 use gdb_command::Monitor;
 use ia_text::page::{Page, push, push_hex};
 use ia_text::{Out, WriteFault};
 use itoa::Buffer;
 use std::alloc::{AllocError, Global};
-use tm_core::{AbortReason, Kind, Machine};
-use tm_hist::{stop_text, write_outcome};
+use tm_core::{Kind, Machine};
+use tm_hist::write_outcome;
 
 /// The text of a command of `monitor`, which ends where 8000 bytes are full. `AllocError`, where there was no memory for
-/// the lines of a set.
+/// the lines of a set, or to make the history once more.
 pub fn monitor_text(alloc: Global, target: &Target, asked: Monitor) -> Result<Text, AllocError> {
     let mut text = Text::new();
     match asked {
-        Monitor::Why => {
-            let _ = write_reasons(target.board.machine(), &mut text);
-        }
+        Monitor::Why => write_reasons(alloc, &target.board, &mut text)?,
         Monitor::Sets => write_sets(alloc, target.board.machine(), &mut text)?,
         Monitor::History(count) => {
             let _ = write_history(target, count, &mut text);
@@ -27,38 +26,6 @@ pub fn monitor_text(alloc: Global, target: &Target, asked: Monitor) -> Result<Te
         }
     }
     Ok(text)
-}
-
-// A core's number.
-fn write_core<O: Out>(core: u8, out: &mut O) -> Result<(), WriteFault> {
-    out.put(b"core ")?;
-    out.put(Buffer::new().format(u64::from(core)).as_bytes())?;
-    Ok(())
-}
-
-// Why the next step of each core is an abort.
-fn write_reasons<O: Out>(machine: &Machine, out: &mut O) -> Result<(), WriteFault> {
-    for core in 0..machine.cores() {
-        if let Ok(Some(reason)) = machine.abort_reason(core) {
-            write_core(core, out)?;
-            out.put(b": ")?;
-            out.put(reason_text(reason))?;
-            out.put(b"\n")?;
-        }
-    }
-    Ok(())
-}
-
-fn reason_text(reason: AbortReason) -> &'static [u8] {
-    match reason {
-        AbortReason::Conflict => b"conflict",
-        AbortReason::Capacity(_, _) => b"capacity",
-        AbortReason::Nest => b"nested deeper than 7",
-        AbortReason::Explicit(_) => b"xabort",
-        AbortReason::Breakpoint => b"#BP",
-        AbortReason::Stop(stop) => stop_text(stop),
-        AbortReason::NotAllowed => b"not in a transaction",
-    }
 }
 
 // The lines of the sets of each core, by their addresses.
@@ -103,13 +70,17 @@ fn write_lines<O: Out>(lines: &[u32], out: &mut O) -> Result<(), WriteFault> {
     Ok(())
 }
 
-// The last so many steps, each behind its number, 0 for the first.
+// The last so many steps, each behind its number, 1 for the first.
 fn write_history<O: Out>(target: &Target, count: u32, out: &mut O) -> Result<(), WriteFault> {
     let history = target.board.history();
     let made = history.len();
     for index in made.saturating_sub(count as usize)..made {
         if let Some((core, outcome)) = history.get(index) {
-            out.put(Buffer::new().format(index as u64).as_bytes())?;
+            out.put(
+                Buffer::new()
+                    .format((index as u64).saturating_add(1))
+                    .as_bytes(),
+            )?;
             out.put(b": ")?;
             write_outcome(core, &outcome, out)?;
         }

@@ -1,8 +1,8 @@
 //! Moves forward.
 
-ghost use Rattle.std.specs.Prelude.{◌≡◌, ◌<◌, IfSome, length};
+ghost use Rattle.std.specs.Prelude.{◌≡◌, ◌<◌, ◌⊎◌, [], IfSome, Some, length};
 ghost use Rattle.tm_hist.specs.Board.{IsFull, SameBoard};
-ghost use Rattle.tm_gdb.specs.Moves.{IsLater, IsOneMore};
+ghost use Rattle.tm_gdb.specs.Moves.{GoesOn, IsOneMore, IsTurn, known_core, planned};
 
 use crate::points::changed;
 use crate::stop::Stop;
@@ -15,7 +15,9 @@ impl Target {
         requires { core < length self.old.board.program.entries }
         ensures full { IsFull self.old.board → self.new.board ≡ self.old.board }
         ensures made { (IsFull self.old.board → ⊥) → IsOneMore self.old.board self.new.board core }
+        ensures either { (self.new.board ≡ self.old.board) ⊎ IsOneMore self.old.board self.new.board core }
         ensures same { SameBoard self.old.board self.new.board }
+        ensures plan { self.new.plan ≡ self.old.plan }
         ensures points { self.new.points ≡ self.old.points }
     {
         self.selected = core;
@@ -42,7 +44,7 @@ impl Target {
     }
 
     // The core whose turn it is: the next that has not stopped.
-    fn next_core(&self) -> Option<u8>
+    fn next_in_turn(&self) -> Option<u8>
         ensures { IfSome result (λ core. core < length self.now.board.program.entries) }
     {
         let cores = u16::from(self.board.cores());
@@ -56,9 +58,45 @@ impl Target {
         None
     }
 
+    // The core that the plan has behind the steps that are made.
+    fn next_of_plan(&self) -> Option<u8>
+        ensures exists { IfSome result (λ core. core < length self.now.board.program.entries) }
+        ensures planned { result ≡ planned self.now.plan.items self.now.board }
+    {
+        match self.plan.get(self.board.made() as usize) {
+            Some(core) => self.known(*core),
+            None => None,
+        }
+    }
+
+    // This core, where the board has it.
+    fn known(&self, core: u8) -> Option<u8>
+        ensures exists { IfSome result (λ core. core < length self.now.board.program.entries) }
+        ensures known { result ≡ known_core self.now.board (Some core) }
+    {
+        if core < self.board.cores() {
+            Some(core)
+        } else {
+            None
+        }
+    }
+
+    // The core of the next step of a continued run.
+    fn next_core(&self) -> Option<u8>
+        ensures exists { IfSome result (λ core. core < length self.now.board.program.entries) }
+        ensures turn { IfSome result (λ core. IsTurn self.now.plan.items self.now.board core) }
+    {
+        if self.plan.is_empty() {
+            self.next_in_turn()
+        } else {
+            self.next_of_plan()
+        }
+    }
+
     // One step of a continued run, or why it ends.
     fn go_step(&mut self, first: bool) -> Option<Stop>
-        ensures later { IsLater self.old.board self.new.board }
+        ensures goes { GoesOn self.old.plan.items self.old.board self.new.board }
+        ensures plan { self.new.plan ≡ self.old.plan }
         ensures points { self.new.points ≡ self.old.points }
     {
         let Some(core) = self.next_core() else {
@@ -69,7 +107,7 @@ impl Target {
             return Some(Stop::Break);
         }
         let before = self.points.watched(self.board.machine(), core);
-        let stop = self.step(core);
+        let stop = self.take_turn(core);
         let after = self.points.watched(self.board.machine(), core);
         match (changed(&before, &after), stop) {
             (Some(index), _) => Some(Stop::Watch(self.points.watch_address(index))),
@@ -78,10 +116,22 @@ impl Target {
         }
     }
 
-    /// Steps of the cores in turn, until one is at a breakpoint, what it sees at a watchpoint changes, all cores have
-    /// stopped or the history is full. The first step is made also at a breakpoint.
+    // The step of a core whose turn it is.
+    fn take_turn(&mut self, core: u8) -> Stop
+        requires exists { core < length self.old.board.program.entries }
+        requires turn { IsTurn self.old.plan.items self.old.board core }
+        ensures goes { GoesOn self.old.plan.items self.old.board self.new.board }
+        ensures plan { self.new.plan ≡ self.old.plan }
+        ensures points { self.new.points ≡ self.old.points }
+    {
+        self.step(core)
+    }
+
+    /// Steps along the plan, and of the cores in turn where there is none, until one is at a breakpoint, what it sees at a
+    /// watchpoint changes, the plan has ended or all cores have stopped, or the history is full. The first step is made also at a
+    /// breakpoint.
     pub fn go_on(&mut self) -> Stop
-        ensures later { IsLater self.old.board self.new.board }
+        ensures goes { GoesOn self.old.plan.items self.old.board self.new.board }
         ensures points { self.new.points ≡ self.old.points }
     {
         'steps: for made in 0..self.board.limit() {

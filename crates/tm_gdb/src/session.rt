@@ -6,7 +6,7 @@ ghost use Rattle.ia_text.specs.Writing.{Rose, Wrote};
 ghost use Rattle.tm_hist.specs.Board.{SameBoard};
 ghost use Rattle.tm_debug.specs.Faults.{session_board, session_code};
 ghost use Rattle.tm_gdb.specs.Answers.{Answers};
-ghost use Rattle.tm_gdb.specs.Sessions.{IsAnswered, IsHeard, acknowledgement};
+ghost use Rattle.tm_gdb.specs.Sessions.{IsAnswered, IsHeard, acknowledgement, reply_text};
 
 use crate::answer::carry_out;
 use crate::target::Target;
@@ -65,6 +65,18 @@ fn put_packet<O: Out>(bytes: &Bytes, out: &mut O) -> Result<(), Interruption>
     }
 }
 
+// Writes the answer to a command. `k` wants none: gdb goes without a word.
+fn put_reply<O: Out>(command: Command, answer: &Bytes, out: &mut O) -> Result<(), Interruption>
+    ensures wrote { OnOk result (Wrote (O.device out.old) (O.device out.new) (reply_text command answer.now.items)) }
+    ensures err { IfErr result (λ fault. fault ≡ Interruption.Write) }
+    ensures rose { OnErr result (Rose (O.device out.old).failures (O.device out.new).failures) }
+{
+    match command {
+        Command::Ask(Question::Kill) => Ok(()),
+        _ => put_packet(answer, out),
+    }
+}
+
 // The next byte, or nothing at the end.
 fn next_byte<I: In>(input: &mut I) -> Result<Option<u8>, Interruption>
     ensures kept { OnOk result (I.failed input.new ≡ I.failed input.old) }
@@ -89,11 +101,11 @@ fn ends(command: Command) -> bool {
 }
 
 impl Session {
-    fn new(board: Board) -> Session
+    fn new(board: Board, plan: Vec<u8>) -> Session
         ensures { result.target.board ≡ board }
     {
         Session {
-            target: Target::new(board),
+            target: Target::new(board, plan),
             reader: Reader::new(),
             acknowledges: true,
             last: Bytes::new(),
@@ -109,7 +121,7 @@ impl Session {
     ) -> Result<(), Interruption>
         ensures ok { OnOk result ((text : List ℕ)
             × Answers command self.old.target self.new.target.board text
-            × Wrote (O.device out.old) (O.device out.new) (framed text)) }
+            × Wrote (O.device out.old) (O.device out.new) (reply_text command text)) }
         ensures reader { self.new.reader ≡ self.old.reader }
         ensures same { SameBoard self.old.target.board self.new.target.board }
         ensures read { result ≡ Err Interruption.Read → ⊥ }
@@ -123,7 +135,7 @@ impl Session {
             Ok(()) => {}
             Err(_) => return Err(Interruption::NoMemory),
         }
-        let written = put_packet(&row, out);
+        let written = put_reply(command, &row, out);
         self.last = row;
         written
     }
@@ -245,7 +257,8 @@ fn serve_bytes<W: Wait, I: In, O: Out>(
 }
 
 /// Answers the packets of an input with a board, up to gdb's `detach` or `kill` or the input's end, and gives the board
-/// back after the steps that were made. Waits for its input only.
+/// back after the steps that were made. A continued run steps the cores of the plan, if that has steps, and else all in turn.
+/// Waits for its input only.
 ///
 /// A packet that was damaged or is too long is refused by a `-`, and other bytes between packets are not answered.
 /// [`SessionFault`] tells what ended the session before: a device that failed (76, 77), or want of memory for the board
@@ -254,6 +267,7 @@ pub fn serve<W: Wait, I: In, O: Out>(
     rt: &W,
     alloc: Global,
     board: Board,
+    plan: Vec<u8>,
     input: &mut I,
     out: &mut O,
 ) -> Result<Board, SessionFault>
@@ -263,7 +277,7 @@ pub fn serve<W: Wait, I: In, O: Out>(
     ensures write { IfErr result (λ fault. session_code fault ≡ 77
         → Rose (O.device out.old).failures (O.device out.new).failures) }
 {
-    let mut session = Session::new(board);
+    let mut session = Session::new(board, plan);
     match serve_bytes(rt, alloc, &mut session, input, out) {
         Ok(()) => Ok(session.target.board),
         Err(Interruption::Read) => Err(SessionFault::Read(session.target.board)),

@@ -6,11 +6,13 @@ use crate::points::Points;
 use crate::stop::Stop;
 use tm_hist::Board;
 
-/// A board, the core that gdb selected, the points that it set, and why the board stands.
+/// A board, the cores that a continued run steps, the core that gdb selected, the points that it set, and why the board stands.
 #[derive(Drop)]
 pub struct Target {
     /// The board.
     pub board: Board,
+    /// The core of each step of the history as a continued run makes it. Without one the cores go on in turn.
+    pub plan: Vec<u8>,
     /// The number of the core that was selected last.
     pub selected: u8,
     /// The points.
@@ -22,12 +24,14 @@ pub struct Target {
 impl Target {
     ghost use Rattle.tm_gdb.specs.Answers.{core_of, thread_core};
 
-    /// A target whose first core is selected, without points.
-    pub fn new(board: Board) -> Target
-        ensures { result.board ≡ board }
+    /// A target whose first core is selected, without points. A continued run goes along the plan, if it has steps.
+    pub fn new(board: Board, plan: Vec<u8>) -> Target
+        ensures board { result.board ≡ board }
+        ensures plan { result.plan ≡ plan }
     {
         Target {
             board,
+            plan,
             selected: 0,
             points: Points::new(),
             stop: Stop::Stepped,

@@ -36,8 +36,26 @@ fn push(rt: &impl Abort, row: &mut ToVec, packet: &[u8]) {
     write_packet(packet, row).expect(rt, "there is memory");
 }
 
+// The cores of a plan.
+fn plan_of(rt: &impl Abort, alloc: Global, cores: &[u8]) -> Vec<u8> {
+    let mut plan = ToVec::new(Vec::new(alloc));
+    plan.put(cores).expect(rt, "there is memory");
+    plan.bytes
+}
+
 // Each of these packets is answered so, and the board has then made so many steps.
 fn answers<R: Abort + Wait>(rt: &R, alloc: Global, session: &[(&[u8], &[u8])], made: u64) {
+    answers_along(rt, alloc, &[], session, made);
+}
+
+// The same, where continued runs go along a plan.
+fn answers_along<R: Abort + Wait>(
+    rt: &R,
+    alloc: Global,
+    cores: &[u8],
+    session: &[(&[u8], &[u8])],
+    made: u64,
+) {
     let mut input = ToVec::new(Vec::new(alloc));
     let mut text = ToVec::new(Vec::new(alloc));
     for index in 0..session.len() {
@@ -48,7 +66,8 @@ fn answers<R: Abort + Wait>(rt: &R, alloc: Global, session: &[(&[u8], &[u8])], m
     }
     let mut out = ToVec::new(Vec::new(alloc));
     let mut reader = FromReader::new(Cursor::new(input.bytes.as_slice()));
-    match serve(rt, alloc, board(rt, alloc), &mut reader, &mut out) {
+    let plan = plan_of(rt, alloc, cores);
+    match serve(rt, alloc, board(rt, alloc), plan, &mut reader, &mut out) {
         Ok(board) => assert_eq!(rt; board.made(), made),
         Err(fault) => assert!(rt; false, "fault {}", fault.code()),
     }
@@ -114,6 +133,45 @@ fn what_is_refused(rt: HostRuntime) {
 }
 
 #[test]
+fn a_plan_is_followed(rt: HostRuntime) {
+    let session: [(&[u8], &[u8]); 7] = [
+        (b"vCont;c", b"T05replaylog:end;thread:02;"),
+        (b"p8", b"0c010000"),
+        (b"p25", b"03000000"),
+        (b"bs", b"T05thread:02;"),
+        (b"p8", b"06010000"),
+        (b"c", b"T05replaylog:end;thread:02;"),
+        (b"c", b"T05replaylog:end;thread:02;"),
+    ];
+    answers_along(&rt, rt.alloc(), &[1, 0, 1], &session, 3);
+}
+
+#[test]
+fn a_plan_ends_at_a_core_that_there_is_not(rt: HostRuntime) {
+    let session: [(&[u8], &[u8]); 2] = [
+        (b"vCont;c", b"T05replaylog:end;thread:01;"),
+        (b"vCont;s:2;c", b"T05thread:02;"),
+    ];
+    answers_along(&rt, rt.alloc(), &[0, 2, 0], &session, 2);
+}
+
+#[test]
+fn a_kill_is_not_answered(rt: HostRuntime) {
+    let mut out = ToVec::new(Vec::new(rt.alloc()));
+    let mut input = FromReader::new(Cursor::new(b"$k#6b".as_slice()));
+    let served = serve(
+        &rt,
+        rt.alloc(),
+        board(&rt, rt.alloc()),
+        Vec::new(rt.alloc()),
+        &mut input,
+        &mut out,
+    );
+    assert!(rt; served.is_ok());
+    assert_eq!(rt; out.bytes.as_slice(), b"+".as_slice());
+}
+
+#[test]
 fn a_damaged_packet(rt: HostRuntime) {
     let mut out = ToVec::new(Vec::new(rt.alloc()));
     let mut input = FromReader::new(Cursor::new(b"x$g#00+\x03".as_slice()));
@@ -121,6 +179,7 @@ fn a_damaged_packet(rt: HostRuntime) {
         &rt,
         rt.alloc(),
         board(&rt, rt.alloc()),
+        Vec::new(rt.alloc()),
         &mut input,
         &mut out,
     );
@@ -155,6 +214,7 @@ fn a_failed_write(rt: HostRuntime) {
         &rt,
         rt.alloc(),
         board(&rt, rt.alloc()),
+        Vec::new(rt.alloc()),
         &mut input,
         &mut out,
     ) {
