@@ -8,10 +8,11 @@ use Rattle.elide_args.specs.declared.subcommand.DrawOptions.{DrawOptions}
 use Rattle.elide_args.specs.declared.subcommand.MachineOptions.{MachineOptions}
 use Rattle.elide_args.specs.declared.subcommand.OutcomesOptions.{OutcomesOptions}
 use Rattle.elide_args.specs.declared.subcommand.ScheduleOptions.{ScheduleOptions}
+use Rattle.elide_args.specs.declared.subcommand.SessionOptions.{SessionOptions}
 use Rattle.elide_args.specs.declared.subcommand.StatsOptions.{StatsOptions}
 use Rattle.elide_args.specs.declared.subcommand.Subcommand.{Subcommand}
 use Rattle.elide_args.specs.declared.subcommand.ThreadsOptions.{ThreadsOptions}
-use Rattle.elide_args.specs.declared.subcommand.Subcommand.TheVariants.{Asm, Dis, Run, Threads, Replay, Debug, Hunt}
+use Rattle.elide_args.specs.declared.subcommand.Subcommand.TheVariants.{Asm, Dis, Run, Threads, Replay, Debug, Gdb, Hunt}
 use Rattle.elide_args.specs.declared.subcommand.Subcommand.TheVariants.{Outcomes, Stats, Draw, Explain}
 
 -- the flag of this name: false, unless clap read `true` of it
@@ -55,6 +56,10 @@ pub record IsCounting (found : Found) (options : StatsOptions) : Type 0 where
   pub path : first_value found (codes "record") ≡ option_copied options.«record»
   pub json : IsFlag found (codes "json") options.is_json
 
+pub record IsSession (found : Found) (options : SessionOptions) : Type 0 where
+  pub machine : IsMachine found options.machine
+  pub schedule : IsSchedule found options.schedule
+
 pub record IsPicture (found : Found) (options : DrawOptions) : Type 0 where
   pub machine : IsMachine found options.machine
   pub schedule : IsSchedule found options.schedule
@@ -74,8 +79,8 @@ Asks found name (Run options) =
 Asks found name (Threads options) = (name ≡ codes "threads") × IsWork found options
 Asks found name (Replay options) =
     (name ≡ codes "replay") × IsMachine found options.machine × IsSchedule found options.schedule
-Asks found name (Debug options) =
-    (name ≡ codes "debug") × IsMachine found options.machine × IsSchedule found options.schedule
+Asks found name (Debug options) = (name ≡ codes "debug") × IsSession found options
+Asks found name (Gdb options) = (name ≡ codes "gdb") × IsSession found options
 Asks found name (Hunt options) = (name ≡ codes "hunt") × IsMachine found options.machine
 Asks found name (Outcomes options) = (name ≡ codes "outcomes") × IsSearch found options
 Asks found name (Stats options) = (name ≡ codes "stats") × IsCounting found options

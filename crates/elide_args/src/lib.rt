@@ -14,8 +14,8 @@ mod words;
 
 pub use hunt_options::HuntOptions;
 pub use subcommand::{
-    AsmOptions, CommandLine, DebugOptions, DisOptions, DrawOptions, ExplainOptions, MachineOptions,
-    OutcomesOptions, ReplayOptions, RunOptions, ScheduleOptions, StatsOptions, Subcommand,
-    ThreadsOptions,
+    AsmOptions, CommandLine, DisOptions, DrawOptions, ExplainOptions, MachineOptions,
+    OutcomesOptions, ReplayOptions, RunOptions, ScheduleOptions, SessionOptions, StatsOptions,
+    Subcommand, ThreadsOptions,
 };
 pub use words::{NotASubcommand, command_line_of};

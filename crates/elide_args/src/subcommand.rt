@@ -25,7 +25,9 @@ pub enum Subcommand<'a> {
     /// `replay`.
     Replay(ReplayOptions<'a>),
     /// `debug`.
-    Debug(DebugOptions<'a>),
+    Debug(SessionOptions<'a>),
+    /// `gdb`.
+    Gdb(SessionOptions<'a>),
     /// `hunt`.
     Hunt(HuntOptions<'a>),
     /// `outcomes`.
@@ -105,12 +107,12 @@ pub struct ReplayOptions<'a> {
     pub record: Option<&'a str>,
 }
 
-/// The options of `debug`.
+/// The options of `debug` and of `gdb`.
 #[derive(Clone, Copy, Debug)]
-pub struct DebugOptions<'a> {
+pub struct SessionOptions<'a> {
     /// The machine.
     pub machine: MachineOptions<'a>,
-    /// The schedule that `next` goes along, where one is given.
+    /// The schedule that a session goes along, where one is given.
     pub schedule: ScheduleOptions<'a>,
 }
 
@@ -181,7 +183,7 @@ pub struct MachineOptions<'a> {
     pub dump: Option<&'a str>,
 }
 
-/// The options that give a schedule, of which a command takes exactly one; `debug` takes none, too.
+/// The options that give a schedule, of which a command takes exactly one; `debug` and `gdb` take none, too.
 #[derive(Clone, Copy, Debug)]
 pub struct ScheduleOptions<'a> {
     /// `--steps`: a list of core numbers.

@@ -21,8 +21,8 @@ pub struct SubcommandText {
 }
 
 /// The subcommands, in the order of the help.
-pub const SUBCOMMANDS: [SubcommandText; 11] = [
-    ASM, DIS, RUN, THREADS, REPLAY, DEBUG, HUNT, OUTCOMES, STATS, DRAW, EXPLAIN,
+pub const SUBCOMMANDS: [SubcommandText; 12] = [
+    ASM, DIS, RUN, THREADS, REPLAY, DEBUG, GDB, HUNT, OUTCOMES, STATS, DRAW, EXPLAIN,
 ];
 
 const ASM: SubcommandText = SubcommandText {
@@ -103,6 +103,15 @@ const DEBUG: SubcommandText = SubcommandText {
     options: &[
         FILE, CORES, MEM, ENTRY, READS, WRITES, DUMP, STEPS, SCHEDULE, IN_TURN, RANDOM, LIMIT,
         COLOR,
+    ],
+};
+
+const GDB: SubcommandText = SubcommandText {
+    name: "gdb",
+    about: "Speaks gdb's remote protocol on standard input and output: each core is a thread, and gdb goes back, too",
+    example: "Example: gdb prog.elf -ex 'target remote | elide gdb prog.elf --cores 2'",
+    options: &[
+        FILE, CORES, MEM, ENTRY, READS, WRITES, STEPS, SCHEDULE, IN_TURN, RANDOM, LIMIT, COLOR,
     ],
 };
 

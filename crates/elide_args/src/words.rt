@@ -2,14 +2,14 @@
 
 ghost use Rattle.std.specs.Prelude.{◌≡◌, IfSome, Some, codes};
 ghost use Rattle.clap.specs.Matches.{first_value, found_of};
-ghost use Rattle.elide_args.specs.Asked.{Asks, IsCounting, IsMachine, IsPicture, IsSchedule, IsWork};
+ghost use Rattle.elide_args.specs.Asked.{Asks, IsCounting, IsMachine, IsPicture, IsSchedule, IsSession, IsWork};
 
 use crate::hunt_options::HuntOptions;
 use crate::line::command_line;
 use crate::subcommand::{
-    AsmOptions, CommandLine, DebugOptions, DisOptions, DrawOptions, ExplainOptions, MachineOptions,
-    OutcomesOptions, ReplayOptions, RunOptions, ScheduleOptions, StatsOptions, Subcommand,
-    ThreadsOptions,
+    AsmOptions, CommandLine, DisOptions, DrawOptions, ExplainOptions, MachineOptions,
+    OutcomesOptions, ReplayOptions, RunOptions, ScheduleOptions, SessionOptions, StatsOptions,
+    Subcommand, ThreadsOptions,
 };
 use clap::error::ErrorKind;
 use clap::{ArgMatches, Error};
@@ -134,10 +134,8 @@ fn subcommand_named<'a>(name: &str, options: &ArgMatches<'a>) -> Option<Subcomma
             explains: options.get_flag("why"),
             record: options.get_str("record"),
         })),
-        "debug" => Some(Subcommand::Debug(DebugOptions {
-            machine: machine_of(file, options),
-            schedule: schedule_of(options),
-        })),
+        "debug" => Some(Subcommand::Debug(session_of(file, options))),
+        "gdb" => Some(Subcommand::Gdb(session_of(file, options))),
         "outcomes" => Some(Subcommand::Outcomes(OutcomesOptions {
             machine: machine_of(file, options),
             show: options.get_str("show"),
@@ -207,6 +205,16 @@ fn stats_of<'a>(file: &'a str, options: &ArgMatches<'a>) -> StatsOptions<'a>
         schedule: schedule_of(options),
         record: options.get_str("record"),
         is_json: options.get_flag("json"),
+    }
+}
+
+fn session_of<'a>(file: &'a str, options: &ArgMatches<'a>) -> SessionOptions<'a>
+    requires { first_value (found_of options.now) (codes "FILE") ≡ Some file.now }
+    ensures { IsSession (found_of options.now) result }
+{
+    SessionOptions {
+        machine: machine_of(file, options),
+        schedule: schedule_of(options),
     }
 }
 

@@ -11,6 +11,7 @@ use elide_color::{Colors, PaintedWords, Painting, When};
 use elide_debug::debug;
 use elide_draw::draw;
 use elide_explain::explain;
+use elide_gdb::gdb;
 use elide_hunt::{Answer as Hunted, hunt};
 use elide_outcomes::{Answer as Searched, outcomes};
 use elide_program::{Paths, WarnedPaths};
@@ -185,6 +186,7 @@ fn program_of<'s>(subcommand: &'s Subcommand<'_>) -> Option<&'s str> {
         Subcommand::Threads(options) => Some(options.machine.file),
         Subcommand::Replay(options) => Some(options.machine.file),
         Subcommand::Debug(options) => Some(options.machine.file),
+        Subcommand::Gdb(options) => Some(options.machine.file),
         Subcommand::Hunt(options) => Some(options.machine.file),
         Subcommand::Outcomes(options) => Some(options.machine.file),
         Subcommand::Stats(options) => Some(options.machine.file),
@@ -216,6 +218,7 @@ fn obey<R: Threads + Wait + Sync + AllocGlobal, P: Paths, I: In, O: Out, G: Prog
         Subcommand::Explain(options) => explain(options, out)?,
         Subcommand::Threads(options) => threads(rt, options, paths, out, progress)?,
         Subcommand::Debug(options) => debug(rt, alloc, options, paths, input, out, look.terminals)?,
+        Subcommand::Gdb(options) => gdb(rt, alloc, options, paths, input, out)?,
         Subcommand::Draw(options) => draw(alloc, options, paths, out, progress)?,
         Subcommand::Stats(options) => stats(alloc, options, paths, out, progress)?,
         Subcommand::Run(options) => {

@@ -6,7 +6,7 @@ use Rattle.tm_debug.specs.declared.manner.Manner.TheVariants.{Plain, Spoken}
 use Rattle.tm_debug.specs.Serving.{BehindPrompt, ServesInput}
 use Rattle.tm_debug.specs.Session.{start_in}
 use Rattle.tm_hist.specs.Board.{ShownBoard as Board}
-use Rattle.elide_args.specs.declared.subcommand.DebugOptions.{DebugOptions}
+use Rattle.elide_args.specs.declared.subcommand.SessionOptions.{SessionOptions}
 use Rattle.elide_session.specs.Opened.{IsOpened, is_scheduled}
 use Rattle.elide_setup.specs.declared.terminals.Terminals.{Terminals}
 
@@ -16,7 +16,7 @@ manner_at terminals = if terminals.input && terminals.output then Spoken else Pl
 
 -- what was written are the answers to the input with that board, along some plan, which has no step where no schedule is
 -- asked for, and this is left of the input
-pub record IsServed (options : DebugOptions) (terminals : Terminals) (input left : Option (List ℕ))
+pub record IsServed (options : SessionOptions) (terminals : Terminals) (input left : Option (List ℕ))
     (old new : Device) : Type 0 where
   pub first : Board
   pub opened : IsOpened options.machine first

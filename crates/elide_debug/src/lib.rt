@@ -7,24 +7,22 @@
 
 ghost use Rattle.std.specs.Prelude.{◌≡◌, OnOk};
 ghost use Rattle.elide_debug.specs.Served.{IsServed, manner_at};
-ghost use Rattle.elide_setup.specs.Faults.{fault_number};
-ghost use Rattle.tm_debug.specs.Faults.{session_code};
 
-use elide_args::DebugOptions;
+use elide_args::SessionOptions;
 use elide_program::Paths;
-use elide_session::opened;
-use elide_setup::{Fault, Refusal, Terminals};
+use elide_session::{opened, session_fault};
+use elide_setup::{Refusal, Terminals};
 use ia_text::Out;
 use std::alloc::Global;
 use std::sync::Wait;
-use tm_debug::{In, Manner, SessionFault, serve_in};
+use tm_debug::{In, Manner, serve_in};
 
 /// Answers the commands of the input. The machine is that of the options, and the session can make 1,000,000 steps. `next` goes
 /// along the schedule of the options, where there is one. It is spoken where input and output are a terminal's.
 pub fn debug<R: Wait, P: Paths, I: In, O: Out>(
     rt: &R,
     alloc: Global,
-    options: &DebugOptions<'_>,
+    options: &SessionOptions<'_>,
     paths: &mut P,
     input: &mut I,
     out: &mut O,
@@ -36,7 +34,7 @@ pub fn debug<R: Wait, P: Paths, I: In, O: Out>(
     let (board, plan) = opened(alloc, &options.machine, &options.schedule, paths)?;
     match serve_in(rt, alloc, manner_at(terminals), plan, board, input, out) {
         Ok(_board) => Ok(()),
-        Err(fault) => Err(Refusal::Fault(fault_of(&fault))),
+        Err(fault) => Err(Refusal::Fault(session_fault(&fault))),
     }
 }
 
@@ -48,16 +46,5 @@ fn manner_at(terminals: Terminals) -> Manner
         Manner::Spoken
     } else {
         Manner::Plain
-    }
-}
-
-// Why a session ended early. The board that comes with it is not asked for.
-fn fault_of(fault: &SessionFault) -> Fault
-    ensures { fault_number result ≡ session_code fault.now }
-{
-    match fault {
-        SessionFault::Read(_) => Fault::SessionRead,
-        SessionFault::Write(_) => Fault::SessionWrite,
-        SessionFault::NoMemory(_) => Fault::NoSession,
     }
 }

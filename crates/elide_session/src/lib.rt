@@ -1,17 +1,21 @@
 //! What `elide debug` and `elide gdb` begin with: a board, and the schedule that a session goes along.
 //!
 //! Promised: the board is that of the options before its first step, with room for 1,000,000 steps; where no schedule is asked for
-//! there is none. Which steps a schedule has is compared by `doc_tests`. Stands on `elide_setup`.
+//! there is none; and the number of the fault that ends a session early. Which steps a schedule has is compared by `doc_tests`.
+//! Stands on `elide_setup` and, for what ends a session, on `tm_debug`.
 #![tactic(auto)]
 
 ghost use Rattle.std.specs.Prelude.{◌≡◌, [], IfOk, false};
 ghost use Rattle.elide_session.specs.Opened.{IsOpened, is_scheduled};
+ghost use Rattle.elide_setup.specs.Faults.{fault_number};
+ghost use Rattle.tm_debug.specs.Faults.{session_code};
 
 use elide_args::{MachineOptions, ScheduleOptions};
 use elide_program::{Paths, Settings};
 use elide_setup::{Course, Fault, Refusal, Setup, Silent, new_board, prepared, scheduled};
 use std::alloc::Global;
 use tm_core::Machine;
+use tm_debug::SessionFault;
 use tm_hist::Board;
 
 /// How many steps a session can make.
@@ -35,6 +39,17 @@ pub fn opened<P: Paths>(
     let setup = prepared(alloc, machine.file, &settings, paths)?;
     let board = new_board(alloc, &setup, MOST_STEPS)?;
     Ok((board, Vec::new(alloc)))
+}
+
+/// The fault that ended a session early. The board that comes with it is not asked for.
+pub fn session_fault(fault: &SessionFault) -> Fault
+    ensures { fault_number result ≡ session_code fault.now }
+{
+    match fault {
+        SessionFault::Read(_) => Fault::SessionRead,
+        SessionFault::Write(_) => Fault::SessionWrite,
+        SessionFault::NoMemory(_) => Fault::NoSession,
+    }
 }
 
 // Whether a schedule is asked for. A limit alone is refused where the schedule is read.

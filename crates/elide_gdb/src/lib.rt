@@ -1,0 +1,32 @@
+//! `elide gdb`.
+//!
+//! Promises no more than safety: what a session answers is `tm_gdb`'s promise, and the board that it begins with `elide_session`'s.
+//! Stored sessions are compared by `doc_tests`.
+#![tactic(auto)]
+
+use elide_args::SessionOptions;
+use elide_program::Paths;
+use elide_session::{opened, session_fault};
+use elide_setup::Refusal;
+use ia_text::Out;
+use std::alloc::Global;
+use std::sync::Wait;
+use tm_debug::In;
+use tm_gdb::serve;
+
+/// Answers the packets of the input, up to gdb's `detach` or `kill` or the end. The machine is that of the options, and the session
+/// can make 1,000,000 steps. A continued run goes along the schedule of the options, where there is one.
+pub fn gdb<R: Wait, P: Paths, I: In, O: Out>(
+    rt: &R,
+    alloc: Global,
+    options: &SessionOptions<'_>,
+    paths: &mut P,
+    input: &mut I,
+    out: &mut O,
+) -> Result<(), Refusal> {
+    let (board, plan) = opened(alloc, &options.machine, &options.schedule, paths)?;
+    match serve(rt, alloc, board, plan, input, out) {
+        Ok(_board) => Ok(()),
+        Err(fault) => Err(Refusal::Fault(session_fault(&fault))),
+    }
+}
