@@ -9,6 +9,7 @@ _elide_options() {
     threads) echo '--help --cores --mem --entry --reads --writes --dump --budget --burst --why --stats --json --record --color' ;;
     replay) echo '--help --cores --mem --entry --reads --writes --dump --steps --schedule --why --in-turn --random --limit --record --color' ;;
     debug) echo '--help --cores --mem --entry --reads --writes --dump --steps --schedule --in-turn --random --limit --color' ;;
+    gdb) echo '--help --cores --mem --entry --reads --writes --steps --schedule --in-turn --random --limit --color' ;;
     hunt) echo '--help --cores --mem --entry --reads --writes --check --stop --expect-halt --runs --seed --method --limit --jobs --record --color' ;;
     outcomes) echo '--help --cores --mem --entry --reads --writes --show --limit --color' ;;
     stats) echo '--help --cores --mem --entry --reads --writes --steps --schedule --in-turn --random --limit --record --json --color' ;;
@@ -26,6 +27,7 @@ _elide_value() {
     'replay --schedule' | \
     'replay --record' | \
     'debug --schedule' | \
+    'gdb --schedule' | \
     'hunt --record' | \
     'stats --schedule' | \
     'stats --record' | \
@@ -37,6 +39,7 @@ _elide_value() {
     'threads --color' | \
     'replay --color' | \
     'debug --color' | \
+    'gdb --color' | \
     'hunt --color' | \
     'outcomes --color' | \
     'stats --color' | \
@@ -78,6 +81,14 @@ _elide_value() {
     'debug --steps' | \
     'debug --random' | \
     'debug --limit' | \
+    'gdb --cores' | \
+    'gdb --mem' | \
+    'gdb --entry' | \
+    'gdb --reads' | \
+    'gdb --writes' | \
+    'gdb --steps' | \
+    'gdb --random' | \
+    'gdb --limit' | \
     'hunt --cores' | \
     'hunt --mem' | \
     'hunt --entry' | \
@@ -120,12 +131,12 @@ _elide_value() {
 
 _elide_takes_file() {
     case $1 in
-    asm | dis | run | threads | replay | debug | hunt | outcomes | stats | draw) return 0 ;;
+    asm | dis | run | threads | replay | debug | gdb | hunt | outcomes | stats | draw) return 0 ;;
     *) return 1 ;;
     esac
 }
 
-_elide_commands='asm dis run threads replay debug hunt outcomes stats draw explain help'
+_elide_commands='asm dis run threads replay debug gdb hunt outcomes stats draw explain help'
 
 # What a word behind the subcommand can be, or `files` where it is one's path.
 _elide_choices() {

@@ -80,6 +80,20 @@ complete -c elide -n '__fish_seen_subcommand_from debug' -l random -x -d 'The sc
 complete -c elide -n '__fish_seen_subcommand_from debug' -l limit -x -d 'The most steps of a run [default: 1000000]'
 complete -c elide -n '__fish_seen_subcommand_from debug' -l color -x -a 'auto always never' -d 'Paints messages and listings: auto, where it is a terminal\'s and NO_COLOR is not set, always or never [default: auto]'
 
+complete -c elide -n __fish_use_subcommand -f -a gdb -d 'Speaks gdb\'s remote protocol on standard input and output: each core is a thread, and gdb goes back, too'
+complete -c elide -n '__fish_seen_subcommand_from gdb' -l help -d 'Print help'
+complete -c elide -n '__fish_seen_subcommand_from gdb' -l cores -x -d 'Number of cores, 1 to 64 [default: 1]'
+complete -c elide -n '__fish_seen_subcommand_from gdb' -l mem -x -d 'Memory size: a multiple of 4096, at least 4096 * (cores + 1), at most 268435456 [default: 65536]'
+complete -c elide -n '__fish_seen_subcommand_from gdb' -l entry -x -d 'Where the cores begin: an address or a source\'s symbol, one for all or one a core [default: the base]'
+complete -c elide -n '__fish_seen_subcommand_from gdb' -l reads -x -d 'Lines of 64 bytes that a transaction can read, 1 to 4096 [default: 512]'
+complete -c elide -n '__fish_seen_subcommand_from gdb' -l writes -x -d 'Lines of 64 bytes that a transaction can write, 1 to 4096 [default: 512]'
+complete -c elide -n '__fish_seen_subcommand_from gdb' -l steps -x -d 'The schedule: core numbers, as "0 1 0 1"'
+complete -c elide -n '__fish_seen_subcommand_from gdb' -l schedule -r -F -d 'The schedule: a file whose first line is `schedule 1` or `schedule 2`'
+complete -c elide -n '__fish_seen_subcommand_from gdb' -l in-turn -d 'The schedule: round by round over the cores that have not stopped'
+complete -c elide -n '__fish_seen_subcommand_from gdb' -l random -x -d 'The schedule: each core that has not stopped as likely as another'
+complete -c elide -n '__fish_seen_subcommand_from gdb' -l limit -x -d 'The most steps of a run [default: 1000000]'
+complete -c elide -n '__fish_seen_subcommand_from gdb' -l color -x -a 'auto always never' -d 'Paints messages and listings: auto, where it is a terminal\'s and NO_COLOR is not set, always or never [default: auto]'
+
 complete -c elide -n __fish_use_subcommand -f -a hunt -d 'Runs a program by many random schedules until a check fails, and shortens the schedule that fails'
 complete -c elide -n '__fish_seen_subcommand_from hunt' -l help -d 'Print help'
 complete -c elide -n '__fish_seen_subcommand_from hunt' -l cores -x -d 'Number of cores, 1 to 64 [default: 1]'
@@ -149,4 +163,4 @@ complete -c elide -n '__fish_seen_subcommand_from explain' -f
 complete -c elide -n '__fish_seen_subcommand_from explain' -l color -x -a 'auto always never' -d 'Paints messages and listings: auto, where it is a terminal\'s and NO_COLOR is not set, always or never [default: auto]'
 
 complete -c elide -n __fish_use_subcommand -f -a help -d 'Print this message or the help of the given subcommand'
-complete -c elide -n '__fish_seen_subcommand_from help' -f -a 'asm dis run threads replay debug hunt outcomes stats draw explain'
+complete -c elide -n '__fish_seen_subcommand_from help' -f -a 'asm dis run threads replay debug gdb hunt outcomes stats draw explain'

@@ -152,8 +152,11 @@ fn behind_all<'s>(count: usize, line: &str, text: &'s str) -> Option<&'s str> {
     Some(left)
 }
 
-// What is left behind a line; one that ends in ` ...` is one that begins so.
+// What is left behind a line; one that ends in ` ...` is one that begins so, and one that ends in a backslash goes on in the next.
 fn behind_one<'s>(line: &str, text: &'s str) -> Option<&'s str> {
+    if let Some(piece) = line.strip_suffix('\\') {
+        return text.strip_prefix(piece);
+    }
     let (first, rest) = text.split_once('\n')?;
     let is_same = match line.strip_suffix(" ...") {
         Some(front) => first.starts_with(front),
