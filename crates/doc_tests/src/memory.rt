@@ -2,7 +2,7 @@
 
 ghost use Rattle.std.specs.Prelude.{◌≤◌, IfOk, None, length};
 
-use elide_command::{Paths, ReadFault, Text};
+use elide_command::{Obstacle, Paths, ReadFault, Text};
 use ia_text::{Failed, ToVec};
 use std::alloc::{AllocError, Global};
 use std::collections::BTreeMap;
@@ -57,7 +57,8 @@ impl Paths for Memory {
             }
             Some(Content::Large(size)) if *size <= most => Err(ReadFault::NoMemory),
             Some(Content::Bytes(_) | Content::Large(_)) => Err(ReadFault::TooLong),
-            Some(Content::Folder) | None => Err(ReadFault::Failed),
+            Some(Content::Folder) => Err(ReadFault::Failed(Obstacle::Folder)),
+            None => Err(ReadFault::Failed(Obstacle::Missing)),
         }
     }
 

@@ -13,7 +13,7 @@ fn schedule_path<'s>(subcommand: &'s Subcommand<'_>) -> Option<&'s str> {
     schedule_of(subcommand)?.path
 }
 
-/// Writes which of the files cannot be read.
+/// Writes which of the files cannot be read, and why.
 pub fn advise_input<P: Paths, O: Out>(
     subcommand: &Subcommand<'_>,
     paths: &mut P,
@@ -22,8 +22,8 @@ pub fn advise_input<P: Paths, O: Out>(
     for path in [file_of(subcommand), schedule_path(subcommand)] {
         if let Some(path) = path {
             // Whether it can be read shows at its first byte.
-            if let Err(ReadFault::Failed) = paths.read(path, 0) {
-                return writeln!(page, "{path}: cannot be read; is it there?");
+            if let Err(ReadFault::Failed(obstacle)) = paths.read(path, 0) {
+                return writeln!(page, "{path}: {obstacle}");
             }
         }
     }

@@ -4,7 +4,7 @@ ghost use Rattle.std.specs.Prelude.{None};
 
 use crate::advise;
 use elide_args::{ExplainOptions, Subcommand};
-use elide_program::{Paths, ReadFault, Text};
+use elide_program::{Obstacle, Paths, ReadFault, Text};
 use elide_setup::{Fault, Refusal};
 use ia_text::{Failed, ToVec};
 use std::alloc::Global;
@@ -19,7 +19,7 @@ impl Paths for NoFiles {
     ghost content = { λ _ _. None };
 
     fn read(&mut self, _path: &str, _most: usize) -> Result<Vec<u8>, ReadFault> {
-        Err(ReadFault::Failed)
+        Err(ReadFault::Failed(Obstacle::Missing))
     }
 
     fn write<T: Text>(&mut self, _path: &str, _text: &T) -> Result<(), Failed> {

@@ -11,6 +11,6 @@ mod surroundings;
 mod telling;
 
 pub use dispatch::command;
-pub use elide_program::{HostPaths, Paths, ReadFault, Text};
+pub use elide_program::{HostPaths, Obstacle, Paths, ReadFault, Text};
 pub use elide_setup::{Progress, Silent, Terminals};
 pub use surroundings::Surroundings;

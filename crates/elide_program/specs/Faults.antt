@@ -31,11 +31,11 @@ program_line TooLong = None
 
 -- why a program's file is not read, and why a source's, of which want of memory is the assembler's fault
 abbrev pub unread : ReadFault → ProgramFault
-unread read.Failed = Input
+unread (read.Failed obstacle) = Input
 unread read.TooLong = TooLong
 unread read.NoMemory = Load want.NoMemory
 
 abbrev pub unread_source : ReadFault → ProgramFault
-unread_source read.Failed = Input
+unread_source (read.Failed obstacle) = Input
 unread_source read.TooLong = TooLong
 unread_source read.NoMemory = Assemble no_source.NoMemory

@@ -14,7 +14,7 @@ Gives (Some content) most bytes = (bytes ≡ content) × (length content ≤ mos
 -- it is too long only where its content is longer
 abbrev pub Refuses : Option (List ℕ) → ℕ → ReadFault → Type 0
 Refuses None most fault = ⊤
-Refuses (Some content) most Failed = ⊤
+Refuses (Some content) most (Failed obstacle) = ⊤
 Refuses (Some content) most TooLong = most < length content
 Refuses (Some content) most NoMemory = ⊤
 

@@ -70,7 +70,7 @@ impl From<ReadFault> for ProgramFault {
 
     fn from(fault: ReadFault) -> ProgramFault {
         match fault {
-            ReadFault::Failed => ProgramFault::Input,
+            ReadFault::Failed(_obstacle) => ProgramFault::Input,
             ReadFault::TooLong => ProgramFault::TooLong,
             ReadFault::NoMemory => ProgramFault::Load(LoadFault::NoMemory),
         }

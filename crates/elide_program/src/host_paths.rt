@@ -2,7 +2,7 @@
 
 ghost use Rattle.std.specs.Prelude.{◌≤◌, IfOk, None, length};
 
-use crate::paths::{Paths, ReadFault, Text};
+use crate::paths::{Obstacle, Paths, ReadFault, Text};
 use crate::replacing::replace;
 use ia_text::{Failed, ToWriter};
 use std::fs::{File, OpenFile, OpenOptions};
@@ -77,7 +77,10 @@ impl From<io::Error> for ReadFault {
     fn from(error: io::Error) -> ReadFault {
         match error.kind() {
             ErrorKind::OutOfMemory => ReadFault::NoMemory,
-            _ => ReadFault::Failed,
+            ErrorKind::NotFound | ErrorKind::NotADirectory => ReadFault::Failed(Obstacle::Missing),
+            ErrorKind::PermissionDenied => ReadFault::Failed(Obstacle::Denied),
+            ErrorKind::IsADirectory => ReadFault::Failed(Obstacle::Folder),
+            _ => ReadFault::Failed(Obstacle::Other),
         }
     }
 }

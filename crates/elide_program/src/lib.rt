@@ -22,7 +22,7 @@ pub use entries::EntryList;
 pub use fault::{ProgramFault, ProgramRefusal};
 pub use file::{MOST_BYTES, ProgramFile, read_file, read_source};
 pub use host_paths::HostPaths;
-pub use paths::{Paths, ReadFault, Text};
+pub use paths::{Obstacle, Paths, ReadFault, Text};
 pub use settings::{Dump, Settings, number_of};
 pub use sums::sum_of;
 pub use warned::WarnedPaths;

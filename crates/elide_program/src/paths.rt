@@ -4,12 +4,30 @@ ghost use Rattle.std.specs.Prelude.{◌≤◌, ℕ, IfOk, List, MatchResult, Opt
 ghost use Rattle.elide_program.specs.Files.{Gives, Refuses};
 
 use ia_text::{Failed, Out, WriteFault};
+use thiserror::Error;
+
+/// What stands in the way of opening or reading a file, as far as it is known.
+#[derive(Clone, Copy, PartialEq, Eq, Debug, Error)]
+pub enum Obstacle {
+    /// There is no such file, or a folder of its path is none.
+    #[error("No such file or directory")]
+    Missing,
+    /// It may not be read.
+    #[error("Permission denied")]
+    Denied,
+    /// It is a folder.
+    #[error("Is a directory")]
+    Folder,
+    /// Anything else.
+    #[error("cannot be read")]
+    Other,
+}
 
 /// Why a file is not read.
 #[derive(Clone, Copy, PartialEq, Eq, Debug)]
 pub enum ReadFault {
     /// It cannot be opened or read.
-    Failed,
+    Failed(Obstacle),
     /// It is longer than what is asked for.
     TooLong,
     /// There is no memory for it.
