@@ -303,3 +303,24 @@ fn laws(_rt: HostRuntime) -> Result<(), Fail> {
     ia_resolve::sizes_need_no_symbol();
     Ok(())
 }
+
+#[test]
+fn names_in_parts(rt: HostRuntime) -> Result<(), Fail> {
+    let alloc = rt.alloc();
+    // A local label is the same written out, from wherever it is named.
+    let written = b"a: nop\n.b: nop\n.b.c: nop\nx: jmp short a.b.c\n";
+    assert!(rt; gives(alloc, written, 0x100, b"\x90\x90\x90\xeb\xfd", 5));
+    assert_eq!(rt; address(alloc, written, b"a.b.c"), Some(0x102));
+    assert_eq!(rt; address(alloc, written, b".b"), None);
+    let behind = b"a: jmp short .b.c\na.b: nop\n.c: jmp short a.b\n";
+    assert!(rt; gives(alloc, behind, 0x100, b"\xeb\x01\x90\xeb\xfd", 5));
+    assert_eq!(rt; address(alloc, behind, b"a.b.c"), Some(0x103));
+    assert_eq!(rt;
+        fault(alloc, b"a:\n.b.c:\na.b:\n.c:\n"),
+        Some(AsmFault::SymbolTwice(4))
+    );
+    // The name of a label before any other is its own.
+    assert_eq!(rt; address(alloc, b"nop\n.b: nop\na:\n.b:\n", b".b"), Some(0x101));
+    assert_eq!(rt; fault(alloc, b"a:\n..b:\njmp a.b\n"), Some(AsmFault::UnknownSymbol(3)));
+    Ok(())
+}

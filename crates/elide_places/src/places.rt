@@ -94,7 +94,9 @@ impl Places {
         }
         let at = spot.at as u32;
         match &spot.entry.item {
-            Item::Label(name) => self.labels.push(Label::of(alloc, name, at)?)?,
+            Item::Label(definition) => {
+                self.labels.push(Label::of(alloc, &definition.name, at)?)?;
+            }
             Item::Code(_) => {
                 self.lines.insert(at, spot.entry.line)?;
             }

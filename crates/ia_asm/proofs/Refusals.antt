@@ -5,13 +5,13 @@ use Rattle.ia_item.specs.declared.item.Entry.{Entry}
 use Rattle.ia_source.specs.declared.fault.SourceFault.{SourceFault}
 use Rattle.ia_source.specs.declared.fault.SourceFault.TheVariants as source
 use Rattle.ia_source.specs.declared.fault.Why.TheVariants as why
-use Rattle.ia_source.specs.Source.{entries_of, Tells as SourceTells}
+use Rattle.ia_source.specs.Source.{AsksFor, entries_of, Tells as SourceTells}
 use Rattle.ia_asm.specs.declared.fault.AsmFault.{AsmFault}
 use Rattle.ia_asm.specs.declared.fault.AsmFault.TheVariants as asm
 use Rattle.ia_asm.specs.declared.assembly.Unit.{Unit as Assembly}
 use Rattle.ia_asm.specs.declared.assembly.ProgramImage.{ProgramImage}
 use Rattle.ia_asm.specs.Assemblies.{PlacesAll, PlacesImage, TellsFault}
-use Rattle.ia_asm.specs.Assembles.{asm_fault, AsksFor, RefusedAs, Assembles, AssemblesImage}
+use Rattle.ia_asm.specs.Assembles.{asm_fault, RefusedAs, Assembles, AssemblesImage}
 
 pub reading_refused : (text : List ℕ) (f : SourceFault) → SourceTells (entries_of text) f → RefusedAs text (asm_fault f)
 reading_refused text (source.Line line why.BadToken) e = inl (line, why.BadToken, e, refl)

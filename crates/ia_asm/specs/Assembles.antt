@@ -1,12 +1,11 @@
 -- What a source gives, or why it is refused.
-use Rattle.std.specs.Prelude.{◌≡◌, ℕ, ◌⊎◌, Some, Result, Ok, Err, List, map, option_map}
+use Rattle.std.specs.Prelude.{◌≡◌, ℕ, ◌⊎◌, Some, Result, Ok, Err, List, option_map}
 use Rattle.ia_item.specs.declared.item.Entry.{Entry}
 use Rattle.ia_source.specs.declared.fault.SourceFault.{SourceFault}
 use Rattle.ia_source.specs.declared.fault.SourceFault.TheVariants as source
 use Rattle.ia_source.specs.declared.fault.Why.{Why}
 use Rattle.ia_source.specs.declared.fault.Why.TheVariants as why
-use Rattle.ia_source.specs.Contents.{entry_content}
-use Rattle.ia_source.specs.Source.{entries_of}
+use Rattle.ia_source.specs.Source.{AsksFor, entries_of}
 use Rattle.ia_asm.specs.declared.fault.AsmFault.{AsmFault}
 use Rattle.ia_asm.specs.declared.fault.AsmFault.TheVariants as asm
 use Rattle.ia_asm.specs.declared.assembly.Unit.{Unit as Assembly}
@@ -23,10 +22,6 @@ line_fault line why.BadOperand = asm.BadOperand line
 abbrev pub asm_fault : SourceFault → AsmFault
 asm_fault (source.Line line why) = line_fault line why
 asm_fault source.NoMemory = asm.NoMemory
-
--- the lines of the source ask for these entries
-abbrev pub AsksFor : List ℕ → List Entry → Type 0
-AsksFor text es = entries_of text ≡ Ok (map entry_content es)
 
 -- the first line that asks for nothing, or else the first that cannot be placed
 abbrev pub Refused : List ℕ → AsmFault → Type 0

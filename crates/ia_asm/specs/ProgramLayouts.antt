@@ -4,7 +4,7 @@ use Rattle.ia_item.specs.declared.item.Entry.{Entry}
 use Rattle.ia_layout.specs.Placement.{base_of, text_end, tail_base, all_places, symbols}
 use Rattle.ia_asm.specs.declared.fault.AsmFault.{AsmFault}
 use Rattle.ia_asm.specs.declared.assembly.ProgramLayout.{ProgramLayout}
-use Rattle.ia_asm.specs.Assemblies.{symbol_modulo, code_of, tail_of, fault_of, TellsFault}
+use Rattle.ia_asm.specs.Assemblies.{named, symbol_modulo, code_of, tail_of, fault_of, TellsFault}
 
 -- none of the entries has a fault, and this is where they go, and their bytes and symbols
 pub record IsLayout (es : List Entry) (l : ProgramLayout) : Type 0 where
@@ -16,7 +16,7 @@ pub record IsLayout (es : List Entry) (l : ProgramLayout) : Type 0 where
   pub known_as : l.table.values.entries ≡ symbols (all_places es)
   pub code : l.output.code.items ≡ code_of es
   pub tailed : l.output.tail.items ≡ tail_of es
-  pub named : l.output.symbols.entries ≡ map symbol_modulo (symbols (all_places es))
+  pub written : l.output.symbols.entries ≡ map symbol_modulo (named (all_places es))
 
 -- the entries are laid out, or this is the first line that has a fault
 abbrev pub LaysOut : List Entry → Result ProgramLayout AsmFault → Type 0

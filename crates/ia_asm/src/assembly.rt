@@ -54,7 +54,7 @@ struct ProgramLayout<'a> {
     /// Where the data begins.
     tail: u128,
     /// The values of the symbols.
-    table: Table<'a>,
+    table: Table,
     /// The bytes and the symbols.
     output: Output<'a>,
 }

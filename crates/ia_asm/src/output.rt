@@ -6,10 +6,10 @@ ghost use Rattle.indexmap.specs.IndexMap.{insert_all};
 ghost use Rattle.ia_item.specs.Names.{same_name};
 ghost use Rattle.ia_item.specs.Fits.{AllFit, FitsEntry};
 ghost use Rattle.ia_resolve.specs.Symbols.{known};
-ghost use Rattle.ia_layout.specs.Placement.{definition, part_of, section_bytes, place_at, next, places, after};
+ghost use Rattle.ia_layout.specs.Placement.{part_of, section_bytes, place_at, next, places, after};
 ghost use Rattle.ia_layout.specs.Placement.{start};
 ghost use Rattle.ia_layout.specs.Contents.{entry_place, layout_state, IsBounded};
-ghost use Rattle.ia_asm.specs.Assemblies.{value_modulo, symbol_modulo};
+ghost use Rattle.ia_asm.specs.Assemblies.{definition, value_modulo, symbol_modulo};
 
 use ia_item::{Entry, Item, Name, Section};
 use ia_layout::{Layout, PlacedEntry, push_part};
@@ -21,7 +21,7 @@ use std::alloc::{AllocError, Global};
 #[derive(Drop)]
 pub struct Output<'a> {
     /// Where the next entry goes.
-    pub walk: Layout<'a>,
+    pub walk: Layout,
     /// The bytes of the code.
     pub code: Vec<u8>,
     /// The bytes of the data.
@@ -58,7 +58,7 @@ fn insert<'a>(
 }
 
 /// Takes in a label or `equ`.
-#[tactic(auto, unfolding(ia_layout::specs::Placement::item_definition))]
+#[tactic(auto, unfolding(crate::specs::Assemblies::item_definition))]
 fn define<'a>(
     table: &mut IndexMap<Name<'a>, u32>,
     spot: &PlacedEntry<'a, '_>,
@@ -68,8 +68,8 @@ fn define<'a>(
         ≡ insert_all same_name table.old.entries (map symbol_modulo (definition (entry_place spot.now)))) }
 {
     match &spot.entry.item {
-        Item::Label(name) => insert(table, *name, spot.at as i128),
-        Item::Equ(name, _) => insert(table, *name, i128::from(spot.critical_value)),
+        Item::Label(definition) => insert(table, definition.name, spot.at as i128),
+        Item::Equ(definition, _) => insert(table, definition.name, i128::from(spot.critical_value)),
         _ => Ok(()),
     }
 }

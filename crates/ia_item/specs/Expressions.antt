@@ -1,7 +1,7 @@
 -- Sums of numbers and symbols, in whole numbers.
 use Rattle.std.specs.Prelude.{Bool, true, false, not, ◌||◌, is_some, Option, Some, None, List, [], ◌∷◌, ℤ, pos, ◌+ℤ◌}
 use Rattle.std.specs.Prelude.{◌-ℤ◌, if◌then◌else◌}
-use Rattle.ia_item.specs.declared.name.Name.{Name}
+use Rattle.ia_item.specs.declared.symbol.Symbol.{Symbol as SymbolOf}
 use Rattle.ia_item.specs.declared.expression.ScopedAtom.{ScopedAtom}
 use Rattle.ia_item.specs.declared.expression.ScopedAtom.TheVariants.{Number, Symbol}
 use Rattle.ia_item.specs.declared.expression.ScopedTerm.{ScopedTerm}
@@ -9,11 +9,11 @@ use Rattle.ia_item.specs.declared.expression.ScopedExpression.{ScopedExpression}
 
 -- the value of each symbol that is known
 abbrev pub Env : Type 0
-Env = Name → Option ℤ
+Env = SymbolOf → Option ℤ
 
 abbrev pub is_symbol : ScopedAtom → Bool
 is_symbol (Number n) = false
-is_symbol (Symbol name) = true
+is_symbol (Symbol s) = true
 
 -- a symbol stands among the terms
 abbrev pub any_symbol : List ScopedTerm → Bool
@@ -26,7 +26,7 @@ is_wide s = any_symbol s.terms.items
 
 abbrev pub is_unknown : Env → ScopedAtom → Bool
 is_unknown env (Number n) = false
-is_unknown env (Symbol name) = not (is_some (env name))
+is_unknown env (Symbol s) = not (is_some (env s))
 
 -- a symbol among the terms has no value
 abbrev pub any_unknown : Env → List ScopedTerm → Bool
@@ -35,7 +35,7 @@ any_unknown env (p ∷ ps) = is_unknown env p.atom || any_unknown env ps
 
 abbrev pub is_huge : ScopedAtom → Bool
 is_huge (Number n) = not (is_some n)
-is_huge (Symbol name) = false
+is_huge (Symbol s) = false
 
 -- a number among the terms is above 2^64 - 1
 abbrev pub any_huge : List ScopedTerm → Bool
@@ -50,7 +50,7 @@ or_zero (Some v) = v
 abbrev pub value_in : Env → ScopedAtom → ℤ
 value_in env (Number None) = pos 0
 value_in env (Number (Some n)) = pos n
-value_in env (Symbol name) = or_zero (env name)
+value_in env (Symbol s) = or_zero (env s)
 
 -- what terms add up to, from a whole number on
 abbrev pub sum_from : Env → ℤ → List ScopedTerm → ℤ

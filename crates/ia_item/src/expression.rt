@@ -1,28 +1,28 @@
-//! Expressions whose symbols have their whole names: sums and differences of numbers and symbols.
+//! Expressions whose symbols stand for whole names: sums and differences of numbers and symbols.
 
-use crate::name::Name;
+use crate::symbol::Symbol;
 
 /// A number or a symbol.
 #[derive(Clone, Copy, Debug)]
-pub enum ScopedAtom<'a> {
+pub enum ScopedAtom {
     /// A number, none where it is above u64::MAX.
     Number(Option<u64>),
     /// The value of a symbol.
-    Symbol(Name<'a>),
+    Symbol(Symbol),
 }
 
 /// An atom that is added or taken away.
 #[derive(Clone, Copy, Debug)]
-pub struct ScopedTerm<'a> {
+pub struct ScopedTerm {
     /// Whether it is taken away.
     pub negative: bool,
     /// What is added or taken away.
-    pub atom: ScopedAtom<'a>,
+    pub atom: ScopedAtom,
 }
 
 /// A sum of 1 to 16 terms.
 #[derive(Debug, Drop)]
-pub struct ScopedExpression<'a> {
+pub struct ScopedExpression {
     /// Its terms, in the order of the source.
-    pub terms: Vec<ScopedTerm<'a>>,
+    pub terms: Vec<ScopedTerm>,
 }

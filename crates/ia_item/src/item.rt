@@ -1,7 +1,7 @@
 //! Items.
 
 use crate::expression::ScopedExpression;
-use crate::name::Name;
+use crate::symbol::Definition;
 use ia_insn::Insn;
 
 /// What the number of an instruction goes into.
@@ -23,34 +23,34 @@ pub enum Field {
 /// An instruction, and the expressions that its number and its displacement are written as. In `insn` both stand as 0,
 /// or as what makes the instruction encodable.
 #[derive(Debug, Drop)]
-pub struct Template<'a> {
+pub struct Template {
     /// The instruction.
     pub insn: Insn,
     /// Its immediate, count or target, where one is written.
-    pub number: Option<ScopedExpression<'a>>,
+    pub number: Option<ScopedExpression>,
     /// Its displacement, where one is written.
-    pub displacement: Option<ScopedExpression<'a>>,
+    pub displacement: Option<ScopedExpression>,
 }
 
 /// What a line, or a part of it, asks for.
 #[derive(Debug, Drop)]
 pub enum Item<'a> {
     /// A symbol whose value is the address of what follows.
-    Label(Name<'a>),
+    Label(Definition<'a>),
     /// A symbol whose value is an expression of numbers and of such symbols from above.
-    Equ(Name<'a>, ScopedExpression<'a>),
+    Equ(Definition<'a>, ScopedExpression),
     /// An instruction.
-    Code(Template<'a>),
+    Code(Template),
     /// One byte.
-    Byte(ScopedExpression<'a>),
+    Byte(ScopedExpression),
     /// Bytes between quotes.
     Text(&'a [u8]),
     /// The bytes of numbers that stand one behind the other on a line of `db` or `dd`.
     Numbers(Vec<u8>),
     /// 32 bits.
-    Long(ScopedExpression<'a>),
+    Long(ScopedExpression),
     /// So many bytes that are 0.
-    Reserve(ScopedExpression<'a>),
+    Reserve(ScopedExpression),
     /// Bytes up to the next multiple of this power of two, 1 to 4096.
     Align(u32),
     /// The base; none where the number is above u64::MAX.

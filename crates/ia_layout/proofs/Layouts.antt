@@ -5,9 +5,9 @@ use Rattle.std.proofs.lemmas.List.{drop_more, get_or-drop}
 use Rattle.std.proofs.lemmas.List.Elements.{All-append}
 use Rattle.std.proofs.lemmas.Grind.{fold-append}
 use Rattle.indexmap.specs.IndexMap.{insert_all, insert_entry}
-use Rattle.ia_item.specs.declared.name.Name.{Name}
+use Rattle.ia_item.specs.declared.symbol.Symbol.{Symbol}
 use Rattle.ia_item.specs.declared.item.Entry.{Entry}
-use Rattle.ia_item.specs.Names.{same_name}
+use Rattle.ia_item.specs.Names.{same_symbol}
 use Rattle.ia_layout.specs.declared.layout.PlacedEntry.{PlacedEntry}
 use Rattle.ia_layout.specs.Placement.{LayoutState, EntryPlace, place_at, next, places, after, base_of, base_or}
 use Rattle.ia_layout.specs.Contents.{entry_place}
@@ -42,5 +42,5 @@ more_places (y ∷ out) x more = ap (λ l. entry_place y ∷ l) (more_places out
 pub each_step : {A : Type 0} (f : EntryPlace → List A) (spots : List PlacedEntry) (i : ℕ) (d : PlacedEntry) → i < length spots → flat_map f (map entry_place (drop i spots)) ≡ f (entry_place (get_or spots i d)) ++ flat_map f (map entry_place (drop (i + 1) spots))
 each_step f spots i d h = ap (λ l. flat_map f (map entry_place l)) (drop_more spots i d h)
 
-pub insert_parts : (es xs ys : List (Name × ℤ)) → insert_all same_name es (xs ++ ys) ≡ insert_all same_name (insert_all same_name es xs) ys
-insert_parts es xs ys = fold-append (λ done p. insert_entry same_name done p.0 p.1) es xs ys
+pub insert_parts : (es xs ys : List (Symbol × ℤ)) → insert_all same_symbol es (xs ++ ys) ≡ insert_all same_symbol (insert_all same_symbol es xs) ys
+insert_parts es xs ys = fold-append (λ done p. insert_entry same_symbol done p.0 p.1) es xs ys

@@ -3,12 +3,12 @@ use Rattle.std.proofs.Common.{◌≡◌, ℕ, zero, suc, ◌+◌, ◌-◌, ◌*�
 use Rattle.std.proofs.lemmas.Nat.{mod_below, mod-mul-add}
 use Rattle.std.proofs.Math.Nat.{mod_self, mod-eq_of_lt}
 use Rattle.std.specs.Prelude.{flat_map, ◌||◌, ℤ, pos, replicate}
-use Rattle.std.specs.Cmp.Lexicographic.{bytes_decides}
 use Rattle.std.proofs.lemmas.Bool.{cases_Bool}
 use Rattle.std.proofs.lemmas.List.{length-replicate}
 use Rattle.indexmap.specs.IndexMap.{insert_all, insert_entry}
-use Rattle.ia_item.specs.declared.name.Name.{Name}
-use Rattle.ia_item.specs.Names.{same_name, whole_name}
+use Rattle.ia_item.specs.declared.symbol.Symbol.{Symbol}
+use Rattle.ia_item.specs.declared.symbol.Definition.{Definition}
+use Rattle.ia_item.specs.Names.{same_symbol}
 use Rattle.ia_item.specs.Expressions.{Env}
 use Rattle.ia_item.specs.Fits.{AllFit, FitsItem}
 use Rattle.ia_item.specs.Fields.{modulo_long}
@@ -85,36 +85,36 @@ next_multiple n at some = by (at % n) refl
 
 -- ---- what items give
 
-true_same : (m n : Name) → same_name m n ≡ true → whole_name m ≡ whole_name n
-true_same m n e = (bytes_decides (whole_name m) (whole_name n)).0 e
+true_same : (m n : Symbol) → same_symbol m n ≡ true → m.number ≡ n.number
+true_same m n e = grind (arith, e)
 
-same_true : (m n : Name) → whole_name m ≡ whole_name n → same_name m n ≡ true
-same_true m n e = (bytes_decides (whole_name m) (whole_name n)).1 e
+same_true : (m n : Symbol) → m.number ≡ n.number → same_symbol m n ≡ true
+same_true m n e = grind (arith, e)
 
-known_new : (name : Name) (v : ℤ) (es : List (Name × ℤ)) → known (insert_entry same_name es name v) name ≡ Some v
+known_new : (name : Symbol) (v : ℤ) (es : List (Symbol × ℤ)) → known (insert_entry same_symbol es name v) name ≡ Some v
 known_new name v [] = rw (same_true name name refl) refl
-known_new name v (e ∷ es) = elim (cases_Bool (same_name name e.0)) [
+known_new name v (e ∷ es) = elim (cases_Bool (same_symbol name e.0)) [
   | inl t ↦ rw (t, t) refl
   | inr f ↦ rw (f, f) (known_new name v es)
 ]
 
-not_same : (name other third : Name) → same_name other third ≡ true → same_name name other ≡ false → same_name name third ≡ false
-not_same name other third t f = elim (cases_Bool (same_name name third)) [
+not_same : (name other third : Symbol) → same_symbol other third ≡ true → same_symbol name other ≡ false → same_symbol name third ≡ false
+not_same name other third t f = elim (cases_Bool (same_symbol name third)) [
   | inl same ↦ let yes = same_true name other (true_same name third same ∙ sym (true_same other third t)) in absurd cc
   | inr apart ↦ apart
 ]
 
-known_kept : (name other : Name) (v : ℤ) (es : List (Name × ℤ)) → same_name name other ≡ false → known (insert_entry same_name es other v) name ≡ known es name
+known_kept : (name other : Symbol) (v : ℤ) (es : List (Symbol × ℤ)) → same_symbol name other ≡ false → known (insert_entry same_symbol es other v) name ≡ known es name
 known_kept name other v [] f = rw f refl
-known_kept name other v (e ∷ es) f = elim (cases_Bool (same_name other e.0)) [
+known_kept name other v (e ∷ es) f = elim (cases_Bool (same_symbol other e.0)) [
   | inl t ↦ let apart = not_same name other e.0 t f in rw (t, apart) refl
-  | inr g ↦ rw g (ap (λ o. cond (same_name name e.0) (Some e.1) o) (known_kept name other v es f))
+  | inr g ↦ rw g (ap (λ o. cond (same_symbol name e.0) (Some e.1) o) (known_kept name other v es f))
 ]
 
-kept_item : (name : Name) (acc : List (Name × ℤ)) (at : ℕ) (v : ℤ) (i : Item) → item_defines name i ≡ false → known (insert_all same_name acc (item_definition at v i)) name ≡ known acc name
+kept_item : (name : Symbol) (acc : List (Symbol × ℤ)) (at : ℕ) (v : ℤ) (i : Item) → item_defines name i ≡ false → known (insert_all same_symbol acc (item_definition at v i)) name ≡ known acc name
 unfolding item_definition
-kept_item name acc at v (item.Label other) f = known_kept name other (pos at) acc f
-kept_item name acc at v (item.Equ other s) f = known_kept name other v acc f
+kept_item name acc at v (item.Label d) f = known_kept name d.symbol (pos at) acc f
+kept_item name acc at v (item.Equ d s) f = known_kept name d.symbol v acc f
 kept_item name acc at v (item.Code t) f = refl
 kept_item name acc at v (item.Byte s) f = refl
 kept_item name acc at v (item.Text b) f = refl
@@ -128,31 +128,31 @@ neither : (a b : Bool) → (a || b) ≡ false → (a ≡ false) × (b ≡ false)
 neither false b e = (refl, e)
 neither true b e = absurd cc
 
-kept_all : (env : Env) (name : Name) (acc : List (Name × ℤ)) (ps : List EntryPlace) → is_defined name (map (placed env) ps) ≡ false → known (insert_all same_name acc (flat_map definition ps)) name ≡ known acc name
+kept_all : (env : Env) (name : Symbol) (acc : List (Symbol × ℤ)) (ps : List EntryPlace) → is_defined name (map (placed env) ps) ≡ false → known (insert_all same_symbol acc (flat_map definition ps)) name ≡ known acc name
 kept_all env name acc [] f = refl
 kept_all env name acc (p ∷ ps) f =
     let both = neither (item_defines name p.entry.item) (is_defined name (map (placed env) ps)) f in
     ap (λ l. known l name) (insert_parts acc (definition p) (flat_map definition ps))
-    ∙ kept_all env name (insert_all same_name acc (definition p)) ps both.1
+    ∙ kept_all env name (insert_all same_symbol acc (definition p)) ps both.1
     ∙ kept_item name acc p.at p.critical_value p.entry.item both.0
 
-label_known : (env : Env) (acc : List (Name × ℤ)) (p : EntryPlace) (ps : List EntryPlace) (name : Name) → p.entry.item ≡ item.Label name → is_defined name (map (placed env) ps) ≡ false →
-    known (insert_all same_name acc (flat_map definition (p ∷ ps))) name ≡ Some (pos p.at)
+label_known : (env : Env) (acc : List (Symbol × ℤ)) (p : EntryPlace) (ps : List EntryPlace) (d : Definition) → p.entry.item ≡ item.Label d → is_defined d.symbol (map (placed env) ps) ≡ false →
+    known (insert_all same_symbol acc (flat_map definition (p ∷ ps))) d.symbol ≡ Some (pos p.at)
 unfolding item_definition
-label_known env acc p ps name is f =
-    ap (λ l. known l name) (insert_parts acc (definition p) (flat_map definition ps))
-    ∙ kept_all env name (insert_all same_name acc (definition p)) ps f
-    ∙ ap (λ i. known (insert_all same_name acc (item_definition p.at p.critical_value i)) name) is
-    ∙ known_new name (pos p.at) acc
+label_known env acc p ps d is f =
+    ap (λ l. known l d.symbol) (insert_parts acc (definition p) (flat_map definition ps))
+    ∙ kept_all env d.symbol (insert_all same_symbol acc (definition p)) ps f
+    ∙ ap (λ i. known (insert_all same_symbol acc (item_definition p.at p.critical_value i)) d.symbol) is
+    ∙ known_new d.symbol (pos p.at) acc
 
 copies : (xs : List ℕ) (n b : ℕ) → xs ≡ replicate n b → xs ≡ replicate (length xs) b
 copies xs n b e = e ∙ ap (λ k. replicate k b) (sym (ap length e ∙ length-replicate n b))
 
 gives : (env : Env) (x : PlacedItem) (xs : List PlacedItem) (v : ℤ) (i : Item) → FitsItem i → x.bytes ≡ bytes_at env x.at v x.entry.section i →
-    ((name : Name) → i ≡ item.Label name → is_defined name xs ≡ false → env name ≡ Some (pos x.at)) → GivesItem env x xs i
+    ((d : Definition) → i ≡ item.Label d → is_defined d.symbol xs ≡ false → env d.symbol ≡ Some (pos x.at)) → GivesItem env x xs i
 unfolding bytes_at
-gives env x xs v (item.Label name) fits e label = (e, label name refl)
-gives env x xs v (item.Equ name s) fits e label = e
+gives env x xs v (item.Label d) fits e label = (e, label d refl)
+gives env x xs v (item.Equ d s) fits e label = e
 gives env x xs v (item.Code t) fits e label = subst (λ (b : List ℕ). Spells b (resolved_insn env x.at t)) (sym e) (code_spelt env x.at t fits)
 gives env x xs v (item.Byte s) fits e label = e
 gives env x xs v (item.Text b) fits e label = e
@@ -168,12 +168,12 @@ gives env x xs v (item.Org n) fits e label = e
 rest_fits : (e : Entry) (es : List Entry) → AllFit (e ∷ es) → AllFit es
 rest_fits e es fits k d h = fits (suc k) d (omega arith)
 
-pub all_given : (env : Env) (acc : List (Name × ℤ)) (s : LayoutState) (es : List Entry) → AllFit es → ((name : Name) → env name ≡ known (insert_all same_name acc (flat_map definition (places s es))) name) →
+pub all_given : (env : Env) (acc : List (Symbol × ℤ)) (s : LayoutState) (es : List Entry) → AllFit es → ((name : Symbol) → env name ≡ known (insert_all same_symbol acc (flat_map definition (places s es))) name) →
     AreGiven env (map (placed env) (places s es))
 all_given env acc s [] fits same = tt
 all_given env acc s (e ∷ es) fits same =
     let p = place_at s e in
     let behind = places (next s e) es in (
-      gives env (placed env p) (map (placed env) behind) p.critical_value e.item (fits 0 e (omega arith)) refl (λ name is f. same name ∙ label_known env acc p behind name is f),
-      all_given env (insert_all same_name acc (definition p)) (next s e) es (rest_fits e es fits) (λ name. same name ∙ ap (λ l. known l name) (insert_parts acc (definition p) (flat_map definition behind))),
+      gives env (placed env p) (map (placed env) behind) p.critical_value e.item (fits 0 e (omega arith)) refl (λ d is f. same d.symbol ∙ label_known env acc p behind d is f),
+      all_given env (insert_all same_symbol acc (definition p)) (next s e) es (rest_fits e es fits) (λ name. same name ∙ ap (λ l. known l name) (insert_parts acc (definition p) (flat_map definition behind))),
     )

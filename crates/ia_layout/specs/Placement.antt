@@ -6,8 +6,8 @@ use Rattle.std.specs.Prelude.{ℕ, ◌+◌, ◌-◌, ◌%◌, ◌^◌, Bool, tru
 use Rattle.std.specs.Prelude.{None, List, [], ◌∷◌, ◌++◌, ℤ, pos, length, replicate, flat_map, option_map}
 use Rattle.indexmap.specs.IndexMap.{insert_entry, insert_all}
 use Rattle.ia_word.specs.Bytes.{long_bytes}
-use Rattle.ia_item.specs.declared.name.Name.{Name}
-use Rattle.ia_item.specs.Names.{same_name}
+use Rattle.ia_item.specs.declared.symbol.Symbol.{Symbol}
+use Rattle.ia_item.specs.Names.{same_symbol}
 use Rattle.ia_item.specs.Expressions.{Env}
 use Rattle.ia_item.specs.Fields.{low_of, high_of, modulo_long}
 use Rattle.ia_item.specs.declared.item.Entry.{Entry}
@@ -30,13 +30,13 @@ abbrev pub nowhere : Env
 nowhere name = None
 
 -- the value of `equ`, and the count of `resb`, by the `equ` symbols above
-unfoldable pub critical_value : List (Name × ℤ) → Item → ℤ
+unfoldable pub critical_value : List (Symbol × ℤ) → Item → ℤ
 critical_value above (item.Equ n s) = value_or_zero (known above) (low_of field.Long) (high_of field.Long) s
 critical_value above (item.Reserve s) = value_or_zero (known above) (pos 0) (pos (2 ^ 32 - 1)) s
 critical_value above _ = pos 0
 
 -- what is wrong with them
-unfoldable pub critical_fault : List (Name × ℤ) → Item → Option PlaceFault
+unfoldable pub critical_fault : List (Symbol × ℤ) → Item → Option PlaceFault
 critical_fault above (item.Equ n s) = sum_fault (known above) (low_of field.Long) (high_of field.Long) s
 critical_fault above (item.Reserve s) = sum_fault (known above) (pos 0) (pos (2 ^ 32 - 1)) s
 critical_fault above _ = None
@@ -70,7 +70,7 @@ pub record EntryPlace : Type 0 where
 
 -- the `equ` symbols so far, and where the next item of each section goes
 pub record LayoutState : Type 0 where
-  pub above : List (Name × ℤ)
+  pub above : List (Symbol × ℤ)
   pub text : ℕ
   pub tail : ℕ
 
@@ -87,8 +87,8 @@ place_at s e = record {
   fault = critical_fault s.above e.item;
 }
 
-unfoldable pub above_next : List (Name × ℤ) → ℤ → Item → List (Name × ℤ)
-above_next above v (item.Equ n s) = insert_entry same_name above n v
+unfoldable pub above_next : List (Symbol × ℤ) → ℤ → Item → List (Symbol × ℤ)
+above_next above v (item.Equ d s) = insert_entry same_symbol above d.symbol v
 above_next above v _ = above
 
 abbrev pub text_next : Section → ℕ → ℕ → ℕ
@@ -149,17 +149,17 @@ all_places es = places (start (base_of es) (tail_base (text_end es))) es
 -- ---- symbols
 
 -- a label has its address, and `equ` its value
-unfoldable pub item_definition : ℕ → ℤ → Item → List (Name × ℤ)
-item_definition at v (item.Label n) = (n, pos at) ∷ []
-item_definition at v (item.Equ n s) = (n, v) ∷ []
+unfoldable pub item_definition : ℕ → ℤ → Item → List (Symbol × ℤ)
+item_definition at v (item.Label d) = (d.symbol, pos at) ∷ []
+item_definition at v (item.Equ d s) = (d.symbol, v) ∷ []
 item_definition at v _ = []
 
-abbrev pub definition : EntryPlace → List (Name × ℤ)
+abbrev pub definition : EntryPlace → List (Symbol × ℤ)
 definition p = item_definition p.at p.critical_value p.entry.item
 
 -- each symbol with its value, in the order of the source
-abbrev pub symbols : List EntryPlace → List (Name × ℤ)
-symbols ps = insert_all same_name [] (flat_map definition ps)
+abbrev pub symbols : List EntryPlace → List (Symbol × ℤ)
+symbols ps = insert_all same_symbol [] (flat_map definition ps)
 
 abbrev pub values : List EntryPlace → Env
 values ps = known (symbols ps)

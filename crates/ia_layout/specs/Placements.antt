@@ -5,8 +5,8 @@ use Rattle.std.specs.Prelude.{ℤ, pos, length, map, flat_map, replicate}
 use Rattle.std.specs.List.{list_any}
 use Rattle.ia_word.specs.Bytes.{long_bytes}
 use Rattle.ia_insn.specs.Spelling.{Spells}
-use Rattle.ia_item.specs.declared.name.Name.{Name}
-use Rattle.ia_item.specs.Names.{same_name}
+use Rattle.ia_item.specs.declared.symbol.Symbol.{Symbol}
+use Rattle.ia_item.specs.Names.{same_symbol}
 use Rattle.ia_item.specs.Expressions.{Env}
 use Rattle.ia_item.specs.declared.item.Entry.{Entry}
 use Rattle.ia_item.specs.declared.item.Section.{Section}
@@ -40,20 +40,20 @@ pub record IsNextMultiple (n at next : ℕ) : Type 0 where
   pub near : next < at + n
   pub multiple : next % n ≡ 0
 
--- an item defines a symbol of this name
-abbrev pub item_defines : Name → Item → Bool
-item_defines name (item.Label other) = same_name name other
-item_defines name (item.Equ other s) = same_name name other
-item_defines name _ = false
+-- an item defines this symbol
+abbrev pub item_defines : Symbol → Item → Bool
+item_defines symbol (item.Label d) = same_symbol symbol d.symbol
+item_defines symbol (item.Equ d s) = same_symbol symbol d.symbol
+item_defines symbol _ = false
 
-abbrev pub is_defined : Name → List PlacedItem → Bool
-is_defined name xs = list_any (λ x. item_defines name x.entry.item) xs
+abbrev pub is_defined : Symbol → List PlacedItem → Bool
+is_defined symbol xs = list_any (λ x. item_defines symbol x.entry.item) xs
 
 -- the bytes of an item are what it asks for, where symbols have these values; a label that none of the items behind
 -- defines again has the address at which it stands
 abbrev pub GivesItem : Env → PlacedItem → List PlacedItem → Item → Type 0
-GivesItem env x xs (item.Label name) = (x.bytes ≡ []) × (is_defined name xs ≡ false → env name ≡ Some (pos x.at))
-GivesItem env x xs (item.Equ name s) = x.bytes ≡ []
+GivesItem env x xs (item.Label d) = (x.bytes ≡ []) × (is_defined d.symbol xs ≡ false → env d.symbol ≡ Some (pos x.at))
+GivesItem env x xs (item.Equ d s) = x.bytes ≡ []
 GivesItem env x xs (item.Code t) = Spells x.bytes (resolved_insn env x.at t)
 GivesItem env x xs (item.Byte s) = x.bytes ≡ field_value env x.at field.Byte s ∷ []
 GivesItem env x xs (item.Text text) = x.bytes ≡ text.now
@@ -70,7 +70,7 @@ AreGiven env (x ∷ xs) = GivesItem env x xs x.entry.item × AreGiven env xs
 
 -- these bytes at this address, so many of them code, are the entries' items: those of `.text` from the address on, and
 -- those of `.data` from the next multiple of 64 on, with zeros between
-pub record IsPlacement (es : List Entry) (base code_len : ℕ) (image : List ℕ) (symbols : List (Name × ℤ)) : Type 0 where
+pub record IsPlacement (es : List Entry) (base code_len : ℕ) (image : List ℕ) (symbols : List (Symbol × ℤ)) : Type 0 where
   pub items : List PlacedItem
   pub tail : ℕ
   pub entries : map (λ (x : PlacedItem). x.entry) items ≡ es

@@ -33,9 +33,9 @@ pub struct PlacedEntry<'a, 'b> {
 
 /// A walk over entries.
 #[derive(Drop)]
-pub struct Layout<'a> {
+pub struct Layout {
     /// The `equ` symbols so far.
-    pub above: Table<'a>,
+    pub above: Table,
     /// Where the next item of the code goes.
     pub text: u128,
     /// Where the next item of the data goes.
@@ -112,11 +112,14 @@ fn size_of(at: u128, value: i64, item: &Item) -> u64
 
 /// Takes in the value of `equ`.
 #[tactic(auto, unfolding(crate::specs::Placement::above_next))]
-fn define_equ<'a>(above: &mut Table<'a>, value: i64, item: &Item<'a>) -> Result<(), AllocError>
+fn define_equ(above: &mut Table, value: i64, item: &Item) -> Result<(), AllocError>
     ensures { OnOk result (above.new.values.entries ≡ above_next above.old.values.entries value item.now) }
 {
     match item {
-        Item::Equ(name, _) => match above.values.insert(*name, i128::from(value)) {
+        Item::Equ(definition, _) => match above
+            .values
+            .insert(definition.symbol, i128::from(value))
+        {
             Ok(_) => Ok(()),
             Err(_) => Err(AllocError),
         },
@@ -124,9 +127,9 @@ fn define_equ<'a>(above: &mut Table<'a>, value: i64, item: &Item<'a>) -> Result<
     }
 }
 
-impl<'a> Layout<'a> {
+impl Layout {
     /// A walk that puts the code and the data there.
-    pub fn new(alloc: Global, base: u128, tail: u128) -> Layout<'a>
+    pub fn new(alloc: Global, base: u128, tail: u128) -> Layout
         ensures { layout_state result ≡ start base tail }
     {
         Layout {
@@ -161,7 +164,7 @@ impl<'a> Layout<'a> {
     }
 
     /// Places an entry behind the one before.
-    pub fn place<'b>(&mut self, entry: &'b Entry<'a>) -> Result<PlacedEntry<'a, 'b>, AllocError>
+    pub fn place<'a, 'b>(&mut self, entry: &'b Entry<'a>) -> Result<PlacedEntry<'a, 'b>, AllocError>
         requires fits { FitsEntry entry.now }
         requires text { self.old.text ≤ 2 ^ 125 }
         requires tail { self.old.tail ≤ 2 ^ 125 }

@@ -2,7 +2,7 @@
 
 ghost use Rattle.std.specs.Prelude.{◌≡◌, ℕ, ◌≤◌, ◌<◌, ◌+◌, ◌^◌, length, IfOk, OnOk};
 ghost use Rattle.indexmap.specs.IndexMap.{insert_all};
-ghost use Rattle.ia_item.specs.Names.{same_name};
+ghost use Rattle.ia_item.specs.Names.{same_symbol};
 ghost use Rattle.ia_item.specs.Fits.{AllFit};
 ghost use Rattle.ia_layout.specs.Placement.{org_value, base_or, base_of, start, after, places, text_end, tail_base};
 ghost use Rattle.ia_layout.specs.Placement.{item_definition, definition, symbols};
@@ -56,7 +56,7 @@ pub fn entry_count(entries: &[Entry]) -> usize
 }
 
 /// Where the code ends.
-pub fn text_end<'a>(alloc: Global, base: u32, entries: &[Entry<'a>]) -> Result<u128, AllocError>
+pub fn text_end(alloc: Global, base: u32, entries: &[Entry]) -> Result<u128, AllocError>
     requires fits { AllFit entries.now }
     requires few { length entries.now < 2 ^ 58 }
     ensures end { IfOk result (λ end. end ≡ (after (start base 0) entries.now).text) }
@@ -80,17 +80,20 @@ pub fn tail_base(text_end: u128) -> u128
 
 /// Takes in a label or `equ`.
 #[tactic(auto, unfolding(crate::specs::Placement::item_definition))]
-fn define<'a>(table: &mut Table<'a>, spot: &PlacedEntry<'a, '_>) -> Result<(), AllocError>
+fn define(table: &mut Table, spot: &PlacedEntry) -> Result<(), AllocError>
     requires { IsBounded spot.now }
     ensures { OnOk result (table.new.values.entries
-        ≡ insert_all same_name table.old.values.entries (definition (entry_place spot.now))) }
+        ≡ insert_all same_symbol table.old.values.entries (definition (entry_place spot.now))) }
 {
     match &spot.entry.item {
-        Item::Label(name) => match table.values.insert(*name, spot.at as i128) {
+        Item::Label(definition) => match table.values.insert(definition.symbol, spot.at as i128) {
             Ok(_) => Ok(()),
             Err(_) => Err(AllocError),
         },
-        Item::Equ(name, _) => match table.values.insert(*name, i128::from(spot.critical_value)) {
+        Item::Equ(definition, _) => match table
+            .values
+            .insert(definition.symbol, i128::from(spot.critical_value))
+        {
             Ok(_) => Ok(()),
             Err(_) => Err(AllocError),
         },
@@ -99,12 +102,7 @@ fn define<'a>(table: &mut Table<'a>, spot: &PlacedEntry<'a, '_>) -> Result<(), A
 }
 
 /// The symbols, in the order of the source.
-pub fn symbols<'a>(
-    alloc: Global,
-    base: u32,
-    tail: u128,
-    entries: &[Entry<'a>],
-) -> Result<Table<'a>, AllocError>
+pub fn symbols(alloc: Global, base: u32, tail: u128, entries: &[Entry]) -> Result<Table, AllocError>
     requires fits { AllFit entries.now }
     requires few { length entries.now < 2 ^ 58 }
     requires near { tail ≤ 2 ^ 124 }

@@ -37,7 +37,7 @@ fn term_total<S: SymbolValues>(symbols: &S, value: &ScopedAtom) -> Total
             huge: true,
             value: Exact::zero(),
         },
-        ScopedAtom::Symbol(name) => match symbols.get(name) {
+        ScopedAtom::Symbol(symbol) => match symbols.get(symbol) {
             Some(v) => Total {
                 unknown: false,
                 huge: false,

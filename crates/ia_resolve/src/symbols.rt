@@ -1,20 +1,20 @@
 //! The values of symbols.
 
 ghost use Rattle.std.specs.Prelude.{◌≡◌, Option, None, ℤ};
-ghost use Rattle.ia_item.specs.declared.name.Name.{Name as NameOf};
+ghost use Rattle.ia_item.specs.declared.symbol.Symbol.{Symbol as SymbolOf};
 ghost use Rattle.ia_resolve.specs.Symbols.{known};
 
-use ia_item::Name;
+use ia_item::Symbol;
 use indexmap::IndexMap;
 
 /// Values of symbols.
 pub trait SymbolValues {
     // The value of each symbol that has one.
-    ghost env: { Self → NameOf → Option ℤ };
+    ghost env: { Self → SymbolOf → Option ℤ };
 
     /// The value of a symbol.
-    fn get(&self, name: &Name) -> Option<i128>
-        ensures { result ≡ env self.now name.now };
+    fn get(&self, symbol: &Symbol) -> Option<i128>
+        ensures { result ≡ env self.now symbol.now };
 }
 
 /// No symbol has a value.
@@ -24,21 +24,21 @@ pub struct NoSymbols;
 impl SymbolValues for NoSymbols {
     ghost env = { λ _ _. None };
 
-    fn get(&self, _name: &Name) -> Option<i128> {
+    fn get(&self, _symbol: &Symbol) -> Option<i128> {
         None
     }
 }
 
 /// Symbols in the order in which they are defined.
 #[derive(Drop)]
-pub struct Table<'a> {
-    pub values: IndexMap<Name<'a>, i128>,
+pub struct Table {
+    pub values: IndexMap<Symbol, i128>,
 }
 
-impl SymbolValues for Table<'_> {
+impl SymbolValues for Table {
     ghost env = { λ t. known t.values.entries };
 
-    fn get(&self, name: &Name) -> Option<i128> {
-        self.values.get(name).copied()
+    fn get(&self, symbol: &Symbol) -> Option<i128> {
+        self.values.get(symbol).copied()
     }
 }

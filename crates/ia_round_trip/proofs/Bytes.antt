@@ -15,7 +15,9 @@ use Rattle.ia_item.specs.declared.item.Template.{Template}
 use Rattle.ia_item.specs.Expressions.{Env}
 use Rattle.ia_lex.specs.Terms.{TermContent}
 use Rattle.ia_source.specs.declared.fault.Why.{Why}
-use Rattle.ia_source.specs.Contents.{ItemContent, EntryContent, Code, Org, expression_content, item_content, entry_content}
+use Rattle.ia_names.specs.Namings.{Naming}
+use Rattle.ia_source.specs.Contents.{ItemContent, EntryContent, Code, Org, Reading, expression_content, item_content, entry_content}
+use Rattle.ia_source.specs.Source.{AsksFor}
 use Rattle.ia_asm.specs.declared.fault.AsmFault.{AsmFault}
 use Rattle.ia_asm.specs.declared.fault.AsmFault.TheVariants as told_as
 use Rattle.ia_resolve.specs.declared.place_fault.PlaceFault.TheVariants.{Range}
@@ -25,7 +27,7 @@ use Rattle.ia_asm.specs.Faults.{at_line}
 use Rattle.ia_resolve.specs.Items.{code_bytes, template_fault}
 use Rattle.ia_layout.specs.Placement.{LayoutState, EntryPlace, nowhere, place_at, next, places, base_of, base_or, start, text_end, tail_base, all_places, values, bytes_at, size_of, section_bytes, code_and_data, gap, end_fault, org_fault, item_fault, place_fault, fault_on, by_first, first_fault}
 use Rattle.ia_asm.specs.Assemblies.{IsAssembly, code_of, tail_of, fault_of}
-use Rattle.ia_asm.specs.Assembles.{AsksFor, Refused}
+use Rattle.ia_asm.specs.Assembles.{Refused}
 use Rattle.ia_round_trip.specs.Resolution.{resolved_insn as known_number}
 use Rattle.ia_round_trip.specs.Program.{source_at, entries_at}
 use Rattle.ia_round_trip.specs.Bytes.{IsAsked, LineAssemblesToItsBytes, Gives, SourceAssemblesToItsBytes}
@@ -36,16 +38,16 @@ use Rattle.ia_round_trip.proofs.Program.{source_reads_back}
 -- ---- a line
 
 -- with what it asks for, an instruction is filled in to be the same
-same_given : (at : ℕ) (o i : Insn) (number place : Option (List TermContent)) (t : Template) → IsAsked o number place t → known_number at o number place ≡ Some i
-    → known_number at t.insn (option_map expression_content t.number) (option_map expression_content t.displacement) ≡ Some i
-same_given at o i number place t (insn, n, p) e =
-    ap (λ x. known_number at x (option_map expression_content t.number) (option_map expression_content t.displacement)) insn
-    ∙ ap (λ x. known_number at o x (option_map expression_content t.displacement)) n ∙ ap (known_number at o number) p ∙ e
+same_given : (naming : Naming) (at : ℕ) (o i : Insn) (number place : Option (List TermContent)) (t : Template) → IsAsked naming o number place t → known_number at o number place ≡ Some i
+    → known_number at t.insn (option_map (expression_content naming) t.number) (option_map (expression_content naming) t.displacement) ≡ Some i
+same_given naming at o i number place t (insn, n, p) e =
+    ap (λ x. known_number at x (option_map (expression_content naming) t.number) (option_map (expression_content naming) t.displacement)) insn
+    ∙ ap (λ x. known_number at o x (option_map (expression_content naming) t.displacement)) n ∙ ap (known_number at o number) p ∙ e
 
 pub line_assembles_to_its_bytes : LineAssemblesToItsBytes
 line_assembles_to_its_bytes i at e =
     let r = instruction_reads_back i at e in
-    (r.0, r.1, r.2, r.3, λ env t asked. code_agrees env at t i (same_given at r.0 i r.1 r.2 t asked r.4))
+    (r.0, r.1, r.2, r.3, λ naming env t asked. code_agrees naming env at t i (same_given naming at r.0 i r.1 r.2 t asked r.4))
 
 -- ---- the entries of the source
 
@@ -71,31 +73,31 @@ abbrev code_in : ItemContent → Option (Insn × Option (List TermContent) × Op
 code_in (Code i n p) = Some (i, n, p)
 code_in _ = None
 
-org_is : (x : Item) (n : Option ℕ) → item_content x ≡ Org n → x ≡ item.Org n
-org_is (item.Org m) n e = ap (λ z. item.Org z) (some_same m n (ap base_in e))
-org_is (item.Label name) n e = absurd cc
-org_is (item.Equ name s) n e = absurd cc
-org_is (item.Code t) n e = absurd cc
-org_is (item.Byte s) n e = absurd cc
-org_is (item.Text b) n e = absurd cc
-org_is (item.Numbers b) n e = absurd cc
-org_is (item.Long s) n e = absurd cc
-org_is (item.Reserve s) n e = absurd cc
-org_is (item.Align m) n e = absurd cc
+org_is : (r : Reading) (x : Item) (n : Option ℕ) → item_content r x ≡ Org n → x ≡ item.Org n
+org_is r (item.Org m) n e = ap (λ z. item.Org z) (some_same m n (ap base_in e))
+org_is r (item.Label name) n e = absurd cc
+org_is r (item.Equ name s) n e = absurd cc
+org_is r (item.Code t) n e = absurd cc
+org_is r (item.Byte s) n e = absurd cc
+org_is r (item.Text b) n e = absurd cc
+org_is r (item.Numbers b) n e = absurd cc
+org_is r (item.Long s) n e = absurd cc
+org_is r (item.Reserve s) n e = absurd cc
+org_is r (item.Align m) n e = absurd cc
 
-code_is : (x : Item) (i : Insn) (n p : Option (List TermContent)) → item_content x ≡ Code i n p → (t : Template) × (x ≡ item.Code t) × IsAsked i n p t
-code_is (item.Code t) i n p e =
-    let s = some_same (t.insn, option_map expression_content t.number, option_map expression_content t.displacement) (i, n, p) (ap code_in e) in
+code_is : (r : Reading) (x : Item) (i : Insn) (n p : Option (List TermContent)) → item_content r x ≡ Code i n p → (t : Template) × (x ≡ item.Code t) × IsAsked r.naming i n p t
+code_is r (item.Code t) i n p e =
+    let s = some_same (t.insn, option_map (expression_content r.naming) t.number, option_map (expression_content r.naming) t.displacement) (i, n, p) (ap code_in e) in
     (t, refl, (ap (λ x. x.0) s, ap (λ x. x.1) s, ap (λ x. x.2) s))
-code_is (item.Label name) i n p e = absurd cc
-code_is (item.Equ name s) i n p e = absurd cc
-code_is (item.Byte s) i n p e = absurd cc
-code_is (item.Text b) i n p e = absurd cc
-code_is (item.Numbers b) i n p e = absurd cc
-code_is (item.Long s) i n p e = absurd cc
-code_is (item.Reserve s) i n p e = absurd cc
-code_is (item.Align m) i n p e = absurd cc
-code_is (item.Org m) i n p e = absurd cc
+code_is r (item.Label name) i n p e = absurd cc
+code_is r (item.Equ name s) i n p e = absurd cc
+code_is r (item.Byte s) i n p e = absurd cc
+code_is r (item.Text b) i n p e = absurd cc
+code_is r (item.Numbers b) i n p e = absurd cc
+code_is r (item.Long s) i n p e = absurd cc
+code_is r (item.Reserve s) i n p e = absurd cc
+code_is r (item.Align m) i n p e = absurd cc
+code_is r (item.Org m) i n p e = absurd cc
 
 abbrev head_or : EntryContent → List EntryContent → EntryContent
 head_or d [] = d
@@ -105,21 +107,21 @@ abbrev second_or : EntryContent → List EntryContent → EntryContent
 second_or d [] = d
 second_or d (x ∷ r) = head_or d r
 
-abbrev IsTwo : List Entry → EntryContent → EntryContent → Type 0
-IsTwo es a b = (x : Entry) × (y : Entry) × (es ≡ x ∷ y ∷ []) × (entry_content x ≡ a) × (entry_content y ≡ b)
+abbrev IsTwo : Reading → List Entry → EntryContent → EntryContent → Type 0
+IsTwo r es a b = (x : Entry) × (y : Entry) × (es ≡ x ∷ y ∷ []) × (entry_content r x ≡ a) × (entry_content r y ≡ b)
 
-pair_is : (es : List Entry) (a b : EntryContent) → map entry_content es ≡ a ∷ b ∷ [] → IsTwo es a b
-pair_is [] a b e = absurd cc
-pair_is (x ∷ []) a b e = absurd cc
-pair_is (x ∷ y ∷ []) a b e = (x, y, refl, ap (head_or a) e, ap (second_or b) e)
-pair_is (x ∷ y ∷ z ∷ more) a b e = absurd cc
+pair_is : (r : Reading) (es : List Entry) (a b : EntryContent) → map (entry_content r) es ≡ a ∷ b ∷ [] → IsTwo r es a b
+pair_is r [] a b e = absurd cc
+pair_is r (x ∷ []) a b e = absurd cc
+pair_is r (x ∷ y ∷ []) a b e = (x, y, refl, ap (head_or a) e, ap (second_or b) e)
+pair_is r (x ∷ y ∷ z ∷ more) a b e = absurd cc
 
 entry_is : (e : Entry) (s : Section) (x : Item) → e.section ≡ s → e.item ≡ x → e ≡ record { line = e.line; section = s; item = x }
 entry_is e s x p q = ap (λ z. record { line = e.line; section = z; item = e.item }) p ∙ ap (λ z. record { line = e.line; section = s; item = z }) q
 
 -- what the source asks for
-abbrev IsSource : List Entry → ℕ → Insn → Option (List TermContent) → Option (List TermContent) → Type 0
-IsSource es at o number place = (l : ℕ) × (m : ℕ) × (t : Template) × (es ≡ two l m at t) × IsAsked o number place t
+abbrev IsSource : Naming → List Entry → ℕ → Insn → Option (List TermContent) → Option (List TermContent) → Type 0
+IsSource naming es at o number place = (l : ℕ) × (m : ℕ) × (t : Template) × (es ≡ two l m at t) × IsAsked naming o number place t
 
 abbrev seen_org : ℕ → EntryContent
 seen_org at = record { line = 1; section = InText; item = Org (Some at) }
@@ -127,12 +129,12 @@ seen_org at = record { line = 1; section = InText; item = Org (Some at) }
 abbrev code_content : Insn → Option (List TermContent) → Option (List TermContent) → EntryContent
 code_content o number place = record { line = 2; section = InText; item = Code o number place }
 
-source_is : (es : List Entry) (at : ℕ) (o : Insn) (number place : Option (List TermContent)) → map entry_content es ≡ entries_at at o number place → IsSource es at o number place
-source_is es at o number place e =
-    let (x, y, terms, a, b) = pair_is es (seen_org at) (code_content o number place) e in
-    let (t, code, asked) = code_is y.item o number place (ap (λ (z : EntryContent). z.item) b) in
+source_is : (r : Reading) (es : List Entry) (at : ℕ) (o : Insn) (number place : Option (List TermContent)) → map (entry_content r) es ≡ entries_at at o number place → IsSource r.naming es at o number place
+source_is r es at o number place e =
+    let (x, y, terms, a, b) = pair_is r es (seen_org at) (code_content o number place) e in
+    let (t, code, asked) = code_is r y.item o number place (ap (λ (z : EntryContent). z.item) b) in
     let org : Entry = record { line = x.line; section = InText; item = item.Org (Some at) } in
-    let first : x ≡ org = entry_is x InText (item.Org (Some at)) (ap (λ (z : EntryContent). z.section) a) (org_is x.item (Some at) (ap (λ (z : EntryContent). z.item) a)) in
+    let first : x ≡ org = entry_is x InText (item.Org (Some at)) (ap (λ (z : EntryContent). z.section) a) (org_is r x.item (Some at) (ap (λ (z : EntryContent). z.item) a)) in
     let second = entry_is y InText (item.Code t) (ap (λ (z : EntryContent). z.section) b) code in
     (x.line, y.line, t, terms ∙ ap (λ z. z ∷ y ∷ []) first ∙ ap (λ z. org ∷ z ∷ []) second, asked)
 
@@ -175,9 +177,9 @@ Places es at i = (base_of es ≡ at) × (code_of es ≡ insn_bytes i) × (tail_o
 length_is : (i : Insn) → IsTrue (is_encodable i) → (1 ≤ length (insn_bytes i)) × (length (insn_bytes i) ≤ 13)
 length_is i e = (spelling_some (insn_spelt false false i e), spelling_len (insn_spelt false false i e))
 
-two_placed : (l m at : ℕ) (t : Template) (i : Insn) → IsTrue (is_encodable i) → at + length (insn_bytes i) ≤ 2 ^ 32
-    → known_number at t.insn (option_map expression_content t.number) (option_map expression_content t.displacement) ≡ Some i → Places (two l m at t) at i
-two_placed l m at t i e h is = (
+two_placed : (naming : Naming) (l m at : ℕ) (t : Template) (i : Insn) → IsTrue (is_encodable i) → at + length (insn_bytes i) ≤ 2 ^ 32
+    → known_number at t.insn (option_map (expression_content naming) t.number) (option_map (expression_content naming) t.displacement) ≡ Some i → Places (two l m at t) at i
+two_placed naming l m at t i e h is = (
   base,
   code_placed env s l m at t ∙ (agrees env).0,
   tail_placed env s l m at t,
@@ -206,7 +208,7 @@ two_placed l m at t i e h is = (
     here = omega (arith, base)
 
     agrees : (env : Env) → (code_bytes env (s.text + 0) t ≡ insn_bytes i) × (template_fault env (s.text + 0) t ≡ None)
-    agrees env = code_agrees env (s.text + 0) t i (ap (λ x. known_number x t.insn (option_map expression_content t.number) (option_map expression_content t.displacement)) here ∙ is)
+    agrees env = code_agrees naming env (s.text + 0) t i (ap (λ x. known_number x t.insn (option_map (expression_content naming) t.number) (option_map (expression_content naming) t.displacement)) here ∙ is)
 
     bytes : length (code_bytes nowhere (s.text + 0) t) ≡ length (insn_bytes i)
     bytes = ap length (agrees nowhere).0
@@ -217,8 +219,9 @@ two_placed l m at t i e h is = (
 source_placed : (i : Insn) (at : ℕ) → IsTrue (is_encodable i) → at + length (insn_bytes i) ≤ 2 ^ 32 → (es : List Entry) → AsksFor (source_at i at) es → Places es at i
 source_placed i at e h es asks =
     let r = source_reads_back i at (omega (arith, length_is i e, h)) e in
-    let (l, m, t, terms, asked) = source_is es at r.0 r.1 r.2 (sym (read_same (entries_at at r.0 r.1 r.2) (map entry_content es) (sym r.3 ∙ asks))) in
-    subst (λ es. Places es at i) (sym terms) (two_placed l m at t i e h (same_given at r.0 i r.1 r.2 t asked r.4))
+    let named : Reading = record { naming = asks.naming; written = false } in
+    let (l, m, t, terms, asked) = source_is named es at r.0 r.1 r.2 (sym (read_same (entries_at at r.0 r.1 r.2) (map (entry_content named) es) (sym r.3 ∙ asks.named))) in
+    subst (λ es. Places es at i) (sym terms) (two_placed asks.naming l m at t i e h (same_given asks.naming at r.0 i r.1 r.2 t asked r.4))
 
 image_gives : (at : ℕ) (i : Insn) (es : List Entry) (u : Assembly) → Places es at i → IsAssembly es u → Gives at (insn_bytes i) (Ok u)
 image_gives at i es u (base, code, tail, none) a = (

@@ -69,7 +69,7 @@ line_is_read i at e os t args form s =
     let out : Option ItemContent → _ = λ x. or_bad s.at.line (in_next_line (with_flags s.at false true)) s.names (add_some s.entries s.at x) in
     ap (tokens_onto s) (text_has_its_tokens i at)
     ∙ ap (head_onto s) (head_reads_back i at)
-    ∙ ap (λ o. out (code_item s.at i.lock (mnemonic_of i.op) o)) (operands_read_back i.op at (args_fit i.op at (op_encodable i e)) ∙ args)
+    ∙ ap (λ o. out (code_item s.at.scope i.lock (mnemonic_of i.op) o)) (operands_read_back i.op at (args_fit i.op at (op_encodable i e)) ∙ args)
     ∙ ap (λ o. out (option_map (λ j. Code j (terms_in_scope s.at.scope os.number) (terms_in_scope s.at.scope os.displacement)) o)) form
     ∙ ap (λ n. out (Some (Code t n (terms_in_scope s.at.scope os.displacement)))) (written_same s.at.scope os.number plain.0)
     ∙ ap (λ p. out (Some (Code t (expression_of os.number) p))) (written_same s.at.scope os.displacement plain.1)

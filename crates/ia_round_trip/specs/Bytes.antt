@@ -6,6 +6,7 @@ use Rattle.ia_item.specs.declared.item.Template.{Template}
 use Rattle.ia_item.specs.Expressions.{Env}
 use Rattle.ia_lex.specs.Terms.{TermContent}
 use Rattle.ia_text.specs.Text.{insn_text}
+use Rattle.ia_names.specs.Namings.{Naming}
 use Rattle.ia_source.specs.Contents.{expression_content}
 use Rattle.ia_asm.specs.declared.fault.AsmFault.{AsmFault}
 use Rattle.ia_asm.specs.declared.fault.AsmFault.TheVariants.{NoMemory}
@@ -16,16 +17,17 @@ use Rattle.ia_round_trip.specs.RoundTrip.{IsReadAs}
 use Rattle.ia_round_trip.specs.Program.{source_at}
 
 -- what a line that is one instruction with these expressions asks for
-abbrev pub IsAsked : Insn → Option (List TermContent) → Option (List TermContent) → Template → Type 0
-IsAsked i number place t = (t.insn ≡ i) × (option_map expression_content t.number
-    ≡ number) × (option_map expression_content t.displacement ≡ place)
+abbrev pub IsAsked : Naming → Insn → Option (List TermContent) → Option (List TermContent) → Template → Type 0
+IsAsked naming i number place t = (t.insn ≡ i) × (option_map (expression_content naming) t.number
+    ≡ number) × (option_map (expression_content naming) t.displacement ≡ place)
 
 -- wherever it stands in a source, the text of an encodable instruction for an address is read as one instruction;
--- placed at that address, that has the bytes of the printed one and no sum at fault, whatever symbols there are
+-- placed at that address, that has the bytes of the printed one and no sum at fault, whatever symbols there are and
+-- whatever they are called
 abbrev pub LineAssemblesToItsBytes : Type 0
 LineAssemblesToItsBytes = (i : Insn) (at : ℕ) → IsTrue (is_encodable i)
     → (o : Insn) × (number place : Option (List TermContent)) × IsReadAs (insn_text i at) o number place
-    × ((env : Env) (t : Template) → IsAsked o number place t → (code_bytes env at t
+    × ((naming : Naming) (env : Env) (t : Template) → IsAsked naming o number place t → (code_bytes env at t
     ≡ insn_bytes i) × (template_fault env at t ≡ None))
 
 -- an image at that base of these bytes, all of them code; nothing is told but that memory was refused

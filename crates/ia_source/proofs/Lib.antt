@@ -11,3 +11,4 @@ pub mod SourceFits
 pub mod Named
 mod Sums
 mod OperandLists
+pub mod ReadLines

@@ -10,7 +10,7 @@ use Rattle.ia_item.specs.declared.item.Item.TheVariants as item
 use Rattle.ia_item.specs.declared.item.Entry.{Entry}
 use Rattle.ia_item.specs.declared.expression.ScopedExpression.{ScopedExpression}
 use Rattle.ia_item.specs.Fits.{FitsExpression, FitsAnyExpression, FitsItem, AllFit, IsPower}
-use Rattle.ia_lex.specs.Tokens.{Lexeme, Word, Number, Text as Quoted, Mark, tokens_of}
+use Rattle.ia_lex.specs.Tokens.{Lexeme, tokens_of}
 use Rattle.ia_lex.specs.Terms.{TermContent}
 use Rattle.ia_lex.specs.Lines.{lines_of}
 use Rattle.ia_insn.specs.declared.mnemonic.Mnemonic.{Mnemonic}
@@ -19,15 +19,16 @@ use Rattle.ia_source.specs.declared.directive.Directive.TheVariants as directive
 use Rattle.ia_source.specs.declared.head.Statement.{Statement}
 use Rattle.ia_source.specs.declared.head.Statement.TheVariants as statement
 use Rattle.ia_source.specs.declared.fault.Why.{Why}
-use Rattle.ia_source.specs.Contents.{ItemContent, EntryContent, Label, Equ, Code, Byte, Text, Numbers, Long, Reserve, Align, Org, scoped_term_content, expression_content, item_content, entry_content}
+use Rattle.ia_source.specs.Contents.{ItemContent, EntryContent, Label, Equ, Code, Byte, Text, Numbers, Long, Reserve, Align, Org, Reading, scoped_term_content, expression_content, item_content, entry_content}
+use Rattle.ia_names.specs.Namings.{Naming}
 use Rattle.ia_source.specs.Fits.{FitsTerms, FitsAnyTerms, FitsContent}
-use Rattle.ia_source.specs.Symbols.{term_in_scope, terms_in_scope, whole_of}
+use Rattle.ia_source.specs.Symbols.{term_in_scope, terms_in_scope}
 use Rattle.ia_source.specs.Commas.{between_commas}
 use Rattle.ia_form.specs.Forms.{op_of, by_op, instruction_of}
 use Rattle.ia_source.specs.Operands.{Operands, operands_of, expression_of}
 use Rattle.ia_source.specs.Heads.{Head, head_of}
-use Rattle.ia_source.specs.Statements.{StateContent, add, add_some, expression_in, code_item, byte_item, value_item, Values, plain_number, number_bytes, with_run, with_entries, by_number, value_onto, by_value, no_value, values_onto, named_section, only_number, is_32, is_symbol, is_power, align_item, org_item, equ_item, if_fits, directive_onto, statement_onto, with_label, behind}
-use Rattle.ia_source.specs.Source.{SourceContent, is_twice, with_name, add_label, label_onto, or_bad, head_onto, tokens_onto, line_onto, by_line, lines_onto, first_content, entries_of}
+use Rattle.ia_source.specs.Statements.{StateContent, add, add_some, expression_in, code_item, byte_item, only_text, text_or, value_item, Values, plain_number, number_bytes, with_run, with_entries, by_number, value_onto, by_value, no_value, values_onto, named_section, only_number, is_32, is_symbol, is_power, align_item, org_item, equ_item, if_fits, directive_onto, statement_onto, with_label, behind}
+use Rattle.ia_source.specs.Source.{SourceContent, is_twice, with_name, add_label, label_onto, label_name, or_bad, head_onto, tokens_onto, line_onto, by_line, lines_onto, first_content, entries_of}
 use Rattle.ia_source.proofs.FormsFit.{ReadsSum, sum_fits, mapped_fits, FitOperands, ReadsOperands, operands_fit}
 
 -- ---- items
@@ -41,8 +42,8 @@ no_item i e = absurd (cc)
 just_item : (j : ItemContent) → FitsContent j → ReadsItem (Some j)
 just_item j h i e = let k : j ≡ i = cc in subst FitsContent k h
 
-sum_in_fits : (at : StateContent) (ts : List Lexeme) → ReadsSum (expression_in at ts)
-sum_in_fits at ts = mapped_fits (term_in_scope at.scope) (expression_of ts) (sum_fits ts)
+sum_in_fits : (scope : List ℕ) (ts : List Lexeme) → ReadsSum (expression_in scope ts)
+sum_in_fits scope ts = mapped_fits (term_in_scope scope) (expression_of ts) (sum_fits ts)
 
 of_sum : (make : List TermContent → ItemContent) (r : Option (List TermContent)) → ((ps : List TermContent) → FitsTerms ps → FitsContent (make ps)) → ReadsSum r → ReadsItem (option_map make r)
 of_sum make None f g = no_item
@@ -65,30 +66,29 @@ instruction_fits : (lock : Bool) (r : Option Op) (j : Insn) → by_op lock r ≡
 instruction_fits lock None j e = absurd (cc)
 instruction_fits lock (Some o) j e = encoded (record { lock = lock; op = o }) (is_encodable (record { lock = lock; op = o })) j refl e
 
-with_insn : (at : StateContent) (os : Operands) (r : Option Insn) → FitOperands os → ((j : Insn) → r ≡ Some j → IsTrue (is_encodable j))
-    → ReadsItem (option_map (λ i. Code i (terms_in_scope at.scope os.number) (terms_in_scope at.scope os.displacement)) r)
-with_insn at os None h f = no_item
-with_insn at os (Some j) h f = just_item (Code j (terms_in_scope at.scope os.number) (terms_in_scope at.scope os.displacement))
-    (f j refl, written_fits at.scope os.number h.number, written_fits at.scope os.displacement h.displacement)
+with_insn : (scope : List ℕ) (os : Operands) (r : Option Insn) → FitOperands os → ((j : Insn) → r ≡ Some j → IsTrue (is_encodable j))
+    → ReadsItem (option_map (λ i. Code i (terms_in_scope scope os.number) (terms_in_scope scope os.displacement)) r)
+with_insn scope os None h f = no_item
+with_insn scope os (Some j) h f = just_item (Code j (terms_in_scope scope os.number) (terms_in_scope scope os.displacement))
+    (f j refl, written_fits scope os.number h.number, written_fits scope os.displacement h.displacement)
 
-code_fits : (at : StateContent) (lock : Bool) (m : Mnemonic) (r : Option Operands) → ReadsOperands r → ReadsItem (code_item at lock m r)
-code_fits at lock m None f = no_item
-code_fits at lock m (Some os) f = with_insn at os (instruction_of lock m os.shapes) (f os refl) (instruction_fits lock (op_of m os.shapes))
+code_fits : (scope : List ℕ) (lock : Bool) (m : Mnemonic) (r : Option Operands) → ReadsOperands r → ReadsItem (code_item scope lock m r)
+code_fits scope lock m None f = no_item
+code_fits scope lock m (Some os) f = with_insn scope os (instruction_of lock m os.shapes) (f os refl) (instruction_fits lock (op_of m os.shapes))
 
-byte_sum : (at : StateContent) (ts : List Lexeme) → ReadsItem (option_map Byte (expression_in at ts))
-byte_sum at ts = of_sum Byte (expression_in at ts) (λ ps h. h) (sum_in_fits at ts)
+byte_sum : (scope : List ℕ) (ts : List Lexeme) → ReadsItem (option_map Byte (expression_in scope ts))
+byte_sum scope ts = of_sum Byte (expression_in scope ts) (λ ps h. h) (sum_in_fits scope ts)
 
-byte_fits : (at : StateContent) (ts : List Lexeme) → ReadsItem (byte_item at ts)
-byte_fits at [] = byte_sum at []
-byte_fits at (Quoted t ∷ []) = just_item (Text t) tt
-byte_fits at (Quoted t ∷ u ∷ ts) = byte_sum at (Quoted t ∷ u ∷ ts)
-byte_fits at (Word w ∷ ts) = byte_sum at (Word w ∷ ts)
-byte_fits at (Number n ∷ ts) = byte_sum at (Number n ∷ ts)
-byte_fits at (Mark b ∷ ts) = byte_sum at (Mark b ∷ ts)
+text_fits : (t : Option (List ℕ)) (r : Option ItemContent) → ReadsItem r → ReadsItem (text_or t r)
+text_fits None r h = h
+text_fits (Some t) r h = just_item (Text t) tt
 
-value_fits : (long : Bool) (at : StateContent) (ts : List Lexeme) → ReadsItem (value_item long at ts)
-value_fits false at ts = byte_fits at ts
-value_fits true at ts = of_sum Long (expression_in at ts) (λ ps h. h) (sum_in_fits at ts)
+byte_fits : (scope : List ℕ) (ts : List Lexeme) → ReadsItem (byte_item scope ts)
+byte_fits scope ts = text_fits (only_text ts) (option_map Byte (expression_in scope ts)) (byte_sum scope ts)
+
+value_fits : (long : Bool) (scope : List ℕ) (ts : List Lexeme) → ReadsItem (value_item long scope ts)
+value_fits false scope ts = byte_fits scope ts
+value_fits true scope ts = of_sum Long (expression_in scope ts) (λ ps h. h) (sum_in_fits scope ts)
 
 org_fits : (r : Option (Option ℕ)) → ReadsItem (option_map Org r)
 org_fits None = no_item
@@ -98,9 +98,9 @@ org_item_fits : (b : Bool) (r : Option (Option ℕ)) → ReadsItem (cond b None 
 org_item_fits true r = no_item
 org_item_fits false r = org_fits r
 
-equ_fits : (at : StateContent) (label : Option (List ℕ)) (ts : List Lexeme) → ReadsItem (equ_item at label ts)
-equ_fits at None ts = no_item
-equ_fits at (Some own) ts = of_sum (Equ (whole_of at.scope own)) (expression_in at ts) (λ ps h. h) (sum_in_fits at ts)
+equ_fits : (scope : List ℕ) (label : Option (List ℕ)) (ts : List Lexeme) → ReadsItem (equ_item scope label ts)
+equ_fits scope None ts = no_item
+equ_fits scope (Some name) ts = of_sum (Equ name) (expression_in scope ts) (λ ps h. h) (sum_in_fits scope ts)
 
 -- the last of some tests, or one before
 next_power : (n p k : ℕ) (more : Bool) → p ≡ 2 ^ k → k ≤ 12 → (more ≡ true → IsPower n) → (more || (n == p)) ≡ true → IsPower n
@@ -172,7 +172,7 @@ number_fits (Some n) long v other h f w e =
 
 value_onto_fits : (long : Bool) (at : StateContent) (v : Values) (p : List Lexeme) → EachFits v.entries → ReadsValues (value_onto long at v p)
 value_onto_fits long at v p h = number_fits (plain_number long p) long v _ h
-    (entries_fit _ (added_fit (with_run v.entries at v.run) at (value_item long at p) (run_fits v.entries at v.run h) (value_fits long at p)))
+    (entries_fit _ (added_fit (with_run v.entries at v.run) at (value_item long at.scope p) (run_fits v.entries at v.run h) (value_fits long at.scope p)))
 
 by_value_fit : (r : Option Values) (next : Values → Option (List EntryContent)) → ReadsValues r → ((v : Values) → EachFits v.entries → ReadsEntries (next v)) → ReadsEntries (by_value r next)
 by_value_fit None next f g = no_entries
@@ -195,13 +195,13 @@ directive_fits es at label directive.Bits ts h = if_fits_fit (is_32 (only_number
 directive_fits es at label directive.Global ts h = if_fits_fit (is_symbol ts) es h
 directive_fits es at label directive.Db ts h = values_fit false at (no_value es) (between_commas ts) h
 directive_fits es at label directive.Dd ts h = values_fit true at (no_value es) (between_commas ts) h
-directive_fits es at label directive.Resb ts h = added_fit es at (option_map Reserve (expression_in at ts)) h (of_sum Reserve (expression_in at ts) (λ ps h. h) (sum_in_fits at ts))
+directive_fits es at label directive.Resb ts h = added_fit es at (option_map Reserve (expression_in at.scope ts)) h (of_sum Reserve (expression_in at.scope ts) (λ ps h. h) (sum_in_fits at.scope ts))
 directive_fits es at label directive.Align ts h = added_fit es at (align_item (only_number ts)) h (align_fits (only_number ts))
-directive_fits es at label directive.Equ ts h = added_fit es at (equ_item at label ts) h (equ_fits at label ts)
+directive_fits es at label directive.Equ ts h = added_fit es at (equ_item at.scope label ts) h (equ_fits at.scope label ts)
 
 statement_fits : (es : List EntryContent) (at : StateContent) (label : Option (List ℕ)) (w : Statement) (ts : List Lexeme) → EachFits es → ReadsEntries (statement_onto es at label w ts)
 statement_fits es at label statement.Nothing ts h = just_entries es h
-statement_fits es at label (statement.Code lock m) ts h = added_fit es at (code_item at lock m (operands_of ts)) h (code_fits at lock m (operands_of ts) (operands_fit ts))
+statement_fits es at label (statement.Code lock m) ts h = added_fit es at (code_item at.scope lock m (operands_of ts)) h (code_fits at.scope lock m (operands_of ts) (operands_fit ts))
 statement_fits es at label (statement.Directive d) ts h = directive_fits es at label d ts h
 statement_fits es at label statement.Unfit ts h = no_entries
 
@@ -209,7 +209,7 @@ statement_fits es at label statement.Unfit ts h = no_entries
 
 name_fits : (es : List EntryContent) (at : StateContent) (label : Option (List ℕ)) → EachFits es → EachFits (add_label es at label)
 name_fits es at None h = h
-name_fits es at (Some own) h = one_fits es (record { line = at.line; section = at.section; item = Label (whole_of at.scope own) }) h tt
+name_fits es at (Some name) h = one_fits es (record { line = at.line; section = at.section; item = Label name }) h tt
 
 label_fits : (es : List EntryContent) (at : StateContent) (label : Option (List ℕ)) (w : Statement) → EachFits es → EachFits (label_onto es at label w)
 label_fits es at label (statement.Directive directive.Equ) h = h
@@ -243,9 +243,9 @@ by_twice false f r g = g
 
 head_fits : (s : SourceContent) (h : Option Head) → EachFits s.entries → ReadsLine (head_onto s h)
 head_fits s None f = no_line _
-head_fits s (Some h) f = by_twice (is_twice s.names s.at h.label) _ _
-    (or_bad_fits s.at.line (behind (with_label s.at h.label h.statement) h.statement h.rest) (with_name s.names s.at h.label) _
-    (statement_fits (label_onto s.entries s.at h.label h.statement) (with_label s.at h.label h.statement) h.label h.statement h.rest (label_fits s.entries s.at h.label h.statement f)))
+head_fits s (Some h) f = by_twice (is_twice s.names (label_name s.at.scope h.label)) _ _
+    (or_bad_fits s.at.line (behind (with_label s.at h.label h.statement) h.statement h.rest) (with_name s.names (label_name s.at.scope h.label)) _
+    (statement_fits (label_onto s.entries s.at (label_name s.at.scope h.label) h.statement) (with_label s.at h.label h.statement) (label_name s.at.scope h.label) h.statement h.rest (label_fits s.entries s.at (label_name s.at.scope h.label) h.statement f)))
 
 tokens_fit : (s : SourceContent) (r : Option (List Lexeme)) → EachFits s.entries → ReadsLine (tokens_onto s r)
 tokens_fit s None f = no_line _
@@ -268,30 +268,30 @@ lines_fit s (l ∷ ls) f es e = by_line_fits (line_onto s l) (λ more. lines_ont
 
 -- ---- the code's entries
 
-sum_too : (s : ScopedExpression) → FitsTerms (expression_content s) → FitsExpression s
-sum_too s h = let l : length (map scoped_term_content s.terms.items) ≡ length s.terms.items = length-map s.terms.items scoped_term_content in (omega (arith, l, h.0), omega (arith, l, h.1))
+sum_too : (naming : Naming) (s : ScopedExpression) → FitsTerms (expression_content naming s) → FitsExpression s
+sum_too naming s h = let l : length (map (scoped_term_content naming) s.terms.items) ≡ length s.terms.items = length-map s.terms.items (scoped_term_content naming) in (omega (arith, l, h.0), omega (arith, l, h.1))
 
-any_too : (s : Option ScopedExpression) → FitsAnyTerms (option_map expression_content s) → FitsAnyExpression s
-any_too None h = tt
-any_too (Some s) h = sum_too s h
+any_too : (naming : Naming) (s : Option ScopedExpression) → FitsAnyTerms (option_map (expression_content naming) s) → FitsAnyExpression s
+any_too naming None h = tt
+any_too naming (Some s) h = sum_too naming s h
 
-item_too : (i : Item) → FitsContent (item_content i) → FitsItem i
-item_too (item.Label name) h = tt
-item_too (item.Equ name s) h = sum_too s h
-item_too (item.Code t) h = (h.0, any_too t.number h.1, any_too t.displacement h.2)
-item_too (item.Byte s) h = sum_too s h
-item_too (item.Text b) h = tt
-item_too (item.Numbers b) h = tt
-item_too (item.Long s) h = sum_too s h
-item_too (item.Reserve s) h = sum_too s h
-item_too (item.Align n) h = h
-item_too (item.Org n) h = tt
+item_too : (r : Reading) (i : Item) → FitsContent (item_content r i) → FitsItem i
+item_too r (item.Label name) h = tt
+item_too r (item.Equ name s) h = sum_too r.naming s h
+item_too r (item.Code t) h = (h.0, any_too r.naming t.number h.1, any_too r.naming t.displacement h.2)
+item_too r (item.Byte s) h = sum_too r.naming s h
+item_too r (item.Text b) h = tt
+item_too r (item.Numbers b) h = tt
+item_too r (item.Long s) h = sum_too r.naming s h
+item_too r (item.Reserve s) h = sum_too r.naming s h
+item_too r (item.Align n) h = h
+item_too r (item.Org n) h = tt
 
-each_too : (xs : List Entry) → EachFits (map entry_content xs) → AllFit xs
-each_too [] h k d l = absurd (omega arith)
-each_too (x ∷ xs) h zero d l = item_too x.item h.0
-each_too (x ∷ xs) h (suc k) d l = each_too xs h.1 k d (omega arith)
+each_too : (r : Reading) (xs : List Entry) → EachFits (map (entry_content r) xs) → AllFit xs
+each_too r [] h k d l = absurd (omega arith)
+each_too r (x ∷ xs) h zero d l = item_too r x.item h.0
+each_too r (x ∷ xs) h (suc k) d l = each_too r xs h.1 k d (omega arith)
 
 -- entries that are those of a source can be placed
-pub all_fit : (source : List ℕ) (xs : List Entry) → entries_of source ≡ Ok (map entry_content xs) → AllFit xs
-all_fit source xs e = each_too xs (lines_fit first_content (lines_of source) tt (map entry_content xs) e)
+pub all_fit : (r : Reading) (source : List ℕ) (xs : List Entry) → entries_of source ≡ Ok (map (entry_content r) xs) → AllFit xs
+all_fit r source xs e = each_too r xs (lines_fit first_content (lines_of source) tt (map (entry_content r) xs) e)

@@ -1,5 +1,5 @@
 -- What entries say, wherever their bytes lie.
-use Rattle.std.specs.Prelude.{ℕ, Option, option_map, List, map}
+use Rattle.std.specs.Prelude.{ℕ, Bool, if◌then◌else◌, Option, option_map, List, map}
 use Rattle.ia_insn.specs.declared.op.Insn.{Insn}
 use Rattle.ia_item.specs.declared.item.Section.{Section}
 use Rattle.ia_item.specs.declared.item.Item.{Item}
@@ -9,7 +9,9 @@ use Rattle.ia_item.specs.declared.expression.ScopedAtom.{ScopedAtom}
 use Rattle.ia_item.specs.declared.expression.ScopedAtom.TheVariants as atom
 use Rattle.ia_item.specs.declared.expression.ScopedTerm.{ScopedTerm}
 use Rattle.ia_item.specs.declared.expression.ScopedExpression.{ScopedExpression}
+use Rattle.ia_item.specs.declared.symbol.Definition.{Definition}
 use Rattle.ia_item.specs.Names.{whole_name}
+use Rattle.ia_names.specs.Namings.{Naming}
 use Rattle.ia_lex.specs.Terms.{AtomContent, NumberAtom, SymbolAtom, TermContent}
 
 -- what a line, or a part of it, asks for: symbols by their whole names, expressions by their terms
@@ -31,28 +33,36 @@ pub record EntryContent : Type 0 where
   pub section : Section
   pub item : ItemContent
 
-abbrev pub scoped_atom_content : ScopedAtom → AtomContent
-scoped_atom_content (atom.Number n) = NumberAtom n
-scoped_atom_content (atom.Symbol name) = SymbolAtom (whole_name name)
+-- the whole name of each symbol, and whether a definition has the name of its letters, or that of its symbol
+pub record Reading : Type 0 where
+  pub naming : Naming
+  pub written : Bool
 
-abbrev pub scoped_term_content : ScopedTerm → TermContent
-scoped_term_content p = record { negative = p.negative; atom = scoped_atom_content p.atom }
+abbrev pub definition_name : Reading → Definition → List ℕ
+definition_name r d = if r.written then whole_name d.name else r.naming d.symbol.number
 
-abbrev pub expression_content : ScopedExpression → List TermContent
-expression_content s = map scoped_term_content s.terms.items
+abbrev pub scoped_atom_content : Naming → ScopedAtom → AtomContent
+scoped_atom_content naming (atom.Number n) = NumberAtom n
+scoped_atom_content naming (atom.Symbol s) = SymbolAtom (naming s.number)
 
-abbrev pub item_content : Item → ItemContent
-item_content (item.Label name) = Label (whole_name name)
-item_content (item.Equ name s) = Equ (whole_name name) (expression_content s)
-item_content (item.Code t) = Code t.insn (option_map expression_content t.number)
-    (option_map expression_content t.displacement)
-item_content (item.Byte s) = Byte (expression_content s)
-item_content (item.Text bytes) = Text bytes.now
-item_content (item.Numbers bytes) = Numbers bytes.items
-item_content (item.Long s) = Long (expression_content s)
-item_content (item.Reserve s) = Reserve (expression_content s)
-item_content (item.Align n) = Align n
-item_content (item.Org n) = Org n
+abbrev pub scoped_term_content : Naming → ScopedTerm → TermContent
+scoped_term_content naming p = record { negative = p.negative; atom = scoped_atom_content naming p.atom }
 
-abbrev pub entry_content : Entry → EntryContent
-entry_content e = record { line = e.line; section = e.section; item = item_content e.item }
+abbrev pub expression_content : Naming → ScopedExpression → List TermContent
+expression_content naming s = map (scoped_term_content naming) s.terms.items
+
+abbrev pub item_content : Reading → Item → ItemContent
+item_content r (item.Label d) = Label (definition_name r d)
+item_content r (item.Equ d s) = Equ (definition_name r d) (expression_content r.naming s)
+item_content r (item.Code t) = Code t.insn (option_map (expression_content r.naming) t.number)
+    (option_map (expression_content r.naming) t.displacement)
+item_content r (item.Byte s) = Byte (expression_content r.naming s)
+item_content r (item.Text bytes) = Text bytes.now
+item_content r (item.Numbers bytes) = Numbers bytes.items
+item_content r (item.Long s) = Long (expression_content r.naming s)
+item_content r (item.Reserve s) = Reserve (expression_content r.naming s)
+item_content r (item.Align n) = Align n
+item_content r (item.Org n) = Org n
+
+abbrev pub entry_content : Reading → Entry → EntryContent
+entry_content r e = record { line = e.line; section = e.section; item = item_content r e.item }

@@ -1,12 +1,13 @@
 -- What a source asks for, line by line, or the first line that is wrong.
-use Rattle.std.specs.Prelude.{◌≡◌, ℕ, Bool, true, false, if◌then◌else◌, Option, Some, None, List, [], ◌∷◌, ◌++◌, map}
+use Rattle.std.specs.Prelude.{◌≡◌, ℕ, Bool, true, false, if◌then◌else◌, Option, Some, None, option_map, List, [], ◌∷◌, ◌++◌, map}
 use Rattle.std.specs.Prelude.{Result, Ok, Err}
 use Rattle.std.specs.List.{list_any}
 use Rattle.std.specs.Str.{bytes_eq}
 use Rattle.indexmap.specs.IndexSet.{IndexSet}
 use Rattle.ia_item.specs.declared.item.Entry.{Entry}
-use Rattle.ia_item.specs.declared.name.Name.{Name}
-use Rattle.ia_item.specs.Names.{whole_name}
+use Rattle.ia_item.specs.declared.symbol.Symbol.{Symbol}
+use Rattle.ia_names.specs.declared.names.Names.{Names}
+use Rattle.ia_names.specs.Namings.{Naming, IsOneToOne}
 use Rattle.ia_lex.specs.Tokens.{Lexeme, tokens_of}
 use Rattle.ia_lex.specs.Lines.{lines_of}
 use Rattle.ia_source.specs.declared.directive.Directive.TheVariants as directive
@@ -17,7 +18,7 @@ use Rattle.ia_source.specs.declared.fault.Why.{Why}
 use Rattle.ia_source.specs.declared.fault.Why.TheVariants.{BadToken, NotInSubset, SymbolTwice, BadOperand}
 use Rattle.ia_source.specs.declared.fault.SourceFault.{SourceFault}
 use Rattle.ia_source.specs.declared.fault.SourceFault.TheVariants as fault
-use Rattle.ia_source.specs.Contents.{EntryContent, Label, entry_content}
+use Rattle.ia_source.specs.Contents.{EntryContent, Label, Reading, entry_content}
 use Rattle.ia_source.specs.Symbols.{whole_of}
 use Rattle.ia_source.specs.Heads.{Head, head_of}
 use Rattle.ia_source.specs.Statements.{StateContent, first_state, add, statement_onto, with_label, behind}
@@ -33,22 +34,26 @@ abbrev pub is_among : List (List ℕ) → List ℕ → Bool
 is_among names n = list_any (bytes_eq n) names
 
 -- the symbol of a line's label is defined above
-abbrev pub is_twice : List (List ℕ) → StateContent → Option (List ℕ) → Bool
-is_twice names at None = false
-is_twice names at (Some own) = is_among names (whole_of at.scope own)
+abbrev pub is_twice : List (List ℕ) → Option (List ℕ) → Bool
+is_twice names None = false
+is_twice names (Some name) = is_among names name
 
-abbrev pub with_name : List (List ℕ) → StateContent → Option (List ℕ) → List (List ℕ)
-with_name names at None = names
-with_name names at (Some own) = names ++ whole_of at.scope own ∷ []
+abbrev pub with_name : List (List ℕ) → Option (List ℕ) → List (List ℕ)
+with_name names None = names
+with_name names (Some name) = names ++ name ∷ []
 
 -- the entry of a label; the name of an equ is none
 abbrev pub add_label : List EntryContent → StateContent → Option (List ℕ) → List EntryContent
 add_label es at None = es
-add_label es at (Some own) = add es at (Label (whole_of at.scope own))
+add_label es at (Some name) = add es at (Label name)
 
 abbrev pub label_onto : List EntryContent → StateContent → Option (List ℕ) → Statement → List EntryContent
-label_onto es at label (statement.Directive directive.Equ) = es
-label_onto es at label _ = add_label es at label
+label_onto es at name (statement.Directive directive.Equ) = es
+label_onto es at name _ = add_label es at name
+
+-- the whole name of a line's label
+abbrev pub label_name : List ℕ → Option (List ℕ) → Option (List ℕ)
+label_name scope label = option_map (whole_of scope) label
 
 -- ---- lines
 
@@ -59,11 +64,11 @@ or_bad line at names (Some es) = Ok (record { at = at; names = names; entries = 
 abbrev pub head_onto : SourceContent → Option Head → Result SourceContent (ℕ × Why)
 head_onto s None = Err (s.at.line, NotInSubset)
 head_onto s (Some h) =
-    if is_twice s.names s.at h.label then Err (s.at.line, SymbolTwice)
+    if is_twice s.names (label_name s.at.scope h.label) then Err (s.at.line, SymbolTwice)
     else or_bad s.at.line (behind (with_label s.at h.label h.statement) h.statement h.rest)
-    (with_name s.names s.at h.label)
-    (statement_onto (label_onto s.entries s.at h.label h.statement)
-    (with_label s.at h.label h.statement) h.label h.statement h.rest)
+    (with_name s.names (label_name s.at.scope h.label))
+    (statement_onto (label_onto s.entries s.at (label_name s.at.scope h.label) h.statement)
+    (with_label s.at h.label h.statement) (label_name s.at.scope h.label) h.statement h.rest)
 
 abbrev pub tokens_onto : SourceContent → Option (List Lexeme) → Result SourceContent (ℕ × Why)
 tokens_onto s None = Err (s.at.line, BadToken)
@@ -92,16 +97,23 @@ entries_of source = lines_onto first_content (lines_of source)
 
 -- ---- what the code's values stand for
 
-abbrev pub names_content : {S : Type 0} → IndexSet Name S → List (List ℕ)
-names_content names = map whole_name names.keys
+abbrev pub names_content : {S : Type 0} → Naming → IndexSet Symbol S → List (List ℕ)
+names_content naming symbols = map (λ (s : Symbol). naming s.number) symbols.keys
 
-abbrev pub source_content : {S : Type 0} → SourceState → IndexSet Name S → List Entry → SourceContent
-source_content state names es = record {
-  at = state_content state;
-  names = names_content names;
-  entries = map
-      entry_content es;
+abbrev pub source_content : {S : Type 0} → Reading → SourceState → Names → IndexSet Symbol S → List Entry → SourceContent
+source_content r state names symbols es = record {
+  at = state_content names.scope.text.now state;
+  names = names_content r.naming symbols;
+  entries = map (entry_content r) es;
 }
+
+-- the lines of the source ask for these entries: by the letters of their definitions, and by the names of their symbols,
+-- no two of which are the same
+pub record AsksFor (source : List ℕ) (es : List Entry) : Type 0 where
+  pub naming : Naming
+  pub one_to_one : IsOneToOne naming
+  pub named : entries_of source ≡ Ok (map (entry_content (record { naming = naming; written = false })) es)
+  pub written : entries_of source ≡ Ok (map (entry_content (record { naming = naming; written = true })) es)
 
 -- a call told what a reading says is wrong, or that no memory was left
 abbrev pub Tells : {X : Type 0} → Result X (ℕ × Why) → SourceFault → Type 0

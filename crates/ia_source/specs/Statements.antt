@@ -19,8 +19,12 @@ use Rattle.ia_source.specs.declared.fault.SourceFault.{SourceFault}
 use Rattle.ia_source.specs.declared.fault.SourceFault.TheVariants as fault
 use Rattle.ia_word.specs.Bytes.{long_bytes}
 use Rattle.ia_item.specs.declared.item.Entry.{Entry}
+use Rattle.ia_item.specs.declared.symbol.Definition.{Definition}
+use Rattle.ia_names.specs.declared.names.Names.{Names}
+use Rattle.ia_names.specs.Namings.{IsNamed}
+use denote.Bor.{Bor}
 use Rattle.ia_source.specs.Contents.{ItemContent, EntryContent, Equ, Code, Byte, Text, Numbers, Long, Reserve, Align}
-use Rattle.ia_source.specs.Contents.{Org, entry_content}
+use Rattle.ia_source.specs.Contents.{Org, Reading, entry_content}
 use Rattle.ia_source.specs.Symbols.{is_local, whole_of, term_in_scope, terms_in_scope}
 use Rattle.ia_source.specs.Commas.{between_commas}
 use Rattle.ia_form.specs.Forms.{instruction_of}
@@ -48,25 +52,33 @@ add_some es at None = None
 add_some es at (Some i) = Some (add es at i)
 
 -- the terms of an expression with the whole names of their symbols
-abbrev pub expression_in : StateContent → List Lexeme → Option (List TermContent)
-expression_in at ts = option_map (map (term_in_scope at.scope)) (expression_of ts)
+abbrev pub expression_in : List ℕ → List Lexeme → Option (List TermContent)
+expression_in scope ts = option_map (map (term_in_scope scope)) (expression_of ts)
 
 -- an instruction and its expressions
-abbrev pub code_item : StateContent → Bool → Mnemonic → Option Operands → Option ItemContent
-code_item at lock m None = None
-code_item at lock m (Some os) = option_map (λ i. Code i (terms_in_scope at.scope os.number)
-    (terms_in_scope at.scope os.displacement)) (instruction_of lock m os.shapes)
+abbrev pub code_item : List ℕ → Bool → Mnemonic → Option Operands → Option ItemContent
+code_item scope lock m None = None
+code_item scope lock m (Some os) = option_map (λ i. Code i (terms_in_scope scope os.number)
+    (terms_in_scope scope os.displacement)) (instruction_of lock m os.shapes)
 
 -- ---- data
 
-abbrev pub byte_item : StateContent → List Lexeme → Option ItemContent
-byte_item at (Quoted t ∷ []) = Some (Text t)
-byte_item at ts = option_map Byte (expression_in at ts)
+-- what stands between quotes, and alone
+abbrev pub only_text : List Lexeme → Option (List ℕ)
+only_text (Quoted t ∷ []) = Some t
+only_text ts = None
+
+abbrev pub text_or : Option (List ℕ) → Option ItemContent → Option ItemContent
+text_or None other = other
+text_or (Some t) other = Some (Text t)
+
+abbrev pub byte_item : List ℕ → List Lexeme → Option ItemContent
+byte_item scope ts = text_or (only_text ts) (option_map Byte (expression_in scope ts))
 
 -- a value of db, or of dd
-abbrev pub value_item : Bool → StateContent → List Lexeme → Option ItemContent
-value_item false at ts = byte_item at ts
-value_item true at ts = option_map Long (expression_in at ts)
+abbrev pub value_item : Bool → List ℕ → List Lexeme → Option ItemContent
+value_item false scope ts = byte_item scope ts
+value_item true scope ts = option_map Long (expression_in scope ts)
 
 -- the number that a value of db or dd is, where it stands without a sign and has a place there
 abbrev pub plain_number : Bool → List Lexeme → Option ℕ
@@ -97,7 +109,7 @@ by_number (Some n) long v other = Some (record { entries = v.entries; run = v.ru
 -- one more value of db, or of dd
 abbrev pub value_onto : Bool → StateContent → Values → List Lexeme → Option Values
 value_onto long at v p = by_number (plain_number long p) long v
-    (with_entries (add_some (with_run v.entries at v.run) at (value_item long at p)))
+    (with_entries (add_some (with_run v.entries at v.run) at (value_item long at.scope p)))
 
 abbrev pub by_value : Option Values → (Values → Option (List EntryContent)) → Option (List EntryContent)
 by_value None next = None
@@ -146,32 +158,34 @@ align_item _ = None
 abbrev pub org_item : StateContent → List Lexeme → Option ItemContent
 org_item at ts = if at.based || at.placed then None else option_map Org (only_number ts)
 
-abbrev pub equ_item : StateContent → Option (List ℕ) → List Lexeme → Option ItemContent
-equ_item at None ts = None
-equ_item at (Some own) ts = option_map (Equ (whole_of at.scope own)) (expression_in at ts)
+-- a symbol of this name, where there is one
+abbrev pub equ_item : List ℕ → Option (List ℕ) → List Lexeme → Option ItemContent
+equ_item scope None ts = None
+equ_item scope (Some name) ts = option_map (Equ name) (expression_in scope ts)
 
 abbrev pub if_fits : Bool → List EntryContent → Option (List EntryContent)
 if_fits fits es = if fits then Some es else None
 
+-- what a directive asks for behind entries, where a name of this whole name stands in front, or none
 unfoldable pub directive_onto : List EntryContent → StateContent → Option (List ℕ) → Directive → List Lexeme
     → Option (List EntryContent)
-directive_onto es at label directive.Section ts = if_fits (is_some (named_section ts)) es
-directive_onto es at label directive.Org ts = add_some es at (org_item at ts)
-directive_onto es at label directive.Bits ts = if_fits (is_32 (only_number ts)) es
-directive_onto es at label directive.Global ts = if_fits (is_symbol ts) es
-directive_onto es at label directive.Db ts = values_onto false at (no_value es) (between_commas ts)
-directive_onto es at label directive.Dd ts = values_onto true at (no_value es) (between_commas ts)
-directive_onto es at label directive.Resb ts = add_some es at (option_map Reserve (expression_in at ts))
-directive_onto es at label directive.Align ts = add_some es at (align_item (only_number ts))
-directive_onto es at label directive.Equ ts = add_some es at (equ_item at label ts)
+directive_onto es at name directive.Section ts = if_fits (is_some (named_section ts)) es
+directive_onto es at name directive.Org ts = add_some es at (org_item at ts)
+directive_onto es at name directive.Bits ts = if_fits (is_32 (only_number ts)) es
+directive_onto es at name directive.Global ts = if_fits (is_symbol ts) es
+directive_onto es at name directive.Db ts = values_onto false at (no_value es) (between_commas ts)
+directive_onto es at name directive.Dd ts = values_onto true at (no_value es) (between_commas ts)
+directive_onto es at name directive.Resb ts = add_some es at (option_map Reserve (expression_in at.scope ts))
+directive_onto es at name directive.Align ts = add_some es at (align_item (only_number ts))
+directive_onto es at name directive.Equ ts = add_some es at (equ_item at.scope name ts)
 
 -- what a line asks for, behind entries; none where its operands fit no form
 abbrev pub statement_onto : List EntryContent → StateContent → Option (List ℕ) → Statement → List Lexeme
     → Option (List EntryContent)
-statement_onto es at label statement.Nothing ts = Some es
-statement_onto es at label (statement.Code lock m) ts = add_some es at (code_item at lock m (operands_of ts))
-statement_onto es at label (statement.Directive d) ts = directive_onto es at label d ts
-statement_onto es at label statement.Unfit ts = None
+statement_onto es at name statement.Nothing ts = Some es
+statement_onto es at name (statement.Code lock m) ts = add_some es at (code_item at.scope lock m (operands_of ts))
+statement_onto es at name (statement.Directive d) ts = directive_onto es at name d ts
+statement_onto es at name statement.Unfit ts = None
 
 -- ---- what the next line has to know
 
@@ -237,8 +251,8 @@ behind at w ts = in_next_line (behind_statement at w ts)
 
 -- ---- what the code's values stand for
 
-abbrev pub state_content : SourceState → StateContent
-state_content s = record { line = s.line; scope = s.scope.text.now; section = s.section; based = s.based; placed = s.placed }
+abbrev pub state_content : List ℕ → SourceState → StateContent
+state_content scope s = record { line = s.line; scope = scope; section = s.section; based = s.based; placed = s.placed }
 
 -- a call that adds entries told why it did not
 abbrev pub IsBad : {X : Type 0} → Option X → ℕ → SourceFault → Type 0
@@ -249,5 +263,11 @@ abbrev pub IsUnfit : Bool → ℕ → SourceFault → Type 0
 IsUnfit fits line (fault.Line l why) = (fits ≡ false) × (l ≡ line) × (why ≡ BadOperand)
 IsUnfit fits line fault.NoMemory = Unit {0}
 
-abbrev pub values_content : List Entry → List ℕ → Values
-values_content es run = record { entries = map entry_content es; run = run }
+abbrev pub values_content : Reading → List Entry → List ℕ → Values
+values_content r es run = record { entries = map (entry_content r) es; run = run }
+
+-- a definition is that of a line's label: its symbol has the label's name
+abbrev pub IsLabelOf : Names → Option (Bor (List ℕ)) → Option Definition → Type 0
+IsLabelOf names (Some own) (Some d) = IsNamed names d.symbol (whole_of names.scope.text.now own.now)
+IsLabelOf names None None = Unit {0}
+IsLabelOf names _ _ = ⊥

@@ -1,15 +1,8 @@
 -- The names of symbols (NASM manual, "Local Labels"): a name that begins with a dot belongs to the label before it.
-use Rattle.std.specs.Prelude.{ℕ, Bool, false, ◌==◌, if◌then◌else◌, Option, Some, None, List, [], ◌∷◌, ◌++◌, map}
+pub use Rattle.ia_names.specs.Locals.{is_local, whole_of}
+use Rattle.std.specs.Prelude.{ℕ, Option, Some, None, List, [], ◌∷◌, map}
 use Rattle.ia_lex.specs.Terms.{AtomContent, NumberAtom, SymbolAtom, TermContent, term_content}
 use Rattle.ia_lex.specs.declared.terms.Term.{Term}
-
-abbrev pub is_local : List ℕ → Bool
-is_local [] = false
-is_local (b ∷ bs) = b == 46
-
--- the whole name of a name behind a label
-abbrev pub whole_of : List ℕ → List ℕ → List ℕ
-whole_of scope own = if is_local own then scope ++ own else own
 
 abbrev pub atom_in_scope : List ℕ → AtomContent → AtomContent
 atom_in_scope scope (NumberAtom n) = NumberAtom n

@@ -1,49 +1,35 @@
-//! Expressions with the whole names of their symbols.
+//! Expressions with the symbols that their names stand for.
 
 ghost use Rattle.std.specs.Prelude.{◌≡◌, map, option_map, IfOk};
-ghost use Rattle.ia_item.specs.Names.{whole_name};
+ghost use Rattle.ia_names.specs.Namings.{Naming, IsNaming, Grows};
 ghost use Rattle.ia_source.specs.Contents.{scoped_term_content, expression_content};
 ghost use Rattle.ia_source.specs.MemoryOperands.{terms_content};
-ghost use Rattle.ia_source.specs.Symbols.{is_local, whole_of, term_in_scope, scoped_term, terms_in_scope};
+ghost use Rattle.ia_source.specs.Symbols.{term_in_scope, scoped_term, terms_in_scope};
 
-use ia_item::{Name, Scope, ScopedAtom, ScopedExpression, ScopedTerm};
+use ia_item::{ScopedAtom, ScopedExpression, ScopedTerm};
 use ia_lex::{Atom, Expression, Term};
+use ia_names::Names;
 use std::alloc::{AllocError, Global};
 
-/// Whether a name is that of a local label: it begins with a dot.
-pub fn is_local(own: &[u8]) -> bool
-    ensures { result ≡ is_local own.now }
-{
-    match own.first() {
-        Some(byte) => *byte == b'.',
-        None => false,
-    }
-}
-
-/// A name behind a label.
-pub fn name_in<'a>(scope: &Scope<'a>, own: &'a [u8]) -> Name<'a>
-    ensures { whole_name result ≡ whole_of scope.now.text.now own.now }
-{
-    if is_local(own) {
-        Name::local(scope, own)
-    } else {
-        Name::new(own)
-    }
-}
-
-fn term_in<'a>(scope: &Scope<'a>, term: &Term<'a>) -> ScopedTerm<'a>
-    ensures { scoped_term_content result ≡ scoped_term scope.now.text.now term.now }
+fn term_in<'a>(names: &mut Names<'a>, term: &Term<'a>) -> Result<ScopedTerm, AllocError>
+    ensures scope { names.new.scope ≡ names.old.scope }
+    ensures grows { Grows names.old names.new }
+    ensures term { IfOk result (λ t. (naming : Naming) → IsNaming naming names.new
+        → scoped_term_content naming t ≡ scoped_term names.old.scope.text.now term.now) }
 {
     let Term { negative, atom } = *term;
     match atom {
-        Atom::Number(number) => ScopedTerm {
+        Atom::Number(number) => Ok(ScopedTerm {
             negative,
             atom: ScopedAtom::Number(number),
-        },
-        Atom::Symbol(own) => ScopedTerm {
-            negative,
-            atom: ScopedAtom::Symbol(name_in(scope, own)),
-        },
+        }),
+        Atom::Symbol(own) => {
+            let symbol = names.symbol(own)?;
+            Ok(ScopedTerm {
+                negative,
+                atom: ScopedAtom::Symbol(symbol),
+            })
+        }
     }
 }
 
@@ -51,15 +37,19 @@ fn term_in<'a>(scope: &Scope<'a>, term: &Term<'a>) -> ScopedTerm<'a>
 #[tactic(auto, using(crate::proofs::ScopedTerms::step, crate::proofs::ScopedTerms::finish, crate::proofs::ScopedTerms::twice))]
 pub fn expression_in<'a>(
     alloc: Global,
-    scope: &Scope<'a>,
+    names: &mut Names<'a>,
     expression: &Expression<'a>,
-) -> Result<ScopedExpression<'a>, AllocError>
-    ensures { IfOk result (λ s. expression_content s ≡ map (term_in_scope scope.now.text.now) (terms_content expression.now)) }
+) -> Result<ScopedExpression, AllocError>
+    ensures scope { names.new.scope ≡ names.old.scope }
+    ensures grows { Grows names.old names.new }
+    ensures terms { IfOk result (λ s. (naming : Naming) → IsNaming naming names.new → expression_content naming s
+        ≡ map (term_in_scope names.old.scope.text.now) (terms_content expression.now)) }
 {
     let source_terms = expression.as_slice();
     let mut terms = Vec::with_capacity(alloc, source_terms.len())?;
     for term in source_terms {
-        terms.push(term_in(scope, term))?;
+        let scoped = term_in(names, term)?;
+        terms.push(scoped)?;
     }
     Ok(ScopedExpression { terms })
 }
@@ -67,16 +57,19 @@ pub fn expression_in<'a>(
 /// The expression, where there is one.
 pub fn some_expression<'a>(
     alloc: Global,
-    scope: &Scope<'a>,
+    names: &mut Names<'a>,
     expression: &Expression<'a>,
-) -> Result<Option<ScopedExpression<'a>>, AllocError>
-    ensures { IfOk result (λ s. option_map expression_content s
-        ≡ terms_in_scope scope.now.text.now (terms_content expression.now)) }
+) -> Result<Option<ScopedExpression>, AllocError>
+    ensures scope { names.new.scope ≡ names.old.scope }
+    ensures grows { Grows names.old names.new }
+    ensures terms { IfOk result (λ s. (naming : Naming) → IsNaming naming names.new
+        → option_map (expression_content naming) s
+        ≡ terms_in_scope names.old.scope.text.now (terms_content expression.now)) }
 {
     if expression.is_empty() {
         Ok(None)
     } else {
-        let scoped_term = expression_in(alloc, scope, expression)?;
-        Ok(Some(scoped_term))
+        let scoped = expression_in(alloc, names, expression)?;
+        Ok(Some(scoped))
     }
 }

@@ -1,44 +1,54 @@
 //! Sources, line by line.
 
-ghost use Rattle.std.specs.Prelude.{◌≡◌, Ok, Some, false, map, option_map, MatchResult, IfOk};
+ghost use Rattle.std.specs.Prelude.{◌≡◌, ℕ, List, Ok, Some, false, map, option_map, MatchResult, IfOk};
 ghost use Rattle.ia_item.specs.Fits.{AllFit};
-ghost use Rattle.ia_source.specs.Contents.{entry_content};
-ghost use Rattle.ia_source.specs.Statements.{state_content};
-ghost use Rattle.ia_source.specs.Source.{is_twice, with_name, add_label, label_onto, line_onto, entries_of};
-ghost use Rattle.ia_source.specs.Source.{names_content, source_content, Tells, IsTwice};
+ghost use Rattle.ia_names.specs.Namings.{Naming, IsNaming, Grows};
+ghost use Rattle.ia_source.specs.Contents.{Reading, definition_name, entry_content};
+ghost use Rattle.ia_source.specs.Statements.{state_content, IsLabelOf};
+ghost use Rattle.ia_source.specs.Source.{is_twice, with_name, add_label, label_onto, label_name, line_onto, entries_of};
+ghost use Rattle.ia_source.specs.Source.{names_content, source_content, AsksFor, Tells, IsTwice};
 
 use crate::directive::Directive;
-use crate::expression::name_in;
 use crate::fault::{SourceFault, Why};
 use crate::head::{Statement, read_head};
 use crate::operand::Operands;
-use crate::state::{SourceState, behind, start, with_label};
+use crate::state::{SourceState, behind, enter, start};
 use crate::statement::push_statement;
-use ia_item::{Entry, Item, Name};
+use ia_item::{Definition, Entry, Item, Symbol};
 use ia_lex::{LexFault, first_line, tokens};
+use ia_names::Names;
 use indexmap::IndexSet;
 use std::alloc::{AllocError, Global};
 
 /// Notes the symbol of a line's label, if it is new.
 #[tactic(auto, using(crate::proofs::Names::names_after, crate::proofs::Names::was_among))]
 fn define<'a>(
-    names: &mut IndexSet<Name<'a>>,
-    state: SourceState<'a>,
+    names: &mut Names<'a>,
+    defined: &mut IndexSet<Symbol>,
+    state: SourceState,
     label: Option<&'a [u8]>,
-) -> Result<(), SourceFault>
-    ensures new { MatchResult result (λ _. is_twice (names_content names.old) (state_content state.entry)
-        (option_map (λ l. l.now) label.entry) ≡ false)
-        (IsTwice (is_twice (names_content names.old) (state_content state.entry) (option_map
-        (λ l. l.now) label.entry)) state.entry.line) }
-    ensures names { IfOk result (λ _. names_content names.new
-        ≡ with_name (names_content names.old) (state_content state.entry) (option_map (λ l. l.now) label.entry)) }
+) -> Result<Option<Definition<'a>>, SourceFault>
+    ensures scope { names.new.scope ≡ names.old.scope }
+    ensures grows { Grows names.old names.new }
+    ensures label { IfOk result (IsLabelOf names.new label.entry) }
+    ensures name { IfOk result (λ d. (r : Reading) → IsNaming r.naming names.new → option_map (definition_name r) d
+        ≡ label_name names.old.scope.text.now (option_map (λ l. l.now) label.entry)) }
+    ensures new { (naming : Naming) → IsNaming naming names.new → MatchResult result
+        (λ _. is_twice (names_content naming defined.old) (label_name names.old.scope.text.now
+        (option_map (λ l. l.now) label.entry)) ≡ false)
+        (IsTwice (is_twice (names_content naming defined.old) (label_name names.old.scope.text.now
+        (option_map (λ l. l.now) label.entry))) state.line) }
+    ensures names { IfOk result (λ _. (naming : Naming) → IsNaming naming names.new → names_content naming defined.new
+        ≡ with_name (names_content naming defined.old) (label_name names.old.scope.text.now
+        (option_map (λ l. l.now) label.entry))) }
 {
     match label {
-        None => Ok(()),
+        None => Ok(None),
         Some(own) => {
-            let (_, is_new) = names.insert_full(name_in(&state.scope, own))?;
+            let definition = names.definition(own)?;
+            let (_, is_new) = defined.insert_full(definition.symbol)?;
             if is_new {
-                Ok(())
+                Ok(Some(definition))
             } else {
                 Err(SourceFault::Line {
                     line: state.line,
@@ -53,18 +63,18 @@ fn define<'a>(
 #[tactic(auto, using(crate::proofs::AddedEntries::one_more))]
 fn push_name<'a>(
     entries: &mut Vec<Entry<'a>>,
-    state: SourceState<'a>,
-    label: Option<&'a [u8]>,
+    state: SourceState,
+    label: Option<Definition<'a>>,
 ) -> Result<(), AllocError>
-    ensures { IfOk result (λ _. map entry_content entries.new.items
-        ≡ add_label (map entry_content entries.old.items) (state_content state.entry) (option_map
-        (λ l. l.now) label.entry)) }
+    ensures { IfOk result (λ _. (r : Reading) (scope : List ℕ) → map (entry_content r) entries.new.items
+        ≡ add_label (map (entry_content r) entries.old.items) (state_content scope state)
+        (option_map (definition_name r) label.entry)) }
 {
-    if let Some(own) = label {
+    if let Some(definition) = label {
         entries.push(Entry {
             line: state.line,
             section: state.section,
-            item: Item::Label(name_in(&state.scope, own)),
+            item: Item::Label(definition),
         })?;
     }
     Ok(())
@@ -73,13 +83,13 @@ fn push_name<'a>(
 /// Adds the entry of a line's label. The name of an `equ` is none.
 fn push_label<'a>(
     entries: &mut Vec<Entry<'a>>,
-    state: SourceState<'a>,
-    label: Option<&'a [u8]>,
+    state: SourceState,
+    label: Option<Definition<'a>>,
     statement: Statement,
 ) -> Result<(), AllocError>
-    ensures { IfOk result (λ _. map entry_content entries.new.items
-        ≡ label_onto (map entry_content entries.old.items) (state_content state.entry) (option_map
-        (λ l. l.now) label.entry) statement) }
+    ensures { IfOk result (λ _. (r : Reading) (scope : List ℕ) → map (entry_content r) entries.new.items
+        ≡ label_onto (map (entry_content r) entries.old.items) (state_content scope state)
+        (option_map (definition_name r) label.entry) statement) }
 {
     match statement {
         Statement::Directive(Directive::Equ) => Ok(()),
@@ -92,14 +102,17 @@ fn push_label<'a>(
 fn push_line<'a>(
     alloc: Global,
     operands: &mut Operands<'a>,
-    names: &mut IndexSet<Name<'a>>,
+    names: &mut Names<'a>,
+    defined: &mut IndexSet<Symbol>,
     entries: &mut Vec<Entry<'a>>,
-    state: SourceState<'a>,
+    state: SourceState,
     line: &'a [u8],
-) -> Result<SourceState<'a>, SourceFault>
-    ensures { MatchResult result (λ s. line_onto (source_content state.entry names.old entries.old.items) line.now
-        ≡ Ok (source_content s names.new entries.new.items))
-        (Tells (line_onto (source_content state.entry names.old entries.old.items) line.now)) }
+) -> Result<SourceState, SourceFault>
+    ensures grows { Grows names.old names.new }
+    ensures line { (r : Reading) → IsNaming r.naming names.new → MatchResult result
+        (λ s. line_onto (source_content r state names.old defined.old entries.old.items) line.now
+        ≡ Ok (source_content r s names.new defined.new entries.new.items))
+        (Tells (line_onto (source_content r state names.old defined.old entries.old.items) line.now)) }
 {
     let words = match tokens(alloc, line) {
         Ok(words) => words,
@@ -117,19 +130,25 @@ fn push_line<'a>(
             why: Why::NotInSubset,
         });
     };
-    define(names, state, head.label)?;
-    push_label(entries, state, head.label, head.statement)?;
-    let here = with_label(state, head.label, head.statement);
-    push_statement(
+    let label = match define(names, defined, state, head.label) {
+        Ok(label) => label,
+        Err(fault) => return Err(fault),
+    };
+    push_label(entries, state, label, head.statement)?;
+    enter(names, head.label, label, head.statement);
+    match push_statement(
         alloc,
         operands,
+        names,
         entries,
-        here,
-        head.label,
+        state,
+        label,
         head.statement,
         head.rest,
-    )?;
-    Ok(behind(here, head.statement, head.rest))
+    ) {
+        Ok(()) => Ok(behind(state, head.statement, head.rest)),
+        Err(fault) => Err(fault),
+    }
 }
 
 /// The entries of a source in the order of its lines, or the first line that is wrong and what is wrong with it.
@@ -137,38 +156,27 @@ fn push_line<'a>(
 /// Each entry can be placed: an instruction is encodable, an alignment is a power of two up to 4096, and an expression
 /// has 1 to 16 terms. `NoMemory` where no memory was left.
 pub fn entries<'a>(alloc: Global, source: &'a [u8]) -> Result<Vec<Entry<'a>>, SourceFault>
-    ensures exact { MatchResult result (λ es. entries_of source.now
-        ≡ Ok (map entry_content es.items)) (Tells (entries_of source.now)) }
+    ensures exact { MatchResult result (λ es. AsksFor source.now es.items) (Tells (entries_of source.now)) }
     ensures fit { IfOk result (λ es. AllFit es.items) }
 {
-    let mut names = IndexSet::new(alloc);
+    let mut names = Names::new(alloc);
+    let mut defined = IndexSet::new(alloc);
     let mut entries = Vec::new(alloc);
     let mut operands = Operands::new();
-    let SourceState {
-        mut line,
-        mut scope,
-        mut section,
-        mut based,
-        mut placed,
-    } = start();
+    let mut state = start();
     let mut place = 0;
     'lines: while place < source.len() {
         let (bytes, taken) = first_line(&source[place..]);
-        let state = SourceState {
-            line,
-            scope,
-            section,
-            based,
-            placed,
-        };
-        match push_line(alloc, &mut operands, &mut names, &mut entries, state, bytes) {
-            Ok(next) => {
-                line = next.line;
-                scope = next.scope;
-                section = next.section;
-                based = next.based;
-                placed = next.placed;
-            }
+        match push_line(
+            alloc,
+            &mut operands,
+            &mut names,
+            &mut defined,
+            &mut entries,
+            state,
+            bytes,
+        ) {
+            Ok(next) => state = next,
             Err(fault) => return Err(fault),
         }
         place += taken;

@@ -1,23 +1,23 @@
 //! What a line has to know of the lines above.
 
-ghost use Rattle.std.specs.Prelude.{◌≡◌, option_map, map};
+ghost use Rattle.std.specs.Prelude.{◌≡◌, ℕ, List, [], option_map, map};
+ghost use Rattle.ia_names.specs.Namings.{Grows};
+ghost use Rattle.ia_source.specs.declared.state.SourceState.{SourceState as SourceStateOf};
 ghost use Rattle.ia_lex.specs.Tokens.{lexeme_of};
 ghost use Rattle.ia_source.specs.Statements.{first_state, next_line, named_section, only_number, with_label};
-ghost use Rattle.ia_source.specs.Statements.{in_section, with_flags, behind_statement, behind, state_content};
+ghost use Rattle.ia_source.specs.Statements.{in_section, with_flags, behind_statement, behind, state_content, IsLabelOf};
 
 use crate::directive::Directive;
-use crate::expression::is_local;
 use crate::head::Statement;
-use ia_item::{Scope, Section};
+use ia_item::{Definition, Section};
 use ia_lex::Token;
+use ia_names::{Names, is_local};
 
 /// What a line has to know of the lines above.
 #[derive(Clone, Copy)]
-pub struct SourceState<'a> {
+pub struct SourceState {
     /// The line's number, from 1; from u32::MAX on it stays.
     pub line: u32,
-    /// The last label that is not local.
-    pub scope: Scope<'a>,
     /// The section in force.
     pub section: Section,
     /// Whether `org` stood above.
@@ -27,12 +27,11 @@ pub struct SourceState<'a> {
 }
 
 /// The state at the first line.
-pub fn start<'a>() -> SourceState<'a>
-    ensures { state_content result ≡ first_state }
+pub fn start() -> SourceState
+    ensures { state_content [] result ≡ first_state }
 {
     SourceState {
         line: 1,
-        scope: Scope::new(b""),
         section: Section::Text,
         based: false,
         placed: false,
@@ -75,52 +74,45 @@ pub fn only_number(tokens: &[Token]) -> Option<Option<u64>>
     }
 }
 
-/// The state behind a line's label. The name of an `equ` is no label that local ones belong to.
-pub fn with_label<'a>(
-    state: SourceState<'a>,
+/// Goes on behind a line's label. The name of an `equ` is no label that local ones belong to.
+pub fn enter<'a>(
+    names: &mut Names<'a>,
     label: Option<&'a [u8]>,
+    definition: Option<Definition<'a>>,
     statement: Statement,
-) -> SourceState<'a>
-    ensures { state_content result ≡ with_label (state_content state.entry) (option_map
-        (λ l. l.now) label.entry) statement }
+)
+    requires { IsLabelOf names.old label definition }
+    ensures scope { (state : SourceStateOf) → state_content names.new.scope.text.now state
+        ≡ with_label (state_content names.old.scope.text.now state) (option_map (λ l. l.now) label.entry) statement }
+    ensures grows { Grows names.old names.new }
 {
-    match (statement, label) {
-        (Statement::Directive(Directive::Equ), _) => state,
-        (_, None) => state,
-        (_, Some(own)) => {
-            if is_local(own) {
-                state
-            } else {
-                SourceState {
-                    line: state.line,
-                    scope: Scope::new(own),
-                    section: state.section,
-                    based: state.based,
-                    placed: state.placed,
-                }
+    match (statement, label, definition) {
+        (Statement::Directive(Directive::Equ), _, _) => {}
+        (_, Some(own), Some(definition)) => {
+            if !is_local(own) {
+                names.enter(own, definition.symbol);
             }
         }
+        _ => {}
     }
 }
 
-fn with_section<'a>(state: SourceState<'a>, section: Option<Section>) -> SourceState<'a>
-    ensures { state_content result ≡ in_section (state_content state.entry) section }
+fn with_section(state: SourceState, section: Option<Section>) -> SourceState
+    ensures { (scope : List ℕ) → state_content scope result ≡ in_section (state_content scope state) section }
 {
     SourceState {
         line: state.line,
-        scope: state.scope,
         section: section.unwrap_or(state.section),
         based: state.based,
         placed: state.placed,
     }
 }
 
-fn with_flags<'a>(state: SourceState<'a>, based: bool, placed: bool) -> SourceState<'a>
-    ensures { state_content result ≡ with_flags (state_content state.entry) based placed }
+fn with_flags(state: SourceState, based: bool, placed: bool) -> SourceState
+    ensures { (scope : List ℕ) → state_content scope result ≡ with_flags (state_content scope state) based placed }
 {
     SourceState {
         line: state.line,
-        scope: state.scope,
         section: state.section,
         based: state.based || based,
         placed: state.placed || placed,
@@ -128,12 +120,9 @@ fn with_flags<'a>(state: SourceState<'a>, based: bool, placed: bool) -> SourceSt
 }
 
 /// The state behind what a line asks for.
-fn behind_statement<'a>(
-    state: SourceState<'a>,
-    statement: Statement,
-    tokens: &[Token<'a>],
-) -> SourceState<'a>
-    ensures { state_content result ≡ behind_statement (state_content state.entry) statement (map lexeme_of tokens.now) }
+fn behind_statement(state: SourceState, statement: Statement, tokens: &[Token]) -> SourceState
+    ensures { (scope : List ℕ) → state_content scope result
+        ≡ behind_statement (state_content scope state) statement (map lexeme_of tokens.now) }
 {
     match statement {
         Statement::Directive(Directive::Section) => with_section(state, named_section(tokens)),
@@ -148,17 +137,13 @@ fn behind_statement<'a>(
 }
 
 /// The state at the next line.
-pub fn behind<'a>(
-    state: SourceState<'a>,
-    statement: Statement,
-    tokens: &[Token<'a>],
-) -> SourceState<'a>
-    ensures { state_content result ≡ behind (state_content state.entry) statement (map lexeme_of tokens.now) }
+pub fn behind(state: SourceState, statement: Statement, tokens: &[Token]) -> SourceState
+    ensures { (scope : List ℕ) → state_content scope result
+        ≡ behind (state_content scope state) statement (map lexeme_of tokens.now) }
 {
     let state = behind_statement(state, statement, tokens);
     SourceState {
         line: next_line(state.line),
-        scope: state.scope,
         section: state.section,
         based: state.based,
         placed: state.placed,

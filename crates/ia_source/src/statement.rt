@@ -1,16 +1,18 @@
 //! The entries that lines ask for.
 
-ghost use Rattle.std.specs.Prelude.{◌≡◌, Some, None, true, false, map, option_map, MatchResult, IfOk};
+ghost use Rattle.std.specs.Prelude.{◌≡◌, ℕ, List, Some, None, true, false, map, option_map, MatchResult, IfOk};
 ghost use Rattle.ia_lex.specs.Tokens.{lexeme_of};
-ghost use Rattle.ia_source.specs.Contents.{Reserve, item_content, entry_content, expression_content};
+ghost use Rattle.ia_names.specs.Namings.{Naming, IsNaming, Grows};
+ghost use Rattle.ia_source.specs.Contents.{Reading, Reserve, definition_name, item_content, entry_content};
+ghost use Rattle.ia_source.specs.Contents.{expression_content};
 ghost use Rattle.ia_source.specs.Operands.{operands_of};
 ghost use Rattle.ia_source.specs.Statements.{add_some, if_fits, expression_in, code_item, byte_item, value_item};
-ghost use Rattle.ia_source.specs.Statements.{only_number, is_32, is_symbol, is_power, align_item};
+ghost use Rattle.ia_source.specs.Statements.{only_number, only_text, is_32, is_symbol, is_power, align_item};
 ghost use Rattle.ia_source.specs.Statements.{org_item, equ_item, directive_onto, statement_onto, state_content, IsBad};
 ghost use Rattle.ia_source.specs.Statements.{IsUnfit};
 
 use crate::directive::Directive;
-use crate::expression::{expression_in, name_in, some_expression};
+use crate::expression::{expression_in, some_expression};
 use crate::fault::{SourceFault, Why};
 use crate::head::Statement;
 use crate::operand::{Operands, read_operands};
@@ -19,24 +21,28 @@ use crate::sum::whole_expression;
 use crate::values::push_values;
 use ia_form::instruction;
 use ia_insn::Mnemonic;
-use ia_item::{Entry, Item, ScopedExpression, Template};
+use ia_item::{Definition, Entry, Item, ScopedExpression, Template};
 use ia_lex::{Expression, Token, register_of};
+use ia_names::Names;
 use std::alloc::{AllocError, Global};
 
 /// The expression that tokens are, if they are one.
 fn read_expression<'a>(
     alloc: Global,
     terms: &mut Expression<'a>,
-    state: SourceState<'a>,
+    names: &mut Names<'a>,
     tokens: &[Token<'a>],
-) -> Result<Option<ScopedExpression<'a>>, AllocError>
-    ensures { IfOk result (λ s. option_map expression_content s
-        ≡ expression_in (state_content state.entry) (map lexeme_of tokens.now)) }
+) -> Result<Option<ScopedExpression>, AllocError>
+    ensures scope { names.new.scope ≡ names.old.scope }
+    ensures grows { Grows names.old names.new }
+    ensures expression { IfOk result (λ s. (naming : Naming) → IsNaming naming names.new
+        → option_map (expression_content naming) s
+        ≡ expression_in names.old.scope.text.now (map lexeme_of tokens.now)) }
 {
     match whole_expression(tokens, terms) {
         None => Ok(None),
         Some(()) => {
-            let scoped = expression_in(alloc, &state.scope, terms)?;
+            let scoped = expression_in(alloc, names, terms)?;
             Ok(Some(scoped))
         }
     }
@@ -46,21 +52,23 @@ fn read_expression<'a>(
 fn read_code<'a>(
     alloc: Global,
     operands: &mut Operands<'a>,
-    state: SourceState<'a>,
+    names: &mut Names<'a>,
     lock: bool,
     mnemonic: Mnemonic,
     tokens: &[Token<'a>],
 ) -> Result<Option<Item<'a>>, AllocError>
-    ensures { IfOk result (λ i. option_map item_content i
-        ≡ code_item (state_content state.entry) lock mnemonic (operands_of (map lexeme_of tokens.now))) }
+    ensures scope { names.new.scope ≡ names.old.scope }
+    ensures grows { Grows names.old names.new }
+    ensures item { IfOk result (λ i. (r : Reading) → IsNaming r.naming names.new → option_map (item_content r) i
+        ≡ code_item names.old.scope.text.now lock mnemonic (operands_of (map lexeme_of tokens.now))) }
 {
     match read_operands(operands, tokens) {
         None => Ok(None),
         Some(()) => match instruction(lock, mnemonic, operands.shapes) {
             None => Ok(None),
             Some(insn) => {
-                let number = some_expression(alloc, &state.scope, &operands.number)?;
-                let displacement = some_expression(alloc, &state.scope, &operands.displacement)?;
+                let number = some_expression(alloc, names, &operands.number)?;
+                let displacement = some_expression(alloc, names, &operands.displacement)?;
                 Ok(Some(Item::Code(Template {
                     insn,
                     number,
@@ -71,20 +79,32 @@ fn read_code<'a>(
     }
 }
 
+/// What stands between quotes, and alone.
+fn only_text<'a>(tokens: &[Token<'a>]) -> Option<&'a [u8]>
+    ensures { option_map (λ t. t.now) result ≡ only_text (map lexeme_of tokens.now) }
+{
+    match tokens {
+        [Token::Text(bytes)] => Some(bytes),
+        _ => None,
+    }
+}
+
 /// A value of `db`.
 fn read_byte<'a>(
     alloc: Global,
     terms: &mut Expression<'a>,
-    state: SourceState<'a>,
+    names: &mut Names<'a>,
     tokens: &[Token<'a>],
 ) -> Result<Option<Item<'a>>, AllocError>
-    ensures { IfOk result (λ i. option_map item_content i
-        ≡ byte_item (state_content state.entry) (map lexeme_of tokens.now)) }
+    ensures scope { names.new.scope ≡ names.old.scope }
+    ensures grows { Grows names.old names.new }
+    ensures item { IfOk result (λ i. (r : Reading) → IsNaming r.naming names.new → option_map (item_content r) i
+        ≡ byte_item names.old.scope.text.now (map lexeme_of tokens.now)) }
 {
-    if let [Token::Text(bytes)] = tokens {
+    if let Some(bytes) = only_text(tokens) {
         return Ok(Some(Item::Text(bytes)));
     }
-    match read_expression(alloc, terms, state, tokens)? {
+    match read_expression(alloc, terms, names, tokens)? {
         Some(expression) => Ok(Some(Item::Byte(expression))),
         None => Ok(None),
     }
@@ -94,32 +114,37 @@ fn read_byte<'a>(
 pub fn read_value<'a>(
     alloc: Global,
     terms: &mut Expression<'a>,
-    state: SourceState<'a>,
+    names: &mut Names<'a>,
     long: bool,
     tokens: &[Token<'a>],
 ) -> Result<Option<Item<'a>>, AllocError>
-    ensures { IfOk result (λ i. option_map item_content i
-        ≡ value_item long (state_content state.entry) (map lexeme_of tokens.now)) }
+    ensures scope { names.new.scope ≡ names.old.scope }
+    ensures grows { Grows names.old names.new }
+    ensures item { IfOk result (λ i. (r : Reading) → IsNaming r.naming names.new → option_map (item_content r) i
+        ≡ value_item long names.old.scope.text.now (map lexeme_of tokens.now)) }
 {
-    if !long {
-        return read_byte(alloc, terms, state, tokens);
-    }
-    match read_expression(alloc, terms, state, tokens)? {
-        Some(expression) => Ok(Some(Item::Long(expression))),
-        None => Ok(None),
+    if long {
+        match read_expression(alloc, terms, names, tokens)? {
+            Some(expression) => Ok(Some(Item::Long(expression))),
+            None => Ok(None),
+        }
+    } else {
+        read_byte(alloc, terms, names, tokens)
     }
 }
 
 fn read_reserve<'a>(
     alloc: Global,
     terms: &mut Expression<'a>,
-    state: SourceState<'a>,
+    names: &mut Names<'a>,
     tokens: &[Token<'a>],
 ) -> Result<Option<Item<'a>>, AllocError>
-    ensures { IfOk result (λ i. option_map item_content i
-        ≡ option_map Reserve (expression_in (state_content state.entry) (map lexeme_of tokens.now))) }
+    ensures scope { names.new.scope ≡ names.old.scope }
+    ensures grows { Grows names.old names.new }
+    ensures item { IfOk result (λ i. (r : Reading) → IsNaming r.naming names.new → option_map (item_content r) i
+        ≡ option_map Reserve (expression_in names.old.scope.text.now (map lexeme_of tokens.now))) }
 {
-    match read_expression(alloc, terms, state, tokens)? {
+    match read_expression(alloc, terms, names, tokens)? {
         Some(expression) => Ok(Some(Item::Reserve(expression))),
         None => Ok(None),
     }
@@ -128,25 +153,28 @@ fn read_reserve<'a>(
 fn read_equ<'a>(
     alloc: Global,
     terms: &mut Expression<'a>,
-    state: SourceState<'a>,
-    label: Option<&'a [u8]>,
+    names: &mut Names<'a>,
+    label: Option<Definition<'a>>,
     tokens: &[Token<'a>],
 ) -> Result<Option<Item<'a>>, AllocError>
-    ensures { IfOk result (λ i. option_map item_content i
-        ≡ equ_item (state_content state.entry) (option_map (λ l. l.now) label.entry) (map lexeme_of tokens.now)) }
+    ensures scope { names.new.scope ≡ names.old.scope }
+    ensures grows { Grows names.old names.new }
+    ensures item { IfOk result (λ i. (r : Reading) → IsNaming r.naming names.new → option_map (item_content r) i
+        ≡ equ_item names.old.scope.text.now (option_map (definition_name r) label.entry) (map lexeme_of tokens.now)) }
 {
     match label {
         None => Ok(None),
-        Some(own) => match read_expression(alloc, terms, state, tokens)? {
-            Some(expression) => Ok(Some(Item::Equ(name_in(&state.scope, own), expression))),
+        Some(definition) => match read_expression(alloc, terms, names, tokens)? {
+            Some(expression) => Ok(Some(Item::Equ(definition, expression))),
             None => Ok(None),
         },
     }
 }
 
 /// The base, once and before anything is placed.
-fn read_org<'a>(state: SourceState<'a>, tokens: &[Token<'a>]) -> Option<Item<'a>>
-    ensures { option_map item_content result ≡ org_item (state_content state.entry) (map lexeme_of tokens.now) }
+fn read_org<'a>(state: SourceState, tokens: &[Token<'a>]) -> Option<Item<'a>>
+    ensures { (r : Reading) (scope : List ℕ) → option_map (item_content r) result
+        ≡ org_item (state_content scope state) (map lexeme_of tokens.now) }
 {
     if state.based || state.placed {
         return None;
@@ -178,7 +206,8 @@ fn is_power(number: u64) -> bool
 
 #[tactic(auto, using(crate::proofs::Powers::small_power))]
 fn read_align<'a>(tokens: &[Token<'a>]) -> Option<Item<'a>>
-    ensures { option_map item_content result ≡ align_item (only_number (map lexeme_of tokens.now)) }
+    ensures { (r : Reading) → option_map (item_content r) result
+        ≡ align_item (only_number (map lexeme_of tokens.now)) }
 {
     match only_number(tokens) {
         Some(Some(number)) => {
@@ -215,13 +244,14 @@ fn is_symbol(tokens: &[Token]) -> bool
 #[tactic(auto, using(crate::proofs::AddedEntries::one_more))]
 pub fn push_some<'a>(
     entries: &mut Vec<Entry<'a>>,
-    state: SourceState<'a>,
+    state: SourceState,
     item: Option<Item<'a>>,
 ) -> Result<(), SourceFault>
-    ensures { MatchResult result (λ _. add_some (map entry_content entries.old.items) (state_content state.entry)
-        (option_map item_content item.entry) ≡ Some (map entry_content entries.new.items))
-        (IsBad (add_some (map entry_content entries.old.items) (state_content state.entry)
-        (option_map item_content item.entry)) state.entry.line) }
+    ensures { (r : Reading) (scope : List ℕ) → MatchResult result
+        (λ _. add_some (map (entry_content r) entries.old.items) (state_content scope state)
+        (option_map (item_content r) item.entry) ≡ Some (map (entry_content r) entries.new.items))
+        (IsBad (add_some (map (entry_content r) entries.old.items) (state_content scope state)
+        (option_map (item_content r) item.entry)) state.line) }
 {
     match item {
         None => Err(SourceFault::Line {
@@ -240,7 +270,7 @@ pub fn push_some<'a>(
 }
 
 fn if_fits(fits: bool, state: SourceState) -> Result<(), SourceFault>
-    ensures { MatchResult result (λ _. fits ≡ true) (IsUnfit fits state.entry.line) }
+    ensures { MatchResult result (λ _. fits ≡ true) (IsUnfit fits state.line) }
 {
     if fits {
         Ok(())
@@ -257,32 +287,53 @@ fn if_fits(fits: bool, state: SourceState) -> Result<(), SourceFault>
 fn push_directive<'a>(
     alloc: Global,
     operands: &mut Operands<'a>,
+    names: &mut Names<'a>,
     entries: &mut Vec<Entry<'a>>,
-    state: SourceState<'a>,
-    label: Option<&'a [u8]>,
+    state: SourceState,
+    label: Option<Definition<'a>>,
     directive: Directive,
     tokens: &[Token<'a>],
 ) -> Result<(), SourceFault>
-    ensures { MatchResult result (λ _. directive_onto (map entry_content entries.old.items)
-        (state_content state.entry) (option_map (λ l. l.now) label.entry) directive (map lexeme_of tokens.now)
-        ≡ Some (map entry_content entries.new.items))
-        (IsBad (directive_onto (map entry_content entries.old.items) (state_content state.entry) (option_map
-        (λ l. l.now) label.entry) directive (map lexeme_of tokens.now)) state.entry.line) }
+    ensures scope { names.new.scope ≡ names.old.scope }
+    ensures grows { Grows names.old names.new }
+    ensures entries { (r : Reading) → IsNaming r.naming names.new → MatchResult result
+        (λ _. directive_onto (map (entry_content r) entries.old.items)
+        (state_content names.old.scope.text.now state) (option_map (definition_name r) label.entry) directive
+        (map lexeme_of tokens.now) ≡ Some (map (entry_content r) entries.new.items))
+        (IsBad (directive_onto (map (entry_content r) entries.old.items)
+        (state_content names.old.scope.text.now state) (option_map (definition_name r) label.entry) directive
+        (map lexeme_of tokens.now)) state.line) }
 {
     match directive {
         Directive::Section => if_fits(named_section(tokens).is_some(), state),
         Directive::Org => push_some(entries, state, read_org(state, tokens)),
         Directive::Bits => if_fits(is_32(tokens), state),
         Directive::Global => if_fits(is_symbol(tokens), state),
-        Directive::Db => push_values(alloc, &mut operands.number, entries, state, false, tokens),
-        Directive::Dd => push_values(alloc, &mut operands.number, entries, state, true, tokens),
+        Directive::Db => push_values(
+            alloc,
+            &mut operands.number,
+            names,
+            entries,
+            state,
+            false,
+            tokens,
+        ),
+        Directive::Dd => push_values(
+            alloc,
+            &mut operands.number,
+            names,
+            entries,
+            state,
+            true,
+            tokens,
+        ),
         Directive::Resb => {
-            let item = read_reserve(alloc, &mut operands.number, state, tokens)?;
+            let item = read_reserve(alloc, &mut operands.number, names, tokens)?;
             push_some(entries, state, item)
         }
         Directive::Align => push_some(entries, state, read_align(tokens)),
         Directive::Equ => {
-            let item = read_equ(alloc, &mut operands.number, state, label, tokens)?;
+            let item = read_equ(alloc, &mut operands.number, names, label, tokens)?;
             push_some(entries, state, item)
         }
     }
@@ -292,26 +343,33 @@ fn push_directive<'a>(
 pub fn push_statement<'a>(
     alloc: Global,
     operands: &mut Operands<'a>,
+    names: &mut Names<'a>,
     entries: &mut Vec<Entry<'a>>,
-    state: SourceState<'a>,
-    label: Option<&'a [u8]>,
+    state: SourceState,
+    label: Option<Definition<'a>>,
     statement: Statement,
     tokens: &[Token<'a>],
 ) -> Result<(), SourceFault>
-    ensures { MatchResult result (λ _. statement_onto (map entry_content entries.old.items)
-        (state_content state.entry) (option_map (λ l. l.now) label.entry) statement (map lexeme_of tokens.now)
-        ≡ Some (map entry_content entries.new.items))
-        (IsBad (statement_onto (map entry_content entries.old.items) (state_content state.entry) (option_map
-        (λ l. l.now) label.entry) statement (map lexeme_of tokens.now)) state.entry.line) }
+    ensures scope { names.new.scope ≡ names.old.scope }
+    ensures grows { Grows names.old names.new }
+    ensures entries { (r : Reading) → IsNaming r.naming names.new → MatchResult result
+        (λ _. statement_onto (map (entry_content r) entries.old.items)
+        (state_content names.old.scope.text.now state) (option_map (definition_name r) label.entry) statement
+        (map lexeme_of tokens.now) ≡ Some (map (entry_content r) entries.new.items))
+        (IsBad (statement_onto (map (entry_content r) entries.old.items)
+        (state_content names.old.scope.text.now state) (option_map (definition_name r) label.entry) statement
+        (map lexeme_of tokens.now)) state.line) }
 {
     match statement {
         Statement::Nothing => Ok(()),
         Statement::Code(lock, mnemonic) => {
-            let item = read_code(alloc, operands, state, lock, mnemonic, tokens)?;
+            let item = read_code(alloc, operands, names, lock, mnemonic, tokens)?;
             push_some(entries, state, item)
         }
         Statement::Directive(directive) => {
-            push_directive(alloc, operands, entries, state, label, directive, tokens)
+            push_directive(
+                alloc, operands, names, entries, state, label, directive, tokens,
+            )
         }
         Statement::Unfit => Err(SourceFault::Line {
             line: state.line,

@@ -1,9 +1,10 @@
 //! The values of `db` and `dd`.
 
-ghost use Rattle.std.specs.Prelude.{◌≡◌, ◌<◌, ◌^◌, ◌++◌, [], Some, map, option_map, if◌then◌else◌, MatchResult, IfSome};
+ghost use Rattle.std.specs.Prelude.{◌≡◌, ℕ, List, ◌<◌, ◌^◌, ◌++◌, [], Some, map, option_map, if◌then◌else◌, MatchResult, IfSome};
 ghost use Rattle.std.specs.Prelude.{IfOk, OnOk};
 ghost use Rattle.ia_lex.specs.Tokens.{lexeme_of};
-ghost use Rattle.ia_source.specs.Contents.{entry_content};
+ghost use Rattle.ia_names.specs.Namings.{IsNaming, Grows};
+ghost use Rattle.ia_source.specs.Contents.{Reading, entry_content};
 ghost use Rattle.ia_source.specs.Commas.{between_commas};
 ghost use Rattle.ia_source.specs.Statements.{plain_number, number_bytes, with_run, values_content, value_onto, no_value};
 ghost use Rattle.ia_source.specs.Statements.{values_onto, state_content, IsBad};
@@ -14,6 +15,7 @@ use crate::state::SourceState;
 use crate::statement::{push_some, read_value};
 use ia_item::{Entry, Item};
 use ia_lex::{Expression, Token};
+use ia_names::Names;
 use std::alloc::{AllocError, Global};
 
 /// The number that a value is, where it stands without a sign and has a place there.
@@ -61,10 +63,10 @@ fn push_run<'a>(
     alloc: Global,
     entries: &mut Vec<Entry<'a>>,
     run: &mut Vec<u8>,
-    state: SourceState<'a>,
+    state: SourceState,
 ) -> Result<(), AllocError>
-    ensures entries { OnOk result (map entry_content entries.new.items
-        ≡ with_run (map entry_content entries.old.items) (state_content state.entry) run.old.items) }
+    ensures entries { OnOk result ((r : Reading) (scope : List ℕ) → map (entry_content r) entries.new.items
+        ≡ with_run (map (entry_content r) entries.old.items) (state_content scope state) run.old.items) }
     ensures run { OnOk result (run.new.items ≡ []) }
 {
     if run.is_empty() {
@@ -84,17 +86,21 @@ fn push_run<'a>(
 fn push_value<'a>(
     alloc: Global,
     terms: &mut Expression<'a>,
+    names: &mut Names<'a>,
     entries: &mut Vec<Entry<'a>>,
     run: &mut Vec<u8>,
-    state: SourceState<'a>,
+    state: SourceState,
     long: bool,
     tokens: &[Token<'a>],
 ) -> Result<(), SourceFault>
-    ensures { MatchResult result (λ _. value_onto long (state_content state.entry)
-        (values_content entries.old.items run.old.items) (map lexeme_of tokens.now)
-        ≡ Some (values_content entries.new.items run.new.items))
-        (IsBad (value_onto long (state_content state.entry) (values_content entries.old.items run.old.items)
-        (map lexeme_of tokens.now)) state.entry.line) }
+    ensures scope { names.new.scope ≡ names.old.scope }
+    ensures grows { Grows names.old names.new }
+    ensures value { (r : Reading) → IsNaming r.naming names.new → MatchResult result
+        (λ _. value_onto long (state_content names.old.scope.text.now state)
+        (values_content r entries.old.items run.old.items) (map lexeme_of tokens.now)
+        ≡ Some (values_content r entries.new.items run.new.items))
+        (IsBad (value_onto long (state_content names.old.scope.text.now state)
+        (values_content r entries.old.items run.old.items) (map lexeme_of tokens.now)) state.line) }
 {
     match plain_number(long, tokens) {
         Some(number) => {
@@ -103,7 +109,7 @@ fn push_value<'a>(
         }
         None => {
             push_run(alloc, entries, run, state)?;
-            let item = read_value(alloc, terms, state, long, tokens)?;
+            let item = read_value(alloc, terms, names, long, tokens)?;
             push_some(entries, state, item)
         }
     }
@@ -113,23 +119,36 @@ fn push_value<'a>(
 pub fn push_values<'a>(
     alloc: Global,
     terms: &mut Expression<'a>,
+    names: &mut Names<'a>,
     entries: &mut Vec<Entry<'a>>,
-    state: SourceState<'a>,
+    state: SourceState,
     long: bool,
     tokens: &[Token<'a>],
 ) -> Result<(), SourceFault>
-    ensures { MatchResult result (λ _. values_onto long (state_content state.entry)
-        (no_value (map entry_content entries.old.items)) (between_commas (map lexeme_of tokens.now))
-        ≡ Some (map entry_content entries.new.items))
-        (IsBad (values_onto long (state_content state.entry) (no_value (map entry_content entries.old.items))
-        (between_commas (map lexeme_of tokens.now))) state.entry.line) }
+    ensures scope { names.new.scope ≡ names.old.scope }
+    ensures grows { Grows names.old names.new }
+    ensures values { (r : Reading) → IsNaming r.naming names.new → MatchResult result
+        (λ _. values_onto long (state_content names.old.scope.text.now state)
+        (no_value (map (entry_content r) entries.old.items)) (between_commas (map lexeme_of tokens.now))
+        ≡ Some (map (entry_content r) entries.new.items))
+        (IsBad (values_onto long (state_content names.old.scope.text.now state)
+        (no_value (map (entry_content r) entries.old.items)) (between_commas (map lexeme_of tokens.now))) state.line) }
 {
     let mut run = Vec::new(alloc);
     let mut place = 0;
     while place <= tokens.len() {
         let left = &tokens[place..];
         let end = comma_index(left);
-        match push_value(alloc, terms, entries, &mut run, state, long, &left[..end]) {
+        match push_value(
+            alloc,
+            terms,
+            names,
+            entries,
+            &mut run,
+            state,
+            long,
+            &left[..end],
+        ) {
             Ok(()) => {}
             Err(fault) => return Err(fault),
         }

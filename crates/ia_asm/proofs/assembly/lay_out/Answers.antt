@@ -34,5 +34,5 @@ returns c =
       known_as = s.known_as;
       code = bytes_are InText es base end tail table state c.new-output.result.code.items c.add_all.new.self.code.items s c.new-output.ensures.walk c.new-output.ensures.code c.in_ok-add_all.ensures.code;
       tailed = bytes_are InData es base end tail table state c.new-output.result.tail.items c.add_all.new.self.tail.items s c.new-output.ensures.walk c.new-output.ensures.tail c.in_ok-add_all.ensures.tail;
-      named = symbols_are es base end tail table state c.new-output.result.symbols.entries c.add_all.new.self.symbols.entries s c.new-output.ensures.walk c.new-output.ensures.symbols c.in_ok-add_all.ensures.symbols;
+      written = symbols_are es base end tail table state c.new-output.result.symbols.entries c.add_all.new.self.symbols.entries s c.new-output.ensures.walk c.new-output.ensures.symbols c.in_ok-add_all.ensures.symbols;
     }

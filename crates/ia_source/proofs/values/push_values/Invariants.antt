@@ -1,6 +1,7 @@
 use Rattle.std.proofs.Common.{◌≡◌, ◌+◌, ◌-◌, ◌≤◌, length, map}
 use Rattle.ia_lex.specs.Tokens.{lexeme_of}
-use Rattle.ia_source.specs.Contents.{entry_content}
+use Rattle.ia_names.specs.Namings.{IsNaming, Grows}
+use Rattle.ia_source.specs.Contents.{Reading, entry_content}
 use Rattle.ia_source.specs.Commas.{between_commas, pieces_from}
 use Rattle.ia_source.specs.Statements.{no_value, values_onto, values_content, state_content}
 use Rattle.ia_source.proofs.values.push_values.Given as goal
@@ -8,8 +9,11 @@ use Rattle.ia_source.proofs.values.push_values.Given as goal
 abbrev pub invariant-loop-place : goal.invariant-loop-place
 invariant-loop-place l = record {
   within : l.place ≤ length l.tokens + 1;
-  read : values_onto l.long (state_content l.state) (values_content l.entries.items l.run.items) (pieces_from l.place l.tokens)
-      ≡ values_onto l.long (state_content l.state) (no_value (map entry_content l.initial.entries.items)) (between_commas (map lexeme_of l.tokens));
+  scope : l.names.scope ≡ l.initial.names.scope;
+  grows : Grows l.initial.names l.names;
+  read : (r : Reading) → IsNaming r.naming l.names
+      → values_onto l.long (state_content l.initial.names.scope.text.now l.state) (values_content r l.entries.items l.run.items) (pieces_from l.place l.tokens)
+      ≡ values_onto l.long (state_content l.initial.names.scope.text.now l.state) (no_value (map (entry_content r) l.initial.entries.items)) (between_commas (map lexeme_of l.tokens));
 }
 
 abbrev pub decreases-loop-place : goal.decreases-loop-place

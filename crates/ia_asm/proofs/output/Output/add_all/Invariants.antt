@@ -5,9 +5,9 @@ use Rattle.ia_item.specs.Names.{same_name}
 use Rattle.ia_item.specs.Fits.{AllFit}
 use Rattle.ia_item.specs.declared.item.Section.TheVariants.{Text as InText, Data as InData}
 use Rattle.ia_resolve.specs.Symbols.{known}
-use Rattle.ia_layout.specs.Placement.{definition, section_bytes, places, after}
+use Rattle.ia_layout.specs.Placement.{section_bytes, places, after}
 use Rattle.ia_layout.specs.Contents.{layout_state}
-use Rattle.ia_asm.specs.Assemblies.{symbol_modulo}
+use Rattle.ia_asm.specs.Assemblies.{definition, symbol_modulo}
 use Rattle.ia_asm.proofs.output.Output.add_all.Given as goal
 
 abbrev pub invariant-loop-entry : goal.invariant-loop-entry

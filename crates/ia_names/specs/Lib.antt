@@ -1,0 +1,4 @@
+pub mod Locals
+pub mod Nodes
+pub mod Tries
+pub mod Namings

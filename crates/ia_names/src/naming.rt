@@ -1,0 +1,73 @@
+//! The symbols of names.
+
+use crate::cut::is_local;
+use crate::names::Names;
+use crate::numbering::descend;
+use ia_item::{Definition, Name, Scope, Symbol};
+use indexmap::IndexSet;
+use std::alloc::{AllocError, Global};
+
+impl<'a> Names<'a> {
+    ghost use Rattle.std.specs.Prelude.{◌≡◌, [], IfOk, OnOk};
+    ghost use Rattle.ia_item.specs.Names.{whole_name};
+    ghost use Rattle.ia_names.specs.Locals.{whole_of};
+    ghost use Rattle.ia_names.specs.Namings.{IsNamed, Grows};
+
+    /// No names yet, and no label.
+    #[tactic(auto, using(crate::proofs::Trees::bare))]
+    pub fn new(alloc: Global) -> Names<'a>
+        ensures { result.scope.text.now ≡ [] }
+    {
+        Names {
+            nodes: IndexSet::new(alloc),
+            number: 0,
+            scope: Scope::new(b""),
+        }
+    }
+
+    /// The symbol of a name behind the label.
+    pub fn symbol(&mut self, own: &'a [u8]) -> Result<Symbol, AllocError>
+        ensures scope { self.new.scope ≡ self.old.scope }
+        ensures grows { Grows self.old self.new }
+        ensures named { IfOk result (λ s. IsNamed self.new s (whole_of self.old.scope.text.now own.now)) }
+    {
+        let from = if is_local(own) { self.number } else { 0 };
+        let number = descend(&mut self.nodes, from, own)?;
+        Ok(Symbol { number })
+    }
+
+    /// The name of a name behind the label, as it is written.
+    fn name(&self, own: &'a [u8]) -> Name<'a>
+        ensures { whole_name result ≡ whole_of self.now.scope.text.now own.now }
+    {
+        if is_local(own) {
+            Name::local(&self.scope, own)
+        } else {
+            Name::new(own)
+        }
+    }
+
+    /// A name behind the label, and its symbol.
+    pub fn definition(&mut self, own: &'a [u8]) -> Result<Definition<'a>, AllocError>
+        ensures scope { self.new.scope ≡ self.old.scope }
+        ensures grows { Grows self.old self.new }
+        ensures name { IfOk result (λ d. whole_name d.name ≡ whole_of self.old.scope.text.now own.now) }
+        ensures named { IfOk result (λ d. IsNamed self.new d.symbol (whole_of self.old.scope.text.now own.now)) }
+    {
+        let symbol = self.symbol(own)?;
+        Ok(Definition {
+            name: self.name(own),
+            symbol,
+        })
+    }
+
+    /// Goes on behind this label, whose symbol that is.
+    pub fn enter(&mut self, own: &'a [u8], symbol: Symbol)
+        requires { IsNamed self.old symbol own.now }
+        ensures scope { self.new.scope.text.now ≡ own.now }
+        ensures grows { Grows self.old self.new }
+    {
+        self.number = symbol.number;
+        self.scope = Scope::new(own);
+    }
+}
