@@ -1,9 +1,11 @@
 -- What a subcommand asks for, by the values that were found of its options. The names are those of the command line
 -- (docs/FORMATS.md, "Options of the command line").
-use Rattle.std.specs.Prelude.{◌≡◌, ℕ, Bool, false, true, List, Some, None, codes}
+use Rattle.std.specs.Prelude.{◌≡◌, ℕ, Bool, false, true, List, [], map, Option, Some, None, codes}
 use Rattle.std.specs.Option.{option_copied}
-use Rattle.clap.specs.Matches.{first_value, one_text}
+use Rattle.std.specs.Borrow.{Bor}
+use Rattle.clap.specs.Matches.{first_value, matched_of, one_text, raw_values}
 use Rattle.clap.specs.declared.parser.matches.Found.{Found}
+use Rattle.clap.specs.declared.parser.matches.MatchedArg.{MatchedArg}
 use Rattle.elide_args.specs.declared.subcommand.DrawOptions.{DrawOptions}
 use Rattle.elide_args.specs.declared.subcommand.MachineOptions.{MachineOptions}
 use Rattle.elide_args.specs.declared.subcommand.OutcomesOptions.{OutcomesOptions}
@@ -21,6 +23,17 @@ pub record IsFlag (found : Found) (name : List ℕ) (flag : Bool) : Type 0 where
   pub given : one_text found name ≡ Some (codes "true") → flag ≡ true
   pub other : one_text found name ≡ Some (codes "false") → flag ≡ false
 
+-- the values of an option that is given several times
+abbrev pub matched_values : Option MatchedArg → List (List ℕ)
+matched_values None = []
+matched_values (Some matched) = raw_values matched
+
+abbrev pub values_of : Found → List ℕ → List (List ℕ)
+values_of found name = matched_values (matched_of found name)
+
+abbrev pub texts_of : List (Bor (List ℕ)) → List (List ℕ)
+texts_of texts = map (λ s. s.now) texts
+
 pub record IsMachine (found : Found) (options : MachineOptions) : Type 0 where
   pub file : first_value found (codes "FILE") ≡ Some options.file.now
   pub cores : first_value found (codes "cores") ≡ option_copied options.cores
@@ -28,7 +41,16 @@ pub record IsMachine (found : Found) (options : MachineOptions) : Type 0 where
   pub entry : first_value found (codes "entry") ≡ option_copied options.entry
   pub reads : first_value found (codes "reads") ≡ option_copied options.reads
   pub writes : first_value found (codes "writes") ≡ option_copied options.writes
-  pub dump : first_value found (codes "dump") ≡ option_copied options.dump
+
+-- what is printed of memory: the values of both options, in the order of the command line
+pub record IsShown (found : Found) (options : MachineOptions) : Type 0 where
+  pub dumps : texts_of options.dumps.items ≡ values_of found (codes "dump")
+  pub shows : texts_of options.shows.items ≡ values_of found (codes "show")
+
+-- a command that prints no state prints nothing of memory
+pub record ShowsNothing (options : MachineOptions) : Type 0 where
+  pub dumps : options.dumps.items ≡ []
+  pub shows : options.shows.items ≡ []
 
 pub record IsSchedule (found : Found) (options : ScheduleOptions) : Type 0 where
   pub steps : first_value found (codes "steps") ≡ option_copied options.steps
@@ -38,6 +60,7 @@ pub record IsSchedule (found : Found) (options : ScheduleOptions) : Type 0 where
 
 pub record IsWork (found : Found) (options : ThreadsOptions) : Type 0 where
   pub machine : IsMachine found options.machine
+  pub shown : IsShown found options.machine
   pub budget : first_value found (codes "budget") ≡ option_copied options.budget
   pub burst : first_value found (codes "burst") ≡ option_copied options.burst
   pub explains : IsFlag found (codes "why") options.explains
@@ -47,21 +70,25 @@ pub record IsWork (found : Found) (options : ThreadsOptions) : Type 0 where
 
 pub record IsSearch (found : Found) (options : OutcomesOptions) : Type 0 where
   pub machine : IsMachine found options.machine
+  pub nothing : ShowsNothing options.machine
   pub show : first_value found (codes "show") ≡ option_copied options.show
   pub limit : first_value found (codes "limit") ≡ option_copied options.limit
 
 pub record IsCounting (found : Found) (options : StatsOptions) : Type 0 where
   pub machine : IsMachine found options.machine
+  pub nothing : ShowsNothing options.machine
   pub schedule : IsSchedule found options.schedule
   pub path : first_value found (codes "record") ≡ option_copied options.«record»
   pub json : IsFlag found (codes "json") options.is_json
 
 pub record IsSession (found : Found) (options : SessionOptions) : Type 0 where
   pub machine : IsMachine found options.machine
+  pub shown : IsShown found options.machine
   pub schedule : IsSchedule found options.schedule
 
 pub record IsPicture (found : Found) (options : DrawOptions) : Type 0 where
   pub machine : IsMachine found options.machine
+  pub nothing : ShowsNothing options.machine
   pub schedule : IsSchedule found options.schedule
   pub path : first_value found (codes "record") ≡ option_copied options.«record»
   pub from : first_value found (codes "from") ≡ option_copied options.from
@@ -75,13 +102,15 @@ Asks found name (Dis options) =
     (name ≡ codes "dis") × (first_value found (codes "FILE") ≡ Some options.file.now)
     × IsFlag found (codes "labels") options.shows_labels
 Asks found name (Run options) =
-    (name ≡ codes "run") × IsMachine found options.machine × IsSchedule found options.schedule
+    (name ≡ codes "run") × IsMachine found options.machine × IsShown found options.machine
+    × IsSchedule found options.schedule
 Asks found name (Threads options) = (name ≡ codes "threads") × IsWork found options
 Asks found name (Replay options) =
-    (name ≡ codes "replay") × IsMachine found options.machine × IsSchedule found options.schedule
+    (name ≡ codes "replay") × IsMachine found options.machine × IsShown found options.machine
+    × IsSchedule found options.schedule
 Asks found name (Debug options) = (name ≡ codes "debug") × IsSession found options
 Asks found name (Gdb options) = (name ≡ codes "gdb") × IsSession found options
-Asks found name (Hunt options) = (name ≡ codes "hunt") × IsMachine found options.machine
+Asks found name (Hunt options) = (name ≡ codes "hunt") × IsMachine found options.machine × ShowsNothing options.machine
 Asks found name (Outcomes options) = (name ≡ codes "outcomes") × IsSearch found options
 Asks found name (Stats options) = (name ≡ codes "stats") × IsCounting found options
 Asks found name (Draw options) = (name ≡ codes "draw") × IsPicture found options

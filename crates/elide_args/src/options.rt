@@ -92,8 +92,14 @@ pub const WRITES: OptionText = OptionText {
 
 pub const DUMP: OptionText = OptionText {
     name: "dump",
-    form: Form::Value("ADDRESS:BYTES"),
-    help: "Prints this part of memory after the cores",
+    form: Form::Several("AT:BYTES"),
+    help: "Prints this part of memory after the cores; AT is a sum of symbols and numbers, as `table+8`",
+};
+
+pub const SHOW_VALUE: OptionText = OptionText {
+    name: "show",
+    form: Form::Several("AT"),
+    help: "Prints the doubleword there after the cores, in hex and decimal; AT is a sum of symbols and numbers",
 };
 
 pub const STEPS: OptionText = OptionText {

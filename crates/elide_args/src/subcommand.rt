@@ -59,7 +59,7 @@ pub struct DisOptions<'a> {
 }
 
 /// The options of `run`.
-#[derive(Clone, Copy, Debug)]
+#[derive(Debug, Drop)]
 pub struct RunOptions<'a> {
     /// The machine.
     pub machine: MachineOptions<'a>,
@@ -76,7 +76,7 @@ pub struct RunOptions<'a> {
 }
 
 /// The options of `threads`.
-#[derive(Clone, Copy, Debug)]
+#[derive(Debug, Drop)]
 pub struct ThreadsOptions<'a> {
     /// The machine.
     pub machine: MachineOptions<'a>,
@@ -95,7 +95,7 @@ pub struct ThreadsOptions<'a> {
 }
 
 /// The options of `replay`.
-#[derive(Clone, Copy, Debug)]
+#[derive(Debug, Drop)]
 pub struct ReplayOptions<'a> {
     /// The machine.
     pub machine: MachineOptions<'a>,
@@ -108,7 +108,7 @@ pub struct ReplayOptions<'a> {
 }
 
 /// The options of `debug` and of `gdb`.
-#[derive(Clone, Copy, Debug)]
+#[derive(Debug, Drop)]
 pub struct SessionOptions<'a> {
     /// The machine.
     pub machine: MachineOptions<'a>,
@@ -124,7 +124,7 @@ pub struct ExplainOptions<'a> {
 }
 
 /// The options of `outcomes`.
-#[derive(Clone, Copy, Debug)]
+#[derive(Debug, Drop)]
 pub struct OutcomesOptions<'a> {
     /// The machine.
     pub machine: MachineOptions<'a>,
@@ -135,7 +135,7 @@ pub struct OutcomesOptions<'a> {
 }
 
 /// The options of `stats`.
-#[derive(Clone, Copy, Debug)]
+#[derive(Debug, Drop)]
 pub struct StatsOptions<'a> {
     /// The machine.
     pub machine: MachineOptions<'a>,
@@ -148,7 +148,7 @@ pub struct StatsOptions<'a> {
 }
 
 /// The options of `draw`.
-#[derive(Clone, Copy, Debug)]
+#[derive(Debug, Drop)]
 pub struct DrawOptions<'a> {
     /// The machine.
     pub machine: MachineOptions<'a>,
@@ -165,7 +165,7 @@ pub struct DrawOptions<'a> {
 }
 
 /// The options of each command that makes a machine, of which only FILE is there for certain.
-#[derive(Clone, Copy, Debug)]
+#[derive(Debug, Drop)]
 pub struct MachineOptions<'a> {
     /// The path of the program.
     pub file: &'a str,
@@ -179,8 +179,10 @@ pub struct MachineOptions<'a> {
     pub reads: Option<&'a str>,
     /// `--writes`.
     pub writes: Option<&'a str>,
-    /// `--dump`.
-    pub dump: Option<&'a str>,
+    /// `--dump`, in the order of the command line.
+    pub dumps: Vec<&'a str>,
+    /// `--show` of a run, in the order of the command line.
+    pub shows: Vec<&'a str>,
 }
 
 /// The options that give a schedule, of which a command takes exactly one; `debug` and `gdb` take none, too.

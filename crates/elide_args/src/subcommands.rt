@@ -3,8 +3,8 @@
 use crate::options::{
     BUDGET, BURST, CHECK, COLOR, CORE, CORES, COUNTS, COUNTS_JSON, DUMP, ENTRY, EXPECT_HALT, FAULT,
     FILE, FROM, IN_TURN, JOBS, JSON, LABELS, LIMIT, LIST, MEM, METHOD, OptionText, RANDOM, READS,
-    RECORD, RECORD_FIRST, RUNS, SCHEDULE, SEED, SHOW, SOURCE, STATES, STEPS, STOP, TO, TRACE, WHY,
-    WRITES,
+    RECORD, RECORD_FIRST, RUNS, SCHEDULE, SEED, SHOW, SHOW_VALUE, SOURCE, STATES, STEPS, STOP, TO,
+    TRACE, WHY, WRITES,
 };
 
 /// A subcommand.
@@ -51,6 +51,7 @@ const RUN: SubcommandText = SubcommandText {
         READS,
         WRITES,
         DUMP,
+        SHOW_VALUE,
         STEPS,
         SCHEDULE,
         TRACE,
@@ -76,6 +77,7 @@ const THREADS: SubcommandText = SubcommandText {
         READS,
         WRITES,
         DUMP,
+        SHOW_VALUE,
         BUDGET,
         BURST,
         WHY,
@@ -91,8 +93,8 @@ const REPLAY: SubcommandText = SubcommandText {
     about: "Runs a schedule, compares it with a serial run on one memory, and prints the state and `agree` or `differ`",
     example: "Example: elide replay examples/conflict.img --cores 2 --steps \"0 0 1 1 0 0 0 1\"",
     options: &[
-        FILE, CORES, MEM, ENTRY, READS, WRITES, DUMP, STEPS, SCHEDULE, WHY, IN_TURN, RANDOM, LIMIT,
-        RECORD, COLOR,
+        FILE, CORES, MEM, ENTRY, READS, WRITES, DUMP, SHOW_VALUE, STEPS, SCHEDULE, WHY, IN_TURN,
+        RANDOM, LIMIT, RECORD, COLOR,
     ],
 };
 

@@ -1,8 +1,9 @@
 //! The subcommand that words make.
 
-ghost use Rattle.std.specs.Prelude.{◌≡◌, IfSome, Some, codes};
+ghost use Rattle.std.specs.Prelude.{◌≡◌, IfOk, IfSome, Some, codes};
 ghost use Rattle.clap.specs.Matches.{first_value, found_of};
-ghost use Rattle.elide_args.specs.Asked.{Asks, IsCounting, IsMachine, IsPicture, IsSchedule, IsSession, IsWork};
+ghost use Rattle.elide_args.specs.Asked.{Asks, IsCounting, IsMachine, IsPicture, IsSchedule, IsSession, IsShown, IsWork};
+ghost use Rattle.elide_args.specs.Asked.{ShowsNothing, texts_of, values_of};
 
 use crate::hunt_options::HuntOptions;
 use crate::line::command_line;
@@ -103,10 +104,15 @@ fn any_named<'a>(alloc: Global, name: &str, options: &ArgMatches<'a>) -> Option<
         let fault = options.get_str("FAULT");
         return Some(Subcommand::Explain(ExplainOptions { fault }));
     }
-    subcommand_named(name, options)
+    subcommand_named(alloc, name, options)
 }
 
-fn subcommand_named<'a>(name: &str, options: &ArgMatches<'a>) -> Option<Subcommand<'a>>
+// The same but for those of several values of their own. None, too, where there is no memory.
+fn subcommand_named<'a>(
+    alloc: Global,
+    name: &str,
+    options: &ArgMatches<'a>,
+) -> Option<Subcommand<'a>>
     ensures { IfSome result (Asks (found_of options.now) name.now) }
 {
     let file = options.get_str("FILE")?;
@@ -120,29 +126,29 @@ fn subcommand_named<'a>(name: &str, options: &ArgMatches<'a>) -> Option<Subcomma
             shows_labels: options.get_flag("labels"),
         })),
         "run" => Some(Subcommand::Run(RunOptions {
-            machine: machine_of(file, options),
+            machine: shown_machine_of(alloc, file, options)?,
             schedule: schedule_of(options),
             traces: options.get_flag("trace"),
             explains: options.get_flag("why"),
             expects_halt: options.get_flag("expect-halt"),
             record: options.get_str("record"),
         })),
-        "threads" => Some(Subcommand::Threads(threads_of(file, options))),
+        "threads" => Some(Subcommand::Threads(threads_of(alloc, file, options)?)),
         "replay" => Some(Subcommand::Replay(ReplayOptions {
-            machine: machine_of(file, options),
+            machine: shown_machine_of(alloc, file, options)?,
             schedule: schedule_of(options),
             explains: options.get_flag("why"),
             record: options.get_str("record"),
         })),
-        "debug" => Some(Subcommand::Debug(session_of(file, options))),
-        "gdb" => Some(Subcommand::Gdb(session_of(file, options))),
+        "debug" => Some(Subcommand::Debug(session_of(alloc, file, options)?)),
+        "gdb" => Some(Subcommand::Gdb(session_of(alloc, file, options)?)),
         "outcomes" => Some(Subcommand::Outcomes(OutcomesOptions {
-            machine: machine_of(file, options),
+            machine: machine_of(alloc, file, options),
             show: options.get_str("show"),
             limit: options.get_str("limit"),
         })),
-        "stats" => Some(Subcommand::Stats(stats_of(file, options))),
-        "draw" => Some(Subcommand::Draw(draw_of(file, options))),
+        "stats" => Some(Subcommand::Stats(stats_of(alloc, file, options))),
+        "draw" => Some(Subcommand::Draw(draw_of(alloc, file, options))),
         _ => None,
     }
 }
@@ -156,7 +162,7 @@ fn hunt_of<'a>(
         return Ok(None);
     };
     Ok(Some(HuntOptions {
-        machine: machine_of(file, options),
+        machine: machine_of(alloc, file, options),
         checks: several_of(alloc, options, "check")?,
         stops: several_of(alloc, options, "stop")?,
         expects_halt: options.get_flag("expect-halt"),
@@ -174,56 +180,66 @@ fn several_of<'a>(
     alloc: Global,
     options: &ArgMatches<'a>,
     name: &str,
-) -> Result<Vec<&'a str>, AllocError> {
+) -> Result<Vec<&'a str>, AllocError>
+    ensures { IfOk result (λ values. texts_of values.items ≡ values_of (found_of options.now) name.now) }
+{
     match options.get_strs(name) {
         Some(values) => Vec::from_slice(alloc, values),
         None => Ok(Vec::new(alloc)),
     }
 }
 
-fn threads_of<'a>(file: &'a str, options: &ArgMatches<'a>) -> ThreadsOptions<'a>
+fn threads_of<'a>(
+    alloc: Global,
+    file: &'a str,
+    options: &ArgMatches<'a>,
+) -> Option<ThreadsOptions<'a>>
     requires { first_value (found_of options.now) (codes "FILE") ≡ Some file.now }
-    ensures { IsWork (found_of options.now) result }
+    ensures { IfSome result (IsWork (found_of options.now)) }
 {
-    ThreadsOptions {
-        machine: machine_of(file, options),
+    Some(ThreadsOptions {
+        machine: shown_machine_of(alloc, file, options)?,
         budget: options.get_str("budget"),
         burst: options.get_str("burst"),
         explains: options.get_flag("why"),
         counts: options.get_flag("stats"),
         is_json: options.get_flag("json"),
         record: options.get_str("record"),
-    }
+    })
 }
 
-fn stats_of<'a>(file: &'a str, options: &ArgMatches<'a>) -> StatsOptions<'a>
+fn stats_of<'a>(alloc: Global, file: &'a str, options: &ArgMatches<'a>) -> StatsOptions<'a>
     requires { first_value (found_of options.now) (codes "FILE") ≡ Some file.now }
     ensures { IsCounting (found_of options.now) result }
 {
     StatsOptions {
-        machine: machine_of(file, options),
+        machine: machine_of(alloc, file, options),
         schedule: schedule_of(options),
         record: options.get_str("record"),
         is_json: options.get_flag("json"),
     }
 }
 
-fn session_of<'a>(file: &'a str, options: &ArgMatches<'a>) -> SessionOptions<'a>
+fn session_of<'a>(
+    alloc: Global,
+    file: &'a str,
+    options: &ArgMatches<'a>,
+) -> Option<SessionOptions<'a>>
     requires { first_value (found_of options.now) (codes "FILE") ≡ Some file.now }
-    ensures { IsSession (found_of options.now) result }
+    ensures { IfSome result (IsSession (found_of options.now)) }
 {
-    SessionOptions {
-        machine: machine_of(file, options),
+    Some(SessionOptions {
+        machine: shown_machine_of(alloc, file, options)?,
         schedule: schedule_of(options),
-    }
+    })
 }
 
-fn draw_of<'a>(file: &'a str, options: &ArgMatches<'a>) -> DrawOptions<'a>
+fn draw_of<'a>(alloc: Global, file: &'a str, options: &ArgMatches<'a>) -> DrawOptions<'a>
     requires { first_value (found_of options.now) (codes "FILE") ≡ Some file.now }
     ensures { IsPicture (found_of options.now) result }
 {
     DrawOptions {
-        machine: machine_of(file, options),
+        machine: machine_of(alloc, file, options),
         schedule: schedule_of(options),
         record: options.get_str("record"),
         from: options.get_str("from"),
@@ -232,9 +248,11 @@ fn draw_of<'a>(file: &'a str, options: &ArgMatches<'a>) -> DrawOptions<'a>
     }
 }
 
-fn machine_of<'a>(file: &'a str, options: &ArgMatches<'a>) -> MachineOptions<'a>
+// The machine of a command that prints nothing of memory.
+fn machine_of<'a>(alloc: Global, file: &'a str, options: &ArgMatches<'a>) -> MachineOptions<'a>
     requires { first_value (found_of options.now) (codes "FILE") ≡ Some file.now }
-    ensures { IsMachine (found_of options.now) result }
+    ensures machine { IsMachine (found_of options.now) result }
+    ensures shown { ShowsNothing result }
 {
     MachineOptions {
         file,
@@ -243,8 +261,25 @@ fn machine_of<'a>(file: &'a str, options: &ArgMatches<'a>) -> MachineOptions<'a>
         entry: options.get_str("entry"),
         reads: options.get_str("reads"),
         writes: options.get_str("writes"),
-        dump: options.get_str("dump"),
+        dumps: Vec::new(alloc),
+        shows: Vec::new(alloc),
     }
+}
+
+// The machine of a command that prints of memory what it is asked for. None, where there is no memory for that list.
+fn shown_machine_of<'a>(
+    alloc: Global,
+    file: &'a str,
+    options: &ArgMatches<'a>,
+) -> Option<MachineOptions<'a>>
+    requires { first_value (found_of options.now) (codes "FILE") ≡ Some file.now }
+    ensures machine { IfSome result (IsMachine (found_of options.now)) }
+    ensures shown { IfSome result (IsShown (found_of options.now)) }
+{
+    let mut machine = machine_of(alloc, file, options);
+    machine.dumps = several_of(alloc, options, "dump").ok()?;
+    machine.shows = several_of(alloc, options, "show").ok()?;
+    Some(machine)
 }
 
 fn schedule_of<'a>(options: &ArgMatches<'a>) -> ScheduleOptions<'a>
