@@ -2,3 +2,5 @@ pub mod Faults
 pub mod Files
 pub mod ProgramFile
 pub mod Settings
+pub mod Parts
+pub mod Sums

@@ -21,9 +21,11 @@ abbrev pub number_or : ℕ → Option (List ℕ) → Option ℕ
 number_or default None = Some default
 number_or default (Some word) = word32 word
 
--- the numbers of a machine are those that the options say
+-- the numbers of a machine are those that the options say, and what is printed of memory is what they ask for
 pub record AreSettings (options : MachineOptions) (settings : Settings) : Type 0 where
   pub cores : number_or 1 (option_copied options.cores) ≡ Some settings.cores
   pub memory : number_or 65536 (option_copied options.memory) ≡ Some settings.memory
   pub reads : number_or 512 (option_copied options.reads) ≡ Some settings.reads
   pub writes : number_or 512 (option_copied options.writes) ≡ Some settings.writes
+  pub dumps : settings.dumps.now ≡ options.dumps.items
+  pub shows : settings.shows.now ≡ options.shows.items

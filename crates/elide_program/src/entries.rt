@@ -61,7 +61,7 @@ fn entry_of(word: &str) -> Option<Entry<'_>> {
 fn address_of(word: &str, file: &ProgramFile<'_>) -> Result<u32, ProgramRefusal> {
     let address = match entry_of(word) {
         Some(Entry::Address(address)) => Some(address),
-        Some(Entry::Symbol(name)) => file.symbol(name),
+        Some(Entry::Symbol(name)) => file.symbol(name.as_bytes()),
         None => None,
     };
     address.ok_or(ProgramRefusal::Usage("--entry"))

@@ -153,13 +153,13 @@ impl<'a> ProgramFile<'a> {
     }
 
     /// The address of a symbol of a source or an executable.
-    pub fn symbol(&self, name: &str) -> Option<u32>
+    pub fn symbol(&self, name: &[u8]) -> Option<u32>
         ensures { IsFileSymbol self.now name.now result }
     {
         match self {
             ProgramFile::Image(_) => None,
-            ProgramFile::Elf(elf) => elf.symbol(name.as_bytes()),
-            ProgramFile::Source(program) => program.address(name.as_bytes()),
+            ProgramFile::Elf(elf) => elf.symbol(name),
+            ProgramFile::Source(program) => program.address(name),
         }
     }
 

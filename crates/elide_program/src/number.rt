@@ -10,7 +10,14 @@ use ia_lex::word_number;
 pub fn word32(word: &str) -> Option<u32>
     ensures { result ≡ word32 word.now }
 {
-    u32::try_from(word_number(word.as_bytes())?).ok()
+    number_in(word.as_bytes())
+}
+
+/// The same of bytes.
+pub fn number_in(word: &[u8]) -> Option<u32>
+    ensures { result ≡ word32 word.now }
+{
+    u32::try_from(word_number(word)?).ok()
 }
 
 /// Whether a word is a name: letters, digits, `_` and `.`, not beginning with a digit.

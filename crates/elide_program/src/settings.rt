@@ -7,16 +7,9 @@ ghost use Rattle.elide_program.specs.Settings.{number_or, number_said};
 use crate::entries::EntryList;
 use crate::fault::ProgramRefusal;
 use crate::number::word32;
+use crate::parts::is_dump;
+use crate::sums::is_sum;
 use elide_args::MachineOptions;
-
-/// A part of memory that is printed.
-#[derive(Clone, Copy, PartialEq, Eq, Debug)]
-pub struct Dump {
-    /// The address of its first byte.
-    pub address: u32,
-    /// How many bytes it has.
-    pub length: u32,
-}
 
 /// How many cores there are where `--cores` is not given.
 const CORES: u32 = 1;
@@ -40,8 +33,10 @@ pub struct Settings<'a> {
     pub reads: u32,
     /// How many lines a transaction can write.
     pub writes: u32,
-    /// What is printed of memory.
-    pub dump: Option<Dump>,
+    /// The parts of memory that are printed, each as `AT:BYTES`.
+    pub dumps: &'a [&'a str],
+    /// Where the doublewords stand that are printed.
+    pub shows: &'a [&'a str],
 }
 
 impl<'a> Settings<'a> {
@@ -49,7 +44,7 @@ impl<'a> Settings<'a> {
 
     /// Reads the options in the order in which their misuse is told. Where they are not given there is 1 core with a memory of
     /// 65536 bytes, and a transaction can read and write 512 lines.
-    pub fn read(options: &MachineOptions<'a>) -> Result<Settings<'a>, ProgramRefusal>
+    pub fn read(options: &'a MachineOptions<'a>) -> Result<Settings<'a>, ProgramRefusal>
         ensures { IfOk result (λ settings. AreSettings options.now settings) }
     {
         let cores = number_or(options.cores, CORES, "--cores")?;
@@ -57,14 +52,18 @@ impl<'a> Settings<'a> {
         let entries = entries_of(options.entry, cores)?;
         let reads = number_or(options.reads, LINES, "--reads")?;
         let writes = number_or(options.writes, LINES, "--writes")?;
-        let dump = dump_of(options.dump)?;
+        let dumps = options.dumps.as_slice();
+        let shows = options.shows.as_slice();
+        check_dumps(dumps)?;
+        check_shows(shows)?;
         Ok(Settings {
             cores,
             memory,
             entries,
             reads,
             writes,
-            dump,
+            dumps,
+            shows,
         })
     }
 }
@@ -108,20 +107,20 @@ fn entries_of<'a>(
     }
 }
 
-// The part of memory `ADDRESS:BYTES`, where the option is given.
-fn dump_of(text: Option<&str>) -> Result<Option<Dump>, ProgramRefusal> {
-    let Some(text) = text else {
-        return Ok(None);
-    };
-    match text.split_once(':').and_then(part_of) {
-        Some(dump) => Ok(Some(dump)),
-        None => Err(ProgramRefusal::Usage("--dump")),
+// Refuses parts of memory of another form.
+fn check_dumps(texts: &[&str]) -> Result<(), ProgramRefusal> {
+    if texts.iter().all(|text| is_dump(text)) {
+        Ok(())
+    } else {
+        Err(ProgramRefusal::Usage("--dump"))
     }
 }
 
-fn part_of(words: (&str, &str)) -> Option<Dump> {
-    Some(Dump {
-        address: word32(words.0)?,
-        length: word32(words.1)?,
-    })
+// Refuses places of doublewords of another form.
+fn check_shows(texts: &[&str]) -> Result<(), ProgramRefusal> {
+    if texts.iter().all(|text| is_sum(text)) {
+        Ok(())
+    } else {
+        Err(ProgramRefusal::Usage("--show"))
+    }
 }

@@ -1,38 +1,121 @@
 //! Sums of symbols and numbers.
 
+ghost use Rattle.std.specs.Prelude.{◌≡◌, ◌+◌, ◌%◌, ◌^◌, ◌++◌, ◌<◌, ◌≤◌, ℕ, false, length, slice_index, true};
+ghost use Rattle.elide_program.specs.Sums.{BeginsWithSign, HasNoSign, IsSum, IsSumBehind, IsTerm};
+ghost use Rattle.elide_program.specs.Sums.{IsTrimmedSum, is_sign, signed};
+
 use crate::file::ProgramFile;
-use crate::number::word32;
+use crate::number::number_in;
 
-/// The value of a sum or difference of a file's symbols and numbers, modulo 2^32; none where it has another form.
-pub fn sum_of(text: &str, file: &ProgramFile<'_>) -> Option<u32> {
+/// The value modulo 2^32 of a sum of a file's symbols and numbers: terms with `+` or `-` between them, of which the first may
+/// have one in front, too. None where a term is neither a number nor a symbol.
+pub fn sum_of(text: &str, file: &ProgramFile<'_>) -> Option<u32>
+    ensures { IsSum file.now text.now result }
+{
+    trimmed_sum(text.as_bytes().trim_ascii(), file)
+}
+
+// The same of a sum without the spaces around it.
+fn trimmed_sum(text: &[u8], file: &ProgramFile<'_>) -> Option<u32>
+    ensures { IsTrimmedSum file.now text.now result }
+{
+    match text {
+        [] => sum_behind(b'+', text, file),
+        [sign, rest @ ..] => {
+            if is_sign(*sign) {
+                sum_behind(*sign, rest, file)
+            } else {
+                sum_behind(b'+', text, file)
+            }
+        }
+    }
+}
+
+/// Whether a text has the form of a sum: each term is a number, or may be a symbol's name.
+pub fn is_sum(text: &str) -> bool {
+    let bytes = text.as_bytes().trim_ascii();
+    let behind = match bytes {
+        [sign, rest @ ..] if is_sign(*sign) => rest,
+        _ => bytes,
+    };
+    behind
+        .split(|byte| is_sign(*byte))
+        .all(|term| is_word(term.trim_ascii()))
+}
+
+// Whether a word is a number below 2^32, or may be a symbol's name.
+fn is_word(word: &[u8]) -> bool {
+    number_in(word).is_some() || word.first().is_some_and(|first| !first.is_ascii_digit())
+}
+
+// The value of what stands behind the first sign.
+fn sum_behind(first: u8, text: &[u8], file: &ProgramFile<'_>) -> Option<u32>
+    ensures { IsSumBehind file.now first text.now result }
+{
     let mut sum: u32 = 0;
-    for part in text.split('+') {
-        sum = sum.wrapping_add(difference_of(part, file)?);
+    let mut sign = first;
+    let mut rest = text;
+    'terms: loop {
+        let (term, others) = split_at_sign(rest);
+        sum = with_term(sum, sign, term_of(term, file)?);
+        match others {
+            [] => return Some(sum),
+            [next, more @ ..] => {
+                sign = *next;
+                rest = more;
+            }
+        }
     }
-    Some(sum)
 }
 
-// A term, and those that are taken away from it. The first may be left out where there are others.
-fn difference_of(text: &str, file: &ProgramFile<'_>) -> Option<u32> {
-    let Some((first, rest)) = text.split_once('-') else {
-        return term_of(text, file);
-    };
-    let mut difference = if first.trim().is_empty() {
-        0
+// A sum and a term with its sign.
+fn with_term(sum: u32, sign: u8, value: u32) -> u32
+    ensures { result ≡ (sum + signed sign value) % 2 ^ 32 }
+{
+    if sign == b'-' {
+        sum.wrapping_sub(value)
     } else {
-        term_of(first, file)?
-    };
-    for part in rest.split('-') {
-        difference = difference.wrapping_sub(term_of(part, file)?);
+        sum.wrapping_add(value)
     }
-    Some(difference)
 }
 
-// A number, or a symbol's address.
-fn term_of(text: &str, file: &ProgramFile<'_>) -> Option<u32> {
-    let word = text.trim();
-    match word32(word) {
+// The value of a number, or of a symbol.
+fn term_of(term: &[u8], file: &ProgramFile<'_>) -> Option<u32>
+    ensures { IsTerm file.now term.now result }
+{
+    let word = term.trim_ascii();
+    match number_in(word) {
         Some(number) => Some(number),
         None => file.symbol(word),
     }
+}
+
+// The bytes up to the first sign, and the others.
+fn split_at_sign(text: &[u8]) -> (&[u8], &[u8])
+    ensures whole { text.now ≡ result.0.now ++ result.1.now }
+    ensures term { HasNoSign result.0.now }
+    ensures others { BeginsWithSign result.1.now }
+{
+    let at = sign_at(text);
+    (&text[..at], &text[at..])
+}
+
+// Where the first sign stands, or the end.
+fn sign_at(text: &[u8]) -> usize
+    ensures bound { result ≤ length text.now }
+    ensures front { (k : ℕ) → k < result → is_sign (slice_index text.now k) ≡ false }
+    ensures sign { result < length text.now → is_sign (slice_index text.now result) ≡ true }
+{
+    for at in 0..text.len() {
+        if is_sign(text[at]) {
+            return at;
+        }
+    }
+    text.len()
+}
+
+fn is_sign(byte: u8) -> bool
+    ensures { result ≡ is_sign byte }
+{
+    byte == b'+' || byte == b'-'
 }

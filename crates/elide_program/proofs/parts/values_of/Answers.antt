@@ -1,0 +1,14 @@
+use Rattle.std.proofs.Common.{ℕ, List, [], Bor, slice_index_or, subst}
+use Rattle.elide_program.specs.Sums.{IsSum}
+use Rattle.elide_program.proofs.PartSteps.{one_value}
+use Rattle.elide_program.proofs.parts.values_of.Goals as goal
+
+abbrev empty : Bor (List ℕ)
+empty = record { ref_ptr = (0, 0); now = [] }
+
+pub loop-text-preserved : goal.loop-text-preserved
+loop-text-preserved c =
+    let is = subst (λ r. IsSum c.args.file.now (slice_index_or c.args.texts.now c.loop-text.text-index empty).now r)
+    c.in-Some.is c.sum_of.ensures in
+    one_value c.args.file.now c.args.texts.now _ _ c.loop-text.text-index empty _ c.loop-text-test.true c.loop-text.invariant is
+    c.in_ok-add.ensures
