@@ -1,2 +1,3 @@
 mod Decimal
 mod Held
+mod ShownTexts

@@ -23,7 +23,7 @@ pub use machine::{Setup, new_board, planned, prepared, scheduled};
 pub use plan::{Course, Drawn, Plan, limit_of};
 pub use progress::{Progress, Silent};
 pub use recorded::{record, record_path};
-pub use shown::{MemoryPart, part_of, print, show};
+pub use shown::{ShownMemory, print, show, shown_memory};
 pub use terminals::Terminals;
 pub use told::{push_back, push_front};
 pub use walk::StepMaker;

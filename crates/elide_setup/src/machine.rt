@@ -2,13 +2,15 @@
 
 ghost use Rattle.std.specs.Prelude.{◌≡◌, ◌≤◌, IfOk, length};
 ghost use Rattle.tm_hist.specs.Board.{IsNew};
+ghost use Rattle.elide_program.specs.Parts.{AreParts};
+ghost use Rattle.elide_program.specs.declared.file.ProgramFile.{ProgramFile};
 ghost use Rattle.elide_setup.specs.Setup.{IsAsked, IsSetup};
 
 use crate::fault::{Fault, Refusal};
 use crate::plan::{Course, Plan};
-use crate::shown::part_of;
+use crate::shown::shown_memory;
 use elide_args::{MachineOptions, ScheduleOptions};
-use elide_program::{Dump, Paths, ProgramFile, Settings, read_file};
+use elide_program::{MemoryParts, Paths, ProgramFile, Settings, read_file};
 use ia_image::Program;
 use std::alloc::Global;
 use tm_core::Limits;
@@ -22,7 +24,7 @@ pub struct Setup {
     /// How many lines a transaction can touch.
     pub limits: Limits,
     /// What is printed of memory.
-    pub dump: Option<Dump>,
+    pub parts: MemoryParts,
 }
 
 impl Setup {
@@ -32,15 +34,17 @@ impl Setup {
         settings: &Settings<'_>,
         file: &ProgramFile<'_>,
         starts: &[u32],
+        parts: MemoryParts,
     ) -> Result<Setup, Refusal>
         ensures { IfOk result (λ setup. (length starts.now ≤ 64 → length starts.now ≡ settings.now.cores)
-            → IsSetup settings.now setup) }
+            → AreParts file.now settings.now.dumps.now settings.now.shows.now parts
+            → IsSetup file.now settings.now setup) }
     {
         let program = file.load(alloc, settings, starts)?;
         Ok(Setup {
             program,
             limits: limits_of(settings),
-            dump: settings.dump,
+            parts,
         })
     }
 
@@ -50,10 +54,11 @@ impl Setup {
         settings: &Settings<'_>,
         file: &ProgramFile<'_>,
     ) -> Result<Setup, Refusal>
-        ensures { IfOk result (λ setup. IsSetup settings.now setup) }
+        ensures { IfOk result (IsSetup file.now settings.now) }
     {
         let starts = file.starts(alloc, settings)?;
-        Setup::load(alloc, settings, file, starts.as_slice())
+        let parts = MemoryParts::of_file(alloc, settings, file)?;
+        Setup::load(alloc, settings, file, starts.as_slice(), parts)
     }
 }
 
@@ -73,7 +78,7 @@ pub fn prepared<P: Paths>(
     settings: &Settings<'_>,
     paths: &mut P,
 ) -> Result<Setup, Refusal>
-    ensures { IfOk result (λ setup. IsSetup settings.now setup) }
+    ensures { IfOk result (λ setup. (file : ProgramFile) × IsSetup file settings.now setup) }
 {
     let text = read_file(path, paths)?;
     let file = ProgramFile::read(alloc, text.as_slice())?;
@@ -104,11 +109,12 @@ pub fn planned<P: Paths>(
     file: &ProgramFile<'_>,
     paths: &mut P,
 ) -> Result<(Setup, Course), Refusal>
-    ensures { IfOk result (λ r. IsSetup settings.now r.0) }
+    ensures { IfOk result (λ r. IsSetup file.now settings.now r.0) }
 {
     let starts = file.starts(alloc, settings)?;
+    let parts = MemoryParts::of_file(alloc, settings, file)?;
     let course = plan.course(alloc, paths)?;
-    let setup = Setup::load(alloc, settings, file, starts.as_slice())?;
+    let setup = Setup::load(alloc, settings, file, starts.as_slice(), parts)?;
     Ok((setup, course))
 }
 
@@ -118,7 +124,7 @@ pub fn new_board(alloc: Global, setup: &Setup, limit: u64) -> Result<Board, Refu
 {
     match Board::new(alloc, &setup.program, setup.limits, limit) {
         Ok(board) => {
-            part_of(board.machine().view(), setup.dump)?;
+            shown_memory(board.machine().view(), &setup.parts, &[])?;
             Ok(board)
         }
         Err(fault) => Err(Refusal::Fault(Fault::Board(fault))),

@@ -1,4 +1,4 @@
-use Rattle.std.proofs.Common.{◌≡◌, ◌∙◌, ◌<◌, ◌≤◌, ◌^◌, ◌++◌, ◌+◌, ◌%◌, ◌/◌, ap, sym, arith, append_assoc, length, [], ◌∷◌}
+use Rattle.std.proofs.Common.{◌∙◌, ◌++◌, ◌+◌, ◌%◌, ◌/◌, ap, sym, arith, append_assoc, [], ◌∷◌}
 use Rattle.std.proofs.lemmas.Fmt.{decimal_digit, decimal_step}
 use Rattle.std.specs.Fmt.{decimal}
 use Rattle.elide_setup.proofs.Decimal.{one_digit, one_more}

@@ -1,5 +1,4 @@
-use Rattle.std.proofs.Common.{◌≤◌, ◌^◌, ◌<◌, arith, length}
-use Rattle.std.specs.Fmt.{decimal}
+use Rattle.std.proofs.Common.{arith}
 use Rattle.elide_setup.proofs.Decimal.{at_most_twenty}
 use Rattle.elide_setup.proofs.told.push_place.Goals as goal
 
