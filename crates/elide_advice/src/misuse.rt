@@ -28,11 +28,18 @@ pub fn advise_misuse<O: Out>(
         ),
         ("--runs", _) => writeln!(page, "--runs takes a count K, or A..B with A below B"),
         ("--method", _) => writeln!(page, "--method takes uniform, bursts, pct or mix"),
-        ("--show", _) => writeln!(
+        ("--show", Subcommand::Outcomes(_)) => writeln!(
             page,
             "--show takes registers of cores and symbols, as 'eax@0 count'"
         ),
-        ("--dump", _) => writeln!(page, "--dump takes ADDRESS:BYTES, as 0x1000:4"),
+        ("--show", _) => writeln!(
+            page,
+            "--show takes a sum of numbers and of the program's symbols, as 'count' or 'table+8'"
+        ),
+        ("--dump", _) => writeln!(
+            page,
+            "--dump takes AT:BYTES, as 0x1000:4 or 'count:4'; AT is a sum of numbers and of the program's symbols"
+        ),
         ("--record", _) => writeln!(page, "--record takes another path than FILE"),
         ("--json", _) => writeln!(page, "--json goes with --stats"),
         ("--color", _) => writeln!(page, "--color takes auto, always or never"),

@@ -3,6 +3,7 @@
 ghost use Rattle.std.specs.Prelude.{◌≡◌, ◌↔◌, ◌++◌, ◌∷◌, [], IfOk, OnOk};
 ghost use Rattle.elide_replay.specs.Replayed.{IsReplayed, cores_stepped};
 ghost use Rattle.elide_replay.specs.Told.{agreement_text};
+ghost use Rattle.elide_setup.specs.Shown.{IsWhole};
 ghost use Rattle.tm_hist.specs.Board.{SameBoard};
 ghost use Rattle.tm_hist.specs.Replay.{Replays};
 
@@ -11,8 +12,8 @@ use elide_args::ReplayOptions;
 use elide_places::Places;
 use elide_program::Paths;
 use elide_setup::{
-    Course, Drawn, Fault, Gathered, MemoryPart, Progress, Refusal, Setup, part_of, print, record,
-    record_path, scheduled,
+    Course, Drawn, Fault, Gathered, Progress, Refusal, Setup, ShownMemory, print, record,
+    record_path, scheduled, shown_memory,
 };
 use elide_why::{scheduled_places, tell_history};
 use ia_text::Out;
@@ -25,7 +26,7 @@ use tm_pick::Going;
 const PORTION: u64 = 65536;
 
 /// Runs a schedule on a board, and its history again on one memory; prints the aborts with their reasons where they are
-/// asked for, the state, the dump, and whether both ended alike, which they always do: a board's history replays.
+/// asked for, the state, what is asked for of memory, and whether both ended alike, which they always do: a board's history replays.
 pub fn replay<P: Paths, O: Out, G: Progress>(
     alloc: Global,
     options: &ReplayOptions<'_>,
@@ -45,7 +46,8 @@ pub fn replay<P: Paths, O: Out, G: Progress>(
         path,
         places: places.as_ref(),
     };
-    compared(alloc, &setup, &board, &asked, paths, out, progress)
+    let sums = options.machine.shows.as_slice();
+    compared(alloc, &setup, &board, &asked, sums, paths, out, progress)
 }
 
 // What is asked for beside the state.
@@ -69,19 +71,20 @@ fn board_of<G: Progress>(
     }
 }
 
-// Runs the board's history again, and prints what is asked for and whether both ended alike.
+// Runs the board's history again, and prints what is asked for, of memory by these sums too, and whether both ended alike.
 fn compared<P: Paths, O: Out, G: Progress>(
     alloc: Global,
     setup: &Setup,
     board: &Board,
     asked: &Asked<'_>,
+    sums: &[&str],
     paths: &mut P,
     out: &mut O,
     progress: &mut G,
 ) -> Result<Agreement, Refusal>
     ensures { IfOk result (λ agreement. agreement ≡ Agreement.Agrees) }
 {
-    let part = part_of(board.machine().view(), setup.dump)?;
+    let memory = shown_memory(board.machine().view(), &setup.parts, sums)?;
     let serial = again(alloc, board)?;
     if asked.path.is_some() {
         record(asked.path, cores_of(alloc, board)?.as_slice(), paths)?;
@@ -90,7 +93,7 @@ fn compared<P: Paths, O: Out, G: Progress>(
     if let Some(places) = asked.places {
         tell_history(alloc, board, asked.file, places, &mut page, progress)?;
     }
-    let agreement = tell(board, &serial, part, &mut page)?;
+    let agreement = tell(board, &serial, memory, &mut page)?;
     page.finish()?;
     Ok(agreement)
 }
@@ -125,17 +128,18 @@ fn again(alloc: Global, board: &Board) -> Result<Serial, Refusal>
     }
 }
 
-// Prints the state, the dump, and whether both runs ended alike.
+// Prints the state, what is asked for of memory, and whether both runs ended alike.
 fn tell<O: Out>(
     board: &Board,
     serial: &Serial,
-    part: Option<MemoryPart<'_>>,
+    memory: ShownMemory<'_>,
     out: &mut O,
 ) -> Result<Agreement, Refusal>
+    requires { IsWhole memory }
     ensures { IfOk result (λ agreement. agreement ≡ Agreement.Agrees ↔ Replays board.now serial.now) }
 {
     let agreement = agreement_of(board, serial);
-    print(board.machine(), part, text_of(agreement), out)?;
+    print(board.machine(), memory, text_of(agreement), out)?;
     Ok(agreement)
 }
 

@@ -2,7 +2,7 @@
 
 use elide_args::RunOptions;
 use elide_program::Paths;
-use elide_setup::{Fault, Progress, Refusal, Setup, StepMaker, part_of, record_path};
+use elide_setup::{Fault, Progress, Refusal, Setup, StepMaker, record_path, shown_memory};
 use elide_why::{Teller, scheduled_places};
 use ia_text::Out;
 use std::alloc::Global;
@@ -28,7 +28,7 @@ pub fn run_explained<P: Paths, O: Out, G: Progress>(
     let machine = Machine::new(alloc, &setup.program, setup.limits);
     let mut machine = machine.map_err(Fault::Machine)?;
     course.check_cores(machine.cores())?;
-    part_of(machine.view(), setup.dump)?;
+    shown_memory(machine.view(), &setup.parts, &[])?;
     let cores = machine.cores();
     let mut telling = Telling {
         machine: &mut machine,

@@ -5,7 +5,8 @@ use crate::halting::{Ending, ending_of};
 use elide_args::RunOptions;
 use elide_program::Paths;
 use elide_setup::{
-    Fault, Gathered, Progress, Refusal, Setup, StepMaker, part_of, record_path, scheduled, show,
+    Fault, Gathered, Progress, Refusal, Setup, StepMaker, record_path, scheduled, show,
+    shown_memory,
 };
 use ia_text::Out;
 use std::alloc::Global;
@@ -13,7 +14,7 @@ use tm_core::{Machine, Outcome};
 use tm_hist::write_outcome;
 
 /// Runs a schedule of core steps, and prints the outcomes where they are asked for, the reasons of the aborts where these
-/// are, the state, and the dump; and where it is expected that all cores stop, those that did not.
+/// are, the state, and what is asked for of memory; and where it is expected that all cores stop, those that did not.
 pub fn run<P: Paths, O: Out, G: Progress>(
     alloc: Global,
     options: &RunOptions<'_>,
@@ -27,7 +28,7 @@ pub fn run<P: Paths, O: Out, G: Progress>(
     } else {
         run_plainly(alloc, options, paths, &mut page, progress)?
     };
-    tell(&machine, &setup, options.expects_halt, &mut page)
+    tell(&machine, &setup, options, &mut page)
 }
 
 // Makes a run's steps, and prints the outcomes where they are asked for.
@@ -44,7 +45,7 @@ fn run_plainly<P: Paths, O: Out, G: Progress>(
     let mut machine = machine.map_err(Fault::Machine)?;
     let cores = machine.cores();
     course.check_cores(cores)?;
-    part_of(machine.view(), setup.dump)?;
+    shown_memory(machine.view(), &setup.parts, &[])?;
     if options.traces {
         let mut tracing = Tracing {
             machine: &mut machine,
@@ -72,16 +73,20 @@ impl<O: Out> StepMaker for Tracing<'_, O> {
     }
 }
 
-// Prints the state and the dump, and the cores that have not stopped where they are asked for.
+// Prints the state and what is asked for of memory, and the cores that have not stopped where they are asked for.
 fn tell<O: Out>(
     machine: &Machine,
     setup: &Setup,
-    expects_halt: bool,
+    options: &RunOptions<'_>,
     page: &mut Gathered<'_, O>,
 ) -> Result<Ending, Refusal> {
-    let part = part_of(machine.view(), setup.dump)?;
-    show(machine, part, page)?;
-    let ending = if expects_halt {
+    let memory = shown_memory(
+        machine.view(),
+        &setup.parts,
+        options.machine.shows.as_slice(),
+    )?;
+    show(machine, memory, page)?;
+    let ending = if options.expects_halt {
         ending_of(machine, page)?
     } else {
         Ending::AsAsked

@@ -13,7 +13,7 @@ use crate::watch::Told;
 use elide_args::ThreadsOptions;
 use elide_places::Places;
 use elide_program::{Paths, ProgramFile, ProgramRefusal, Settings, number_of, read_file};
-use elide_setup::{Fault, Gathered, Progress, Refusal, Setup, new_board, part_of, print};
+use elide_setup::{Fault, Gathered, Progress, Refusal, Setup, new_board, print, shown_memory};
 use elide_stats::tell_counts;
 use elide_why::tell_history;
 use ia_text::Out;
@@ -25,7 +25,7 @@ use tm_work::{Burst, WorkFault, run_steadily};
 
 /// Runs each core on a thread of its own, writes the schedule that came about where it is asked for, and prints the aborts
 /// with their reasons where these are asked for, and then what the transactions came to, or where that is not asked for
-/// the state and the dump. While the cores run, `progress` is told how many steps the history has.
+/// the state and what is asked for of memory. While the cores run, `progress` is told how many steps the history has.
 pub fn threads<R: Threads + Wait + Sync + AllocGlobal, P: Paths, O: Out, G: Progress + Send>(
     rt: &R,
     options: &ThreadsOptions<'_>,
@@ -105,7 +105,7 @@ fn tell_run<O: Out, G: Progress>(
     if options.counts {
         tell_counts(alloc, board, file, options.is_json, &mut page, progress)?;
     } else {
-        tell(board, setup, &mut page)?;
+        tell(board, setup, options.machine.shows.as_slice(), &mut page)?;
     }
     page.finish()?;
     Ok(())
@@ -211,10 +211,10 @@ fn fault_of(fault: &WorkFault) -> Fault
     }
 }
 
-// Prints the state and the dump.
-fn tell<O: Out>(board: &Board, setup: &Setup, out: &mut O) -> Result<(), Refusal> {
+// Prints the state and what is asked for of memory.
+fn tell<O: Out>(board: &Board, setup: &Setup, sums: &[&str], out: &mut O) -> Result<(), Refusal> {
     let machine = board.machine();
-    let part = part_of(machine.view(), setup.dump)?;
-    print(machine, part, b"", out)?;
+    let memory = shown_memory(machine.view(), &setup.parts, sums)?;
+    print(machine, memory, b"", out)?;
     Ok(())
 }
