@@ -5,9 +5,9 @@ _elide_options() {
     case $1 in
     asm) echo '--help --list --color' ;;
     dis) echo '--help --labels --color' ;;
-    run) echo '--help --cores --mem --entry --reads --writes --dump --steps --schedule --trace --why --expect-halt --in-turn --random --limit --record --color' ;;
-    threads) echo '--help --cores --mem --entry --reads --writes --dump --budget --burst --why --stats --json --record --color' ;;
-    replay) echo '--help --cores --mem --entry --reads --writes --dump --steps --schedule --why --in-turn --random --limit --record --color' ;;
+    run) echo '--help --cores --mem --entry --reads --writes --dump --show --steps --schedule --trace --why --expect-halt --in-turn --random --limit --record --color' ;;
+    threads) echo '--help --cores --mem --entry --reads --writes --dump --show --budget --burst --why --stats --json --record --color' ;;
+    replay) echo '--help --cores --mem --entry --reads --writes --dump --show --steps --schedule --why --in-turn --random --limit --record --color' ;;
     debug) echo '--help --cores --mem --entry --reads --writes --dump --steps --schedule --in-turn --random --limit --color' ;;
     gdb) echo '--help --cores --mem --entry --reads --writes --steps --schedule --in-turn --random --limit --color' ;;
     hunt) echo '--help --cores --mem --entry --reads --writes --check --stop --expect-halt --runs --seed --method --limit --jobs --record --color' ;;
@@ -52,6 +52,7 @@ _elide_value() {
     'run --reads' | \
     'run --writes' | \
     'run --dump' | \
+    'run --show' | \
     'run --steps' | \
     'run --random' | \
     'run --limit' | \
@@ -61,6 +62,7 @@ _elide_value() {
     'threads --reads' | \
     'threads --writes' | \
     'threads --dump' | \
+    'threads --show' | \
     'threads --budget' | \
     'threads --burst' | \
     'replay --cores' | \
@@ -69,6 +71,7 @@ _elide_value() {
     'replay --reads' | \
     'replay --writes' | \
     'replay --dump' | \
+    'replay --show' | \
     'replay --steps' | \
     'replay --random' | \
     'replay --limit' | \

@@ -190,7 +190,7 @@ const SESSION: &str = "\
 73 OutOfRange
     A part of memory that is to be printed or checked passes the memory's end, or a core that is to be shown is not there;
     `error 73` of the debugger also where a count is not in its range.
-    To do: --dump takes ADDRESS:BYTES below --mem; run and next take 1 to 100000, mem 1 to 256, list 1 to 64;
+    To do: --dump takes AT:BYTES below --mem, --show four bytes; run and next take 1 to 100000, mem 1 to 256, list 1 to 64;
     back takes as many steps as were made, or fewer.
     Example: --dump 0xffff:2 of a memory of 65536 bytes
 74 LimitReached
