@@ -1,28 +1,32 @@
 -- A session of the debugger on the machine that the options say.
 use Rattle.std.specs.Prelude.{◌≡◌, ℕ, false, ◌&&◌, if◌then◌else◌, List, [], Option}
 use Rattle.ia_text.specs.Writing.{Device}
-use Rattle.tm_debug.specs.declared.manner.Manner.{Manner}
-use Rattle.tm_debug.specs.declared.manner.Manner.TheVariants.{Plain, Spoken}
+use Rattle.debug_command.specs.declared.manner.Manner.{Manner}
+use Rattle.debug_command.specs.declared.manner.Manner.TheVariants.{Plain, Spoken}
+use Rattle.debug_command.specs.declared.symbol.Symbol.{Symbol}
 use Rattle.tm_debug.specs.Serving.{BehindPrompt, ServesInput}
 use Rattle.tm_debug.specs.Session.{start_in}
 use Rattle.tm_hist.specs.Board.{ShownBoard as Board}
 use Rattle.elide_args.specs.declared.subcommand.SessionOptions.{SessionOptions}
 use Rattle.elide_session.specs.Opened.{IsOpened, is_scheduled}
+use Rattle.elide_session.specs.Symbols.{AreSymbolsIn}
 use Rattle.elide_setup.specs.declared.terminals.Terminals.{Terminals}
 
 -- a session is spoken where a person types its input and reads its output
 abbrev pub manner_at : Terminals → Manner
 manner_at terminals = if terminals.input && terminals.output then Spoken else Plain
 
--- what was written are the answers to the input with that board, along some plan, which has no step where no schedule is
--- asked for, and this is left of the input
-pub record IsServed (options : SessionOptions) (terminals : Terminals) (input left : Option (List ℕ))
+-- what was written are the answers to the input with that board, by the symbols of the program that the content of FILE is
+-- read as, along some plan, which has no step where no schedule is asked for, and this is left of the input
+pub record IsServed (options : SessionOptions) (terminals : Terminals) (content input left : Option (List ℕ))
     (old new : Device) : Type 0 where
   pub first : Board
   pub opened : IsOpened options.machine first
   pub last : Board
   pub plan : List ℕ
   pub planned : is_scheduled options.schedule ≡ false → plan ≡ []
+  pub symbols : List Symbol
+  pub named : AreSymbolsIn content symbols
   pub manner : Manner
   pub speaks : manner ≡ manner_at terminals
-  pub answers : BehindPrompt manner old (λ begun. ServesInput input left (start_in manner plan first) begun new last)
+  pub answers : BehindPrompt manner old (λ begun. ServesInput input left (start_in manner plan symbols first) begun new last)

@@ -28,11 +28,20 @@ pub fn debug<R: Wait, P: Paths, I: In, O: Out>(
     out: &mut O,
     terminals: Terminals,
 ) -> Result<(), Refusal>
-    ensures { OnOk result (IsServed options.now terminals (I.remaining input.old) (I.remaining input.new) (O.device out.old)
+    ensures { OnOk result (IsServed options.now terminals (P.content paths.old options.now.machine.file.now) (I.remaining input.old) (I.remaining input.new) (O.device out.old)
         (O.device out.new)) }
 {
-    let (board, plan) = opened(alloc, &options.machine, &options.schedule, paths)?;
-    match serve_in(rt, alloc, manner_at(terminals), plan, board, input, out) {
+    let start = opened(alloc, &options.machine, &options.schedule, paths)?;
+    match serve_in(
+        rt,
+        alloc,
+        manner_at(terminals),
+        start.plan,
+        start.symbols,
+        start.board,
+        input,
+        out,
+    ) {
         Ok(_board) => Ok(()),
         Err(fault) => Err(Refusal::Fault(session_fault(&fault))),
     }

@@ -24,8 +24,8 @@ pub fn gdb<R: Wait, P: Paths, I: In, O: Out>(
     input: &mut I,
     out: &mut O,
 ) -> Result<(), Refusal> {
-    let (board, plan) = opened(alloc, &options.machine, &options.schedule, paths)?;
-    match serve(rt, alloc, board, plan, input, out) {
+    let opened = opened(alloc, &options.machine, &options.schedule, paths)?;
+    match serve(rt, alloc, opened.board, opened.plan, input, out) {
         Ok(_board) => Ok(()),
         Err(fault) => Err(Refusal::Fault(session_fault(&fault))),
     }

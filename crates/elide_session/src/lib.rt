@@ -1,44 +1,66 @@
-//! What `elide debug` and `elide gdb` begin with: a board, and the schedule that a session goes along.
+//! What `elide debug` and `elide gdb` begin with: a board, the schedule that a session goes along, and the program's symbols.
 //!
 //! Promised: the board is that of the options before its first step, with room for 1,000,000 steps; where no schedule is asked for
-//! there is none; and the number of the fault that ends a session early. Which steps a schedule has is compared by `doc_tests`.
-//! Stands on `elide_setup` and, for what ends a session, on `tm_debug`.
+//! there is none; each name stands for what it stands for in FILE; and the number of the fault that ends a session early. Which
+//! steps a schedule has is compared by `doc_tests`. Stands on `elide_setup` and, for sessions, on `tm_debug`.
 #![tactic(auto)]
 
 ghost use Rattle.std.specs.Prelude.{◌≡◌, [], IfOk, false};
 ghost use Rattle.elide_session.specs.Opened.{IsOpened, is_scheduled};
+ghost use Rattle.elide_session.specs.Symbols.{AreSymbolsIn};
 ghost use Rattle.elide_setup.specs.Faults.{fault_number};
 ghost use Rattle.tm_debug.specs.Faults.{session_code};
 
+mod symbols;
+
 use elide_args::{MachineOptions, ScheduleOptions};
-use elide_program::{Paths, Settings};
-use elide_setup::{Course, Fault, Refusal, Setup, Silent, new_board, prepared, scheduled};
+use elide_program::{Paths, ProgramFile, Settings, read_file};
+use elide_setup::{Course, Fault, Plan, Refusal, Setup, Silent, new_board, planned};
 use std::alloc::Global;
+use symbols::symbols_of;
 use tm_core::Machine;
-use tm_debug::SessionFault;
+use tm_debug::{SessionFault, Symbol};
 use tm_hist::Board;
 
 /// How many steps a session can make.
 const MOST_STEPS: u64 = 1_000_000;
 
-/// The board of a machine before its first step, with room for 1,000,000 of them, and the core of each step of the schedule: none,
-/// where no schedule is asked for.
+/// What a session begins with.
+#[derive(Drop)]
+pub struct Opening {
+    /// The board of a machine before its first step, with room for 1,000,000 of them.
+    pub board: Board,
+    /// The core of each step of the schedule: none, where no schedule is asked for.
+    pub plan: Vec<u8>,
+    /// The symbols of the program.
+    pub symbols: Vec<Symbol>,
+}
+
+/// Reads FILE, loads it by the options, and reads the schedule, where one is asked for.
 pub fn opened<P: Paths>(
     alloc: Global,
     machine: &MachineOptions<'_>,
     schedule: &ScheduleOptions<'_>,
     paths: &mut P,
-) -> Result<(Board, Vec<u8>), Refusal>
-    ensures board { IfOk result (λ r. IsOpened machine.now r.0) }
-    ensures plan { IfOk result (λ r. is_scheduled schedule.now ≡ false → r.1.items ≡ []) }
+) -> Result<Opening, Refusal>
+    ensures board { IfOk result (λ r. IsOpened machine.now r.board) }
+    ensures plan { IfOk result (λ r. is_scheduled schedule.now ≡ false → r.plan.items ≡ []) }
+    ensures symbols { IfOk result (λ r. AreSymbolsIn (P.content paths.old machine.now.file.now) r.symbols.items) }
 {
     if is_scheduled(schedule) {
         return opened_scheduled(alloc, machine, schedule, paths);
     }
     let settings = Settings::read(machine)?;
-    let setup = prepared(alloc, machine.file, &settings, paths)?;
+    let text = read_file(machine.file, paths)?;
+    let file = ProgramFile::read(alloc, text.as_slice())?;
+    let setup = Setup::of_file(alloc, &settings, &file)?;
     let board = new_board(alloc, &setup, MOST_STEPS)?;
-    Ok((board, Vec::new(alloc)))
+    let symbols = symbols_of(alloc, &file)?;
+    Ok(Opening {
+        board,
+        plan: Vec::new(alloc),
+        symbols,
+    })
 }
 
 /// The fault that ended a session early. The board that comes with it is not asked for.
@@ -63,20 +85,30 @@ fn is_scheduled(schedule: &ScheduleOptions<'_>) -> bool
         || schedule.limit.is_some()
 }
 
-// The same as `opened`, where a schedule is asked for.
+// The same as `opened`, where a schedule is asked for. It is read before the program is loaded.
 fn opened_scheduled<P: Paths>(
     alloc: Global,
     machine: &MachineOptions<'_>,
     schedule: &ScheduleOptions<'_>,
     paths: &mut P,
-) -> Result<(Board, Vec<u8>), Refusal>
-    ensures board { IfOk result (λ r. IsOpened machine.now r.0) }
+) -> Result<Opening, Refusal>
+    ensures board { IfOk result (λ r. IsOpened machine.now r.board) }
+    ensures symbols { IfOk result (λ r. AreSymbolsIn (P.content paths.old machine.now.file.now) r.symbols.items) }
 {
-    let (setup, course) = scheduled(alloc, machine, schedule, paths)?;
+    let settings = Settings::read(machine)?;
+    let plan = Plan::read(alloc, schedule)?;
+    let text = read_file(machine.file, paths)?;
+    let file = ProgramFile::read(alloc, text.as_slice())?;
+    let (setup, course) = planned(alloc, &settings, plan, &file, paths)?;
     course.check_cores(setup.program.cores())?;
     let board = new_board(alloc, &setup, MOST_STEPS)?;
     let plan = plan_of(alloc, &setup, course)?;
-    Ok((board, plan))
+    let symbols = symbols_of(alloc, &file)?;
+    Ok(Opening {
+        board,
+        plan,
+        symbols,
+    })
 }
 
 // The core of each step of a schedule: of one that is drawn, as a run on a machine of its own draws it.

@@ -12,7 +12,7 @@ use std::test::Fail;
 use tm_core::Limits;
 use tm_debug::{
     CommandName, FromReader, In, MOST_BREAKPOINTS, Manner, Range, Refusal, Session, SessionFault,
-    serve, serve_in,
+    Symbol, serve, serve_in,
 };
 use tm_hist::Board;
 
@@ -123,7 +123,18 @@ fn answers_along<R: Abort + Wait>(
     let mut out = ToVec::new(Vec::new(alloc));
     let board = board(rt, alloc, &[0x100, 0x100], 100);
     let plan = Vec::from_slice(alloc, plan).expect(rt, "memory");
-    match serve_in(rt, alloc, Manner::Plain, plan, board, &mut input, &mut out) {
+    let symbols = Vec::new(alloc);
+    let served = serve_in(
+        rt,
+        alloc,
+        Manner::Plain,
+        plan,
+        symbols,
+        board,
+        &mut input,
+        &mut out,
+    );
+    match served {
         Ok(board) => assert_eq!(rt; board.made(), made),
         Err(fault) => assert!(rt; false, "fault {}", fault.code()),
     }
@@ -151,6 +162,76 @@ fn a_plan_ends(rt: HostRuntime) {
         b"break 0x106\nnext 5\nnext 100000\nnext 1\nnext 100001\nrun 1\n",
         b"ok\n0 begun\nbreak 0 00000106\n0 inside\n1 begun\nthe schedule has ended\nthe schedule has ended\nerror 73\n0 inside\nbye\n",
         4,
+    );
+}
+
+// Symbols of INCREMENT: some of its instructions, the counter, one that is named as a number is written, a second one of a name,
+// and one whose name has a sign.
+fn symbols(rt: &impl Abort, alloc: Global) -> Vec<Symbol> {
+    let named: [(&[u8], u32); 7] = [
+        (b"start", 0x100),
+        (b"start.load", 0x106),
+        (b"100h", 0x114),
+        (b"counter", 0x1000),
+        (b"start", 0x114),
+        (b"end", 0x115),
+        (b"end-1", 0x111),
+    ];
+    let mut symbols = Vec::new(alloc);
+    for (name, value) in named {
+        let name = Vec::from_slice(alloc, name).expect(rt, "memory");
+        symbols.push(Symbol { name, value }).expect(rt, "memory");
+    }
+    symbols
+}
+
+// With these symbols a session of one core answers these lines so.
+fn answers_by_symbols<R: Abort + Wait>(rt: &R, alloc: Global, lines: &[u8], text: &[u8]) {
+    let mut input = FromReader::new(Cursor::new(lines));
+    let mut out = ToVec::new(Vec::new(alloc));
+    let board = board(rt, alloc, &[0x100], 100);
+    let symbols = symbols(rt, alloc);
+    let served = serve_in(
+        rt,
+        alloc,
+        Manner::Plain,
+        Vec::new(alloc),
+        symbols,
+        board,
+        &mut input,
+        &mut out,
+    );
+    assert!(rt; served.is_ok());
+    assert_eq!(rt; out.bytes.as_slice(), text);
+}
+
+#[test]
+fn addresses_are_symbols(rt: HostRuntime) {
+    answers_by_symbols(
+        &rt,
+        rt.alloc(),
+        b"break start.load\nrun 9\nbreak start+0bh\nrun 9\nclear start.load+5\nrun 1\nmem counter 4\nlist end 1\nlist 100h 1\n",
+        b"ok\n0 begun\nbreak 0 00000106\nok\n0 inside\nbreak 0 0000010b\nok\n0 inside\n00001000 00000000\n00000115  f4                        hlt\n00000100  c7f80f000000              xbegin 0x115\nbye\n",
+    );
+}
+
+#[test]
+fn a_name_with_a_sign(rt: HostRuntime) {
+    answers_by_symbols(
+        &rt,
+        rt.alloc(),
+        b"list end-0x1 1\nlist end-1 1\nlist end-1+3 1\nmem counter-0x1000 1\n",
+        b"00000114  f4                        hlt\n00000111  0f01d5                    xend\n00000114  f4                        hlt\n00000000 00\nbye\n",
+    );
+}
+
+#[test]
+fn addresses_that_are_none(rt: HostRuntime) {
+    answers_by_symbols(
+        &rt,
+        rt.alloc(),
+        b"break lop\nclear START\nbreak start+\nbreak +4\nbreak start+x\nbreak start +4\nmem counter\nlist lop\nstep start\nmem 0 end\nbreak start-0x101\nbreak counter+0xfffff000\nmem counter+99999999999999999999 1\n",
+        b"error 71\nerror 71\nerror 71\nerror 71\nerror 71\nerror 71\nerror 71\nerror 71\nerror 71\nerror 71\nerror 73\nerror 73\nerror 73\nbye\n",
     );
 }
 
@@ -260,17 +341,19 @@ fn sixty_four_breakpoints(rt: HostRuntime) {
 fn a_spoken_session(rt: HostRuntime) {
     let mut lines = long_line(&rt, rt.alloc(), 257);
     lines
-        .extend_from_slice(b"\nstep 0\n\nhelp 1")
+        .extend_from_slice(b"\nstep 0\n\nhelp 1\nclear lop")
         .expect(&rt, "memory");
     let mut input = FromReader::new(Cursor::new(lines.as_slice()));
     let mut out = ToVec::new(Vec::new(rt.alloc()));
     let board = board(&rt, rt.alloc(), &[0x100], 1);
     let plan = Vec::new(rt.alloc());
+    let symbols = symbols(&rt, rt.alloc());
     let board = serve_in(
         &rt,
         rt.alloc(),
         Manner::Spoken,
         plan,
+        symbols,
         board,
         &mut input,
         &mut out,
@@ -279,7 +362,7 @@ fn a_spoken_session(rt: HostRuntime) {
     assert_eq!(rt; board.made(), 1);
     assert_eq!(rt;
         out.bytes.as_slice(),
-        b"elide> error 70: a line has at most 256 bytes\nelide> 0 begun\nelide> error 74: the session has made its most steps\nelide> elide> error 71: help stands alone\nelide> bye\n".as_slice()
+        b"elide> error 70: a line has at most 256 bytes\nelide> 0 begun\nelide> error 74: the session has made its most steps\nelide> elide> error 71: help stands alone\nelide> error 71: no such symbol; an address is a number, SYM, SYM+N or SYM-N\nelide> bye\n".as_slice()
     );
 }
 
@@ -304,6 +387,7 @@ fn refusals_have_numbers(rt: HostRuntime) -> Result<(), Fail> {
         (Refusal::UnknownCommand, 70, "UnknownCommand"),
         (Refusal::LongLine, 70, "LongLine"),
         (Refusal::BadArgument(CommandName::Mem), 71, "BadArgument"),
+        (Refusal::NoSuchSymbol, 71, "NoSuchSymbol"),
         (Refusal::NoSuchCore(2), 72, "NoSuchCore"),
         (Refusal::OutOfRange(Range::Lines), 73, "OutOfRange"),
         (Refusal::LimitReached, 74, "LimitReached"),

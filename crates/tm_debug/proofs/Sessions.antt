@@ -9,13 +9,14 @@ use Rattle.tm_debug.specs.declared.line.Line.{Line}
 use Rattle.tm_debug.specs.declared.line.Line.TheVariants as read
 use Rattle.tm_debug.specs.declared.session.Request.{Request}
 use Rattle.tm_debug.specs.declared.session.Request.TheVariants.{Do, Leave, Nothing, Refuse}
-use Rattle.tm_debug.specs.declared.command.Command.{Command}
-use Rattle.tm_debug.specs.declared.command.Command.TheVariants as command
-use Rattle.tm_debug.specs.declared.manner.Manner.{Manner}
-use Rattle.tm_debug.specs.declared.manner.Manner.TheVariants.{Plain, Spoken}
-use Rattle.tm_debug.specs.declared.refusal.Refusal.TheVariants.{LongLine}
-use Rattle.tm_debug.specs.Commands.{command_of}
-use Rattle.tm_debug.specs.Words.{first_word}
+use Rattle.debug_command.specs.declared.command.Command.{Command}
+use Rattle.debug_command.specs.declared.command.Command.TheVariants as command
+use Rattle.debug_command.specs.declared.manner.Manner.{Manner}
+use Rattle.debug_command.specs.declared.manner.Manner.TheVariants.{Plain, Spoken}
+use Rattle.debug_command.specs.declared.refusal.Refusal.TheVariants.{LongLine}
+use Rattle.debug_command.specs.Commands.{command_of}
+use Rattle.debug_command.specs.declared.symbol.Symbol.{Symbol}
+use Rattle.debug_command.specs.Words.{first_word}
 use Rattle.std.proofs.lemmas.Bool.{lt-ltb}
 use Rattle.tm_debug.specs.declared.interruption.Interruption.TheVariants as interruption
 use Rattle.tm_debug.specs.declared.state.Way.{Way}
@@ -24,12 +25,12 @@ use Rattle.tm_debug.specs.Session.{AnswersBroken, Ends, SessionValue, bye_line, 
 use Rattle.tm_debug.specs.Serving.{AnswersLines, BeginsLine, PromptedBroken, Responds, RespondsBroken, FailsToRead, FailsToWrite, FindsNoMemory, FirstLine, IsEnded, IsLine, LinesRead, Replies, RepliesBroken, ServesInput, WantsMemory, first_request, request_by, request_of}
 use Rattle.tm_debug.proofs.Bytewise.{GivesLine}
 
-went_more : (front : List (List ℕ)) (line : List ℕ) (p q s : SessionValue) (told answer : List ℕ) → AnswersLines front p told q → Replies (request_of line) q answer s → AnswersLines (front ++ line ∷ []) p (told ++ answer) s
+went_more : (front : List (List ℕ)) (line : List ℕ) (p q s : SessionValue) (told answer : List ℕ) → AnswersLines front p told q → Replies (request_of q.symbols line) q answer s → AnswersLines (front ++ line ∷ []) p (told ++ answer) s
 went_more [] line p q s told answer h r = record {
   between = s;
   answer = answer;
   others = [];
-  replies = subst (λ (x : SessionValue). Replies (request_of line) x answer s) h.1 r;
+  replies = subst (λ (x : SessionValue). Replies (request_of x.symbols line) x answer s) h.1 r;
   go_on = (refl, refl);
   whole = ap (λ l. l ++ answer) h.0 ∙ sym (append-nil answer);
 }
@@ -97,10 +98,10 @@ serving_new given failed p d = record {
   known = λ xs e. record { front = []; told = []; rest = xs; went = (refl, refl); wrote = wrote_none d; is_left = e; split = refl; bytes = []; parted = refl; closed = inr (λ zs. refl) };
 }
 
-abbrev pub Requests : Request → Line → Type 0
-Requests request line = ((text : List ℕ) → IsLine text line → request ≡ request_of text) × (line ≡ read.End → request ≡ Leave)
+abbrev pub Requests : List Symbol → Request → Line → Type 0
+Requests symbols request line = ((text : List ℕ) → IsLine text line → request ≡ request_of symbols text) × (line ≡ read.End → request ≡ Leave)
 
-pub serving_more : {a b c : Option (List ℕ)} {f g h : ℕ} {d0 d1 d2 : Device} (p q s : SessionValue) (line : Line) (request : Request) → Serving a b f g p q d0 d1 → GivesLine b c line → h ≡ g → Requests request line → (request ≡ Leave → ⊥) →
+pub serving_more : {a b c : Option (List ℕ)} {f g h : ℕ} {d0 d1 d2 : Device} (p q s : SessionValue) (line : Line) (request : Request) → Serving a b f g p q d0 d1 → GivesLine b c line → h ≡ g → Requests q.symbols request line → (request ≡ Leave → ⊥) →
     (text : List ℕ) × Replies request q text s × Wrote d1 d2 text → Serving a c f h p s d0 d2
 serving_more p q s line request so_far gives same requests stays done = record {
   failed = same ∙ so_far.failed;
@@ -126,16 +127,16 @@ serving_more p q s line request so_far gives same requests stays done = record {
 }
 
 -- the lines that were answered, and the one that was read then
-record Taken (xs : List ℕ) (left : Option (List ℕ)) (front : List (List ℕ)) (request : Request) : Type 0 where
+record Taken (symbols : List Symbol) (xs : List ℕ) (left : Option (List ℕ)) (front : List (List ℕ)) (request : Request) : Type 0 where
   rest : List ℕ
   is_left : left ≡ Some rest
   last : List (List ℕ)
   taken : LinesRead xs rest front last
-  asks : first_request last ≡ request
+  asks : first_request symbols last ≡ request
 
-taken_end : {left : Option (List ℕ)} (xs ys bytes : List ℕ) (front : List (List ℕ)) (before : List ℕ) (line : Line) (request : Request) → left ≡ Some ys → xs ≡ bytes ++ before → Closed bytes front before →
-    lines_of xs ≡ front ++ lines_of before → Requests request line → line ≡ read.End → before ≡ [] → ys ≡ [] → Taken xs left front request
-taken_end xs ys bytes front before line request is_left parted closed split requests end none left =
+taken_end : {left : Option (List ℕ)} (symbols : List Symbol) (xs ys bytes : List ℕ) (front : List (List ℕ)) (before : List ℕ) (line : Line) (request : Request) → left ≡ Some ys → xs ≡ bytes ++ before → Closed bytes front before →
+    lines_of xs ≡ front ++ lines_of before → Requests symbols request line → line ≡ read.End → before ≡ [] → ys ≡ [] → Taken symbols xs left front request
+taken_end symbols xs ys bytes front before line request is_left parted closed split requests end none left =
     let same = closed_lines bytes front before closed in
     record {
       rest = ys;
@@ -151,9 +152,9 @@ taken_end xs ys bytes front before line request is_left parted closed split requ
       asks = sym (requests.1 end);
     }
 
-taken_line : {left : Option (List ℕ)} (xs ys bytes : List ℕ) (front : List (List ℕ)) (before text : List ℕ) (line : Line) (request : Request) → left ≡ Some ys → xs ≡ bytes ++ before → Closed bytes front before →
-    Requests request line → IsLine text line → (one : FirstLine text before ys) → Taken xs left front request
-taken_line xs ys bytes front before text line request is_left parted closed requests is_line one =
+taken_line : {left : Option (List ℕ)} (symbols : List Symbol) (xs ys bytes : List ℕ) (front : List (List ℕ)) (before text : List ℕ) (line : Line) (request : Request) → left ≡ Some ys → xs ≡ bytes ++ before → Closed bytes front before →
+    Requests symbols request line → IsLine text line → (one : FirstLine text before ys) → Taken symbols xs left front request
+taken_line symbols xs ys bytes front before text line request is_left parted closed requests is_line one =
     let now = closed_more bytes front before text ys closed one in
     let taken = bytes ++ one.bytes in
     let lines = front ++ text ∷ [] in
@@ -173,15 +174,15 @@ taken_line xs ys bytes front before text line request is_left parted closed requ
       asks = sym (requests.0 text is_line);
     }
 
-takes : {b c : Option (List ℕ)} (xs : List ℕ) (p q : SessionValue) (d0 d1 : Device) (line : Line) (request : Request) → (k : Known xs b p q d0 d1) → GivesLine b c line → Requests request line → Taken xs c k.front request
+takes : {b c : Option (List ℕ)} (xs : List ℕ) (p q : SessionValue) (d0 d1 : Device) (line : Line) (request : Request) → (k : Known xs b p q d0 d1) → GivesLine b c line → Requests q.symbols request line → Taken q.symbols xs c k.front request
 takes xs p q d0 d1 line request k gives requests =
     let next = gives k.rest k.is_left in
     elim (next.2) [
-      | inl end ↦ taken_end xs next.0 k.bytes k.front k.rest line request next.1 k.parted k.closed k.split requests end.0 end.1 end.2
-      | inr one ↦ taken_line xs next.0 k.bytes k.front k.rest one.0 line request next.1 k.parted k.closed requests one.1 one.2
+      | inl end ↦ taken_end q.symbols xs next.0 k.bytes k.front k.rest line request next.1 k.parted k.closed k.split requests end.0 end.1 end.2
+      | inr one ↦ taken_line q.symbols xs next.0 k.bytes k.front k.rest one.0 line request next.1 k.parted k.closed requests one.1 one.2
     ]
 
-pub serving_ends : {a b c : Option (List ℕ)} {f g : ℕ} {d0 d1 d2 : Device} (p q : SessionValue) (line : Line) (request : Request) → Serving a b f g p q d0 d1 → GivesLine b c line → Requests request line → request ≡ Leave → Wrote d1 d2 bye_line →
+pub serving_ends : {a b c : Option (List ℕ)} {f g : ℕ} {d0 d1 d2 : Device} (p q : SessionValue) (line : Line) (request : Request) → Serving a b f g p q d0 d1 → GivesLine b c line → Requests q.symbols request line → request ≡ Leave → Wrote d1 d2 bye_line →
     ServesInput a c p d0 d2 q.board
 serving_ends {a} {b} {c} {f} {g} {d0} {d1} {d2} p q line request so_far gives requests leave wrote xs e =
     let k = so_far.known xs e in
@@ -227,7 +228,7 @@ fails_to_read p q so_far begins xs e =
     )
 
 -- the answer to the line that was read last was not written whole
-pub fails_to_write : {a b c : Option (List ℕ)} {f g : ℕ} {d0 d1 d2 : Device} (p q s : SessionValue) (line : Line) (request : Request) → Serving a b f g p q d0 d1 → GivesLine b c line → Requests request line →
+pub fails_to_write : {a b c : Option (List ℕ)} {f g : ℕ} {d0 d1 d2 : Device} (p q s : SessionValue) (line : Line) (request : Request) → Serving a b f g p q d0 d1 → GivesLine b c line → Requests q.symbols request line →
     RepliesBroken request q d1 d2 s → FailsToWrite a c p d0 d2 s.board
 fails_to_write {a} {b} {c} {f} {g} {d0} {d1} {d2} p q s line request so_far gives requests broken xs e =
     let k = so_far.known xs e in
@@ -252,19 +253,19 @@ fails_to_write {a} {b} {c} {f} {g} {d0} {d1} {d2} p q s line request so_far give
 pub rose_after : {a b c : ℕ} → b ≡ a → Rose b c → Rose a c
 rose_after {a} {b} {c} e h = subst (λ n. Rose n c) e h
 
-pub long_request : (text : List ℕ) → 256 < length text → Refuse LongLine ≡ request_of text
+pub long_request : (symbols : List Symbol) (text : List ℕ) → 256 < length text → Refuse LongLine ≡ request_of symbols text
 unfolding request_of
-long_request text h = ap (λ b. request_by b (length (first_word text) == 0) (command_of text)) (sym (lt-ltb 256 (length text) h))
+long_request symbols text h = ap (λ b. request_by b (length (first_word text) == 0) (command_of symbols text)) (sym (lt-ltb 256 (length text) h))
 
 -- a line was not answered
-pub reply_written : {a b c : Option (List ℕ)} {f g : ℕ} {d0 d1 : Device} (d2 : Device) (p q s : SessionValue) (line : Line) (request : Request) (t : Interruption) → Serving a b f g p q d0 d1 → GivesLine b c line → Requests request line →
+pub reply_written : {a b c : Option (List ℕ)} {f g : ℕ} {d0 d1 : Device} (d2 : Device) (p q s : SessionValue) (line : Line) (request : Request) (t : Interruption) → Serving a b f g p q d0 d1 → GivesLine b c line → Requests q.symbols request line →
     Ends (Replies request q) (RepliesBroken request q) d1 d2 q s (Err t) → t ≡ interruption.Write → FailsToWrite a c p d0 d2 s.board
 reply_written d2 p q s line request interruption.Write so_far gives requests ends e = fails_to_write p q s line request so_far gives requests ends
 reply_written d2 p q s line request interruption.NoMemory so_far gives requests ends e = cc
 reply_written d2 p q s line request interruption.Read so_far gives requests ends e = cc
 
 -- the session ends with the parting word
-pub left_ok : {a b c : Option (List ℕ)} {f g : ℕ} {d0 d1 : Device} (d2 : Device) (p q : SessionValue) (line : Line) (request : Request) (r : Result (Unit {0}) Interruption) → Serving a b f g p q d0 d1 → GivesLine b c line → Requests request line → request ≡ Leave →
+pub left_ok : {a b c : Option (List ℕ)} {f g : ℕ} {d0 d1 : Device} (d2 : Device) (p q : SessionValue) (line : Line) (request : Request) (r : Result (Unit {0}) Interruption) → Serving a b f g p q d0 d1 → GivesLine b c line → Requests q.symbols request line → request ≡ Leave →
     MatchResult r (λ _. Wrote d1 d2 bye_line) (λ fault. (fault ≡ interruption.Write) × Stopped d1 d2 bye_line) →
     OnOk r (ServesInput a c p d0 d2 q.board)
 left_ok d2 p q line request (Ok done) so_far gives requests leave told = serving_ends p q line request so_far gives requests leave told
@@ -274,7 +275,7 @@ left_broken : (manner : Manner) (q : SessionValue) (d1 d2 : Device) → Responds
 left_broken Plain q d1 d2 broken = broken
 left_broken Spoken q d1 d2 broken = inl broken
 
-pub left_written : {a b c : Option (List ℕ)} {f g : ℕ} {d0 d1 : Device} (d2 : Device) (p q : SessionValue) (line : Line) (request : Request) (r : Result (Unit {0}) Interruption) → Serving a b f g p q d0 d1 → GivesLine b c line → Requests request line → request ≡ Leave →
+pub left_written : {a b c : Option (List ℕ)} {f g : ℕ} {d0 d1 : Device} (d2 : Device) (p q : SessionValue) (line : Line) (request : Request) (r : Result (Unit {0}) Interruption) → Serving a b f g p q d0 d1 → GivesLine b c line → Requests q.symbols request line → request ≡ Leave →
     MatchResult r (λ _. Wrote d1 d2 bye_line) (λ fault. (fault ≡ interruption.Write) × Stopped d1 d2 bye_line) → r ≡ Err interruption.Write → FailsToWrite a c p d0 d2 q.board
 left_written d2 p q line request (Ok done) so_far gives requests leave told e = cc
 left_written {a} {b} {c} {f} {g} {d0} {d1} d2 p q line request (Err fault) so_far gives requests leave told e =
@@ -336,7 +337,7 @@ leaves_without old new (Err interruption.Write) told e = cc
 leaves_without old new (Err interruption.NoMemory) told e = let is = told.0 in cc
 
 -- the answer to a line wanted memory
-pub wanted : {a b c : Option (List ℕ)} {f g : ℕ} {d0 d1 : Device} (d2 : Device) (p q s : SessionValue) (line : Line) (request : Request) (t : Interruption) → Serving a b f g p q d0 d1 → GivesLine b c line → Requests request line →
+pub wanted : {a b c : Option (List ℕ)} {f g : ℕ} {d0 d1 : Device} (d2 : Device) (p q s : SessionValue) (line : Line) (request : Request) (t : Interruption) → Serving a b f g p q d0 d1 → GivesLine b c line → Requests q.symbols request line →
     (t ≡ interruption.NoMemory → WantsMemory request) → Ends (Replies request q) (RepliesBroken request q) d1 d2 q s (Err t) → t ≡ interruption.NoMemory → FindsNoMemory a c p d0 d2 s.board
 wanted d2 p q s line request interruption.Write so_far gives requests wants ends is xs e = cc
 wanted d2 p q s line request interruption.Read so_far gives requests wants ends is xs e = cc
@@ -352,7 +353,7 @@ wanted {a} {b} {c} {f} {g} {d0} {d1} d2 p q s line request interruption.NoMemory
         last = t.last;
         taken = t.taken;
         went = subst (λ (x : SessionValue). AnswersLines k.front p k.told x) (sym ends.0) k.went;
-        wants = subst (λ (w : Request). WantsMemory w) (sym t.asks) (wants refl);
+        wants = subst (λ (x : SessionValue). WantsMemory (first_request x.symbols t.last)) (sym ends.0) (subst (λ (w : Request). WantsMemory w) (sym t.asks) (wants refl));
       },
       refl,
       subst (λ (l : List ℕ). Wrote d0 d2 l) (append-nil k.told) (wrote_then k.wrote ends.1),

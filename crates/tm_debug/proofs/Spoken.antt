@@ -5,8 +5,8 @@ use Rattle.ia_text.specs.declared.out.WriteFault.{WriteFault}
 use Rattle.ia_text.specs.Writing.{Device, Wrote}
 use Rattle.ia_text.proofs.Writing.{wrote_then}
 use Rattle.tm_hist.specs.Board.{ShownBoard as Board}
-use Rattle.tm_debug.specs.declared.manner.Manner.{Manner}
-use Rattle.tm_debug.specs.declared.manner.Manner.TheVariants.{Plain, Spoken}
+use Rattle.debug_command.specs.declared.manner.Manner.{Manner}
+use Rattle.debug_command.specs.declared.manner.Manner.TheVariants.{Plain, Spoken}
 use Rattle.tm_debug.specs.declared.session.SessionFault.{SessionFault}
 use Rattle.tm_debug.specs.Faults.{session_board, session_code}
 use Rattle.tm_debug.specs.Session.{Ends, SessionValue, answer_result}

@@ -1,8 +1,4 @@
 pub mod Reading
-pub mod Words
-pub mod Numbers
-pub mod Refusals
-pub mod Commands
 pub mod Help
 pub mod Session
 pub mod Serving

@@ -6,22 +6,23 @@ use Rattle.ia_lex.specs.Chars.{differs}
 use Rattle.ia_lex.specs.Lines.{lines_of}
 use Rattle.ia_text.specs.Writing.{Device, Stopped, Writes, Wrote}
 use Rattle.tm_hist.specs.Board.{ShownBoard as Board}
-use Rattle.tm_debug.specs.declared.command.Command.{Command}
-use Rattle.tm_debug.specs.declared.command.Command.TheVariants.{Quit}
-use Rattle.tm_debug.specs.declared.command.Command.TheVariants as command
-use Rattle.tm_debug.specs.declared.refusal.Refusal.{Refusal}
-use Rattle.tm_debug.specs.declared.refusal.Refusal.TheVariants.{LongLine}
+use Rattle.debug_command.specs.declared.command.Command.{Command}
+use Rattle.debug_command.specs.declared.command.Command.TheVariants.{Quit}
+use Rattle.debug_command.specs.declared.command.Command.TheVariants as command
+use Rattle.debug_command.specs.declared.refusal.Refusal.{Refusal}
+use Rattle.debug_command.specs.declared.refusal.Refusal.TheVariants.{LongLine}
+use Rattle.debug_command.specs.declared.symbol.Symbol.{Symbol}
 use Rattle.tm_debug.specs.declared.line.Line.{Line}
 use Rattle.tm_debug.specs.declared.line.Line.TheVariants as read
 use Rattle.tm_debug.specs.declared.line.LineStart.{LineStart}
 use Rattle.tm_debug.specs.declared.session.Request.{Request}
 use Rattle.tm_debug.specs.declared.session.Request.TheVariants.{Leave, Nothing, Refuse, Do}
-use Rattle.tm_debug.specs.declared.manner.Manner.{Manner}
-use Rattle.tm_debug.specs.declared.manner.Manner.TheVariants.{Plain, Spoken}
-use Rattle.tm_debug.specs.Commands.{command_of}
-use Rattle.tm_debug.specs.Refusals.{refusal_line}
+use Rattle.debug_command.specs.declared.manner.Manner.{Manner}
+use Rattle.debug_command.specs.declared.manner.Manner.TheVariants.{Plain, Spoken}
+use Rattle.debug_command.specs.Commands.{command_of}
+use Rattle.debug_command.specs.Refusals.{refusal_line}
 use Rattle.tm_debug.specs.Session.{Answers, AnswersBroken, AnswerStopped, SessionValue, bye_line}
-use Rattle.tm_debug.specs.Words.{first_word}
+use Rattle.debug_command.specs.Words.{first_word}
 
 -- what a command requests
 abbrev pub request_for : Result Command Refusal → Request
@@ -44,14 +45,16 @@ request_by true blank read = Refuse LongLine
 request_by false true read = Nothing
 request_by false false read = request_for read
 
--- a line of more than 256 bytes is refused, one without words requests nothing, and each other one is a command
-unfoldable pub request_of : List ℕ → Request
-request_of line = request_by (nat_lt 256 (length line)) (length (first_word line) == 0) (command_of line)
+-- by these symbols, a line of more than 256 bytes is refused, one without words requests nothing, and each other one is a
+-- command
+unfoldable pub request_of : List Symbol → List ℕ → Request
+request_of symbols line =
+    request_by (nat_lt 256 (length line)) (length (first_word line) == 0) (command_of symbols line)
 
 -- the end of the input is as quit
-abbrev pub first_request : List (List ℕ) → Request
-first_request [] = Leave
-first_request (line ∷ lines) = request_of line
+abbrev pub first_request : List Symbol → List (List ℕ) → Request
+first_request symbols [] = Leave
+first_request symbols (line ∷ lines) = request_of symbols line
 
 -- the answer to a line that does not end the session
 abbrev pub Responds : Request → SessionValue → List ℕ → SessionValue → Type 0
@@ -112,7 +115,7 @@ pub record First (more : SessionValue → List ℕ → SessionValue → Type 0) 
   pub between : SessionValue
   pub answer : List ℕ
   pub others : List ℕ
-  pub replies : Replies (request_of line) from answer between
+  pub replies : Replies (request_of from.symbols line) from answer between
   pub go_on : more between others to
   pub whole : text ≡ answer ++ others
 
@@ -135,7 +138,7 @@ pub record Serves (xs rest : List ℕ) (from : SessionValue) (text : List ℕ) (
   pub taken : LinesRead xs rest front last
   pub told : List ℕ
   pub went : AnswersLines front from told to
-  pub ends : first_request last ≡ Leave
+  pub ends : first_request to.symbols last ≡ Leave
   pub whole : text ≡ told ++ bye_line
 
 -- no byte of these is a line feed
@@ -163,7 +166,7 @@ pub record ServesWrite (xs rest : List ℕ) (from : SessionValue) (old new : Dev
   pub between : Device
   pub went : AnswersLines front from told before
   pub wrote : Wrote old between told
-  pub broken : RepliesBroken (first_request last) before between new to
+  pub broken : RepliesBroken (first_request before.symbols last) before between new to
 
 -- a session that went to its end, where the input tells its bytes: the answers to its lines up to the one that ends it
 -- were written, nothing behind that was read, and this board is the one after the steps that they tell
@@ -218,7 +221,7 @@ pub record ServesBefore (xs rest : List ℕ) (from : SessionValue) (text : List 
   pub last : List (List ℕ)
   pub taken : LinesRead xs rest front last
   pub went : AnswersLines front from text to
-  pub wants : WantsMemory (first_request last)
+  pub wants : WantsMemory (first_request to.symbols last)
 
 -- a session that found no memory for the answer to a line: the answers to those before it were written
 abbrev pub FindsNoMemory : Option (List ℕ) → Option (List ℕ) → SessionValue → Device → Device → Board → Type 0

@@ -20,15 +20,15 @@ use Rattle.tm_hist.specs.Lines.{core_text, dump_lines, outcome_line, state_word}
 use Rattle.ia_text.specs.TextLine.{line_end, number_text}
 use Rattle.tm_hist.specs.Machine.{shown_regs, shown_state}
 use Rattle.tm_back.specs.Back.{IsFirst}
-use Rattle.tm_debug.specs.declared.command.Command.{Command}
-use Rattle.tm_debug.specs.declared.command.Command.TheVariants.{Step, Run, Next, Back, Break, Clear, Regs, Mem, Sets}
-use Rattle.tm_debug.specs.declared.command.Command.TheVariants.{List as Listing, Help, Quit}
-use Rattle.tm_debug.specs.declared.manner.Manner.{Manner}
-use Rattle.tm_debug.specs.declared.manner.Manner.TheVariants.{Plain}
-use Rattle.tm_debug.specs.declared.refusal.Range.TheVariants.{Addresses, Bytes, Lines, Made, Steps}
-use Rattle.tm_debug.specs.declared.refusal.Refusal.{Refusal}
-use Rattle.tm_debug.specs.declared.refusal.Refusal.TheVariants.{LimitReached, NoSuchCore, OutOfRange}
-use Rattle.tm_debug.specs.declared.refusal.Refusal.TheVariants.{TooManyBreakpoints}
+use Rattle.debug_command.specs.declared.command.Command.{Command}
+use Rattle.debug_command.specs.declared.command.Command.TheVariants.{Step, Run, Next, Back, Break, Clear, Regs, Mem, Sets}
+use Rattle.debug_command.specs.declared.command.Command.TheVariants.{List as Listing, Help, Quit}
+use Rattle.debug_command.specs.declared.manner.Manner.{Manner}
+use Rattle.debug_command.specs.declared.manner.Manner.TheVariants.{Plain}
+use Rattle.debug_command.specs.declared.refusal.Range.TheVariants.{Addresses, Bytes, Lines, Made, Steps}
+use Rattle.debug_command.specs.declared.refusal.Refusal.{Refusal}
+use Rattle.debug_command.specs.declared.refusal.Refusal.TheVariants.{LimitReached, NoSuchCore, OutOfRange}
+use Rattle.debug_command.specs.declared.refusal.Refusal.TheVariants.{TooManyBreakpoints}
 use Rattle.tm_debug.specs.declared.interruption.Interruption.{Interruption}
 use Rattle.tm_debug.specs.declared.interruption.Interruption.TheVariants as interruption
 use Rattle.tm_debug.specs.declared.state.RunCheck.{RunCheck}
@@ -37,13 +37,15 @@ use Rattle.tm_debug.specs.declared.state.Way.{Way}
 use Rattle.tm_debug.specs.declared.state.Way.TheVariants.{AlongPlan, InTurn}
 use Rattle.tm_debug.specs.declared.state.SessionState.{SessionState}
 use Rattle.tm_debug.specs.Help.{help_text}
-use Rattle.tm_debug.specs.Refusals.{refusal_line}
+use Rattle.debug_command.specs.Refusals.{refusal_line}
+use Rattle.debug_command.specs.declared.symbol.Symbol.{Symbol}
 
--- between two lines: how it speaks, the plan (the core of each step), the board, the breakpoints, and the number behind
--- that of the core that was stepped last, 0 before the first step
+-- between two lines: how it speaks, the plan (the core of each step), the symbols of the program, the board, the
+-- breakpoints, and the number behind that of the core that was stepped last, 0 before the first step
 pub record SessionValue : Type 0 where
   pub manner : Manner
   pub plan : List ℕ
+  pub symbols : List Symbol
   pub board : Board
   pub breaks : List ℕ
   pub next : ℕ
@@ -52,17 +54,25 @@ abbrev pub value_of : SessionState → SessionValue
 value_of state = record {
   manner = state.manner;
   plan = state.plan.items;
+  symbols = state.symbols.items;
   board = state.board;
   breaks = state.breakpoints.items;
   next = state.next;
 }
 
 -- before the first line
-abbrev pub start_in : Manner → List ℕ → Board → SessionValue
-start_in manner plan board = record { manner = manner; plan = plan; board = board; breaks = []; next = 0 }
+abbrev pub start_in : Manner → List ℕ → List Symbol → Board → SessionValue
+start_in manner plan symbols board = record {
+  manner = manner;
+  plan = plan;
+  symbols = symbols;
+  board = board;
+  breaks = [];
+  next = 0;
+}
 
 abbrev pub start : Board → SessionValue
-start board = start_in Plain [] board
+start board = start_in Plain [] [] board
 
 abbrev pub cores_of : SessionValue → ℕ
 cores_of session = length session.board.program.entries
@@ -157,6 +167,7 @@ pub record IsStep (from : SessionValue) (core : ℕ) (outcome : Outcome) (to : S
   pub law : IsHistory to.board
   pub manner : to.manner ≡ from.manner
   pub plan : to.plan ≡ from.plan
+  pub symbols : to.symbols ≡ from.symbols
   pub breaks : to.breaks ≡ from.breaks
   pub next : to.next ≡ core + 1
 
@@ -271,6 +282,7 @@ pub record IsBack (from : SessionValue) (count : ℕ) (to : SessionValue) : Type
   pub board : IsFirst from.board (length from.board.history - count) to.board
   pub manner : to.manner ≡ from.manner
   pub plan : to.plan ≡ from.plan
+  pub symbols : to.symbols ≡ from.symbols
   pub breaks : to.breaks ≡ from.breaks
   pub next : to.next ≡ next_behind to.board.history
 
@@ -294,6 +306,7 @@ abbrev pub with_breaks : SessionValue → List ℕ → SessionValue
 with_breaks session breaks = record {
   manner = session.manner;
   plan = session.plan;
+  symbols = session.symbols;
   board = session.board;
   breaks = breaks;
   next = session.next;

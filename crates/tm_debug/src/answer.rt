@@ -7,11 +7,10 @@ ghost use Rattle.ia_text.specs.Writing.{Writes};
 ghost use Rattle.tm_debug.specs.Session.{StepAnswer, TellsAnswer, break_line, core_named, cores_of, done_line};
 ghost use Rattle.tm_debug.specs.Session.{list_answer, mem_answer, ok_line, value_of, regs_answer, set_break};
 ghost use Rattle.tm_debug.specs.Session.{run_ending, some_lines, unset_break};
-ghost use Rattle.tm_debug.specs.Refusals.{refusal_line};
+ghost use Rattle.debug_command.specs.Refusals.{refusal_line};
 
-use crate::manner::Manner;
-use crate::refusal::{Range, Refusal, refuse};
 use crate::state::{MOST_BREAKPOINTS, RunCheck, SessionState, core_count};
+use debug_command::{Manner, Range, Refusal, refuse};
 use ia_image::Program;
 use ia_text::page::{push, push_eight};
 use ia_text::text_line::{TextLine, push_number};

@@ -5,8 +5,8 @@ ghost use Rattle.ia_text.specs.Writing.{Writes};
 ghost use Rattle.tm_debug.specs.Session.{AnswerStopped, BackAnswer, Ends, IsBack, made_line, next_behind, value_of};
 
 use crate::interruption::{Interruption, answer_result};
-use crate::refusal::{Range, Refusal, refuse};
 use crate::state::SessionState;
+use debug_command::{Range, Refusal, refuse};
 use ia_text::page::push;
 use ia_text::text_line::TextLine;
 use ia_text::{Out, WriteFault};

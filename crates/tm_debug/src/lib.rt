@@ -6,30 +6,23 @@
 //! answer is missing, of a run a rest of its last line. The fault gives the board back, after the steps that the
 //! answers tell. It waits for its input only.
 //!
-//! It stands on `tm_hist` (boards, and the texts of outcomes, states and dumps), on `ia_text` (listings, and devices
-//! that are written to) and on `ia_lex` (lines and numbers).
+//! It stands on `debug_command` (commands, as lines write them), `tm_hist` (boards, and the texts of outcomes, states and
+//! dumps), `tm_back` (steps that are taken back), `ia_text` (listings, and devices that are written to) and `ia_lex` (lines).
 #![tactic(auto)]
 
 mod answer;
 mod back;
-mod command;
 mod help;
 mod input;
 mod interruption;
 mod line;
-mod manner;
-mod number;
 mod prompt;
-mod refusal;
 mod run;
 mod session;
 mod sets;
 mod state;
-mod words;
 
-pub use command::CommandName;
+pub use debug_command::{CommandName, Manner, Range, Refusal, Symbol};
 pub use input::{FromReader, In};
-pub use manner::Manner;
-pub use refusal::{Range, Refusal};
 pub use session::{Session, SessionFault, serve, serve_in};
 pub use state::MOST_BREAKPOINTS;

@@ -3,7 +3,7 @@
 ghost use Rattle.std.specs.Prelude.{◌≡◌};
 ghost use Rattle.tm_debug.specs.Serving.{Prompts};
 
-use crate::manner::Manner;
+use debug_command::Manner;
 use ia_text::{Out, WriteFault};
 
 /// Asks for the next line, where the session is spoken.

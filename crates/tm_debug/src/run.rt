@@ -7,8 +7,8 @@ ghost use Rattle.tm_debug.specs.Session.{GoAnswer, RunAnswer, RunAnswerBroken, R
 ghost use Rattle.tm_debug.specs.Session.{value_of};
 
 use crate::answer::end_run;
-use crate::refusal::{Range, Refusal, refuse};
 use crate::state::{RunCheck, SessionState, Way};
+use debug_command::{Range, Refusal, refuse};
 use ia_text::{Out, WriteFault};
 use tm_hist::write_outcome;
 

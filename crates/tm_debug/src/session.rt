@@ -10,18 +10,15 @@ ghost use Rattle.tm_debug.specs.Faults.{session_board, session_code};
 
 use crate::answer::{clear_breakpoint, list, mem, regs, set_breakpoint, step};
 use crate::back::back;
-use crate::command::{Command, read_command};
 use crate::help::help;
 use crate::input::In;
 use crate::interruption::{Interruption, answer_result};
 use crate::line::{Line, MOST_BYTES, read_line};
-use crate::manner::Manner;
 use crate::prompt::prompt;
-use crate::refusal::{Refusal, refuse};
 use crate::run::run;
 use crate::sets::sets;
 use crate::state::{SessionState, Way};
-use crate::words::split_word;
+use debug_command::{Command, Manner, Refusal, Symbol, read_command, refuse, split_word};
 use ia_text::{Out, WriteFault};
 use std::alloc::Global;
 use std::fmt;
@@ -93,10 +90,10 @@ pub enum Request {
     Do(Command),
 }
 
-// What the bytes of a line request.
+// What the bytes of a line request, by these symbols.
 #[tactic(auto, unfolding(crate::specs::Serving::request_of))]
-fn text_request(line: &[u8]) -> Request
-    ensures { result ≡ request_of line.now }
+fn text_request(symbols: &[Symbol], line: &[u8]) -> Request
+    ensures { result ≡ request_of symbols.now line.now }
 {
     if line.len() > MOST_BYTES {
         return Request::Refuse(Refusal::LongLine);
@@ -105,7 +102,7 @@ fn text_request(line: &[u8]) -> Request
     if word.is_empty() {
         return Request::Nothing;
     }
-    match read_command(line) {
+    match read_command(symbols, line) {
         Ok(Command::Quit) => Request::Leave,
         Ok(command) => Request::Do(command),
         Err(refusal) => Request::Refuse(refusal),
@@ -198,14 +195,14 @@ fn reply<O: Out>(
     }
 }
 
-// What a line requests.
-fn line_request(line: &Line) -> Request
-    ensures text { (text : List ℕ) → IsLine text line.now → result ≡ request_of text }
+// What a line requests in this state.
+fn line_request(state: &SessionState, line: &Line) -> Request
+    ensures text { (text : List ℕ) → IsLine text line.now → result ≡ request_of (value_of state.now).symbols text }
     ensures end { line.now ≡ Line.End → result ≡ Request.Leave }
 {
     match line {
         Line::End => Request::Leave,
-        Line::Text(row) => text_request(row.as_slice()),
+        Line::Text(row) => text_request(state.symbols.as_slice(), row.as_slice()),
         Line::Long => Request::Refuse(Refusal::LongLine),
     }
 }
@@ -245,7 +242,7 @@ fn serve_lines<W: Wait, I: In, O: Out>(
             Ok(line) => line,
             Err(_) => return Err(Interruption::Read),
         };
-        let request = line_request(&line);
+        let request = line_request(state, &line);
         match request {
             Request::Leave => return leave(out),
             Request::Nothing | Request::Refuse(_) | Request::Do(_) => {}
@@ -365,36 +362,38 @@ pub fn serve<W: Wait, I: In, O: Out>(
 }
 
 /// Answers the lines of an input with a board in this manner: plainly as [`serve`] does, or spoken, with a prompt before
-/// each line is read. The plan has the core of each step that `next` makes: the first is that of the board's first step.
+/// each line is read. The plan has the core of each step that `next` makes: the first is that of the board's first step. Commands
+/// may write addresses by the symbols.
 pub fn serve_in<W: Wait, I: In, O: Out>(
     rt: &W,
     alloc: Global,
     manner: Manner,
     plan: Vec<u8>,
+    symbols: Vec<Symbol>,
     board: Board,
     input: &mut I,
     out: &mut O,
 ) -> Result<Board, SessionFault>
     ensures ok { IfOk result (λ last. BehindPrompt manner (O.device out.old) (λ begun. ServesInput
-        (I.remaining input.old) (I.remaining input.new) (start_in manner plan.items board) begun (O.device out.new) last)) }
+        (I.remaining input.old) (I.remaining input.new) (start_in manner plan.items symbols.items board) begun (O.device out.new) last)) }
     ensures read { IfErr result (λ fault. session_code fault ≡ 76 → Rose (I.failed input.old) (I.failed input.new)) }
     ensures read_lines { IfErr result (λ fault. session_code fault ≡ 76
         → BehindPrompt manner (O.device out.old) (λ begun. FailsToRead (I.remaining input.old)
-        (I.remaining input.new) (start_in manner plan.items board) begun (O.device out.new) (session_board fault))) }
+        (I.remaining input.new) (start_in manner plan.items symbols.items board) begun (O.device out.new) (session_board fault))) }
     ensures write { IfErr result (λ fault. session_code fault ≡ 77
         → Rose (O.device out.old).failures (O.device out.new).failures) }
     ensures written { IfErr result (λ fault. session_code fault ≡ 77
-        → FailsToWriteIn manner (I.remaining input.old) (I.remaining input.new) (start_in manner plan.items board)
+        → FailsToWriteIn manner (I.remaining input.old) (I.remaining input.new) (start_in manner plan.items symbols.items board)
         (O.device out.old) (O.device out.new) (session_board fault)) }
     ensures memory { IfErr result (λ fault. session_code fault ≡ 78
         → BehindPrompt manner (O.device out.old) (λ begun. FindsNoMemory (I.remaining input.old)
-        (I.remaining input.new) (start_in manner plan.items board) begun (O.device out.new) (session_board fault))) }
+        (I.remaining input.new) (start_in manner plan.items symbols.items board) begun (O.device out.new) (session_board fault))) }
 {
     match prompt(manner, out) {
         Ok(()) => serve_from(
             rt,
             alloc,
-            SessionState::new(manner, plan, board),
+            SessionState::new(manner, plan, symbols, board),
             input,
             out,
         ),

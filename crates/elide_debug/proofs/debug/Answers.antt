@@ -2,11 +2,13 @@ use Rattle.elide_debug.proofs.debug.Goals as goal
 
 pub returns-in-Ok : goal.returns-in-Ok
 returns-in-Ok g c = record {
-  first = c.in_ok-board.board;
-  opened = c.in_ok-board.ensures.board;
+  first = c.in_ok-start.start.board;
+  opened = c.in_ok-start.ensures.board;
   last = c.in-Ok._board;
-  plan = c.in_ok-board.plan.items;
-  planned = c.in_ok-board.ensures.plan;
+  plan = c.in_ok-start.start.plan.items;
+  planned = c.in_ok-start.ensures.plan;
+  symbols = c.in_ok-start.start.symbols.items;
+  named = c.in_ok-start.ensures.symbols;
   manner = c.manner_at.result;
   speaks = c.manner_at.ensures;
   answers = c.in-Ok.ensures.ok;

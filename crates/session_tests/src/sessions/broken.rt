@@ -119,6 +119,7 @@ fn a_prompt_is_cut(rt: HostRuntime) {
             rt.alloc(),
             Manner::Spoken,
             plan,
+            Vec::new(rt.alloc()),
             board,
             &mut input,
             &mut out,

@@ -1,11 +1,15 @@
 //! Commands as they are read.
 
 ghost use Rattle.std.specs.Prelude.{◌≡◌};
-ghost use Rattle.tm_debug.specs.Commands.{command_alone, command_named, command_of, name_of, one_number};
-ghost use Rattle.tm_debug.specs.Commands.{two_numbers};
+ghost use Rattle.debug_command.specs.Numbers.{number_in};
+ghost use Rattle.debug_command.specs.Symbols.{address_in};
+ghost use Rattle.debug_command.specs.Commands.{address_and_number, address_result, command_alone, command_named};
+ghost use Rattle.debug_command.specs.Commands.{command_of, name_of, number_result, one_address, one_number};
 
+use crate::address::read_address;
 use crate::number::number;
 use crate::refusal::Refusal;
+use crate::symbol::Symbol;
 use crate::words::split_word;
 
 /// The name of a command.
@@ -87,6 +91,24 @@ fn name_of(word: &[u8]) -> Option<CommandName>
     }
 }
 
+// The number that a word writes.
+fn number_of(name: CommandName, word: &[u8]) -> Result<u64, Refusal>
+    ensures { result ≡ number_result name (number_in word.now) }
+{
+    number(word).ok_or(Refusal::BadArgument(name))
+}
+
+// The address that a word writes, by a number or a symbol.
+fn address_of(name: CommandName, symbols: &[Symbol], word: &[u8]) -> Result<u64, Refusal>
+    ensures { result ≡ address_result name word.now (address_in symbols.now word.now) }
+{
+    match read_address(symbols, word) {
+        Some(address) => Ok(address),
+        None if word.is_empty() => Err(Refusal::BadArgument(name)),
+        None => Err(Refusal::NoSuchSymbol),
+    }
+}
+
 // The one number that is given.
 fn one(name: CommandName, first: &[u8], second: &[u8]) -> Result<u64, Refusal>
     ensures { result ≡ one_number name first.now second.now }
@@ -94,23 +116,40 @@ fn one(name: CommandName, first: &[u8], second: &[u8]) -> Result<u64, Refusal>
     if !second.is_empty() {
         return Err(Refusal::BadArgument(name));
     }
-    match number(first) {
-        Some(value) => Ok(value),
-        None => Err(Refusal::BadArgument(name)),
-    }
+    number_of(name, first)
 }
 
-// The two numbers that are given.
-fn two(name: CommandName, first: &[u8], second: &[u8], third: &[u8]) -> Result<(u64, u64), Refusal>
-    ensures { result ≡ two_numbers name first.now second.now third.now }
+// The one address that is given.
+fn one_address(
+    name: CommandName,
+    symbols: &[Symbol],
+    first: &[u8],
+    second: &[u8],
+) -> Result<u64, Refusal>
+    ensures { result ≡ one_address name symbols.now first.now second.now }
+{
+    if !second.is_empty() {
+        return Err(Refusal::BadArgument(name));
+    }
+    address_of(name, symbols, first)
+}
+
+// The address and the number that are given.
+fn two(
+    name: CommandName,
+    symbols: &[Symbol],
+    first: &[u8],
+    second: &[u8],
+    third: &[u8],
+) -> Result<(u64, u64), Refusal>
+    ensures { result ≡ address_and_number name symbols.now first.now second.now third.now }
 {
     if !third.is_empty() {
         return Err(Refusal::BadArgument(name));
     }
-    match (number(first), number(second)) {
-        (Some(a), Some(b)) => Ok((a, b)),
-        _ => Err(Refusal::BadArgument(name)),
-    }
+    let address = address_of(name, symbols, first)?;
+    let number = number_of(name, second)?;
+    Ok((address, number))
 }
 
 // A command without arguments.
@@ -127,27 +166,28 @@ fn alone(name: CommandName, first: &[u8], command: Command) -> Result<Command, R
 // The command of this name with these words behind it.
 fn command_named(
     name: CommandName,
+    symbols: &[Symbol],
     first: &[u8],
     second: &[u8],
     third: &[u8],
 ) -> Result<Command, Refusal>
-    ensures { result ≡ command_named name first.now second.now third.now }
+    ensures { result ≡ command_named name symbols.now first.now second.now third.now }
 {
     match name {
         CommandName::Step => Ok(Command::Step(one(name, first, second)?)),
         CommandName::Run => Ok(Command::Run(one(name, first, second)?)),
         CommandName::Next => Ok(Command::Next(one(name, first, second)?)),
         CommandName::Back => Ok(Command::Back(one(name, first, second)?)),
-        CommandName::Break => Ok(Command::Break(one(name, first, second)?)),
-        CommandName::Clear => Ok(Command::Clear(one(name, first, second)?)),
+        CommandName::Break => Ok(Command::Break(one_address(name, symbols, first, second)?)),
+        CommandName::Clear => Ok(Command::Clear(one_address(name, symbols, first, second)?)),
         CommandName::Regs => Ok(Command::Regs(one(name, first, second)?)),
         CommandName::Sets => Ok(Command::Sets(one(name, first, second)?)),
         CommandName::Mem => {
-            let (at, count) = two(name, first, second, third)?;
+            let (at, count) = two(name, symbols, first, second, third)?;
             Ok(Command::Mem(at, count))
         }
         CommandName::List => {
-            let (at, count) = two(name, first, second, third)?;
+            let (at, count) = two(name, symbols, first, second, third)?;
             Ok(Command::List(at, count))
         }
         CommandName::Help => alone(name, first, Command::Help),
@@ -155,10 +195,10 @@ fn command_named(
     }
 }
 
-/// The command of a line that is not blank.
+/// The command of a line that is not blank, whose addresses may be written by these symbols.
 #[tactic(auto, unfolding(crate::specs::Commands::command_of))]
-pub fn read_command(line: &[u8]) -> Result<Command, Refusal>
-    ensures { result ≡ command_of line.now }
+pub fn read_command(symbols: &[Symbol], line: &[u8]) -> Result<Command, Refusal>
+    ensures { result ≡ command_of symbols.now line.now }
 {
     let (word, rest) = split_word(line);
     let Some(name) = name_of(word) else {
@@ -167,5 +207,5 @@ pub fn read_command(line: &[u8]) -> Result<Command, Refusal>
     let (first, rest) = split_word(rest);
     let (second, rest) = split_word(rest);
     let (third, _) = split_word(rest);
-    command_named(name, first, second, third)
+    command_named(name, symbols, first, second, third)
 }

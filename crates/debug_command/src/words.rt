@@ -2,7 +2,7 @@
 
 ghost use Rattle.std.specs.Prelude.{◌≡◌, ◌==◌, not};
 ghost use Rattle.std.specs.List.{position};
-ghost use Rattle.tm_debug.specs.Words.{after_first_word, first_word, without_front_spaces};
+ghost use Rattle.debug_command.specs.Words.{after_first_word, first_word, without_front_spaces};
 
 // Where the first word begins.
 fn word_start(line: &[u8]) -> Option<usize>

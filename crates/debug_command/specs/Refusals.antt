@@ -1,20 +1,21 @@
 -- The refusals of a line: their numbers, and the lines that tell them (docs/FORMATS.md, "Debugger").
 use Rattle.std.specs.Prelude.{ℕ, List, ◌++◌, codes}
 use Rattle.ia_text.specs.TextLine.{line_end, number_text}
-use Rattle.tm_debug.specs.declared.command.CommandName.{CommandName}
-use Rattle.tm_debug.specs.declared.command.CommandName.TheVariants as name
-use Rattle.tm_debug.specs.declared.manner.Manner.{Manner}
-use Rattle.tm_debug.specs.declared.manner.Manner.TheVariants.{Plain, Spoken}
-use Rattle.tm_debug.specs.declared.refusal.Range.{Range}
-use Rattle.tm_debug.specs.declared.refusal.Range.TheVariants.{Addresses, Bytes, Lines, Made, Steps}
-use Rattle.tm_debug.specs.declared.refusal.Refusal.{Refusal}
-use Rattle.tm_debug.specs.declared.refusal.Refusal.TheVariants.{UnknownCommand, LongLine, BadArgument, NoSuchCore}
-use Rattle.tm_debug.specs.declared.refusal.Refusal.TheVariants.{OutOfRange, LimitReached, TooManyBreakpoints}
+use Rattle.debug_command.specs.declared.command.CommandName.{CommandName}
+use Rattle.debug_command.specs.declared.command.CommandName.TheVariants as name
+use Rattle.debug_command.specs.declared.manner.Manner.{Manner}
+use Rattle.debug_command.specs.declared.manner.Manner.TheVariants.{Plain, Spoken}
+use Rattle.debug_command.specs.declared.refusal.Range.{Range}
+use Rattle.debug_command.specs.declared.refusal.Range.TheVariants.{Addresses, Bytes, Lines, Made, Steps}
+use Rattle.debug_command.specs.declared.refusal.Refusal.{Refusal}
+use Rattle.debug_command.specs.declared.refusal.Refusal.TheVariants.{UnknownCommand, LongLine, BadArgument, NoSuchSymbol}
+use Rattle.debug_command.specs.declared.refusal.Refusal.TheVariants.{NoSuchCore, OutOfRange, LimitReached, TooManyBreakpoints}
 
 abbrev pub refusal_code : Refusal → ℕ
 refusal_code UnknownCommand = 70
 refusal_code LongLine = 70
 refusal_code (BadArgument name) = 71
+refusal_code NoSuchSymbol = 71
 refusal_code (NoSuchCore count) = 72
 refusal_code (OutOfRange range) = 73
 refusal_code LimitReached = 74
@@ -25,6 +26,7 @@ unfoldable pub plain_line : Refusal → List ℕ
 plain_line UnknownCommand = codes "error 70\n"
 plain_line LongLine = codes "error 70\n"
 plain_line (BadArgument name) = codes "error 71\n"
+plain_line NoSuchSymbol = codes "error 71\n"
 plain_line (NoSuchCore count) = codes "error 72\n"
 plain_line (OutOfRange range) = codes "error 73\n"
 plain_line LimitReached = codes "error 74\n"
@@ -62,6 +64,7 @@ unfoldable pub spoken_line : Refusal → List ℕ
 spoken_line UnknownCommand = codes "error 70: no such command; help lists them\n"
 spoken_line LongLine = codes "error 70: a line has at most 256 bytes\n"
 spoken_line (BadArgument name) = arguments_line name
+spoken_line NoSuchSymbol = codes "error 71: no such symbol; an address is a number, SYM, SYM+N or SYM-N\n"
 spoken_line (NoSuchCore count) = cores_line count
 spoken_line (OutOfRange range) = range_line range
 spoken_line LimitReached = codes "error 74: the session has made its most steps\n"

@@ -3,7 +3,7 @@
 ghost use Rattle.std.specs.Prelude.{◌≡◌, ◌==◌, ◌||◌, ◌<◌, length};
 ghost use Rattle.std.specs.Char.{is_ascii_digit, is_ascii_hexdigit};
 ghost use Rattle.std.specs.List.{list_all};
-ghost use Rattle.tm_debug.specs.Numbers.{is_number, is_prefixed, is_suffixed, number_in};
+ghost use Rattle.debug_command.specs.Numbers.{is_number, is_prefixed, is_suffixed, number_in};
 
 use ia_lex::word_number;
 

@@ -3,8 +3,8 @@
 ghost use Rattle.std.specs.Prelude.{◌≡◌, ◌++◌};
 ghost use Rattle.arrayvec.specs.ArrayVec.{array_vec_len};
 ghost use Rattle.ia_text.specs.Writing.{Writes};
-ghost use Rattle.tm_debug.specs.Refusals.{arguments_line, cores_line, plain_line, range_line, refusal_code, refusal_line};
-ghost use Rattle.tm_debug.specs.Refusals.{spoken_line};
+ghost use Rattle.debug_command.specs.Refusals.{arguments_line, cores_line, plain_line, range_line, refusal_code, refusal_line};
+ghost use Rattle.debug_command.specs.Refusals.{spoken_line};
 
 use crate::command::CommandName;
 use crate::manner::Manner;
@@ -40,6 +40,9 @@ pub enum Refusal {
     /// The arguments of this command are too many or too few, or one is no number (71).
     #[error("BadArgument")]
     BadArgument(CommandName),
+    /// An address is neither a number nor written by a symbol of the program (71).
+    #[error("NoSuchSymbol")]
+    NoSuchSymbol,
     /// There is no core of this number, of so many (72).
     #[error("NoSuchCore")]
     NoSuchCore(u8),
@@ -61,7 +64,7 @@ impl Refusal {
     {
         match self {
             Refusal::UnknownCommand | Refusal::LongLine => 70,
-            Refusal::BadArgument(_) => 71,
+            Refusal::BadArgument(_) | Refusal::NoSuchSymbol => 71,
             Refusal::NoSuchCore(_) => 72,
             Refusal::OutOfRange(_) => 73,
             Refusal::LimitReached => 74,
@@ -77,7 +80,7 @@ fn plain_line(refusal: Refusal) -> &'static [u8]
 {
     match refusal {
         Refusal::UnknownCommand | Refusal::LongLine => b"error 70\n",
-        Refusal::BadArgument(_) => b"error 71\n",
+        Refusal::BadArgument(_) | Refusal::NoSuchSymbol => b"error 71\n",
         Refusal::NoSuchCore(_) => b"error 72\n",
         Refusal::OutOfRange(_) => b"error 73\n",
         Refusal::LimitReached => b"error 74\n",
@@ -140,6 +143,9 @@ fn speak<O: Out>(refusal: Refusal, out: &mut O) -> Result<(), WriteFault>
         Refusal::UnknownCommand => out.put(b"error 70: no such command; help lists them\n")?,
         Refusal::LongLine => out.put(b"error 70: a line has at most 256 bytes\n")?,
         Refusal::BadArgument(name) => out.put(arguments_line(name))?,
+        Refusal::NoSuchSymbol => {
+            out.put(b"error 71: no such symbol; an address is a number, SYM, SYM+N or SYM-N\n")?
+        }
         Refusal::NoSuchCore(count) => {
             let mut row = TextLine::new();
             push_cores(&mut row, count);

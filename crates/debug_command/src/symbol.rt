@@ -1,0 +1,25 @@
+//! Symbols of a program.
+
+ghost use Rattle.std.specs.Prelude.{◌≡◌, find};
+ghost use Rattle.std.specs.Option.{option_map};
+ghost use Rattle.std.specs.Str.{bytes_eq};
+ghost use Rattle.debug_command.specs.Symbols.{is_named, symbol_in};
+
+/// A symbol of a program: its whole name, and the number that it stands for.
+#[derive(Debug, Drop)]
+pub struct Symbol {
+    /// The name, as `start.next`.
+    pub name: Vec<u8>,
+    /// An address, or the value of a constant modulo 2^32.
+    pub value: u32,
+}
+
+/// The value of the first symbol of this name.
+pub fn value_of(symbols: &[Symbol], name: &[u8]) -> Option<u32>
+    ensures { result ≡ symbol_in symbols.now name.now }
+{
+    let symbol = symbols
+        .iter()
+        .find(|symbol| symbol.name.as_slice() == name)?;
+    Some(symbol.value)
+}
