@@ -23,6 +23,7 @@ name_of word =
     else if pointwise nat_eq word (codes "regs") then Some name.Regs
     else if pointwise nat_eq word (codes "mem") then Some name.Mem
     else if pointwise nat_eq word (codes "sets") then Some name.Sets
+    else if pointwise nat_eq word (codes "why") then Some name.Why
     else if pointwise nat_eq word (codes "list") then Some name.List
     else if pointwise nat_eq word (codes "help") then Some name.Help
     else if pointwise nat_eq word (codes "quit") then Some name.Quit
@@ -85,6 +86,8 @@ command_named name.Mem symbols first second third =
     command_with (λ (pair : ℕ × ℕ). command.Mem pair.0 pair.1) (address_and_number name.Mem symbols first second third)
 command_named name.Sets symbols first second third =
     command_with (λ number. command.Sets number) (one_number name.Sets first second)
+command_named name.Why symbols first second third =
+    command_with (λ number. command.Why number) (one_number name.Why first second)
 command_named name.List symbols first second third =
     command_with (λ (pair : ℕ × ℕ). command.List pair.0 pair.1) (address_and_number name.List symbols first second third)
 command_named name.Help symbols first second third = command_alone name.Help first command.Help

@@ -24,6 +24,7 @@ pub enum CommandName {
     Regs,
     Mem,
     Sets,
+    Why,
     List,
     Help,
     Quit,
@@ -50,6 +51,8 @@ pub enum Command {
     Mem(u64, u64),
     /// The read set and the write set of this core.
     Sets(u64),
+    /// Why the next step of this core is an abort.
+    Why(u64),
     /// A listing: the address of its first line, and how many lines.
     List(u64, u64),
     /// The commands.
@@ -80,6 +83,8 @@ fn name_of(word: &[u8]) -> Option<CommandName>
         Some(CommandName::Mem)
     } else if word == b"sets".as_slice() {
         Some(CommandName::Sets)
+    } else if word == b"why".as_slice() {
+        Some(CommandName::Why)
     } else if word == b"list".as_slice() {
         Some(CommandName::List)
     } else if word == b"help".as_slice() {
@@ -182,6 +187,7 @@ fn command_named(
         CommandName::Clear => Ok(Command::Clear(one_address(name, symbols, first, second)?)),
         CommandName::Regs => Ok(Command::Regs(one(name, first, second)?)),
         CommandName::Sets => Ok(Command::Sets(one(name, first, second)?)),
+        CommandName::Why => Ok(Command::Why(one(name, first, second)?)),
         CommandName::Mem => {
             let (at, count) = two(name, symbols, first, second, third)?;
             Ok(Command::Mem(at, count))

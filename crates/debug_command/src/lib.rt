@@ -1,20 +1,22 @@
-//! The commands of the debugger as they are read, and the refusals of a line.
+//! The commands of the debugger as they are read, the refusals of a line, and the names that both know.
 //!
-//! Promised: a line is the command, or the refusal, that `specs/Commands.antt` says, by the symbols of a program; and the
-//! lines that tell a refusal, plainly or with words. Stands on `ia_lex` (numbers) and `ia_text` (devices that are written
-//! to); takes no memory.
+//! Promised: a line is the command, or the refusal, that `specs/Commands.antt` says, by the symbols of a program; the lines that
+//! tell a refusal, plainly or with words; and which label tells an address. Stands on `ia_lex` (numbers) and `ia_text`
+//! (listings, and devices that are written to); takes no memory.
 #![tactic(auto)]
 
 mod address;
 mod command;
 mod manner;
 mod number;
+mod places;
 mod refusal;
 mod symbol;
 mod words;
 
 pub use command::{Command, CommandName, read_command};
 pub use manner::Manner;
+pub use places::{write_labelled, write_place};
 pub use refusal::{Range, Refusal, refuse};
-pub use symbol::Symbol;
+pub use symbol::{Names, Symbol};
 pub use words::split_word;

@@ -14,6 +14,15 @@ pub struct Symbol {
     pub value: u32,
 }
 
+/// The names that a session knows.
+#[derive(Debug, Drop)]
+pub struct Names {
+    /// By which commands may write addresses: labels and constants.
+    pub symbols: Vec<Symbol>,
+    /// By which answers tell addresses: labels alone, since a constant names no place.
+    pub labels: Vec<Symbol>,
+}
+
 /// The value of the first symbol of this name.
 pub fn value_of(symbols: &[Symbol], name: &[u8]) -> Option<u32>
     ensures { result ≡ symbol_in symbols.now name.now }

@@ -27,6 +27,7 @@ pub record IsServed (options : SessionOptions) (terminals : Terminals) (content 
   pub planned : is_scheduled options.schedule ≡ false → plan ≡ []
   pub symbols : List Symbol
   pub named : AreSymbolsIn content symbols
+  pub labels : List Symbol
   pub manner : Manner
   pub speaks : manner ≡ manner_at terminals
-  pub answers : BehindPrompt manner old (λ begun. ServesInput input left (start_in manner plan symbols first) begun new last)
+  pub answers : BehindPrompt manner old (λ begun. ServesInput input left (start_in manner plan symbols labels first) begun new last)

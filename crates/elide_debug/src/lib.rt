@@ -31,13 +31,20 @@ pub fn debug<R: Wait, P: Paths, I: In, O: Out>(
     ensures { OnOk result (IsServed options.now terminals (P.content paths.old options.now.machine.file.now) (I.remaining input.old) (I.remaining input.new) (O.device out.old)
         (O.device out.new)) }
 {
-    let start = opened(alloc, &options.machine, &options.schedule, paths)?;
+    let manner = manner_at(terminals);
+    let start = opened(
+        alloc,
+        &options.machine,
+        &options.schedule,
+        manner == Manner::Spoken,
+        paths,
+    )?;
     match serve_in(
         rt,
         alloc,
-        manner_at(terminals),
+        manner,
         start.plan,
-        start.symbols,
+        start.names,
         start.board,
         input,
         out,

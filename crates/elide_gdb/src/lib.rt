@@ -24,7 +24,7 @@ pub fn gdb<R: Wait, P: Paths, I: In, O: Out>(
     input: &mut I,
     out: &mut O,
 ) -> Result<(), Refusal> {
-    let opened = opened(alloc, &options.machine, &options.schedule, paths)?;
+    let opened = opened(alloc, &options.machine, &options.schedule, false, paths)?;
     match serve(rt, alloc, opened.board, opened.plan, input, out) {
         Ok(_board) => Ok(()),
         Err(fault) => Err(Refusal::Fault(session_fault(&fault))),

@@ -2,12 +2,12 @@
 //!
 //! Promised: the board is that of the options before its first step, with room for 1,000,000 steps; where no schedule is asked for
 //! there is none; each name stands for what it stands for in FILE; and the number of the fault that ends a session early. Which
-//! steps a schedule has is compared by `doc_tests`. Stands on `elide_setup` and, for sessions, on `tm_debug`.
+//! steps a schedule has, and which labels a program, is compared by `doc_tests`. Stands on `elide_setup` and, for sessions, on `tm_debug`.
 #![tactic(auto)]
 
 ghost use Rattle.std.specs.Prelude.{◌≡◌, [], IfOk, false};
 ghost use Rattle.elide_session.specs.Opened.{IsOpened, is_scheduled};
-ghost use Rattle.elide_session.specs.Symbols.{AreSymbolsIn};
+ghost use Rattle.elide_session.specs.Symbols.{AreSymbolsIn, AreSymbolsOf};
 ghost use Rattle.elide_setup.specs.Faults.{fault_number};
 ghost use Rattle.tm_debug.specs.Faults.{session_code};
 
@@ -16,10 +16,10 @@ mod symbols;
 use elide_args::{MachineOptions, ScheduleOptions};
 use elide_program::{Paths, ProgramFile, Settings, read_file};
 use elide_setup::{Course, Fault, Plan, Refusal, Setup, Silent, new_board, planned};
-use std::alloc::Global;
-use symbols::symbols_of;
+use std::alloc::{AllocError, Global};
+use symbols::{labels_of, symbols_of};
 use tm_core::Machine;
-use tm_debug::{SessionFault, Symbol};
+use tm_debug::{Names, SessionFault};
 use tm_hist::Board;
 
 /// How many steps a session can make.
@@ -32,34 +32,36 @@ pub struct Opening {
     pub board: Board,
     /// The core of each step of the schedule: none, where no schedule is asked for.
     pub plan: Vec<u8>,
-    /// The symbols of the program.
-    pub symbols: Vec<Symbol>,
+    /// The symbols of the program, and its labels, where they are wanted.
+    pub names: Names,
 }
 
-/// Reads FILE, loads it by the options, and reads the schedule, where one is asked for.
+/// Reads FILE, loads it by the options, and reads the schedule, where one is asked for. A session whose answers tell no labels wants
+/// none.
 pub fn opened<P: Paths>(
     alloc: Global,
     machine: &MachineOptions<'_>,
     schedule: &ScheduleOptions<'_>,
+    wants_labels: bool,
     paths: &mut P,
 ) -> Result<Opening, Refusal>
     ensures board { IfOk result (λ r. IsOpened machine.now r.board) }
     ensures plan { IfOk result (λ r. is_scheduled schedule.now ≡ false → r.plan.items ≡ []) }
-    ensures symbols { IfOk result (λ r. AreSymbolsIn (P.content paths.old machine.now.file.now) r.symbols.items) }
+    ensures symbols { IfOk result (λ r. AreSymbolsIn (P.content paths.old machine.now.file.now) r.names.symbols.items) }
 {
     if is_scheduled(schedule) {
-        return opened_scheduled(alloc, machine, schedule, paths);
+        return opened_scheduled(alloc, machine, schedule, wants_labels, paths);
     }
     let settings = Settings::read(machine)?;
     let text = read_file(machine.file, paths)?;
     let file = ProgramFile::read(alloc, text.as_slice())?;
     let setup = Setup::of_file(alloc, &settings, &file)?;
     let board = new_board(alloc, &setup, MOST_STEPS)?;
-    let symbols = symbols_of(alloc, &file)?;
+    let names = names_of(alloc, &file, text.as_slice(), wants_labels)?;
     Ok(Opening {
         board,
         plan: Vec::new(alloc),
-        symbols,
+        names,
     })
 }
 
@@ -90,10 +92,11 @@ fn opened_scheduled<P: Paths>(
     alloc: Global,
     machine: &MachineOptions<'_>,
     schedule: &ScheduleOptions<'_>,
+    wants_labels: bool,
     paths: &mut P,
 ) -> Result<Opening, Refusal>
     ensures board { IfOk result (λ r. IsOpened machine.now r.board) }
-    ensures symbols { IfOk result (λ r. AreSymbolsIn (P.content paths.old machine.now.file.now) r.symbols.items) }
+    ensures symbols { IfOk result (λ r. AreSymbolsIn (P.content paths.old machine.now.file.now) r.names.symbols.items) }
 {
     let settings = Settings::read(machine)?;
     let plan = Plan::read(alloc, schedule)?;
@@ -103,12 +106,26 @@ fn opened_scheduled<P: Paths>(
     course.check_cores(setup.program.cores())?;
     let board = new_board(alloc, &setup, MOST_STEPS)?;
     let plan = plan_of(alloc, &setup, course)?;
-    let symbols = symbols_of(alloc, &file)?;
-    Ok(Opening {
-        board,
-        plan,
-        symbols,
-    })
+    let names = names_of(alloc, &file, text.as_slice(), wants_labels)?;
+    Ok(Opening { board, plan, names })
+}
+
+// The names of a file of this text.
+fn names_of(
+    alloc: Global,
+    file: &ProgramFile<'_>,
+    text: &[u8],
+    wants_labels: bool,
+) -> Result<Names, AllocError>
+    ensures { IfOk result (λ names. AreSymbolsOf file.now names.symbols.items) }
+{
+    let symbols = symbols_of(alloc, file)?;
+    let labels = if wants_labels {
+        labels_of(alloc, text)?
+    } else {
+        Vec::new(alloc)
+    };
+    Ok(Names { symbols, labels })
 }
 
 // The core of each step of a schedule: of one that is drawn, as a run on a machine of its own draws it.

@@ -6,6 +6,7 @@ ghost use Rattle.elide_session.specs.Symbols.{AreSymbolsOf, IsFirstBelow};
 ghost use Rattle.ia_asm.specs.Assemblies.{known_as};
 ghost use Rattle.ia_elf.specs.Symbols.{IsFirstValue};
 
+use elide_places::Places;
 use elide_program::ProgramFile;
 use ia_elf::Elf;
 use ia_item::Name;
@@ -24,6 +25,16 @@ pub fn symbols_of(alloc: Global, file: &ProgramFile<'_>) -> Result<Vec<Symbol>, 
     }
 }
 
+/// The labels of a source or an executable, as `dis --labels` prints them.
+pub fn labels_of(alloc: Global, text: &[u8]) -> Result<Vec<Symbol>, AllocError> {
+    let places = Places::of_text(alloc, text)?;
+    let mut row = Vec::new(alloc);
+    for label in places.labels() {
+        row.push(symbol_of(alloc, label.name(), &[], label.address())?)?;
+    }
+    Ok(row)
+}
+
 // A symbol of this name, which is kept whole.
 fn symbol_of(alloc: Global, scope: &[u8], own: &[u8], value: u32) -> Result<Symbol, AllocError>
     ensures { IfOk result (λ symbol. (symbol.name.items ≡ scope.now ++ own.now) × (symbol.value ≡ value)) }
@@ -34,7 +45,12 @@ fn symbol_of(alloc: Global, scope: &[u8], own: &[u8], value: u32) -> Result<Symb
 }
 
 // Takes in the entry of a table of symbols, where it is one.
-fn add_entry(alloc: Global, elf: &Elf<'_>, index: usize, row: &mut Vec<Symbol>) -> Result<(), AllocError>
+fn add_entry(
+    alloc: Global,
+    elf: &Elf<'_>,
+    index: usize,
+    row: &mut Vec<Symbol>,
+) -> Result<(), AllocError>
     ensures { OnOk result ((name : List ℕ) →
         IsFirstBelow elf.now.symbols elf.now.strings index name (symbol_in row.old.items name) →
         IsFirstBelow elf.now.symbols elf.now.strings (index + 1) name (symbol_in row.new.items name)) }
@@ -59,7 +75,12 @@ fn elf_symbols(alloc: Global, elf: &Elf<'_>) -> Result<Vec<Symbol>, AllocError>
 }
 
 // Takes in the symbol of this number.
-fn add_symbol(alloc: Global, symbols: &IndexMap<Name<'_>, u32>, index: usize, row: &mut Vec<Symbol>) -> Result<(), AllocError>
+fn add_symbol(
+    alloc: Global,
+    symbols: &IndexMap<Name<'_>, u32>,
+    index: usize,
+    row: &mut Vec<Symbol>,
+) -> Result<(), AllocError>
     requires { index < length symbols.now.entries }
     ensures { OnOk result ((name : List ℕ) →
         symbol_in row.old.items name ≡ known_as name (take index symbols.now.entries) →
@@ -73,7 +94,10 @@ fn add_symbol(alloc: Global, symbols: &IndexMap<Name<'_>, u32>, index: usize, ro
 }
 
 // The symbols of a source, in their order.
-fn source_symbols(alloc: Global, symbols: &IndexMap<Name<'_>, u32>) -> Result<Vec<Symbol>, AllocError>
+fn source_symbols(
+    alloc: Global,
+    symbols: &IndexMap<Name<'_>, u32>,
+) -> Result<Vec<Symbol>, AllocError>
     ensures { IfOk result (λ row. (name : List ℕ) → symbol_in row.items name ≡ known_as name symbols.now.entries) }
 {
     let mut row = Vec::new(alloc);

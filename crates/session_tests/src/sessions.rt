@@ -11,8 +11,8 @@ use std::sync::Wait;
 use std::test::Fail;
 use tm_core::Limits;
 use tm_debug::{
-    CommandName, FromReader, In, MOST_BREAKPOINTS, Manner, Range, Refusal, Session, SessionFault,
-    Symbol, serve, serve_in,
+    CommandName, FromReader, In, MOST_BREAKPOINTS, Manner, Names, Range, Refusal, Session,
+    SessionFault, Symbol, serve, serve_in,
 };
 use tm_hist::Board;
 
@@ -123,13 +123,12 @@ fn answers_along<R: Abort + Wait>(
     let mut out = ToVec::new(Vec::new(alloc));
     let board = board(rt, alloc, &[0x100, 0x100], 100);
     let plan = Vec::from_slice(alloc, plan).expect(rt, "memory");
-    let symbols = Vec::new(alloc);
     let served = serve_in(
         rt,
         alloc,
         Manner::Plain,
         plan,
-        symbols,
+        no_names(alloc),
         board,
         &mut input,
         &mut out,
@@ -185,18 +184,39 @@ fn symbols(rt: &impl Abort, alloc: Global) -> Vec<Symbol> {
     symbols
 }
 
-// With these symbols a session of one core answers these lines so.
-fn answers_by_symbols<R: Abort + Wait>(rt: &R, alloc: Global, lines: &[u8], text: &[u8]) {
+/// No names.
+pub(crate) fn no_names(alloc: Global) -> Names {
+    Names {
+        symbols: Vec::new(alloc),
+        labels: Vec::new(alloc),
+    }
+}
+
+// These symbols, which are the labels, too.
+fn names(rt: &impl Abort, alloc: Global) -> Names {
+    Names {
+        symbols: symbols(rt, alloc),
+        labels: symbols(rt, alloc),
+    }
+}
+
+// With these symbols a session of one core in this manner answers these lines so.
+fn answers_by_symbols<R: Abort + Wait>(
+    rt: &R,
+    alloc: Global,
+    manner: Manner,
+    lines: &[u8],
+    text: &[u8],
+) {
     let mut input = FromReader::new(Cursor::new(lines));
     let mut out = ToVec::new(Vec::new(alloc));
     let board = board(rt, alloc, &[0x100], 100);
-    let symbols = symbols(rt, alloc);
     let served = serve_in(
         rt,
         alloc,
-        Manner::Plain,
+        manner,
         Vec::new(alloc),
-        symbols,
+        names(rt, alloc),
         board,
         &mut input,
         &mut out,
@@ -210,8 +230,32 @@ fn addresses_are_symbols(rt: HostRuntime) {
     answers_by_symbols(
         &rt,
         rt.alloc(),
+        Manner::Plain,
         b"break start.load\nrun 9\nbreak start+0bh\nrun 9\nclear start.load+5\nrun 1\nmem counter 4\nlist end 1\nlist 100h 1\n",
         b"ok\n0 begun\nbreak 0 00000106\nok\n0 inside\nbreak 0 0000010b\nok\n0 inside\n00001000 00000000\n00000115  f4                        hlt\n00000100  c7f80f000000              xbegin 0x115\nbye\n",
+    );
+}
+
+#[test]
+fn labels_are_told(rt: HostRuntime) {
+    answers_by_symbols(
+        &rt,
+        rt.alloc(),
+        Manner::Spoken,
+        b"break start.load\nrun 9\nbreak start+0bh\nrun 9\nlist start 2\nlist 114h 64\nmem counter 1\n",
+        b"elide> ok\nelide> 0 begun\nbreak 0 00000106 <start.load>\nelide> ok\nelide> 0 inside\nbreak 0 0000010b <start.load+0x5>\nelide> start:\n00000100  c7f80f000000              xbegin 0x115\nstart.load:\n00000106  a100100000                mov eax, dword [0x1000]\nelide> 100h:\nstart:\n00000114  f4                        hlt\nend:\n00000115  f4                        hlt\nelide> 00001000 00\nelide> bye\n",
+    );
+}
+
+#[test]
+fn what_doomed_a_core(rt: HostRuntime) {
+    answers(
+        &rt,
+        rt.alloc(),
+        board(&rt, rt.alloc(), &[0x100, 0x100], 100),
+        b"run 8\nwhy 1\nrun 1\nwhy 0\nwhy 1\nwhy 2\nback 1\nwhy 1\nstep 1\nwhy 0\nwhy\nstep 0\nwhy 0\n",
+        b"0 begun\n1 begun\n0 inside\n1 inside\n0 inside\n1 inside\n0 inside\n1 inside\ncore 1: its next step is no abort\n0 committed\ncore 0: its next step is no abort\ncore 1: conflict line 40: written at step 9 by core 0 at 00000111; begun at step 2\nerror 72\nat step 8\ncore 1: its next step is no abort\n1 committed\ncore 0: conflict line 40: written at step 9 by core 1 at 00000111; begun at step 1\nerror 71\n0 aborted 00000006\ncore 0: its next step is no abort\nbye\n",
+        10,
     );
 }
 
@@ -220,6 +264,7 @@ fn a_name_with_a_sign(rt: HostRuntime) {
     answers_by_symbols(
         &rt,
         rt.alloc(),
+        Manner::Plain,
         b"list end-0x1 1\nlist end-1 1\nlist end-1+3 1\nmem counter-0x1000 1\n",
         b"00000114  f4                        hlt\n00000111  0f01d5                    xend\n00000114  f4                        hlt\n00000000 00\nbye\n",
     );
@@ -230,6 +275,7 @@ fn addresses_that_are_none(rt: HostRuntime) {
     answers_by_symbols(
         &rt,
         rt.alloc(),
+        Manner::Plain,
         b"break lop\nclear START\nbreak start+\nbreak +4\nbreak start+x\nbreak start +4\nmem counter\nlist lop\nstep start\nmem 0 end\nbreak start-0x101\nbreak counter+0xfffff000\nmem counter+99999999999999999999 1\n",
         b"error 71\nerror 71\nerror 71\nerror 71\nerror 71\nerror 71\nerror 71\nerror 71\nerror 71\nerror 71\nerror 73\nerror 73\nerror 73\nbye\n",
     );
@@ -347,13 +393,12 @@ fn a_spoken_session(rt: HostRuntime) {
     let mut out = ToVec::new(Vec::new(rt.alloc()));
     let board = board(&rt, rt.alloc(), &[0x100], 1);
     let plan = Vec::new(rt.alloc());
-    let symbols = symbols(&rt, rt.alloc());
     let board = serve_in(
         &rt,
         rt.alloc(),
         Manner::Spoken,
         plan,
-        symbols,
+        names(&rt, rt.alloc()),
         board,
         &mut input,
         &mut out,

@@ -1,7 +1,9 @@
 -- Texts that are written in parts, and runs that grow by a step.
 use Rattle.std.proofs.Common.{◌≡◌, ℕ, zero, suc, ◌+◌, ◌-◌, ◌%◌, ◌^◌, ◌<◌, ◌==◌, List, ◌++◌, drop, refl, sym, ap, ◌∙◌, arith, inr, subst}
 use Rattle.std.specs.Prelude.{Result, Ok, Err, IsErr, OnErr, OnOk}
-use Rattle.ia_text.specs.Listing.{listing_line, shown_bytes}
+use Rattle.ia_text.specs.Listing.{shown_bytes}
+use Rattle.debug_command.specs.Places.{labelled_line}
+use Rattle.debug_command.specs.declared.symbol.Symbol.{Symbol}
 use Rattle.ia_text.specs.Writing.{Device, Stopped, Writes, Wrote}
 use Rattle.ia_text.proofs.Writing.{writes_stopped, writes_then, wrote_none, wrote_then}
 use Rattle.tm_debug.specs.declared.state.RunCheck.{RunCheck}
@@ -9,30 +11,30 @@ use Rattle.tm_debug.specs.declared.state.RunCheck.TheVariants.{AllStopped, AtBre
 use Rattle.tm_debug.specs.declared.state.Way.{Way}
 use Rattle.tm_debug.specs.Session.{GoAnswer, IsRunOf, NextLine, RunBroken, RunWhole, SessionValue, run_check, run_ending, some_lines}
 
-pub no_lines : (d : Device) (n : ℕ) (code : List ℕ) (at : ℕ) → n ≡ 0 → Wrote d d (some_lines n code at)
+pub no_lines : (d : Device) (labels : List Symbol) (n : ℕ) (code : List ℕ) (at : ℕ) → n ≡ 0 → Wrote d d (some_lines labels n code at)
 unfolding some_lines
-no_lines d zero code at e = wrote_none d
-no_lines d (suc n) code at e = absurd (omega arith)
+no_lines d labels zero code at e = wrote_none d
+no_lines d labels (suc n) code at e = absurd (omega arith)
 
-lines_more : (n : ℕ) (code : List ℕ) (at : ℕ) → 0 < n → listing_line code at ++ some_lines (n - 1) (drop (shown_bytes code) code) ((at + shown_bytes code) % 2 ^ 32) ≡ some_lines n code at
+lines_more : (labels : List Symbol) (n : ℕ) (code : List ℕ) (at : ℕ) → 0 < n → labelled_line labels code at ++ some_lines labels (n - 1) (drop (shown_bytes code) code) ((at + shown_bytes code) % 2 ^ 32) ≡ some_lines labels n code at
 unfolding some_lines
-lines_more zero code at h = absurd (omega arith)
-lines_more (suc n) code at h =
+lines_more labels zero code at h = absurd (omega arith)
+lines_more labels (suc n) code at h =
     let same : suc n - 1 ≡ n = omega arith in
-    ap (λ m. listing_line code at ++ some_lines m (drop (shown_bytes code) code) ((at + shown_bytes code) % 2 ^ 32)) same
+    ap (λ m. labelled_line labels code at ++ some_lines labels m (drop (shown_bytes code) code) ((at + shown_bytes code) % 2 ^ 32)) same
 
-pub lines_stopped : {T E : Type 0} {a b : Device} (n : ℕ) (code : List ℕ) (at : ℕ) (r : Result T E) → 0 < n → IsErr r → Stopped a b (listing_line code at) → Writes a b (some_lines n code at) r
-lines_stopped {T} {E} {a} {b} n code at r h failed stopped =
-    subst (λ (text : List ℕ). Writes a b text r) (lines_more n code at h) (writes_stopped (some_lines (n - 1) (drop (shown_bytes code) code) ((at + shown_bytes code) % 2 ^ 32)) r failed stopped)
+pub lines_stopped : {T E : Type 0} {a b : Device} (labels : List Symbol) (n : ℕ) (code : List ℕ) (at : ℕ) (r : Result T E) → 0 < n → IsErr r → Stopped a b (labelled_line labels code at) → Writes a b (some_lines labels n code at) r
+lines_stopped {T} {E} {a} {b} labels n code at r h failed stopped =
+    subst (λ (text : List ℕ). Writes a b text r) (lines_more labels n code at h) (writes_stopped (some_lines labels (n - 1) (drop (shown_bytes code) code) ((at + shown_bytes code) % 2 ^ 32)) r failed stopped)
 
-pub lines_then : {T E : Type 0} {a b : Device} (c : Device) (n m shown : ℕ) (code rest : List ℕ) (at next : ℕ) (r : Result T E) → 0 < n → m ≡ n - 1 → shown ≡ shown_bytes code →
-    rest ≡ drop shown code → next ≡ (at + shown) % 2 ^ 32 → Wrote a b (listing_line code at) → Writes b c (some_lines m rest next) r → Writes a c (some_lines n code at) r
-lines_then {T} {E} {a} {b} c n m shown code rest at next r h em es er en wrote writes =
-    let same : some_lines m rest next ≡ some_lines (n - 1) (drop (shown_bytes code) code) ((at + shown_bytes code) % 2 ^ 32) =
-    ap (λ k. some_lines k rest next) em
-    ∙ ap (λ l. some_lines (n - 1) l next) (er ∙ ap (λ k. drop k code) es)
-    ∙ ap (λ k. some_lines (n - 1) (drop (shown_bytes code) code) k) (en ∙ ap (λ k. (at + k) % 2 ^ 32) es) in
-    subst (λ (text : List ℕ). Writes a c text r) (ap (λ l. listing_line code at ++ l) same ∙ lines_more n code at h) (writes_then c (some_lines m rest next) r wrote writes)
+pub lines_then : {T E : Type 0} {a b : Device} (c : Device) (labels : List Symbol) (n m shown : ℕ) (code rest : List ℕ) (at next : ℕ) (r : Result T E) → 0 < n → m ≡ n - 1 → shown ≡ shown_bytes code →
+    rest ≡ drop shown code → next ≡ (at + shown) % 2 ^ 32 → Wrote a b (labelled_line labels code at) → Writes b c (some_lines labels m rest next) r → Writes a c (some_lines labels n code at) r
+lines_then {T} {E} {a} {b} c labels n m shown code rest at next r h em es er en wrote writes =
+    let same : some_lines labels m rest next ≡ some_lines labels (n - 1) (drop (shown_bytes code) code) ((at + shown_bytes code) % 2 ^ 32) =
+    ap (λ k. some_lines labels k rest next) em
+    ∙ ap (λ l. some_lines labels (n - 1) l next) (er ∙ ap (λ k. drop k code) es)
+    ∙ ap (λ k. some_lines labels (n - 1) (drop (shown_bytes code) code) k) (en ∙ ap (λ k. (at + k) % 2 ^ 32) es) in
+    subst (λ (text : List ℕ). Writes a c text r) (ap (λ l. labelled_line labels code at ++ l) same ∙ lines_more labels n code at h) (writes_then c (some_lines labels m rest next) r wrote writes)
 
 -- ---- runs
 
@@ -80,7 +82,7 @@ next_broken {a} {b} {c} way count n p q s turn line below same next so_far stopp
 pub step_broken : {a b c : Device} (way : Way) (count n : ℕ) (p q s : SessionValue) (core : ℕ) → n < count → run_check way q (n == 0) ≡ Go core → SoFar way n p q a b → (line : List ℕ) × GoAnswer q core line s × Stopped b c line → RunBroken way count p a c s
 step_broken way count n p q s core below turn so_far told = next_broken way count n p q s (Go core) told.0 below (sym turn) told.1 so_far told.2
 
-ending_line : (turn : RunCheck) (q : SessionValue) → ((core : ℕ) → turn ≡ Go core → ⊥) → NextLine turn q (run_ending q.manner turn) q
+ending_line : (turn : RunCheck) (q : SessionValue) → ((core : ℕ) → turn ≡ Go core → ⊥) → NextLine turn q (run_ending q turn) q
 ending_line AllStopped q ends = (refl, refl)
 ending_line PlanEnded q ends = (refl, refl)
 ending_line (NoCore number) q ends = (refl, refl)
@@ -89,17 +91,17 @@ ending_line (AtBreakpoint core address) q ends = (refl, refl)
 ending_line (Go core) q ends = absurd (ends core refl)
 
 -- a test ends the run
-pub run_ended : {E : Type 0} (a b c : Device) (way : Way) (count n : ℕ) (p q : SessionValue) (turn : RunCheck) (r : Result (Unit {0}) E) → n < count → turn ≡ run_check way q (n == 0) → ((core : ℕ) → turn ≡ Go core → ⊥) → SoFar way n p q a b → Writes b c (run_ending q.manner turn) r →
+pub run_ended : {E : Type 0} (a b c : Device) (way : Way) (count n : ℕ) (p q : SessionValue) (turn : RunCheck) (r : Result (Unit {0}) E) → n < count → turn ≡ run_check way q (n == 0) → ((core : ℕ) → turn ≡ Go core → ⊥) → SoFar way n p q a b → Writes b c (run_ending q turn) r →
     OnOk r ((text : List ℕ) × RunWhole way count p text q × Wrote a c text) × OnErr r (RunBroken way count p a c q)
 run_ended a b c way count n p q turn (Ok done) below same ends so_far writes = (
   (
-    so_far.0 ++ run_ending q.manner turn,
+    so_far.0 ++ run_ending q turn,
     record {
       count = n;
       lines = so_far.0;
-      tail = run_ending q.manner turn;
+      tail = run_ending q turn;
       ran = so_far.1;
-      end = inr (below, ap (λ t. run_ending q.manner t) same, λ core e. ends core (same ∙ e));
+      end = inr (below, ap (λ t. run_ending q t) same, λ core e. ends core (same ∙ e));
       whole = refl;
     },
     wrote_then so_far.2 writes,
@@ -108,5 +110,5 @@ run_ended a b c way count n p q turn (Ok done) below same ends so_far writes = (
 )
 run_ended a b c way count n p q turn (Err fault) below same ends so_far writes = (
   tt,
-  next_broken way count n p q q turn (run_ending q.manner turn) below same (ending_line turn q ends) so_far writes,
+  next_broken way count n p q q turn (run_ending q turn) below same (ending_line turn q ends) so_far writes,
 )

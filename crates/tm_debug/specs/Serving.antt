@@ -38,6 +38,7 @@ request_for (Ok (command.Clear address)) = Do (command.Clear address)
 request_for (Ok (command.Regs core)) = Do (command.Regs core)
 request_for (Ok (command.Mem at number)) = Do (command.Mem at number)
 request_for (Ok (command.Sets core)) = Do (command.Sets core)
+request_for (Ok (command.Why core)) = Do (command.Why core)
 request_for (Ok (command.List at number)) = Do (command.List at number)
 
 abbrev pub request_by : Bool → Bool → Result Command Refusal → Request
@@ -194,9 +195,11 @@ FailsToWriteIn Spoken input left from old new board =
     (Stopped old new prompt_text × (left ≡ input) × (board ≡ from.board))
     ⊎ BehindPrompt Spoken old (λ between. FailsToWrite input left from between new board)
 
--- the commands that take memory: a core's sets, and to take steps back, which makes a board of its own
+-- the commands that take memory: a core's sets, and to take steps back and to tell why a core aborts, which make a board of
+-- their own
 abbrev pub TakesMemory : Command → Type 0
 TakesMemory (command.Sets core) = ⊤
+TakesMemory (command.Why core) = ⊤
 TakesMemory (command.Back count) = ⊤
 TakesMemory (command.Step core) = ⊥
 TakesMemory (command.Run number) = ⊥

@@ -7,7 +7,7 @@ use Rattle.std.specs.List.{flat_map, list_any, position, remove, slice_get}
 use Rattle.std.specs.List.Sorted.{IsStrictlyIncreasing}
 use Rattle.std.specs.FinSet as set
 use Rattle.ia_image.specs.Program.{ProgramValue as Program, code_of}
-use Rattle.ia_text.specs.Listing.{listing_line, shown_bytes}
+use Rattle.ia_text.specs.Listing.{shown_bytes}
 use Rattle.ia_text.specs.Number.{eight_digits, hex_digits}
 use Rattle.ia_text.specs.declared.out.WriteFault.{WriteFault}
 use Rattle.ia_text.specs.Writing.{Device, Stopped, Writes, Wrote}
@@ -20,11 +20,14 @@ use Rattle.tm_hist.specs.Lines.{core_text, dump_lines, outcome_line, state_word}
 use Rattle.ia_text.specs.TextLine.{line_end, number_text}
 use Rattle.tm_hist.specs.Machine.{shown_regs, shown_state}
 use Rattle.tm_back.specs.Back.{IsFirst}
+use Rattle.tm_reason.specs.History.{IsReasonOf}
+use Rattle.tm_reason.specs.Lines.{reason_line}
+use Rattle.tm_why.specs.declared.reason.Reason.{Reason}
 use Rattle.debug_command.specs.declared.command.Command.{Command}
-use Rattle.debug_command.specs.declared.command.Command.TheVariants.{Step, Run, Next, Back, Break, Clear, Regs, Mem, Sets}
+use Rattle.debug_command.specs.declared.command.Command.TheVariants.{Step, Run, Next, Back, Break, Clear, Regs, Mem, Sets, Why}
 use Rattle.debug_command.specs.declared.command.Command.TheVariants.{List as Listing, Help, Quit}
 use Rattle.debug_command.specs.declared.manner.Manner.{Manner}
-use Rattle.debug_command.specs.declared.manner.Manner.TheVariants.{Plain}
+use Rattle.debug_command.specs.declared.manner.Manner.TheVariants.{Plain, Spoken}
 use Rattle.debug_command.specs.declared.refusal.Range.TheVariants.{Addresses, Bytes, Lines, Made, Steps}
 use Rattle.debug_command.specs.declared.refusal.Refusal.{Refusal}
 use Rattle.debug_command.specs.declared.refusal.Refusal.TheVariants.{LimitReached, NoSuchCore, OutOfRange}
@@ -37,15 +40,18 @@ use Rattle.tm_debug.specs.declared.state.Way.{Way}
 use Rattle.tm_debug.specs.declared.state.Way.TheVariants.{AlongPlan, InTurn}
 use Rattle.tm_debug.specs.declared.state.SessionState.{SessionState}
 use Rattle.tm_debug.specs.Help.{help_text}
+use Rattle.debug_command.specs.Places.{labelled_line, place_text}
 use Rattle.debug_command.specs.Refusals.{refusal_line}
 use Rattle.debug_command.specs.declared.symbol.Symbol.{Symbol}
 
--- between two lines: how it speaks, the plan (the core of each step), the symbols of the program, the board, the
--- breakpoints, and the number behind that of the core that was stepped last, 0 before the first step
+-- between two lines: how it speaks, the plan (the core of each step), the program's symbols, by which commands write
+-- addresses, its labels, by which answers tell them, the board, the breakpoints, and the number behind that of the core
+-- that was stepped last, 0 before the first step
 pub record SessionValue : Type 0 where
   pub manner : Manner
   pub plan : List ℕ
   pub symbols : List Symbol
+  pub labels : List Symbol
   pub board : Board
   pub breaks : List ℕ
   pub next : ℕ
@@ -54,25 +60,27 @@ abbrev pub value_of : SessionState → SessionValue
 value_of state = record {
   manner = state.manner;
   plan = state.plan.items;
-  symbols = state.symbols.items;
+  symbols = state.names.symbols.items;
+  labels = state.names.labels.items;
   board = state.board;
   breaks = state.breakpoints.items;
   next = state.next;
 }
 
 -- before the first line
-abbrev pub start_in : Manner → List ℕ → List Symbol → Board → SessionValue
-start_in manner plan symbols board = record {
+abbrev pub start_in : Manner → List ℕ → List Symbol → List Symbol → Board → SessionValue
+start_in manner plan symbols labels board = record {
   manner = manner;
   plan = plan;
   symbols = symbols;
+  labels = labels;
   board = board;
   breaks = [];
   next = 0;
 }
 
 abbrev pub start : Board → SessionValue
-start board = start_in Plain [] [] board
+start board = start_in Plain [] [] [] board
 
 abbrev pub cores_of : SessionValue → ℕ
 cores_of session = length session.board.program.entries
@@ -85,8 +93,19 @@ ok_line = codes "ok\n"
 abbrev pub bye_line : List ℕ
 bye_line = codes "bye\n"
 
-abbrev pub break_line : ℕ → ℕ → List ℕ
-break_line core address = codes "break " ++ number_text core ++ codes " " ++ eight_digits address ++ line_end
+-- the labels that answers tell: those of a spoken session
+abbrev pub told_in : Manner → List Symbol → List Symbol
+told_in Plain labels = []
+told_in Spoken labels = labels
+
+abbrev pub told_labels : SessionValue → List Symbol
+told_labels session = told_in session.manner session.labels
+
+abbrev pub break_front : ℕ → ℕ → List ℕ
+break_front core address = codes "break " ++ number_text core ++ codes " " ++ eight_digits address
+
+abbrev pub break_line : List Symbol → ℕ → ℕ → List ℕ
+break_line labels core address = break_front core address ++ (place_text labels address ++ line_end)
 
 -- lines of a set in hex, or - for none
 abbrev pub lines_text : List ℕ → List ℕ
@@ -100,11 +119,11 @@ abbrev pub sets_line : ℕ → CoreState → List ℕ → List ℕ → List ℕ
 sets_line core state reads writes = sets_head core state ++ lines_text reads ++ codes " writes" ++ lines_text writes
     ++ line_end
 
--- so many listing lines of some code at an address, fewer at its end
-unfoldable pub some_lines : ℕ → List ℕ → ℕ → List ℕ
-some_lines zero code at = []
-some_lines (suc number) code at = listing_line code at
-    ++ some_lines number (drop (shown_bytes code) code) ((at + shown_bytes code) % 2 ^ 32)
+-- so many listing lines of some code at an address, fewer at its end, with the names of labels above them
+unfoldable pub some_lines : List Symbol → ℕ → List ℕ → ℕ → List ℕ
+some_lines labels zero code at = []
+some_lines labels (suc number) code at = labelled_line labels code at
+    ++ some_lines labels number (drop (shown_bytes code) code) ((at + shown_bytes code) % 2 ^ 32)
 
 -- ---- steps
 
@@ -152,13 +171,13 @@ run_check InTurn session first = turn_check (next_running session) first session
 run_check AlongPlan session first = plan_check (slice_get session.plan (length session.board.history)) first session
 
 -- the line that ends a run
-abbrev pub run_ending : Manner → RunCheck → List ℕ
-run_ending manner AllStopped = codes "all stopped\n"
-run_ending manner PlanEnded = codes "the schedule has ended\n"
-run_ending manner (NoCore count) = refusal_line manner (NoSuchCore count)
-run_ending manner Full = refusal_line manner LimitReached
-run_ending manner (AtBreakpoint core address) = break_line core address
-run_ending manner (Go core) = []
+abbrev pub run_ending : SessionValue → RunCheck → List ℕ
+run_ending session AllStopped = codes "all stopped\n"
+run_ending session PlanEnded = codes "the schedule has ended\n"
+run_ending session (NoCore count) = refusal_line session.manner (NoSuchCore count)
+run_ending session Full = refusal_line session.manner LimitReached
+run_ending session (AtBreakpoint core address) = break_line (told_labels session) core address
+run_ending session (Go core) = []
 
 -- one step of a core
 pub record IsStep (from : SessionValue) (core : ℕ) (outcome : Outcome) (to : SessionValue) : Type 0 where
@@ -168,6 +187,7 @@ pub record IsStep (from : SessionValue) (core : ℕ) (outcome : Outcome) (to : S
   pub manner : to.manner ≡ from.manner
   pub plan : to.plan ≡ from.plan
   pub symbols : to.symbols ≡ from.symbols
+  pub labels : to.labels ≡ from.labels
   pub breaks : to.breaks ≡ from.breaks
   pub next : to.next ≡ core + 1
 
@@ -196,7 +216,7 @@ pub record RunWhole (way : Way) (number : ℕ) (from : SessionValue) (text : Lis
   pub tail : List ℕ
   pub ran : IsRunOf way count from lines to
   pub end : ((count ≡ number) × (tail ≡ []))
-      ⊎ ((count < number) × (tail ≡ run_ending to.manner (run_check way to (count == 0)))
+      ⊎ ((count < number) × (tail ≡ run_ending to (run_check way to (count == 0)))
       × ((core : ℕ) → run_check way to (count == 0) ≡ Go core → ⊥))
   pub whole : text ≡ lines ++ tail
 
@@ -232,11 +252,11 @@ RunAnswer way number from text to = run_by (is_run_length number) way number fro
 -- the line behind some steps of a run: that of one more step, or the one that a test ends the run with
 abbrev pub NextLine : RunCheck → SessionValue → List ℕ → SessionValue → Type 0
 NextLine (Go core) from line to = GoAnswer from core line to
-NextLine AllStopped from line to = (line ≡ run_ending from.manner AllStopped) × (to ≡ from)
-NextLine PlanEnded from line to = (line ≡ run_ending from.manner PlanEnded) × (to ≡ from)
-NextLine (NoCore count) from line to = (line ≡ run_ending from.manner (NoCore count)) × (to ≡ from)
-NextLine Full from line to = (line ≡ run_ending from.manner Full) × (to ≡ from)
-NextLine (AtBreakpoint core address) from line to = (line ≡ run_ending from.manner (AtBreakpoint core address))
+NextLine AllStopped from line to = (line ≡ run_ending from AllStopped) × (to ≡ from)
+NextLine PlanEnded from line to = (line ≡ run_ending from PlanEnded) × (to ≡ from)
+NextLine (NoCore count) from line to = (line ≡ run_ending from (NoCore count)) × (to ≡ from)
+NextLine Full from line to = (line ≡ run_ending from Full) × (to ≡ from)
+NextLine (AtBreakpoint core address) from line to = (line ≡ run_ending from (AtBreakpoint core address))
     × (to ≡ from)
 
 -- a run of n steps that was broken off: the lines of some steps were written, and a beginning of the next line
@@ -283,6 +303,7 @@ pub record IsBack (from : SessionValue) (count : ℕ) (to : SessionValue) : Type
   pub manner : to.manner ≡ from.manner
   pub plan : to.plan ≡ from.plan
   pub symbols : to.symbols ≡ from.symbols
+  pub labels : to.labels ≡ from.labels
   pub breaks : to.breaks ≡ from.breaks
   pub next : to.next ≡ next_behind to.board.history
 
@@ -307,6 +328,7 @@ with_breaks session breaks = record {
   manner = session.manner;
   plan = session.plan;
   symbols = session.symbols;
+  labels = session.labels;
   board = session.board;
   breaks = breaks;
   next = session.next;
@@ -346,12 +368,12 @@ mem_answer manner machine at count =
     else dump_lines (take count (drop at machine.memory)) at
 
 -- 1 to 64 lines, the first of them in the code
-abbrev pub list_answer : Manner → Program → ℕ → ℕ → List ℕ
-list_answer manner program at count =
+abbrev pub list_answer : Manner → List Symbol → Program → ℕ → ℕ → List ℕ
+list_answer manner labels program at count =
     if nat_lt count 1 || nat_lt 64 count || nat_lt at program.base
     || nat_le (length (code_of program)) (at - program.base)
     then refusal_line manner (OutOfRange Lines)
-    else some_lines count (drop (at - program.base) (code_of program)) at
+    else some_lines labels count (drop (at - program.base) (code_of program)) at
 
 -- the lines of a core's sets, ascending
 pub record SetsOf (machine : Machine) (core : ℕ) (text : List ℕ) : Type 0 where
@@ -369,6 +391,19 @@ sets_by session (Some core) text = SetsOf session.board.machine core text
 
 abbrev pub SetsAnswer : SessionValue → ℕ → List ℕ → SessionValue → Type 0
 SetsAnswer from core text to = sets_by from (core_named from core) text × (to ≡ from)
+
+-- why a core's next step is an abort, where it is one
+abbrev pub why_line : ℕ → Option Reason → List ℕ
+why_line core None = codes "core " ++ decimal core ++ codes ": its next step is no abort" ++ line_end
+why_line core (Some reason) = reason_line core reason
+
+abbrev pub why_by : SessionValue → Option ℕ → List ℕ → Type 0
+why_by session None text = text ≡ refusal_line session.manner (NoSuchCore (cores_of session))
+why_by session (Some core) text =
+    (reason : Option Reason) × IsReasonOf session.board core reason × (text ≡ why_line core reason)
+
+abbrev pub WhyAnswer : SessionValue → ℕ → List ℕ → SessionValue → Type 0
+WhyAnswer from core text to = why_by from (core_named from core) text × (to ≡ from)
 
 -- a text with this answer was written, or a beginning of it
 abbrev pub TellsAnswer : {T E : Type 0} → (List ℕ → SessionValue → Type 0) → Device → Device → SessionValue → Result T E
@@ -388,7 +423,9 @@ Answers (Clear address) from text to =
 Answers (Regs core) from text to = (text ≡ regs_answer from core) × (to ≡ from)
 Answers (Mem at number) from text to = (text ≡ mem_answer from.manner from.board.machine at number) × (to ≡ from)
 Answers (Sets core) from text to = SetsAnswer from core text to
-Answers (Listing at number) from text to = (text ≡ list_answer from.manner from.board.program at number) × (to ≡ from)
+Answers (Why core) from text to = WhyAnswer from core text to
+Answers (Listing at number) from text to =
+    (text ≡ list_answer from.manner (told_labels from) from.board.program at number) × (to ≡ from)
 Answers Help from text to = (text ≡ help_text) × (to ≡ from)
 Answers Quit from text to = (text ≡ bye_line) × (to ≡ from)
 
@@ -403,6 +440,7 @@ AnswersBroken (Clear address) from old new to = AnswerStopped (Answers (Clear ad
 AnswersBroken (Regs core) from old new to = AnswerStopped (Answers (Regs core) from) old new to
 AnswersBroken (Mem at number) from old new to = AnswerStopped (Answers (Mem at number) from) old new to
 AnswersBroken (Sets core) from old new to = AnswerStopped (Answers (Sets core) from) old new to
+AnswersBroken (Why core) from old new to = AnswerStopped (Answers (Why core) from) old new to
 AnswersBroken (Listing at number) from old new to = AnswerStopped (Answers (Listing at number) from) old new to
 AnswersBroken Help from old new to = AnswerStopped (Answers Help from) old new to
 AnswersBroken Quit from old new to = AnswerStopped (Answers Quit from) old new to

@@ -4,17 +4,19 @@ ghost use Rattle.std.specs.Prelude.{◌≡◌, ◌==◌, ◌++◌, ◌<◌, IfSo
 ghost use Rattle.std.specs.List.{position};
 ghost use Rattle.arrayvec.specs.ArrayVec.{array_vec_len};
 ghost use Rattle.ia_text.specs.Writing.{Writes};
-ghost use Rattle.tm_debug.specs.Session.{StepAnswer, TellsAnswer, break_line, core_named, cores_of, done_line};
+ghost use Rattle.tm_debug.specs.Session.{StepAnswer, TellsAnswer, break_front, break_line, core_named, cores_of, done_line};
 ghost use Rattle.tm_debug.specs.Session.{list_answer, mem_answer, ok_line, value_of, regs_answer, set_break};
 ghost use Rattle.tm_debug.specs.Session.{run_ending, some_lines, unset_break};
+ghost use Rattle.debug_command.specs.Places.{place_text};
 ghost use Rattle.debug_command.specs.Refusals.{refusal_line};
+ghost use Rattle.ia_text.specs.TextLine.{line_end};
 
 use crate::state::{MOST_BREAKPOINTS, RunCheck, SessionState, core_count};
-use debug_command::{Manner, Range, Refusal, refuse};
+use debug_command::{Manner, Range, Refusal, Symbol, refuse, write_labelled, write_place};
 use ia_image::Program;
 use ia_text::page::{push, push_eight};
 use ia_text::text_line::{TextLine, push_number};
-use ia_text::{Out, WriteFault, write_line};
+use ia_text::{Out, WriteFault};
 use tm_core::Machine;
 use tm_hist::{StepFault, write_core, write_dump, write_outcome};
 
@@ -68,28 +70,49 @@ pub fn step<O: Out>(state: &mut SessionState, core: u64, out: &mut O) -> Result<
 
 fn push_break(row: &mut TextLine, core: u8, address: u32)
     requires { array_vec_len row.old ≡ 0 }
-    ensures { row.new.items ≡ row.old.items ++ break_line core address }
+    ensures { row.new.items ≡ row.old.items ++ break_front core address }
 {
     push(row, b"break ");
     push_number(row, core);
     push(row, b" ");
     push_eight(row, address);
-    push(row, b"\n");
+}
+
+// Where a place is told, and the end of its line.
+fn end_line<O: Out>(labels: &[Symbol], address: u32, out: &mut O) -> Result<(), WriteFault>
+    ensures { Writes (O.device out.old) (O.device out.new) (place_text labels.now address ++ line_end) result }
+{
+    write_place(labels, address, out)?;
+    out.put(b"\n")?;
+    Ok(())
+}
+
+// The line of a breakpoint.
+fn write_break<O: Out>(
+    labels: &[Symbol],
+    core: u8,
+    address: u32,
+    out: &mut O,
+) -> Result<(), WriteFault>
+    ensures { Writes (O.device out.old) (O.device out.new) (break_line labels.now core address) result }
+{
+    let mut row = TextLine::new();
+    push_break(&mut row, core, address);
+    out.put(row.as_slice())?;
+    end_line(labels, address, out)
 }
 
 /// The line that ends a run, and none where it goes on.
-pub fn end_run<O: Out>(manner: Manner, check: RunCheck, out: &mut O) -> Result<(), WriteFault>
-    ensures { Writes (O.device out.old) (O.device out.new) (run_ending manner check) result }
+pub fn end_run<O: Out>(state: &SessionState, check: RunCheck, out: &mut O) -> Result<(), WriteFault>
+    ensures { Writes (O.device out.old) (O.device out.new) (run_ending (value_of state.now) check) result }
 {
     match check {
         RunCheck::AllStopped => out.put(b"all stopped\n")?,
         RunCheck::PlanEnded => out.put(b"the schedule has ended\n")?,
-        RunCheck::NoCore(count) => refuse(manner, Refusal::NoSuchCore(count), out)?,
-        RunCheck::Full => refuse(manner, Refusal::LimitReached, out)?,
+        RunCheck::NoCore(count) => refuse(state.manner, Refusal::NoSuchCore(count), out)?,
+        RunCheck::Full => refuse(state.manner, Refusal::LimitReached, out)?,
         RunCheck::AtBreakpoint(core, address) => {
-            let mut row = TextLine::new();
-            push_break(&mut row, core, address);
-            out.put(row.as_slice())?;
+            write_break(state.told_labels(), core, address, out)?
         }
         RunCheck::Go(_core) => out.put(b"")?,
     }
@@ -205,15 +228,22 @@ pub fn mem<O: Out>(
     write_dump(&memory[from..from + count as usize], at as u32, out)
 }
 
-// So many listing lines of some code at an address.
-fn write_lines<O: Out>(code: &[u8], at: u32, count: u8, out: &mut O) -> Result<(), WriteFault>
-    ensures { Writes (O.device out.old) (O.device out.new) (some_lines count code.now at) result }
+// So many listing lines of some code at an address, with the names of labels above them.
+fn write_lines<O: Out>(
+    labels: &[Symbol],
+    code: &[u8],
+    at: u32,
+    count: u8,
+    out: &mut O,
+) -> Result<(), WriteFault>
+    ensures { Writes (O.device out.old) (O.device out.new) (some_lines labels.now count code.now at) result }
 {
     if count == 0 {
         return Ok(());
     }
-    let shown = write_line(code, at, out)?;
+    let shown = write_labelled(labels, code, at, out)?;
     write_lines(
+        labels,
         &code[usize::from(shown)..],
         at.wrapping_add(u32::from(shown)),
         count - 1,
@@ -224,17 +254,24 @@ fn write_lines<O: Out>(code: &[u8], at: u32, count: u8, out: &mut O) -> Result<(
 /// A listing.
 pub fn list<O: Out>(
     manner: Manner,
+    labels: &[Symbol],
     program: &Program,
     at: u64,
     count: u64,
     out: &mut O,
 ) -> Result<(), WriteFault>
-    ensures { Writes (O.device out.old) (O.device out.new) (list_answer manner program.now at count) result }
+    ensures { Writes (O.device out.old) (O.device out.new) (list_answer manner labels.now program.now at count) result }
 {
     let code = program.code();
     let base = u64::from(program.base());
     if !(1..=64).contains(&count) || at < base || at - base >= code.len() as u64 {
         return refuse(manner, Refusal::OutOfRange(Range::Lines), out);
     }
-    write_lines(&code[(at - base) as usize..], at as u32, count as u8, out)
+    write_lines(
+        labels,
+        &code[(at - base) as usize..],
+        at as u32,
+        count as u8,
+        out,
+    )
 }

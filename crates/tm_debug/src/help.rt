@@ -21,6 +21,7 @@ clear A    they no longer do
 regs C     the state and the registers of core C
 mem A N    1 to 256 bytes of memory, from address A on
 sets C     the lines that core C has read and written in its transaction
+why C      why the next step of core C is an abort, if it is one
 list A N   1 to 64 lines of the code, from address A on
 help       these lines
 quit       ends the session

@@ -7,7 +7,7 @@
 //! answers tell. It waits for its input only.
 //!
 //! It stands on `debug_command` (commands, as lines write them), `tm_hist` (boards, and the texts of outcomes, states and
-//! dumps), `tm_back` (steps that are taken back), `ia_text` (listings, and devices that are written to) and `ia_lex` (lines).
+//! dumps), `tm_back` (steps that are taken back), `tm_reason` (why a core aborts), `ia_text` (listings, and devices that are written to) and `ia_lex` (lines).
 #![tactic(auto)]
 
 mod answer;
@@ -21,8 +21,9 @@ mod run;
 mod session;
 mod sets;
 mod state;
+mod why;
 
-pub use debug_command::{CommandName, Manner, Range, Refusal, Symbol};
+pub use debug_command::{CommandName, Manner, Names, Range, Refusal, Symbol};
 pub use input::{FromReader, In};
 pub use session::{Session, SessionFault, serve, serve_in};
 pub use state::MOST_BREAKPOINTS;

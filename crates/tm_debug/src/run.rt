@@ -44,7 +44,7 @@ fn run_steps<O: Out>(
             | RunCheck::PlanEnded
             | RunCheck::Full
             | RunCheck::NoCore(_)
-            | RunCheck::AtBreakpoint(_, _) => return end_run(state.manner, check, out),
+            | RunCheck::AtBreakpoint(_, _) => return end_run(state, check, out),
         }
     }
     Ok(())

@@ -18,7 +18,8 @@ use crate::prompt::prompt;
 use crate::run::run;
 use crate::sets::sets;
 use crate::state::{SessionState, Way};
-use debug_command::{Command, Manner, Refusal, Symbol, read_command, refuse, split_word};
+use crate::why::why;
+use debug_command::{Command, Manner, Names, Refusal, Symbol, read_command, refuse, split_word};
 use ia_text::{Out, WriteFault};
 use std::alloc::Global;
 use std::fmt;
@@ -37,7 +38,8 @@ pub enum SessionFault {
     /// missing; of a run, a rest of the outcome line of its last step.
     #[error("Write")]
     Write(Board),
-    /// There was no memory for the answer to `sets`, or for the board of `back` (78). The answers before it were written.
+    /// There was no memory for the answer to `sets`, or for the board of `back` or `why` (78). The answers before it were
+    /// written.
     #[error("NoMemory")]
     NoMemory(Board),
 }
@@ -136,8 +138,10 @@ fn act<O: Out>(
             out,
         )),
         Command::Sets(core) => sets(alloc, state, core, out),
+        Command::Why(core) => why(alloc, state, core, out),
         Command::List(at, count) => answer_result(list(
             state.manner,
+            state.told_labels(),
             state.board.program(),
             at,
             count,
@@ -202,7 +206,7 @@ fn line_request(state: &SessionState, line: &Line) -> Request
 {
     match line {
         Line::End => Request::Leave,
-        Line::Text(row) => text_request(state.symbols.as_slice(), row.as_slice()),
+        Line::Text(row) => text_request(state.names.symbols.as_slice(), row.as_slice()),
         Line::Long => Request::Refuse(Refusal::LongLine),
     }
 }
@@ -363,37 +367,37 @@ pub fn serve<W: Wait, I: In, O: Out>(
 
 /// Answers the lines of an input with a board in this manner: plainly as [`serve`] does, or spoken, with a prompt before
 /// each line is read. The plan has the core of each step that `next` makes: the first is that of the board's first step. Commands
-/// may write addresses by the symbols.
+/// may write addresses by the names' symbols, and the answers of a spoken session tell them by the names' labels.
 pub fn serve_in<W: Wait, I: In, O: Out>(
     rt: &W,
     alloc: Global,
     manner: Manner,
     plan: Vec<u8>,
-    symbols: Vec<Symbol>,
+    names: Names,
     board: Board,
     input: &mut I,
     out: &mut O,
 ) -> Result<Board, SessionFault>
     ensures ok { IfOk result (λ last. BehindPrompt manner (O.device out.old) (λ begun. ServesInput
-        (I.remaining input.old) (I.remaining input.new) (start_in manner plan.items symbols.items board) begun (O.device out.new) last)) }
+        (I.remaining input.old) (I.remaining input.new) (start_in manner plan.items names.symbols.items names.labels.items board) begun (O.device out.new) last)) }
     ensures read { IfErr result (λ fault. session_code fault ≡ 76 → Rose (I.failed input.old) (I.failed input.new)) }
     ensures read_lines { IfErr result (λ fault. session_code fault ≡ 76
         → BehindPrompt manner (O.device out.old) (λ begun. FailsToRead (I.remaining input.old)
-        (I.remaining input.new) (start_in manner plan.items symbols.items board) begun (O.device out.new) (session_board fault))) }
+        (I.remaining input.new) (start_in manner plan.items names.symbols.items names.labels.items board) begun (O.device out.new) (session_board fault))) }
     ensures write { IfErr result (λ fault. session_code fault ≡ 77
         → Rose (O.device out.old).failures (O.device out.new).failures) }
     ensures written { IfErr result (λ fault. session_code fault ≡ 77
-        → FailsToWriteIn manner (I.remaining input.old) (I.remaining input.new) (start_in manner plan.items symbols.items board)
+        → FailsToWriteIn manner (I.remaining input.old) (I.remaining input.new) (start_in manner plan.items names.symbols.items names.labels.items board)
         (O.device out.old) (O.device out.new) (session_board fault)) }
     ensures memory { IfErr result (λ fault. session_code fault ≡ 78
         → BehindPrompt manner (O.device out.old) (λ begun. FindsNoMemory (I.remaining input.old)
-        (I.remaining input.new) (start_in manner plan.items symbols.items board) begun (O.device out.new) (session_board fault))) }
+        (I.remaining input.new) (start_in manner plan.items names.symbols.items names.labels.items board) begun (O.device out.new) (session_board fault))) }
 {
     match prompt(manner, out) {
         Ok(()) => serve_from(
             rt,
             alloc,
-            SessionState::new(manner, plan, symbols, board),
+            SessionState::new(manner, plan, names, board),
             input,
             out,
         ),

@@ -5,10 +5,10 @@ ghost use Rattle.std.specs.Prelude.{length};
 ghost use Rattle.tm_hist.specs.Board.{IsFull, stop_shown};
 ghost use Rattle.tm_hist.specs.Machine.{shown_regs, shown_state};
 ghost use Rattle.tm_debug.specs.Session.{IsStep, core_check, is_midway, is_stopped, next_running, plan_check};
-ghost use Rattle.tm_debug.specs.Session.{run_check, running_from, start, start_in, value_of};
+ghost use Rattle.tm_debug.specs.Session.{run_check, running_from, start, start_in, told_labels, value_of};
 
 use arrayvec::ArrayVec;
-use debug_command::{Manner, Symbol};
+use debug_command::{Manner, Names, Symbol};
 use std::alloc::Global;
 use tm_core::{CoreState, Outcome};
 use tm_hist::{Board, StepFault};
@@ -16,13 +16,13 @@ use tm_hist::{Board, StepFault};
 /// The most breakpoints that are set at once.
 pub const MOST_BREAKPOINTS: usize = 64;
 
-/// How the session speaks, its plan, the symbols of its program, its board, its breakpoints, and the number behind that of the core
+/// How the session speaks, its plan, the names of its program, its board, its breakpoints, and the number behind that of the core
 /// that was stepped last.
 #[derive(Drop)]
 pub struct SessionState {
     pub manner: Manner,
     pub plan: Vec<u8>,
-    pub symbols: Vec<Symbol>,
+    pub names: Names,
     pub board: Board,
     pub breakpoints: ArrayVec<u32, MOST_BREAKPOINTS>,
     pub next: u8,
@@ -96,24 +96,42 @@ fn running_from(board: &Board, core: u32, left: u8) -> Option<u8>
 
 impl SessionState {
     /// A session's state before its first line.
-    pub fn new(manner: Manner, plan: Vec<u8>, symbols: Vec<Symbol>, board: Board) -> SessionState
-        ensures { value_of result ≡ start_in manner plan.items symbols.items board }
+    pub fn new(manner: Manner, plan: Vec<u8>, names: Names, board: Board) -> SessionState
+        ensures { value_of result ≡ start_in manner plan.items names.symbols.items names.labels.items board }
     {
         SessionState {
             manner,
             plan,
-            symbols,
+            names,
             board,
             breakpoints: ArrayVec::new(),
             next: 0,
         }
     }
 
-    /// The same of a session that speaks plainly and has no plan and no symbols.
+    /// The same of a session that speaks plainly and has no plan and no names.
     pub fn plain(alloc: Global, board: Board) -> SessionState
         ensures { value_of result ≡ start board }
     {
-        SessionState::new(Manner::Plain, Vec::new(alloc), Vec::new(alloc), board)
+        SessionState::new(
+            Manner::Plain,
+            Vec::new(alloc),
+            Names {
+                symbols: Vec::new(alloc),
+                labels: Vec::new(alloc),
+            },
+            board,
+        )
+    }
+
+    /// The labels that answers tell: those of a spoken session.
+    pub fn told_labels(&self) -> &[Symbol]
+        ensures { result.now ≡ told_labels (value_of self.now) }
+    {
+        match self.manner {
+            Manner::Plain => &[],
+            Manner::Spoken => self.names.labels.as_slice(),
+        }
     }
 
     // The core whose turn it is.

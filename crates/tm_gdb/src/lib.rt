@@ -3,7 +3,7 @@
 //! Promised: a step is one step of the core that it names, so that the history is the old one and one pair more; a
 //! continued run goes along the plan, if there is one; steps back leave the board of the first steps; and points, reads and queries
 //! change no board. Stands on `tm_hist` (boards), `tm_back` (boards of first steps), `gdb_target` (what is shown),
-//! `gdb_command` (commands), `gdb_packet` (packets), `tm_why` (why transactions abort) and `tm_debug` (devices that are read).
+//! `gdb_command` (commands), `gdb_packet` (packets), `tm_reason` (why cores abort) and `tm_debug` (devices that are read).
 #![tactic(auto)]
 
 mod answer;

@@ -7,9 +7,10 @@ returns-in-Ok g c = record {
   last = c.in-Ok._board;
   plan = c.in_ok-start.start.plan.items;
   planned = c.in_ok-start.ensures.plan;
-  symbols = c.in_ok-start.start.symbols.items;
+  symbols = c.in_ok-start.start.names.symbols.items;
   named = c.in_ok-start.ensures.symbols;
-  manner = c.manner_at.result;
-  speaks = c.manner_at.ensures;
+  labels = c.in_ok-start.start.names.labels.items;
+  manner = c.manner_at-manner.result;
+  speaks = c.manner_at-manner.ensures;
   answers = c.in-Ok.ensures.ok;
 }

@@ -1,6 +1,6 @@
 //! Sessions that are broken off: devices that fail in mid-session, and memory that is refused.
 
-use super::board;
+use super::{board, no_names};
 use ia_text::{Out, ToVec, ToWriter};
 use std::io::{self, ErrorKind, Read, Write};
 use std::test::Fail;
@@ -119,7 +119,7 @@ fn a_prompt_is_cut(rt: HostRuntime) {
             rt.alloc(),
             Manner::Spoken,
             plan,
-            Vec::new(rt.alloc()),
+            no_names(rt.alloc()),
             board,
             &mut input,
             &mut out,

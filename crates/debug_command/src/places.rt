@@ -1,0 +1,116 @@
+//! What labels say of an address.
+
+ghost use Rattle.std.specs.Prelude.{◌≡◌, ◌-◌, ◌==◌, ◌≤◌, ◌++◌, IfOk, Some, codes, find, length};
+ghost use Rattle.std.specs.Option.{option_copied};
+ghost use Rattle.debug_command.specs.declared.symbol.Symbol.{Symbol};
+ghost use Rattle.arrayvec.specs.ArrayVec.{array_vec_len};
+ghost use Rattle.ia_text.specs.Listing.{shown_bytes};
+ghost use Rattle.ia_text.specs.Writing.{Writes};
+ghost use Rattle.debug_command.specs.Places.{distance_text, label_near, label_text, labelled_line, name_line, names_text, nearest};
+ghost use Rattle.debug_command.specs.Places.{place_text};
+
+use crate::symbol::Symbol;
+use ia_text::page::{Page, push, push_number};
+use ia_text::{Out, WriteFault, write_line};
+
+// The greatest address of a label up to this one.
+fn nearest(labels: &[Symbol], address: u32) -> Option<u32>
+    ensures { result ≡ nearest labels.now address }
+{
+    labels
+        .iter()
+        .map(|label| label.value)
+        .filter(|value| *value <= address)
+        .max()
+}
+
+// The first label at this address.
+fn label_at(labels: &[Symbol], at: u32) -> Option<&Symbol>
+    ensures { option_copied result ≡ find (λ (label : Symbol). label.value == at) labels.now }
+{
+    labels.iter().find(|label| label.value == at)
+}
+
+// Adds a distance, unless it is 0, and the closing bracket.
+fn push_back(row: &mut Page, distance: u32)
+    requires { array_vec_len row.old ≡ 0 }
+    ensures { row.new.items ≡ row.old.items ++ (distance_text distance ++ codes ">") }
+{
+    if distance != 0 {
+        push(row, b"+");
+        push_number(row, distance);
+    }
+    push(row, b">");
+}
+
+// Writes a name and what stands behind it.
+fn write_name<O: Out>(name: &[u8], back: &[u8], out: &mut O) -> Result<(), WriteFault>
+    ensures { Writes (O.device out.old) (O.device out.new) (name.now ++ back.now) result }
+{
+    out.put(name)?;
+    out.put(back)?;
+    Ok(())
+}
+
+// Writes the name of a label, and how far an address lies above it.
+fn write_label<O: Out>(label: &Symbol, address: u32, out: &mut O) -> Result<(), WriteFault>
+    ensures { Writes (O.device out.old) (O.device out.new) (label_text (Some label.now) address) result }
+{
+    let mut back = Page::new();
+    push_back(&mut back, address.saturating_sub(label.value));
+    out.put(b" <")?;
+    write_name(label.name.as_slice(), back.as_slice(), out)
+}
+
+/// Writes the label at an address, or the nearest below with the distance, as ` <loop+0x4>`; nothing where there is none.
+pub fn write_place<O: Out>(labels: &[Symbol], address: u32, out: &mut O) -> Result<(), WriteFault>
+    ensures { Writes (O.device out.old) (O.device out.new) (place_text labels.now address) result }
+{
+    let Some(near) = nearest(labels, address) else {
+        return Ok(());
+    };
+    match label_at(labels, near) {
+        Some(label) => write_label(label, address, out),
+        None => Ok(()),
+    }
+}
+
+// Writes the name of a label, where it stands at this address.
+fn write_name_line<O: Out>(label: &Symbol, at: u32, out: &mut O) -> Result<(), WriteFault>
+    ensures { Writes (O.device out.old) (O.device out.new) (name_line at label.now) result }
+{
+    if label.value == at {
+        write_name(label.name.as_slice(), b":\n", out)
+    } else {
+        Ok(())
+    }
+}
+
+/// Writes the names of the labels at an address, a line each.
+#[tactic(auto, unfolding(crate::specs::Places::names_text))]
+pub fn write_names<O: Out>(labels: &[Symbol], at: u32, out: &mut O) -> Result<(), WriteFault>
+    ensures { Writes (O.device out.old) (O.device out.new) (names_text labels.now at) result }
+{
+    'labels: for index in 0..labels.len() {
+        write_name_line(&labels[index], at, out)?;
+    }
+    Ok(())
+}
+
+/// Writes a listing line, with the names of the labels above it, and tells how many bytes it shows. Of no code it writes no name.
+pub fn write_labelled<O: Out>(
+    labels: &[Symbol],
+    code: &[u8],
+    at: u32,
+    out: &mut O,
+) -> Result<u8, WriteFault>
+    ensures text { Writes (O.device out.old) (O.device out.new) (labelled_line labels.now code.now at) result }
+    ensures shown { IfOk result (λ shown. shown ≡ shown_bytes code.now) }
+    ensures within { IfOk result (λ shown. shown ≤ length code.now) }
+{
+    if code.is_empty() {
+        return write_line(code, at, out);
+    }
+    write_names(labels, at, out)?;
+    write_line(code, at, out)
+}

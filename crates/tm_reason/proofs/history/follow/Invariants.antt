@@ -1,0 +1,7 @@
+use Rattle.tm_back.specs.Back.{IsFirst}
+use Rattle.tm_reason.specs.History.{IsWatchOf}
+use Rattle.tm_reason.proofs.history.follow.Given as goal
+
+-- the steps so far are the first of the history, and the watch was told of them
+abbrev pub invariant-steps : goal.invariant-steps
+invariant-steps l = IsFirst l.board l.made l.first × IsWatchOf l.board l.made l.watch

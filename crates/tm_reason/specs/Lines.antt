@@ -1,0 +1,42 @@
+-- The line that tells why a core's next step is an abort (docs/FORMATS.md, "Debugger"; docs/GDB.md).
+use Rattle.std.specs.Prelude.{ℕ, List, [], ◌++◌, codes, Option, Some, None}
+use Rattle.std.specs.Fmt.{decimal}
+use Rattle.ia_text.specs.Number.{eight_digits, hex_digits}
+use Rattle.ia_text.specs.TextLine.{line_end}
+use Rattle.tm_hist.specs.Lines.{stop_word}
+use Rattle.tm_model.specs.declared.explain.AbortReason.{AbortReason}
+use Rattle.tm_model.specs.declared.explain.AbortReason.TheVariants as cause
+use Rattle.tm_sets.specs.declared.interface.Kind.{Kind}
+use Rattle.tm_sets.specs.declared.interface.Kind.TheVariants.{Read, Write}
+use Rattle.tm_why.specs.declared.reason.Reason.{Reason}
+use Rattle.tm_why.specs.declared.row.StandingHit.{StandingHit}
+
+abbrev pub cause_word : AbortReason → List ℕ
+cause_word cause.Conflict = codes "conflict"
+cause_word (cause.Capacity kind line) = codes "capacity"
+cause_word cause.Nest = codes "nested deeper than 7"
+cause_word (cause.Explicit argument) = codes "xabort"
+cause_word cause.Breakpoint = codes "#BP"
+cause_word (cause.Stop stop) = stop_word stop
+cause_word cause.NotAllowed = codes "not in a transaction"
+
+abbrev pub use_word : Kind → List ℕ
+use_word Read = codes ": read at step "
+use_word Write = codes ": written at step "
+
+-- the line that was hit, and the step that did it: its number, its core, and the address of its instruction
+abbrev pub hit_words : Option StandingHit → List ℕ
+hit_words None = []
+hit_words (Some hit) =
+    codes " line " ++ hex_digits hit.hit.line ++ use_word hit.hit.kind ++ decimal hit.step ++ codes " by core "
+    ++ decimal hit.core ++ codes " at " ++ eight_digits hit.eip
+
+-- the step that began the transaction
+abbrev pub begun_words : Option ℕ → List ℕ
+begun_words None = []
+begun_words (Some step) = codes "; begun at step " ++ decimal step
+
+abbrev pub reason_line : ℕ → Reason → List ℕ
+reason_line core why =
+    codes "core " ++ decimal core ++ codes ": " ++ cause_word why.cause ++ hit_words why.transaction.hit
+    ++ begun_words why.transaction.begun ++ line_end

@@ -1,0 +1,84 @@
+//! The steps of a history, of which a watch is told.
+
+ghost use Rattle.std.specs.Prelude.{◌≡◌, ◌+◌, ◌<◌, IfOk, OnOk, length};
+ghost use Rattle.tm_back.specs.Back.{IsFirst};
+ghost use Rattle.tm_hist.specs.Board.{IsNew};
+ghost use Rattle.tm_reason.specs.History.{IsReasonOf, IsWatchOf};
+
+use std::alloc::{AllocError, Global};
+use tm_hist::{Board, StepFault};
+use tm_why::{Asked, Reason, Watch};
+
+/// A watch that was told of each step of a board's history. They are made once more on a board of their own, at the cost of a step
+/// each. `AllocError`, where there was no memory for it.
+pub fn watched(alloc: Global, board: &Board) -> Result<Watch, AllocError>
+    ensures { IfOk result (λ watch. IsWatchOf board.now (length board.now.history) watch) }
+{
+    // A board that was made has limits within their ranges, and its history cores of its program: what is refused is memory.
+    match Board::new(alloc, board.program(), board.limits(), board.limit()) {
+        Ok(opened) => follow(board, opened).map_err(|_| AllocError),
+        Err(_) => Err(AllocError),
+    }
+}
+
+/// Why the next step of a core is an abort, where it is one. The watch was told of the board's whole history.
+pub fn reason_of(board: &Board, watch: &Watch, core: u8) -> Option<Reason>
+    requires told { IsWatchOf board.now (length board.now.history) watch.now }
+    requires exists { core < length board.now.machine.views }
+    ensures { IsReasonOf board.now core result }
+{
+    match Asked::of(board.machine(), core) {
+        Ok(asked) => watch.reason(&asked),
+        Err(_) => unreachable!(),
+    }
+}
+
+// A step of a history is of a core that the program has not.
+#[derive(Clone, Copy, PartialEq, Eq, Debug)]
+struct Stranger;
+
+// Makes the steps of a board's history on a new board, and tells a watch of each.
+fn follow(board: &Board, opened: Board) -> Result<Watch, Stranger>
+    requires { IsNew board.now.program board.now.limits board.now.limit opened }
+    ensures { IfOk result (λ watch. IsWatchOf board.now (length board.now.history) watch) }
+{
+    let mut first = opened;
+    let mut watch = Watch::new();
+    'steps: for made in 0..board.made() {
+        watch_step(board, made, &mut first, &mut watch)?;
+    }
+    Ok(watch)
+}
+
+// Makes the next step of a board's history, and tells a watch of it.
+fn watch_step(
+    board: &Board,
+    made: u64,
+    first: &mut Board,
+    watch: &mut Watch,
+) -> Result<(), Stranger>
+    requires within { made < length board.now.history }
+    requires so_far { IsFirst board.now made first.old }
+    requires told { IsWatchOf board.now made watch.old }
+    ensures first { OnOk result (IsFirst board.now (made + 1) first.new) }
+    ensures told { OnOk result (IsWatchOf board.now (made + 1) watch.new) }
+{
+    board.is_run();
+    first.is_run();
+    let _made = board.made();
+    let Some((core, _outcome)) = board.history().get(made as usize) else {
+        unreachable!()
+    };
+    let Ok(asked) = Asked::of(first.machine(), core) else {
+        return Err(Stranger);
+    };
+    match first.step(core) {
+        Ok(outcome) => {
+            first.is_run();
+            watch.told(&asked, outcome);
+            Ok(())
+        }
+        Err(StepFault::NoSuchCore) => Err(Stranger),
+        Err(StepFault::LimitReached) => unreachable!(),
+    }
+}

@@ -1,0 +1,102 @@
+//! The line that tells why a core's next step is an abort.
+
+ghost use Rattle.std.specs.Prelude.{◌≡◌, ◌+◌, ◌≤◌, ◌++◌, length};
+ghost use Rattle.arrayvec.specs.ArrayVec.{array_vec_len};
+ghost use Rattle.ia_text.specs.Writing.{Writes};
+ghost use Rattle.std.specs.Fmt.{decimal};
+ghost use Rattle.tm_reason.specs.Lines.{begun_words, cause_word, hit_words, reason_line, use_word};
+
+use ia_text::page::{Page, push, push_eight, push_hex};
+use ia_text::{Out, WriteFault};
+use itoa::Buffer;
+use tm_core::{AbortReason, Kind};
+use tm_hist::stop_text;
+use tm_why::{Reason, StandingHit};
+
+/// Writes why the next step of a core is an abort: the machine's reason, the hit that doomed its transaction, if one did, and when
+/// that began. Steps are counted from 1.
+pub fn write_reason<O: Out>(core: u8, reason: &Reason, out: &mut O) -> Result<(), WriteFault>
+    ensures { Writes (O.device out.old) (O.device out.new) (reason_line core reason.now) result }
+{
+    let mut row = Page::new();
+    push_reason(&mut row, core, reason);
+    out.put(row.as_slice())?;
+    Ok(())
+}
+
+fn push_reason(row: &mut Page, core: u8, reason: &Reason)
+    requires { array_vec_len row.old ≡ 0 }
+    ensures { row.new.items ≡ row.old.items ++ reason_line core reason.now }
+{
+    push(row, b"core ");
+    push_decimal(row, u64::from(core));
+    push(row, b": ");
+    push(row, cause_word(reason.cause));
+    push_hit(row, reason.transaction.hit);
+    push_begun(row, reason.transaction.begun);
+    push(row, b"\n");
+}
+
+// Adds a number in decimal digits.
+fn push_decimal(row: &mut Page, number: u64)
+    requires { array_vec_len row.old + 40 ≤ 4096 }
+    ensures text { row.new.items ≡ row.old.items ++ decimal number }
+    ensures len { array_vec_len row.new ≤ array_vec_len row.old + 40 }
+{
+    push(row, Buffer::new().format(number).as_bytes());
+}
+
+fn cause_word(cause: AbortReason) -> &'static [u8]
+    ensures text { result.now ≡ cause_word cause }
+    ensures short { length result.now ≤ 20 }
+{
+    match cause {
+        AbortReason::Conflict => b"conflict",
+        AbortReason::Capacity(_, _) => b"capacity",
+        AbortReason::Nest => b"nested deeper than 7",
+        AbortReason::Explicit(_) => b"xabort",
+        AbortReason::Breakpoint => b"#BP",
+        AbortReason::Stop(stop) => stop_text(stop),
+        AbortReason::NotAllowed => b"not in a transaction",
+    }
+}
+
+fn use_word(kind: Kind) -> &'static [u8]
+    ensures text { result.now ≡ use_word kind }
+    ensures short { length result.now ≤ 18 }
+{
+    match kind {
+        Kind::Read => b": read at step ",
+        Kind::Write => b": written at step ",
+    }
+}
+
+// The line that was hit, and by which step.
+fn push_hit(row: &mut Page, hit: Option<StandingHit>)
+    requires { array_vec_len row.old + 200 ≤ 4096 }
+    ensures text { row.new.items ≡ row.old.items ++ hit_words hit }
+    ensures len { array_vec_len row.new ≤ array_vec_len row.old + 200 }
+{
+    if let Some(hit) = hit {
+        push(row, b" line ");
+        push_hex(row, hit.hit.line);
+        push(row, use_word(hit.hit.kind));
+        push_decimal(row, hit.step);
+        push(row, b" by core ");
+        push_decimal(row, u64::from(hit.core));
+        push(row, b" at ");
+        push_eight(row, hit.eip);
+    }
+}
+
+// When the transaction began.
+fn push_begun(row: &mut Page, begun: Option<u64>)
+    requires { array_vec_len row.old + 60 ≤ 4096 }
+    ensures text { row.new.items ≡ row.old.items ++ begun_words begun }
+    ensures len { array_vec_len row.new ≤ array_vec_len row.old + 60 }
+{
+    if let Some(begun) = begun {
+        push(row, b"; begun at step ");
+        push_decimal(row, begun);
+    }
+}
