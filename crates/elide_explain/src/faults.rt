@@ -180,7 +180,7 @@ const SESSION: &str = "\
     To do: `help` lists the commands.
     Example: STEP 0
 71 BadArgument
-    `error 71` of the debugger: too many or too few arguments, or one that is no number.
+    `error 71` of the debugger: too many or too few arguments, or one that is no number and no symbol.
     To do: see `Debugger` in docs/FORMATS.md.
     Example: step
 72 NoSuchCore
@@ -210,7 +210,7 @@ const SESSION: &str = "\
     To do: make room, or let the reader read to the end.
     Example: elide debug examples/increment.img > /dev/full
 78 NoMemory
-    There is no memory for the answer to `sets`, or for the machine of `back`.
+    There is no memory for the answer to `sets`, or for the machine of `back` or `why`.
     To do: give the process more.
     Example: ulimit -v 20000; elide debug large.img
 ";
