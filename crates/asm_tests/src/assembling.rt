@@ -299,6 +299,7 @@ fn far_symbols(rt: HostRuntime) -> Result<(), Fail> {
 #[test]
 fn laws(_rt: HostRuntime) -> Result<(), Fail> {
     ia_source::places_are_sums();
+    ia_asm::source_gives_one_image();
     ia_resolve::code_is_spelt();
     ia_resolve::sizes_need_no_symbol();
     Ok(())
@@ -320,7 +321,13 @@ fn names_in_parts(rt: HostRuntime) -> Result<(), Fail> {
         Some(AsmFault::SymbolTwice(4))
     );
     // The name of a label before any other is its own.
-    assert_eq!(rt; address(alloc, b"nop\n.b: nop\na:\n.b:\n", b".b"), Some(0x101));
-    assert_eq!(rt; fault(alloc, b"a:\n..b:\njmp a.b\n"), Some(AsmFault::UnknownSymbol(3)));
+    assert_eq!(rt;
+        address(alloc, b"nop\n.b: nop\na:\n.b:\n", b".b"),
+        Some(0x101)
+    );
+    assert_eq!(rt;
+        fault(alloc, b"a:\n..b:\njmp a.b\n"),
+        Some(AsmFault::UnknownSymbol(3))
+    );
     Ok(())
 }

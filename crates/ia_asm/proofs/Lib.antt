@@ -5,3 +5,7 @@ pub mod Placements
 pub mod SymbolValues
 pub mod ProgramLayouts
 pub mod Refusals
+pub mod SameSums
+pub mod SameItems
+pub mod SamePlaces
+pub mod OneImage

@@ -4,3 +4,4 @@ pub mod Lister
 pub mod Assemblies
 pub mod ProgramLayouts
 pub mod Assembles
+pub mod OneImage

@@ -13,9 +13,11 @@ mod assembly;
 mod fault;
 mod faults;
 mod from_source;
+mod laws;
 mod listing;
 mod output;
 
 pub use assembly::{ProgramImage, Unit, place_all, place_image};
 pub use fault::AsmFault;
 pub use from_source::{assemble, assemble_image};
+pub use laws::source_gives_one_image;

@@ -1,0 +1,19 @@
+-- What a source gives is one image, whichever numbers its symbols have.
+use Rattle.std.specs.Prelude.{◌≡◌, ℕ, Ok, Err, List}
+use Rattle.ia_asm.specs.declared.assembly.ProgramImage.{ProgramImage}
+use Rattle.ia_asm.specs.declared.fault.AsmFault.{AsmFault}
+use Rattle.ia_asm.specs.declared.fault.AsmFault.TheVariants.{NoMemory}
+use Rattle.ia_asm.specs.Assembles.{AssemblesImage}
+
+-- any two answers for a source that are images have the same bytes at the same address, as many of them code
+abbrev pub OneImage : Type 0
+OneImage = (text : List ℕ) (a b : ProgramImage) → AssemblesImage text (Ok a) → AssemblesImage text (Ok b)
+    → (a.base ≡ b.base) × (a.image.items ≡ b.image.items) × (a.code_len ≡ b.code_len)
+
+-- a source that an image is an answer for is refused for want of memory alone
+abbrev pub NoOtherAnswer : Type 0
+NoOtherAnswer = (text : List ℕ) (a : ProgramImage) (f : AsmFault) → AssemblesImage text (Ok a)
+    → AssemblesImage text (Err f) → f ≡ NoMemory
+
+abbrev pub SourceGivesOneImage : Type 0
+SourceGivesOneImage = OneImage × NoOtherAnswer
