@@ -42,14 +42,16 @@ name_or d (SymbolAtom name) = name
 name_or d _ = d
 
 same_atom : (m n : Naming) (e f : Env) → SameEnv m n e f → (a b : ScopedAtom) → scoped_atom_content m a ≡ scoped_atom_content n b → SameAtom e f a b
-same_atom m n e f h (atom.Number None) (atom.Number None) is = record { value = refl; unknown = refl; huge = refl; symbol = refl }
-same_atom m n e f h (atom.Number (Some x)) (atom.Number (Some y)) is =
+same_atom m n e f h (atom.Number x) (atom.Number y) is =
     let k : x ≡ y = ap (number_or x) is in
     record { value = ap pos k; unknown = refl; huge = refl; symbol = refl }
-same_atom m n e f h (atom.Number None) (atom.Number (Some y)) is = absurd cc
-same_atom m n e f h (atom.Number (Some x)) (atom.Number None) is = absurd cc
+same_atom m n e f h atom.Huge atom.Huge is = record { value = refl; unknown = refl; huge = refl; symbol = refl }
+same_atom m n e f h (atom.Number x) atom.Huge is = absurd cc
+same_atom m n e f h atom.Huge (atom.Number y) is = absurd cc
 same_atom m n e f h (atom.Number x) (atom.Symbol t) is = absurd cc
+same_atom m n e f h atom.Huge (atom.Symbol t) is = absurd cc
 same_atom m n e f h (atom.Symbol s) (atom.Number y) is = absurd cc
+same_atom m n e f h (atom.Symbol s) atom.Huge is = absurd cc
 same_atom m n e f h (atom.Symbol s) (atom.Symbol t) is =
     let v : e s ≡ f t = h s t (ap (name_or []) is) in
     record { value = ap or_zero v; unknown = ap (λ (o : Option ℤ). not (is_some o)) v; huge = refl; symbol = refl }

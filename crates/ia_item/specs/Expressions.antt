@@ -3,7 +3,7 @@ use Rattle.std.specs.Prelude.{Bool, true, false, not, ◌||◌, is_some, Option,
 use Rattle.std.specs.Prelude.{◌-ℤ◌, if◌then◌else◌}
 use Rattle.ia_item.specs.declared.symbol.Symbol.{Symbol as SymbolOf}
 use Rattle.ia_item.specs.declared.expression.ScopedAtom.{ScopedAtom}
-use Rattle.ia_item.specs.declared.expression.ScopedAtom.TheVariants.{Number, Symbol}
+use Rattle.ia_item.specs.declared.expression.ScopedAtom.TheVariants.{Number, Huge, Symbol}
 use Rattle.ia_item.specs.declared.expression.ScopedTerm.{ScopedTerm}
 use Rattle.ia_item.specs.declared.expression.ScopedExpression.{ScopedExpression}
 
@@ -13,6 +13,7 @@ Env = SymbolOf → Option ℤ
 
 abbrev pub is_symbol : ScopedAtom → Bool
 is_symbol (Number n) = false
+is_symbol Huge = false
 is_symbol (Symbol s) = true
 
 -- a symbol stands among the terms
@@ -26,6 +27,7 @@ is_wide s = any_symbol s.terms.items
 
 abbrev pub is_unknown : Env → ScopedAtom → Bool
 is_unknown env (Number n) = false
+is_unknown env Huge = false
 is_unknown env (Symbol s) = not (is_some (env s))
 
 -- a symbol among the terms has no value
@@ -34,7 +36,8 @@ any_unknown env [] = false
 any_unknown env (p ∷ ps) = is_unknown env p.atom || any_unknown env ps
 
 abbrev pub is_huge : ScopedAtom → Bool
-is_huge (Number n) = not (is_some n)
+is_huge (Number n) = false
+is_huge Huge = true
 is_huge (Symbol s) = false
 
 -- a number among the terms is above 2^64 - 1
@@ -48,8 +51,8 @@ or_zero (Some v) = v
 
 -- the value of a number or a symbol, 0 where it has none
 abbrev pub value_in : Env → ScopedAtom → ℤ
-value_in env (Number None) = pos 0
-value_in env (Number (Some n)) = pos n
+value_in env (Number n) = pos n
+value_in env Huge = pos 0
 value_in env (Symbol s) = or_zero (env s)
 
 -- what terms add up to, from a whole number on

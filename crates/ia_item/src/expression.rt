@@ -5,8 +5,10 @@ use crate::symbol::Symbol;
 /// A number or a symbol.
 #[derive(Clone, Copy, Debug)]
 pub enum ScopedAtom {
-    /// A number, none where it is above u64::MAX.
-    Number(Option<u64>),
+    /// A number.
+    Number(u64),
+    /// A number above u64::MAX.
+    Huge,
     /// The value of a symbol.
     Symbol(Symbol),
 }

@@ -235,11 +235,12 @@ neither false b e = (refl, e)
 
 unknown_of : (env now : Env) (v : ScopedAtom) → is_symbol v ≡ false → is_unknown env v ≡ is_unknown now v
 unknown_of env now (atom.Number n) h = refl
+unknown_of env now atom.Huge h = refl
 unknown_of env now (atom.Symbol name) h = absurd cc
 
 value_same : (env now : Env) (v : ScopedAtom) → is_symbol v ≡ false → value_in env v ≡ value_in now v
-value_same env now (atom.Number None) h = refl
-value_same env now (atom.Number (Some n)) h = refl
+value_same env now (atom.Number n) h = refl
+value_same env now atom.Huge h = refl
 value_same env now (atom.Symbol name) h = absurd cc
 
 same_unknown : (env now : Env) (ps : List ScopedTerm) → any_symbol ps ≡ false → any_unknown env ps ≡ any_unknown now ps

@@ -27,12 +27,12 @@ fn term_total<S: SymbolValues>(symbols: &S, value: &ScopedAtom) -> Total
     ensures near { IsNear (2 ^ 64) result.value }
 {
     match value {
-        ScopedAtom::Number(Some(n)) => Total {
+        ScopedAtom::Number(n) => Total {
             unknown: false,
             huge: false,
             value: Exact::of(i128::from(*n)),
         },
-        ScopedAtom::Number(None) => Total {
+        ScopedAtom::Huge => Total {
             unknown: false,
             huge: true,
             value: Exact::zero(),
@@ -126,6 +126,7 @@ fn is_symbol(value: &ScopedAtom) -> bool
 {
     match value {
         ScopedAtom::Number(_) => false,
+        ScopedAtom::Huge => false,
         ScopedAtom::Symbol(_) => true,
     }
 }

@@ -16,10 +16,10 @@ Agrees env v w ps = (any_symbol ps ≡ false) × (any_unknown env ps ≡ false) 
 -- one more part
 one_more : (naming : Naming) (env : Env) (v w : ℤ) (neg : Bool) (x : ScopedAtom) (ps : List ScopedTerm) → ((v : ℤ) → given_from v (map (scoped_term_content naming) ps) ≡ Some w → Agrees env v w ps)
     → given_from v (map (scoped_term_content naming) ((record { negative = neg; atom = x }) ∷ ps)) ≡ Some w → Agrees env v w ((record { negative = neg; atom = x }) ∷ ps)
-one_more naming env v w neg (atom.Number (Some n)) ps k e =
+one_more naming env v w neg (atom.Number n) ps k e =
     let h = k (cond neg (v -ℤ pos n) (v +ℤ pos n)) e in
     (h.0, h.1, h.2, h.3)
-one_more naming env v w neg (atom.Number None) ps k e = absurd cc
+one_more naming env v w neg atom.Huge ps k e = absurd cc
 one_more naming env v w neg (atom.Symbol name) ps k e = absurd cc
 
 abbrev or_else : ℤ → Option ℤ → ℤ

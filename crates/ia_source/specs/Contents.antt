@@ -1,5 +1,5 @@
 -- What entries say, wherever their bytes lie.
-use Rattle.std.specs.Prelude.{ℕ, Bool, if◌then◌else◌, Option, option_map, List, map}
+use Rattle.std.specs.Prelude.{ℕ, Bool, if◌then◌else◌, Option, Some, None, option_map, List, map}
 use Rattle.ia_insn.specs.declared.op.Insn.{Insn}
 use Rattle.ia_item.specs.declared.item.Section.{Section}
 use Rattle.ia_item.specs.declared.item.Item.{Item}
@@ -42,7 +42,8 @@ abbrev pub definition_name : Reading → Definition → List ℕ
 definition_name r d = if r.written then whole_name d.name else r.naming d.symbol.number
 
 abbrev pub scoped_atom_content : Naming → ScopedAtom → AtomContent
-scoped_atom_content naming (atom.Number n) = NumberAtom n
+scoped_atom_content naming (atom.Number n) = NumberAtom (Some n)
+scoped_atom_content naming atom.Huge = NumberAtom None
 scoped_atom_content naming (atom.Symbol s) = SymbolAtom (naming s.number)
 
 abbrev pub scoped_term_content : Naming → ScopedTerm → TermContent

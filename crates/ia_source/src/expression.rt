@@ -19,9 +19,13 @@ fn term_in<'a>(names: &mut Names<'a>, term: &Term<'a>) -> Result<ScopedTerm, All
 {
     let Term { negative, atom } = *term;
     match atom {
-        Atom::Number(number) => Ok(ScopedTerm {
+        Atom::Number(Some(number)) => Ok(ScopedTerm {
             negative,
             atom: ScopedAtom::Number(number),
+        }),
+        Atom::Number(None) => Ok(ScopedTerm {
+            negative,
+            atom: ScopedAtom::Huge,
         }),
         Atom::Symbol(own) => {
             let symbol = names.symbol(own)?;
