@@ -1,7 +1,8 @@
 //! What the commands that make a machine have in common: its program, its schedule, a board, and how they are shown.
 //!
-//! Promised: the number and line of each fault and the exit status of a refusal; that the machine of a command has the cores, the
-//! memory and the limits of its options; what `show` writes of a machine; and that text which is gathered is handed on. The order
+//! Promised: the number and line of each fault and the exit status of a refusal; that the machine of a command is that of a file with
+//! the cores, the memory and the limits of its options, and what is printed of its memory is what they ask for; what `show` writes
+//! of a machine; and that text which is gathered is handed on. The order
 //! of faults is compared by `doc_tests`. Stands on `elide_program`, and on the machine and its history (`tm_core`, `tm_hist`),
 //! whose clauses say what a machine comes to.
 #![tactic(auto)]

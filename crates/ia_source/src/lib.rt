@@ -7,7 +7,8 @@
 //! A memory operand reads as the sum of its addends, in whichever order they stand. By `is_label`, which first words of lines
 //! are labels.
 //!
-//! It stands on `ia_lex` for lines, tokens and expressions, and on `ia_item` for what it gives.
+//! It stands on `ia_lex` for lines, tokens and expressions, on `ia_names` for the numbers of names, and on `ia_item` for what it
+//! gives.
 #![tactic(auto)]
 
 mod comma;
