@@ -10,6 +10,3 @@ mod writing;
 
 pub use reading::{ModRm, byte, long, memory, operand, signed_byte, word};
 pub use writing::{Bytes, put_long, put_operand};
-
-#[cfg(test)]
-mod tests;

@@ -20,6 +20,3 @@ pub use operation::{
 };
 pub use register::{CL, EAX, EBP, EBX, ECX, EDI, EDX, ESI, ESP};
 pub use width::Width;
-
-#[cfg(test)]
-mod tests;

@@ -1,4 +1,6 @@
-use crate::{Condition, Width, from_le, le_bytes, line_of, lines_of, parity_even, sign_extend};
+//! Words, bytes, lines and the numbers of conditions, worked out by hand.
+
+use ia_word::{Condition, Width, from_le, le_bytes, line_of, lines_of, parity_even, sign_extend};
 
 #[test]
 fn bytes_of_a_doubleword(rt: HostRuntime) {

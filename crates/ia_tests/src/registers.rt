@@ -1,5 +1,7 @@
-use crate::{Flags, Regs, cond};
+//! Registers, their bytes, the places of the flags, and the conditions that flags satisfy.
+
 use bitflags::Flags as _;
+use ia_regs::{Flags, Regs, cond};
 use ia_word::Condition;
 
 fn flags(sum: u16) -> Flags {

@@ -1,7 +1,9 @@
 //! Values from the tables of SDM volume 2A, "32-Bit Addressing Forms with the ModR/M Byte" and "with the SIB Byte".
 
-use crate::{Bytes, ModRm, byte, long, memory, operand, put_long, put_operand, signed_byte, word};
 use ia_insn::{DecodeFault, Insn, Mem, Op, Operand, is_encodable};
+use ia_modrm::{
+    Bytes, ModRm, byte, long, memory, operand, put_long, put_operand, signed_byte, word,
+};
 use std::process::Abort;
 
 #[test]
