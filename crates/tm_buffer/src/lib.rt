@@ -13,6 +13,3 @@ mod stored;
 
 pub use fault::{Full, NoMemory};
 pub use stored::Buffer;
-
-#[cfg(test)]
-mod tests;

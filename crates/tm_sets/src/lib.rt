@@ -23,6 +23,3 @@ pub use fault::{Full, NoMemory};
 pub use interface::{Kind, Sets};
 pub use plain::PlainSets;
 pub use threaded::Directory;
-
-#[cfg(test)]
-mod tests;

@@ -1,6 +1,6 @@
-//! Each call once, on sets worked out by hand.
+//! Each call of the sets once, worked out by hand.
 
-use crate::{Directory, Full, Kind, NoMemory, PlainSets, Sets};
+use tm_sets::{Directory, Full, Kind, NoMemory, PlainSets, Sets};
 
 #[test]
 fn two_cores_on_one_line(rt: HostRuntime) {

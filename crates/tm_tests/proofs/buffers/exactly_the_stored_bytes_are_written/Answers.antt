@@ -5,7 +5,7 @@ use Rattle.ia_word.specs.declared.width.Width.TheVariants.{B, D}
 use Rattle.ia_word.specs.Operand.{operand_bytes}
 use Rattle.tm_buffer.specs.Buffer.{Fits}
 use Rattle.tm_buffer.proofs.Fits.{fits_empty, fits_put}
-use Rattle.tm_buffer.proofs.tests.exactly_the_stored_bytes_are_written.Goals as goal
+use Rattle.tm_tests.proofs.buffers.exactly_the_stored_bytes_are_written.Goals as goal
 
 pub drain_into-requires : goal.drain_into-requires
 drain_into-requires g c =

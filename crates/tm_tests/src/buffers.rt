@@ -1,7 +1,7 @@
-//! Each call once, on addresses and values worked out by hand.
+//! Each call of the buffer once, on addresses and values worked out by hand.
 
-use crate::{Buffer, Full};
 use ia_word::Width;
+use tm_buffer::{Buffer, Full};
 
 /// Lines 40h and 41h meet at 1040h.
 #[test]
