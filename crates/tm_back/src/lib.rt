@@ -7,6 +7,3 @@
 mod back;
 
 pub use back::{BackFault, first_steps};
-
-#[cfg(test)]
-mod tests;

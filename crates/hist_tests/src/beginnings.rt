@@ -1,8 +1,8 @@
 //! A history of two cores, and each of its beginnings.
 
-use crate::{BackFault, first_steps};
 use ia_image::load;
 use std::test::Fail;
+use tm_back::{BackFault, first_steps};
 use tm_core::Limits;
 use tm_hist::Board;
 
