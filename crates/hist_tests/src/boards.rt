@@ -145,3 +145,20 @@ fn steps_are_made_until_the_core_stops(rt: HostRuntime) {
     assert_eq!(rt; board.steps(0, 9), 1);
     assert_eq!(rt; board.steps(0, 9), 0);
 }
+
+// Two XBEGIN and an XABORT of abh: the argument is the highest byte of the status.
+#[test]
+fn each_byte_of_a_status_is_kept(rt: HostRuntime) {
+    let code = [
+        0xc7, 0xf8, 0, 0, 0, 0, 0xc7, 0xf8, 0, 0, 0, 0, 0xc6, 0xf8, 0xab,
+    ];
+    let alloc = rt.alloc();
+    let program = load(alloc, &code, 0x100, 15, 8192, &[0x100]);
+    let program = program.expect(&rt, "it is loaded");
+    let board = Board::new(alloc, &program, LIMITS, 10);
+    let mut board = board.expect(&rt, "the board is made");
+    for outcome in [Begun, Inside, Aborted(0xab00_0021)] {
+        assert_eq!(rt; board.step(0), Ok(outcome));
+    }
+    assert_eq!(rt; board.history().get(2), Some((0, Aborted(0xab00_0021))));
+}

@@ -25,6 +25,3 @@ pub use history::History;
 pub use lines::{push_state, stop_text, write_core, write_dump, write_outcome, write_state};
 pub use one_memory::serial;
 pub use replay::{Serial, SerialFault};
-
-#[cfg(test)]
-mod tests;

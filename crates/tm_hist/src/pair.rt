@@ -26,6 +26,9 @@ pub struct Pair {
     pub outcome: PackedOutcome,
 }
 
+// A history may have 16,777,216 steps.
+const _: () = prove!(size_of::<Pair>() == 6);
+
 fn pack(outcome: Outcome) -> PackedOutcome
     ensures { outcome_of result ≡ outcome }
 {
