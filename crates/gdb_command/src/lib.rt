@@ -13,6 +13,3 @@ mod read;
 
 pub use command::{Command, Monitor, Move, Point, PointKind, Question, Setting, Span};
 pub use read::read_command;
-
-#[cfg(test)]
-mod tests;

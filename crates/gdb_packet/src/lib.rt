@@ -14,6 +14,3 @@ mod unescape;
 pub use framing::{MOST_BYTES, write_packet};
 pub use heard::{Bytes, Heard};
 pub use reader::Reader;
-
-#[cfg(test)]
-mod tests;

@@ -23,6 +23,3 @@ pub use points::{MOST_POINTS, Points};
 pub use session::serve;
 pub use stop::Stop;
 pub use target::Target;
-
-#[cfg(test)]
-mod tests;

@@ -1,6 +1,6 @@
 //! Packets of real sessions, and escapes whose checksums were added up by hand.
 
-use crate::{Heard, Reader, write_packet};
+use gdb_packet::{Heard, Reader, write_packet};
 use ia_text::ToVec;
 use std::process::Abort;
 use std::test::Fail;

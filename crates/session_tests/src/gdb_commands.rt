@@ -1,6 +1,8 @@
 //! Packets that gdb 13.1 sent.
 
-use crate::{Command, Monitor, Move, Point, PointKind, Question, Setting, Span, read_command};
+use gdb_command::{
+    Command, Monitor, Move, Point, PointKind, Question, Setting, Span, read_command,
+};
 
 fn span(at: u32, count: u32) -> Span {
     Span { at, count }

@@ -2,7 +2,6 @@
 
 ghost use Rattle.std.specs.Prelude.{None};
 
-use crate::serve;
 use gdb_packet::write_packet;
 use ia_image::load;
 use ia_text::{Failed, Out, ToVec};
@@ -12,6 +11,7 @@ use std::process::Abort;
 use std::sync::Wait;
 use tm_core::Limits;
 use tm_debug::FromReader;
+use tm_gdb::serve;
 use tm_hist::Board;
 
 const LIMITS: Limits = Limits {
