@@ -21,6 +21,3 @@ pub use elf::{Elf, read_elf};
 pub use fault::ElfFault;
 pub use fields::is_elf;
 pub use symbols::Symbol;
-
-#[cfg(test)]
-mod tests;

@@ -1,4 +1,6 @@
-use crate::{ElfFault, is_elf, read_elf};
+//! Executables whose words were written by hand, and what is wrong with some.
+
+use ia_elf::{ElfFault, is_elf, read_elf};
 use std::alloc::{AllocError, Global};
 use std::test::Fail;
 
