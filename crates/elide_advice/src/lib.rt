@@ -17,6 +17,3 @@ mod source;
 mod steps;
 
 pub use advice::advise;
-
-#[cfg(test)]
-mod tests;

@@ -1,8 +1,8 @@
-//! Texts that no command of the worked rows comes to.
+//! Texts beside refusals to which no command of the worked rows comes.
 
 ghost use Rattle.std.specs.Prelude.{None};
 
-use crate::advise;
+use elide_advice::advise;
 use elide_args::{ExplainOptions, Subcommand};
 use elide_program::{Obstacle, Paths, ReadFault, Text};
 use elide_setup::{Fault, Refusal};
