@@ -13,6 +13,3 @@ mod ledger;
 mod rule;
 
 pub use ledger::{Ledger, LedgerIdentity, Token, UnnamedLedger};
-
-#[cfg(test)]
-mod tests;

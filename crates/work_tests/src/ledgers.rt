@@ -1,8 +1,10 @@
+//! A ledger without a desk: its lines and their tokens.
+
 ghost use Rattle.std.specs.Prelude.{◌≡◌, [], ◌∷◌, Some};
 
-use super::*;
 use std::marker::Brand;
 use std::test::*;
+use tm_ledger::{Ledger, LedgerIdentity, Token, UnnamedLedger};
 
 // Opens two lines, and writes the first again with the second's token in hand.
 fn two_lines<J: LedgerIdentity>(
