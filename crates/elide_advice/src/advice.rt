@@ -9,14 +9,12 @@ use crate::source::advise_source;
 use crate::steps::{advise_core, advise_schedule, write_line};
 use elide_args::Subcommand;
 use elide_program::{Paths, ProgramFault};
-use elide_setup::{Fault, Refusal};
+use elide_setup::{BoardFault, Fault, MachineFault, Refusal, RunFault, StepFault};
 use ia_image::ImageFault;
 use ia_text::Out;
 use std::alloc::Global;
 use std::fmt;
 use std::fmt::Write;
-use tm_core::{MachineFault, RunFault};
-use tm_hist::{BoardFault, StepFault};
 
 /// Writes where the fault of a command stands and what is meant, for a person at a terminal. FILE and a schedule's file are read
 /// again. Nothing is written where there is nothing to add, and it ends where no memory is left or the device fails. Painted

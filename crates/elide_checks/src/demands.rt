@@ -1,8 +1,7 @@
 //! What is checked, as the options say it.
 
 use elide_args::HuntOptions;
-use elide_program::{ProgramFile, number_of, sum_of};
-use elide_setup::{Fault, Refusal};
+use elide_setup::{Fault, ProgramFile, Refusal, number_of, sum_of};
 use std::alloc::{AllocError, Global};
 use tm_check::{Check, Comparison};
 use tm_rule::Stop;

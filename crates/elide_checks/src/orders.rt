@@ -1,8 +1,7 @@
 //! What is asked of a search.
 
 use elide_args::HuntOptions;
-use elide_program::number_of;
-use elide_setup::{Refusal, limit_of};
+use elide_setup::{Refusal, limit_of, number_of};
 use std::thread::{Threads, available_parallelism};
 use tm_pick::Method;
 

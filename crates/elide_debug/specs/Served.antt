@@ -4,13 +4,13 @@ use Rattle.ia_text.specs.Writing.{Device}
 use Rattle.debug_command.specs.declared.manner.Manner.{Manner}
 use Rattle.debug_command.specs.declared.manner.Manner.TheVariants.{Plain, Spoken}
 use Rattle.debug_command.specs.declared.symbol.Symbol.{Symbol}
-use Rattle.tm_debug.specs.Serving.{BehindPrompt, ServesInput}
-use Rattle.tm_debug.specs.Session.{start_in}
-use Rattle.tm_hist.specs.Board.{ShownBoard as Board}
+use Rattle.elide_session.specs.TmDebug.Serving.{BehindPrompt, ServesInput}
+use Rattle.elide_session.specs.TmDebug.Session.{start_in}
+use Rattle.elide_session.specs.TmHist.Board.{ShownBoard as Board}
 use Rattle.elide_args.specs.declared.subcommand.SessionOptions.{SessionOptions}
 use Rattle.elide_session.specs.Opened.{IsOpened, is_scheduled}
 use Rattle.elide_session.specs.Symbols.{AreSymbolsIn}
-use Rattle.elide_setup.specs.declared.terminals.Terminals.{Terminals}
+use Rattle.elide_session.specs.ElideSetup.Terminals.{Terminals}
 
 -- a session is spoken where a person types its input and reads its output
 abbrev pub manner_at : Terminals → Manner

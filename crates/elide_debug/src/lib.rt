@@ -9,13 +9,10 @@ ghost use Rattle.std.specs.Prelude.{◌≡◌, OnOk};
 ghost use Rattle.elide_debug.specs.Served.{IsServed, manner_at};
 
 use elide_args::SessionOptions;
-use elide_program::Paths;
-use elide_session::{opened, session_fault};
-use elide_setup::{Refusal, Terminals};
+use elide_session::{In, Manner, Paths, Refusal, Terminals, opened, serve_in, session_fault};
 use ia_text::Out;
 use std::alloc::Global;
 use std::sync::Wait;
-use tm_debug::{In, Manner, serve_in};
 
 /// Answers the commands of the input. The machine is that of the options, and the session can make 1,000,000 steps. `next` goes
 /// along the schedule of the options, where there is one. It is spoken where input and output are a terminal's.

@@ -5,8 +5,10 @@ use crate::extent::{Extent, rows_of};
 use crate::symbols::Symbols;
 use elide_args::DrawOptions;
 use elide_places::Places;
-use elide_program::{Paths, ProgramFile, Settings, read_file};
-use elide_setup::{Course, Gathered, Plan, Progress, Refusal, Setup, record_path};
+use elide_setup::{
+    Course, Gathered, Paths, Plan, ProgramFile, Progress, Refusal, Settings, Setup, read_file,
+    record_path,
+};
 use ia_text::Out;
 use std::alloc::Global;
 use tm_timeline::{Label, Rows, Timeline};

@@ -1,9 +1,8 @@
 //! A schedule, run twice: once to count its steps, where it is drawn step by step, and once to watch them.
 
 use crate::watch::Watcher;
-use elide_setup::{Course, Fault, Progress, Refusal, Setup, StepMaker};
+use elide_setup::{Course, Fault, Machine, Outcome, Progress, Refusal, Setup, StepMaker};
 use std::alloc::Global;
-use tm_core::{Machine, Outcome};
 use tm_timeline::{Timeline, Window};
 
 /// What a schedule came to before it is watched.

@@ -1,7 +1,6 @@
 //! What is drawn of a run.
 
-use elide_program::number_of;
-use elide_setup::Refusal;
+use elide_setup::{Refusal, number_of};
 use tm_timeline::{Rows, Window};
 
 /// Which steps are asked for.

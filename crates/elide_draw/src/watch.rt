@@ -1,8 +1,7 @@
 //! A step, and whom it hits.
 
-use elide_setup::{Refusal, StepMaker};
+use elide_setup::{CoreState, Kind, Machine, Outcome, Refusal, StepMaker};
 use std::alloc::AllocError;
-use tm_core::{CoreState, Kind, Machine, Outcome};
 use tm_timeline::{LineUse, Timeline};
 
 // How the next step uses the line on which it hits a core, for each core.

@@ -5,13 +5,10 @@
 #![tactic(auto)]
 
 use elide_args::SessionOptions;
-use elide_program::Paths;
-use elide_session::{opened, session_fault};
-use elide_setup::Refusal;
+use elide_session::{In, Paths, Refusal, opened, session_fault};
 use ia_text::Out;
 use std::alloc::Global;
 use std::sync::Wait;
-use tm_debug::In;
 use tm_gdb::serve;
 
 /// Answers the packets of the input, up to gdb's `detach` or `kill` or the end. The machine is that of the options, and the session

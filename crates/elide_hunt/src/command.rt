@@ -6,9 +6,10 @@ ghost use Rattle.tm_hunt.specs.Attempts.{IsFailure};
 use crate::report::{Counts, tell_failure, tell_none};
 use crate::searching::{fault_of, searched};
 use elide_args::HuntOptions;
-use elide_checks::{Demands, Orders};
-use elide_program::{Paths, ProgramFile, Settings, read_file};
-use elide_setup::{Gathered, Progress, Refusal, Setup, record, record_path};
+use elide_checks::{
+    Demands, Gathered, Orders, Paths, ProgramFile, Progress, Refusal, Settings, Setup, read_file,
+    record, record_path,
+};
 use ia_text::Out;
 use std::alloc::Global;
 use std::thread::Threads;

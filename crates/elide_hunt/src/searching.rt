@@ -3,11 +3,9 @@
 ghost use Rattle.std.specs.Prelude.{◌<◌, IfOk, IfSome};
 ghost use Rattle.tm_hunt.specs.Attempts.{IsFailure};
 
-use elide_checks::Orders;
-use elide_setup::{Fault, Progress, Refusal};
+use elide_checks::{Fault, Orders, Progress, Refusal, RunFault};
 use std::thread;
 use std::thread::Threads;
-use tm_core::RunFault;
 use tm_hunt::{HuntFault, Search, Trial, first_failing};
 use tm_pick::Plan;
 

@@ -7,10 +7,9 @@ use crate::items::items_of;
 use crate::report::tell;
 use elide_args::OutcomesOptions;
 use elide_program::{Paths, ProgramFile, Settings, number_of, read_file};
-use elide_setup::{Fault, Gathered, Refusal, Setup};
+use elide_setup::{Fault, Gathered, MachineFault, Refusal, RunFault, Setup};
 use ia_text::Out;
 use std::alloc::{AllocError, Global};
-use tm_core::{MachineFault, RunFault};
 use tm_outcomes::{Search, SearchFault, Trial, outcomes as searched};
 
 /// The most states by default: at 32 bytes a state some 50 million bytes.

@@ -1,7 +1,7 @@
 -- The board of a schedule.
 use Rattle.std.specs.Prelude.{◌≡◌, ℕ, List, length, map, max}
-use Rattle.tm_hist.specs.Board.{ShownBoard as Board}
-use Rattle.elide_setup.specs.declared.machine.Setup.{Setup}
+use Rattle.elide_why.specs.TmHist.Board.{ShownBoard as Board}
+use Rattle.elide_why.specs.ElideSetup.SetupType.{Setup}
 
 -- the cores that made a board's steps, in order
 abbrev pub cores_stepped : Board → List ℕ

@@ -1,13 +1,12 @@
 //! Whether a board's machine and a serial run ended alike.
 
 ghost use Rattle.std.specs.Prelude.{◌≡◌, ◌↔◌, ◌<◌, IsTrue, length};
-ghost use Rattle.tm_hist.specs.Board.{stop_shown};
-ghost use Rattle.tm_hist.specs.Replay.{Replays, memory_of};
-ghost use Rattle.tm_core.specs.Theorem.{view_at};
+ghost use Rattle.elide_why.specs.TmHist.Board.{stop_shown};
+ghost use Rattle.elide_why.specs.TmHist.Replay.{Replays, memory_of};
+ghost use Rattle.elide_why.specs.TmCore.Theorem.{view_at};
 ghost use Rattle.elide_replay.specs.Alike.{SameCore, SameCores, SameRegs, SameStop};
 
-use tm_core::{CoreState, Machine};
-use tm_hist::{Board, Serial};
+use elide_why::{Board, CoreState, Machine, Serial};
 use tm_rule::Stop;
 
 /// Whether a schedule on a board and a history on one memory ended alike.

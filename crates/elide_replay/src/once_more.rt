@@ -3,23 +3,20 @@
 ghost use Rattle.std.specs.Prelude.{◌≡◌, ◌↔◌, ◌++◌, ◌∷◌, [], IfOk, OnOk};
 ghost use Rattle.elide_replay.specs.Replayed.{IsReplayed, cores_stepped};
 ghost use Rattle.elide_replay.specs.Told.{agreement_text};
-ghost use Rattle.elide_setup.specs.Shown.{IsWhole};
-ghost use Rattle.tm_hist.specs.Board.{SameBoard};
-ghost use Rattle.tm_hist.specs.Replay.{Replays};
+ghost use Rattle.elide_why.specs.ElideSetup.Shown.{IsWhole};
+ghost use Rattle.elide_why.specs.TmHist.Board.{SameBoard};
+ghost use Rattle.elide_why.specs.TmHist.Replay.{Replays};
 
 use crate::agreement::{Agreement, agreement_of};
 use elide_args::ReplayOptions;
 use elide_places::Places;
-use elide_program::Paths;
-use elide_setup::{
-    Course, Drawn, Fault, Gathered, Progress, Refusal, Setup, ShownMemory, print, record,
-    record_path, scheduled, shown_memory,
+use elide_why::{
+    Board, Course, Drawn, Fault, Gathered, Paths, Progress, Refusal, RunFault, Serial, Setup,
+    ShownMemory, print, record, record_path, scheduled, scheduled_places, shown_memory,
+    tell_history,
 };
-use elide_why::{scheduled_places, tell_history};
 use ia_text::Out;
 use std::alloc::Global;
-use tm_core::RunFault;
-use tm_hist::{Board, Serial};
 use tm_pick::Going;
 
 /// After how many steps it is told how far a run is.

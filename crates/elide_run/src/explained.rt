@@ -1,12 +1,12 @@
 //! Runs that tell why transactions abort.
 
 use elide_args::RunOptions;
-use elide_program::Paths;
-use elide_setup::{Fault, Progress, Refusal, Setup, StepMaker, record_path, shown_memory};
-use elide_why::{Teller, scheduled_places};
+use elide_why::{
+    Fault, Machine, Outcome, Paths, Progress, Refusal, Setup, StepMaker, Teller, record_path,
+    scheduled_places, shown_memory,
+};
 use ia_text::Out;
 use std::alloc::Global;
-use tm_core::{Machine, Outcome};
 
 /// Makes a run's steps, and prints the line of each abort with its reason, and the other outcomes where they are asked
 /// for; writes the schedule where there is a path.

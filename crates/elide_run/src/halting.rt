@@ -1,10 +1,9 @@
 //! Cores that have not stopped at the end.
 
 use arrayvec::ArrayString;
-use elide_setup::Refusal;
+use elide_why::{CoreState, Machine, Refusal};
 use ia_text::{Out, WriteFault};
 use std::fmt::Write;
-use tm_core::{CoreState, Machine};
 
 /// What a run came to.
 #[derive(Clone, Copy, PartialEq, Eq, Debug)]

@@ -3,15 +3,12 @@
 use crate::explained::run_explained;
 use crate::halting::{Ending, ending_of};
 use elide_args::RunOptions;
-use elide_program::Paths;
-use elide_setup::{
-    Fault, Gathered, Progress, Refusal, Setup, StepMaker, record_path, scheduled, show,
-    shown_memory,
+use elide_why::{
+    Fault, Gathered, Machine, Outcome, Paths, Progress, Refusal, Setup, StepMaker, record_path,
+    scheduled, show, shown_memory, write_outcome,
 };
 use ia_text::Out;
 use std::alloc::Global;
-use tm_core::{Machine, Outcome};
-use tm_hist::write_outcome;
 
 /// Runs a schedule of core steps, and prints the outcomes where they are asked for, the reasons of the aborts where these
 /// are, the state, and what is asked for of memory; and where it is expected that all cores stop, those that did not.

@@ -1,2 +1,5 @@
 pub mod Opened
 pub mod Symbols
+pub mod ElideSetup
+pub mod TmDebug
+pub mod TmHist

@@ -4,7 +4,7 @@ use Rattle.elide_args.specs.declared.subcommand.MachineOptions.{MachineOptions}
 use Rattle.elide_args.specs.declared.subcommand.ScheduleOptions.{ScheduleOptions}
 use Rattle.elide_setup.specs.Setup.{IsAsked}
 use Rattle.elide_setup.specs.declared.machine.Setup.{Setup}
-use Rattle.tm_hist.specs.Board.{IsNew, ShownBoard as Board}
+use Rattle.tm_debug.specs.TmHist.Board.{IsNew, ShownBoard as Board}
 
 -- the board of the options before its first step, with room for 1,000,000 of them
 pub record IsOpened (options : MachineOptions) (board : Board) : Type 0 where

@@ -2,9 +2,9 @@
 use Rattle.std.specs.Prelude.{◌≡◌, ℕ, ◌<◌, List, Option, Some, None}
 use Rattle.debug_command.specs.Symbols.{symbol_in}
 use Rattle.debug_command.specs.declared.symbol.Symbol.{Symbol}
-use Rattle.elide_program.specs.Files.{Gives, most_bytes}
-use Rattle.elide_program.specs.ProgramFile.{IsFile, IsFileSymbol}
-use Rattle.elide_program.specs.declared.file.ProgramFile.{ProgramFile}
+use Rattle.elide_setup.specs.ElideProgram.Files.{Gives, most_bytes}
+use Rattle.elide_setup.specs.ElideProgram.ProgramFile.{IsFile, IsFileSymbol}
+use Rattle.elide_setup.specs.ElideProgram.ProgramFileType.{ProgramFile}
 use Rattle.ia_elf.specs.Symbols.{IsNamed, st_value}
 
 -- each name stands for what it stands for in the file

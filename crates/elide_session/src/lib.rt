@@ -14,13 +14,14 @@ ghost use Rattle.tm_debug.specs.Faults.{session_code};
 mod symbols;
 
 use elide_args::{MachineOptions, ScheduleOptions};
-use elide_program::{Paths, ProgramFile, Settings, read_file};
-use elide_setup::{Course, Fault, Plan, Refusal, Setup, Silent, new_board, planned};
+pub use elide_setup::{Paths, Refusal, Terminals};
+use elide_setup::{
+    Course, Fault, Plan, ProgramFile, Settings, Setup, Silent, new_board, planned, read_file,
+};
 use std::alloc::{AllocError, Global};
 use symbols::{labels_of, symbols_of};
-use tm_core::Machine;
-use tm_debug::{Names, SessionFault};
-use tm_hist::Board;
+pub use tm_debug::{In, Manner, serve_in};
+use tm_debug::{Board, Machine, Names, SessionFault};
 
 /// How many steps a session can make.
 const MOST_STEPS: u64 = 1_000_000;

@@ -7,7 +7,7 @@ ghost use Rattle.ia_asm.specs.Assemblies.{known_as};
 ghost use Rattle.ia_elf.specs.Symbols.{IsFirstValue};
 
 use elide_places::Places;
-use elide_program::ProgramFile;
+use elide_setup::ProgramFile;
 use ia_elf::Elf;
 use ia_item::Name;
 use indexmap::IndexMap;

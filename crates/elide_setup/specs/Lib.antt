@@ -3,3 +3,9 @@ pub mod Gathering
 pub mod Setup
 pub mod Shown
 pub mod Told
+pub mod ElideProgram
+pub mod IaImage
+pub mod TmCore
+pub mod TmHist
+pub mod TmModel
+pub mod TmRule

@@ -18,13 +18,21 @@ mod terminals;
 mod told;
 mod walk;
 
+pub use elide_program::{
+    Paths, ProgramFile, ProgramRefusal, Settings, Text, number_of, read_file, sum_of,
+};
 pub use fault::{Fault, Refusal};
 pub use gathered::Gathered;
+pub use ia_image::Program;
 pub use machine::{Setup, new_board, planned, prepared, scheduled};
 pub use plan::{Course, Drawn, Plan, limit_of};
 pub use progress::{Progress, Silent};
 pub use recorded::{record, record_path};
 pub use shown::{ShownMemory, print, show, shown_memory};
 pub use terminals::Terminals;
+pub use tm_hist::{
+    AbortReason, Board, BoardFault, CoreState, Counts, Kind, Limits, Machine, MachineFault,
+    Outcome, Reach, RunFault, Serial, StepFault, Stop, stop_text, write_outcome,
+};
 pub use told::{push_back, push_front};
 pub use walk::StepMaker;

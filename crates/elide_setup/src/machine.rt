@@ -13,8 +13,7 @@ use elide_args::{MachineOptions, ScheduleOptions};
 use elide_program::{MemoryParts, Paths, ProgramFile, Settings, read_file};
 use ia_image::Program;
 use std::alloc::Global;
-use tm_core::Limits;
-use tm_hist::Board;
+use tm_hist::{Board, Limits};
 
 /// A program, and what the options say of its machine.
 #[derive(Drop)]

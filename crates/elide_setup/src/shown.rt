@@ -14,9 +14,8 @@ use ia_text::text_line::TextLine;
 use ia_text::{Out, WriteFault};
 use ia_word::Width;
 use itoa::Buffer;
-use tm_core::Machine;
-use tm_core::memory::read;
-use tm_hist::{write_dump, write_state};
+use tm_hist::memory::read;
+use tm_hist::{Machine, write_dump, write_state};
 
 /// A memory and what is printed of it, all of which it has.
 #[derive(Clone, Copy, Debug)]

@@ -8,7 +8,7 @@ use crate::progress::Progress;
 use crate::recorded::record;
 use elide_program::Paths;
 use std::alloc::Global;
-use tm_core::{Machine, Outcome, RunFault};
+use tm_hist::{Machine, Outcome, RunFault};
 use tm_pick::Going;
 
 /// After how many steps it is told how far a run is.

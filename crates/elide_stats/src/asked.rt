@@ -1,6 +1,6 @@
 //! What is asked of a machine before a step.
 
-use tm_core::{AbortReason, CoreState, Counts, Kind, Machine, Outcome, Stop};
+use elide_setup::{AbortReason, CoreState, Counts, Kind, Machine, Outcome, Stop};
 use tm_stats::{AbortCause, Conflict, Step};
 
 /// What a machine tells of the next step of a core.

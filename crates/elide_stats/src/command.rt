@@ -3,8 +3,10 @@
 use crate::counting::Counting;
 use crate::told::tell_counting;
 use elide_args::StatsOptions;
-use elide_program::{Paths, ProgramFile, Settings, read_file};
-use elide_setup::{Course, Plan, Progress, Refusal, Setup, planned, record_path};
+use elide_setup::{
+    Course, Paths, Plan, ProgramFile, Progress, Refusal, Settings, Setup, planned, read_file,
+    record_path,
+};
 use ia_text::Out;
 use std::alloc::Global;
 

@@ -2,12 +2,11 @@
 
 use crate::asked::Asked;
 use crate::hits::{CoreBytes, Hits};
-use elide_program::Paths;
-use elide_setup::{Course, Fault, Progress, Refusal, StepMaker};
+use elide_setup::{
+    Board, Course, Fault, Limits, Machine, Outcome, Paths, Progress, Refusal, RunFault, StepMaker,
+};
 use ia_image::Program;
 use std::alloc::{AllocError, Global};
-use tm_core::{Limits, Machine, Outcome, RunFault};
-use tm_hist::Board;
 use tm_stats::{Conflicts, RunCounts};
 
 /// After how many steps of a history it is told how far the counting is.

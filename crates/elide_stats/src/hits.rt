@@ -2,8 +2,8 @@
 
 use crate::asked::conflict_with;
 use arrayvec::ArrayVec;
+use elide_setup::{Machine, Outcome, Reach};
 use std::alloc::{AllocError, Global};
-use tm_core::{Machine, Outcome, Reach};
 use tm_stats::{ByteStep, Conflict, OpenBytes};
 
 /// The most cores of a machine.

@@ -1,12 +1,10 @@
 //! What is printed of a run that was counted.
 
 use crate::counting::{Counting, no_memory};
-use elide_program::ProgramFile;
 use elide_report::{Labels, Report, json_line, put_columns};
-use elide_setup::{Gathered, Progress, Refusal};
+use elide_setup::{Board, Gathered, ProgramFile, Progress, Refusal};
 use ia_text::Out;
 use std::alloc::Global;
-use tm_hist::Board;
 
 /// Prints what the transactions of a run of the program of this file came to.
 pub fn tell_counting<O: Out>(

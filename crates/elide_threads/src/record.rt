@@ -1,10 +1,8 @@
 //! The schedule that comes about.
 
-use elide_program::{Paths, Text};
-use elide_setup::{Fault, Gathered, Refusal};
+use elide_setup::{Board, Fault, Gathered, Paths, Refusal, Text};
 use ia_text::{Out, WriteFault};
 use std::alloc::{AllocError, Global};
-use tm_hist::Board;
 use tm_schedule::write_schedule;
 
 /// The schedule that comes about, and the path of the file that it is for. Its memory is taken before the first step.

@@ -4,7 +4,7 @@ ghost use Rattle.std.specs.Prelude.{◌≡◌, ◌*◌, ℕ, IfOk, List, MatchRe
 ghost use Rattle.std.specs.Option.{option_copied};
 ghost use Rattle.elide_setup.specs.Faults.{fault_number};
 ghost use Rattle.elide_threads.specs.Burst.{burst_said};
-ghost use Rattle.tm_hist.specs.Board.{IsNew};
+ghost use Rattle.elide_setup.specs.TmHist.Board.{IsNew};
 ghost use Rattle.tm_work.specs.Faults.{work_number};
 ghost use Rattle.tm_work.specs.Workers.{IsReport};
 
@@ -12,15 +12,16 @@ use crate::record::Record;
 use crate::watch::Told;
 use elide_args::ThreadsOptions;
 use elide_places::Places;
-use elide_program::{Paths, ProgramFile, ProgramRefusal, Settings, number_of, read_file};
-use elide_setup::{Fault, Gathered, Progress, Refusal, Setup, new_board, print, shown_memory};
+use elide_setup::{
+    Board, Fault, Gathered, Paths, ProgramFile, ProgramRefusal, Progress, Refusal, Settings, Setup,
+    new_board, number_of, print, read_file, shown_memory,
+};
 use elide_stats::tell_counts;
 use elide_why::tell_history;
 use ia_text::Out;
 use std::alloc::Global;
 use std::sync::Wait;
 use std::thread::Threads;
-use tm_hist::Board;
 use tm_work::{Burst, WorkFault, run_steadily};
 
 /// Runs each core on a thread of its own, writes the schedule that came about where it is asked for, and prints the aborts

@@ -1,3 +1,6 @@
 pub mod Lines
 pub mod Subset
 pub mod Words
+pub mod ElideSetup
+pub mod TmCore
+pub mod TmHist

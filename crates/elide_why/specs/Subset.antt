@@ -2,7 +2,7 @@
 use Rattle.std.specs.Prelude.{ℕ, List, [], ◌++◌, ◌-◌, codes, length, take, drop, nat_lt, ◌==◌, if◌then◌else◌}
 use Rattle.std.specs.Fmt.{decimal}
 use Rattle.hex.specs.Hex.{encode_lower}
-use Rattle.ia_image.specs.Program.{ProgramValue, code_of}
+use Rattle.elide_setup.specs.IaImage.Program.{ProgramValue, code_of}
 use Rattle.ia_text.specs.Number.{eight_digits}
 use Rattle.ia_text.specs.TextLine.{line_end}
 use Rattle.elide_why.specs.declared.outside.Outside.{Outside}

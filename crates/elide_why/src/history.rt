@@ -2,11 +2,9 @@
 
 use crate::teller::Teller;
 use elide_places::Places;
-use elide_setup::{Fault, Progress, Refusal};
+use elide_setup::{Board, Fault, Machine, Progress, Refusal};
 use ia_text::Out;
 use std::alloc::Global;
-use tm_core::Machine;
-use tm_hist::Board;
 
 /// After how many steps it is told how far the run is.
 const PORTION: usize = 65536;

@@ -15,6 +15,11 @@ mod subset;
 mod teller;
 mod words;
 
+pub use elide_setup::{
+    Board, CoreState, Course, Drawn, Fault, Gathered, Machine, Outcome, Paths, Progress, Refusal,
+    RunFault, Serial, Setup, ShownMemory, StepMaker, print, record, record_path, scheduled, show,
+    shown_memory, write_outcome,
+};
 pub use history::tell_history;
 pub use lines::write_abort;
 pub use outside::Outside;

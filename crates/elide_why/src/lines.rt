@@ -9,11 +9,10 @@ ghost use Rattle.elide_why.specs.Lines.{hit_words, insn_words, line_text, no_roo
 use crate::page::push_decimal;
 use crate::subset::{push_outside, push_symbols};
 use crate::words::Words;
+use elide_setup::{AbortReason, stop_text};
 use ia_insn::Insn;
 use ia_text::page::{Page, push, push_eight, push_hex};
 use ia_text::{Out, WriteFault, write_insn};
-use tm_core::AbortReason;
-use tm_hist::stop_text;
 use tm_sets::Kind;
 use tm_why::{Reason, StandingHit};
 

@@ -2,8 +2,7 @@
 
 use elide_args::{MachineOptions, ScheduleOptions};
 use elide_places::Places;
-use elide_program::{Paths, ProgramFile, Settings, read_file};
-use elide_setup::{Course, Plan, Refusal, Setup};
+use elide_setup::{Course, Paths, Plan, ProgramFile, Refusal, Settings, Setup, read_file};
 use std::alloc::Global;
 
 /// The program, the schedule and the places of FILE, as [`elide_setup::scheduled`] answers them without the places. FILE is

@@ -8,7 +8,7 @@ ghost use Rattle.elide_why.specs.Subset.{code_from, code_text, outside_text, sto
 use crate::outside::Outside;
 use crate::page::push_decimal;
 use elide_places::{Places, SymbolText, push_code_place};
-use ia_image::Program;
+use elide_setup::Program;
 use ia_text::page::{Page, push, push_bytes, push_eight};
 use ia_text::{Out, WriteFault};
 

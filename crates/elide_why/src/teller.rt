@@ -5,11 +5,8 @@ use crate::outside::Outside;
 use crate::subset::write_stop;
 use crate::words::Words;
 use elide_places::Places;
-use elide_setup::{Fault, Refusal};
-use ia_image::Program;
+use elide_setup::{Fault, Machine, Outcome, Program, Refusal, RunFault, Stop, write_outcome};
 use ia_text::Out;
-use tm_core::{Machine, Outcome, RunFault, Stop};
-use tm_hist::write_outcome;
 use tm_why::{Asked, Watch};
 
 /// Makes the steps of a run and tells of each that aborts why it does, of each that stops where the subset ends which code stands

@@ -6,11 +6,10 @@ ghost use Rattle.elide_why.specs.Words.{IsOutsideOf};
 use crate::outside::Outside;
 use arrayvec::ArrayVec;
 use elide_places::{Places, SymbolText, push_symbols};
-use ia_image::Program;
+use elide_setup::{AbortReason, Program, Stop};
 use ia_insn::Insn;
 use ia_text::page::{push, push_eight};
 use itoa::Buffer;
-use tm_core::{AbortReason, Stop};
 use tm_why::Reason;
 
 /// How many bytes of a path are told.

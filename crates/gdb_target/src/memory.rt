@@ -6,7 +6,7 @@ ghost use Rattle.gdb_target.specs.Memory.{bytes_text, is_readable, memory_text};
 
 use gdb_packet::Bytes;
 use ia_text::page::{push, push_bytes};
-use tm_core::Machine;
+use tm_hist::Machine;
 
 fn is_readable(machine: &Machine, at: u64, count: u64) -> bool
     requires { at + count < 2 ^ 64 }

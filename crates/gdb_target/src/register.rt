@@ -10,7 +10,7 @@ use bitflags::Flags as _;
 use gdb_packet::Bytes;
 use ia_regs::Flags;
 use ia_text::page::{push, push_bytes};
-use tm_core::CoreState;
+use tm_hist::CoreState;
 
 /// How many registers there are.
 pub const REGISTERS: u8 = 38;

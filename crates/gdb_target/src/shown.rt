@@ -4,8 +4,7 @@ ghost use Rattle.std.specs.Prelude.{◌<◌, length};
 
 use crate::status::last_status;
 use ia_regs::Regs;
-use tm_core::CoreState;
-use tm_hist::Board;
+use tm_hist::{Board, CoreState};
 
 /// What gdb is shown of a core at a step of a board.
 #[derive(Clone, Copy, Debug)]

@@ -6,8 +6,7 @@ ghost use Rattle.std.specs.Option.{option_and_then};
 ghost use Rattle.tm_hist.specs.History.{pairs_of};
 ghost use Rattle.gdb_target.specs.Shown.{last_status, own_status, status_of};
 
-use tm_core::Outcome;
-use tm_hist::History;
+use tm_hist::{History, Outcome};
 
 fn status_of(outcome: Outcome) -> Option<u32>
     ensures { result ≡ status_of outcome }

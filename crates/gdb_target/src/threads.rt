@@ -7,8 +7,7 @@ ghost use Rattle.hex.specs.Hex.{encode_lower};
 use gdb_packet::Bytes;
 use ia_text::page::{push, push_bytes};
 use ia_text::text_line::{TextLine, push_number};
-use tm_core::{CoreState, Machine};
-use tm_hist::push_state;
+use tm_hist::{CoreState, Machine, push_state};
 
 /// Adds the number of the thread that a core is, in two hex digits: 1 for the first core.
 pub fn push_thread(row: &mut Bytes, core: u8)

@@ -1,2 +1,3 @@
 pub mod Address
 pub mod Load
+pub mod IaInsn

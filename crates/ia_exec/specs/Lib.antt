@@ -5,3 +5,6 @@ pub mod Control
 pub mod Table
 pub mod Laws
 pub mod Finished
+pub mod IaAddr
+pub mod IaAlu
+pub mod IaInsn

@@ -5,3 +5,4 @@ pub mod Arguments
 pub mod Text
 pub mod Listing
 pub mod TextLine
+pub mod IaInsn

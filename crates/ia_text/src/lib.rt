@@ -16,6 +16,7 @@ mod print;
 pub mod text_line;
 
 pub use arg::Arg;
+pub use ia_decode::{DecodeFault, Insn};
 pub use listing::{disassemble, write_line};
 pub use out::{Failed, Out, ToVec, ToWriter, WriteFault};
 pub use print::write_insn;

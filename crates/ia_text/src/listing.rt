@@ -8,8 +8,7 @@ ghost use Rattle.ia_text.specs.Writing.{Stopped, Writes, Wrote};
 use crate::out::{Out, WriteFault};
 use crate::page::{Page, make_room, push, push_bytes, push_eight, push_number};
 use crate::print::push_insn;
-use ia_decode::decode;
-use ia_insn::{DecodeFault, Insn};
+use ia_decode::{DecodeFault, Insn, decode};
 
 /// The most bytes that a line takes.
 const LINE: usize = 147;

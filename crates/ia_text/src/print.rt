@@ -11,7 +11,7 @@ use crate::arguments::arguments_of;
 use crate::names::{register, size};
 use crate::out::{Out, WriteFault};
 use crate::page::{Page, push, push_number};
-use ia_insn::{Insn, Mem, Op};
+use ia_decode::{Insn, Mem, Op};
 use ia_word::Width;
 
 fn push_plus(page: &mut Page, before: bool)

@@ -3,13 +3,13 @@ use Rattle.std.proofs.Common.{◌≡◌, ℕ, zero, suc, ◌+◌, List, [], ◌�
 use Rattle.std.specs.Prelude.{MatchOption}
 use Rattle.std.specs.List.{slice_get}
 use Rattle.ia_image.specs.Program.{ProgramValue as Program}
-use Rattle.tm_core.specs.declared.limits.Limits.{Limits}
-use Rattle.tm_model.specs.declared.outcome.Outcome.{Outcome}
-use Rattle.tm_model.specs.Conflicts.{Doomed, doomed_after}
-use Rattle.tm_model.specs.Runs.{AreOwed}
-use Rattle.tm_model.specs.Setting.{Setting, program_setting}
-use Rattle.tm_model.specs.State.{State, opening_state}
-use Rattle.tm_model.specs.Steps.{step}
+use Rattle.tm_hist.specs.TmCore.Limits.{Limits}
+use Rattle.tm_hist.specs.TmModel.Outcome.{Outcome}
+use Rattle.tm_hist.specs.TmModel.Conflicts.{Doomed, doomed_after}
+use Rattle.tm_hist.specs.TmModel.Runs.{AreOwed}
+use Rattle.tm_hist.specs.TmModel.Setting.{Setting, program_setting}
+use Rattle.tm_hist.specs.TmModel.State.{State, opening_state}
+use Rattle.tm_hist.specs.TmModel.Steps.{step}
 use Rattle.tm_hist.specs.Board.{IsHistory, SameBoard, ShownBoard as Board}
 use Rattle.tm_back.specs.Back.{IsFirst}
 

@@ -1,1 +1,5 @@
 pub mod Back
+pub mod IaImage
+pub mod TmCore
+pub mod TmHist
+pub mod TmModel

@@ -1,7 +1,7 @@
 //! The first steps of a history, made once more.
 
 ghost use Rattle.std.specs.Prelude.{◌≡◌, ◌↔◌, ◌+◌, ◌<◌, ◌≤◌, Err, IfOk, OnErr, OnOk, false, length, true};
-ghost use Rattle.tm_core.specs.Machine.{bad_limits};
+ghost use Rattle.tm_hist.specs.TmCore.Machine.{bad_limits};
 ghost use Rattle.tm_hist.specs.Board.{IsNew, bad_limit};
 ghost use Rattle.tm_back.specs.Back.{HasStranger, IsFirst};
 

@@ -3,8 +3,8 @@ use Rattle.std.specs.Prelude.{◌≡◌, ℕ, ◌+◌, ◌<◌, ◌≤◌, Bool,
 use Rattle.std.specs.Prelude.{nat_le, slice_get, slice_range}
 use Rattle.ia_word.specs.Operand.{operand_of}
 use Rattle.ia_word.specs.declared.width.Width.TheVariants.{D}
-use Rattle.tm_model.specs.Access.{addresses_of, bytes_at}
-use Rattle.tm_rule.specs.declared.kinds.Stop.{Stop}
+use Rattle.tm_hist.specs.TmModel.Access.{addresses_of, bytes_at}
+use Rattle.tm_hist.specs.TmRule.Stop.{Stop}
 use Rattle.tm_hist.specs.Board.{IsFull, IsStopped, ShownBoard as Board, stop_shown}
 use Rattle.tm_hist.specs.Machine.{core_count, shown_state}
 use Rattle.tm_check.specs.declared.check.Check.{Check}

@@ -7,10 +7,8 @@ ghost use Rattle.tm_check.specs.Checks.{ComparesAt, HasEnded, IsViolated, IsViol
 ghost use Rattle.tm_check.specs.Checks.{StopsBy, compares};
 
 use ia_word::Width;
-use tm_core::memory::read;
-use tm_core::{CoreState, Machine};
-use tm_hist::Board;
-use tm_rule::Stop;
+use tm_hist::memory::read;
+use tm_hist::{Board, CoreState, Machine, Stop};
 
 /// How two numbers are compared, without sign.
 #[derive(Clone, Copy, PartialEq, Eq, Debug)]

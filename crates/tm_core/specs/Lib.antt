@@ -6,3 +6,6 @@ pub mod Representation
 pub mod ExplainedViews
 pub mod Machine
 pub mod Faults
+pub mod IaExec
+pub mod IaImage
+pub mod TmModel

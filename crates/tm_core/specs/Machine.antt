@@ -4,8 +4,8 @@ use Rattle.std.specs.Prelude.{length, refl}
 use Rattle.std.specs.Coded.{Coded, code_by, coded×, coded_ℕ, coded_list}
 use Rattle.std.specs.FinSet as set
 use Rattle.std.specs.FinMap as map_of
-use Rattle.ia_decode.specs.Offsets.{AreDecoded}
-use Rattle.ia_image.specs.Program.{ProgramValue as Program, start_regs}
+use Rattle.tm_rule.specs.IaDecode.Offsets.{AreDecoded}
+use Rattle.tm_model.specs.IaImage.Program.{ProgramValue as Program, start_regs}
 use Rattle.ia_insn.specs.declared.fault.DecodeFault.{DecodeFault}
 use Rattle.ia_insn.specs.declared.op.Insn.{Insn}
 use Rattle.ia_row.specs.declared.row.Line.{Line}

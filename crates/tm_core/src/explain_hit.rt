@@ -22,12 +22,10 @@ use crate::cpu::Cpu;
 use crate::explain_reason::{by_room, plan, standing};
 use crate::memory::load;
 use crate::two_steps::takes_two_steps;
-use ia_addr::Access;
-use ia_exec::Store;
 use ia_word::{Width, line_of};
 use tm_buffer::Buffer;
 use tm_model::{CoreState, Hit};
-use tm_rule::{Code, InsideResult, OutsideResult, load_at, outside};
+use tm_rule::{Access, Code, InsideResult, OutsideResult, Store, load_at, outside};
 use tm_sets::{Kind, Sets};
 
 /// What the next step of a core touches, as others see it.

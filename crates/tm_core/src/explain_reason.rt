@@ -13,11 +13,11 @@ ghost use Rattle.tm_core.specs.StepRefinement.{add_all, seen};
 
 use crate::cpu::Cpu;
 use crate::transaction::load as load_inside;
-use ia_addr::Access;
-use ia_exec::Store;
 use ia_word::{Width, line_of};
 use tm_model::{AbortReason, CoreState};
-use tm_rule::{Code, Decoded, InsideResult, OutsideResult, fetch, inside, load_at, outside, row};
+use tm_rule::{
+    Access, Code, Decoded, InsideResult, OutsideResult, Store, fetch, inside, load_at, outside, row,
+};
 use tm_sets::{Kind, Sets};
 use tm_status::Cause;
 

@@ -44,6 +44,7 @@ pub use laws::transactions_are_as_they_went;
 pub use limits::Limits;
 pub use machine::Machine;
 pub use start::{opening_memory, start_regs};
-pub use tm_model::{AbortReason, CoreState, Counts, Hit, Outcome, Reach, Stop};
+pub use tm_model::{AbortReason, CoreState, Counts, Hit, Outcome, Program, Reach, Stop};
+pub use tm_rule::Store;
 pub use tm_sets::Kind;
 pub use two_steps::takes_two_steps;

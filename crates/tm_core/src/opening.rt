@@ -2,8 +2,8 @@
 
 ghost use Rattle.std.specs.Prelude.{◌≡◌, ◌<◌, ◌≤◌, ◌*◌, ◌↔◌, ℕ, None, Err, true, length, IfOk};
 ghost use Rattle.std.specs.FinSet as set;
-ghost use Rattle.ia_decode.specs.Offsets.{AreDecoded};
-ghost use Rattle.ia_image.specs.Program.{opening_memory as memory_of, code_of};
+ghost use Rattle.tm_rule.specs.IaDecode.Offsets.{AreDecoded};
+ghost use Rattle.tm_model.specs.IaImage.Program.{opening_memory as memory_of, code_of};
 ghost use Rattle.ia_row.specs.Lines.{AreLines};
 ghost use Rattle.tm_sets.specs.declared.interface.Kind as AnyKind;
 ghost use Rattle.tm_model.specs.Setting.{program_setting};
@@ -17,11 +17,10 @@ use crate::fault::MachineFault;
 use crate::limits::Limits;
 use crate::machine::Machine;
 use crate::start::{opening_memory, start_regs};
-use ia_image::Program;
 use ia_row::Line;
 use std::alloc::{AllocError, Global};
 use tm_buffer::Buffer;
-use tm_model::CoreState;
+use tm_model::{CoreState, Program};
 use tm_rule::Decoded;
 use tm_sets::{Directory, Kind, Sets};
 

@@ -22,14 +22,12 @@ ghost use Rattle.tm_core.specs.StepRefinement.{add_all, grows, seen, stepped, st
 use crate::boundary::end;
 use crate::cpu::Cpu;
 use crate::memory::read;
-use ia_addr::Access;
-use ia_exec::Store;
 use ia_regs::Regs;
 use ia_row::Line;
 use ia_word::{Width, line_of};
 use tm_model::{CoreState, Outcome};
 use tm_quick::{access_of, line_at, quick_with_value};
-use tm_rule::{Code, Decoded, Inside, fallback, fetch, inside_in, load_at, row};
+use tm_rule::{Access, Code, Decoded, Inside, Store, fallback, fetch, inside_in, load_at, row};
 use tm_sets::{Kind, Sets};
 use tm_status::{Cause, status};
 

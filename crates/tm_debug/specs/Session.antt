@@ -6,23 +6,23 @@ use Rattle.std.specs.Fmt.{decimal}
 use Rattle.std.specs.List.{flat_map, list_any, position, remove, slice_get}
 use Rattle.std.specs.List.Sorted.{IsStrictlyIncreasing}
 use Rattle.std.specs.FinSet as set
-use Rattle.ia_image.specs.Program.{ProgramValue as Program, code_of}
+use Rattle.tm_reason.specs.IaImage.Program.{ProgramValue as Program, code_of}
 use Rattle.ia_text.specs.Listing.{shown_bytes}
 use Rattle.ia_text.specs.Number.{eight_digits, hex_digits}
 use Rattle.ia_text.specs.declared.out.WriteFault.{WriteFault}
 use Rattle.ia_text.specs.Writing.{Device, Stopped, Writes, Wrote}
-use Rattle.tm_model.specs.declared.outcome.CoreState.{CoreState}
-use Rattle.tm_model.specs.declared.outcome.CoreState.TheVariants.{Mid}
-use Rattle.tm_model.specs.declared.outcome.Outcome.{Outcome}
-use Rattle.tm_core.specs.Theorem.{ShownMachine as Machine, view_at}
-use Rattle.tm_hist.specs.Board.{IsHistory, SameBoard, ShownBoard as Board, stop_shown}
-use Rattle.tm_hist.specs.Lines.{core_text, dump_lines, outcome_line, state_word}
+use Rattle.tm_reason.specs.TmModel.CoreState.{CoreState}
+use Rattle.tm_reason.specs.TmModel.CoreState.TheVariants.{Mid}
+use Rattle.tm_reason.specs.TmModel.Outcome.{Outcome}
+use Rattle.tm_reason.specs.TmCore.Theorem.{ShownMachine as Machine, view_at}
+use Rattle.tm_reason.specs.TmHist.Board.{IsHistory, SameBoard, ShownBoard as Board, stop_shown}
+use Rattle.tm_reason.specs.TmHist.Lines.{core_text, dump_lines, outcome_line, state_word}
 use Rattle.ia_text.specs.TextLine.{line_end, number_text}
-use Rattle.tm_hist.specs.Machine.{shown_regs, shown_state}
-use Rattle.tm_back.specs.Back.{IsFirst}
+use Rattle.tm_reason.specs.TmHist.Machine.{shown_regs, shown_state}
+use Rattle.tm_reason.specs.TmBack.Back.{IsFirst}
 use Rattle.tm_reason.specs.History.{IsReasonOf}
 use Rattle.tm_reason.specs.Lines.{reason_line}
-use Rattle.tm_why.specs.declared.reason.Reason.{Reason}
+use Rattle.tm_reason.specs.TmWhy.Reason.{Reason}
 use Rattle.debug_command.specs.declared.command.Command.{Command}
 use Rattle.debug_command.specs.declared.command.Command.TheVariants.{Step, Run, Next, Back, Break, Clear, Regs, Mem, Sets, Why}
 use Rattle.debug_command.specs.declared.command.Command.TheVariants.{List as Listing, Help, Quit}

@@ -13,12 +13,10 @@ ghost use Rattle.ia_text.specs.TextLine.{line_end};
 
 use crate::state::{MOST_BREAKPOINTS, RunCheck, SessionState, core_count};
 use debug_command::{Manner, Range, Refusal, Symbol, refuse, write_labelled, write_place};
-use ia_image::Program;
 use ia_text::page::{push, push_eight};
 use ia_text::text_line::{TextLine, push_number};
 use ia_text::{Out, WriteFault};
-use tm_core::Machine;
-use tm_hist::{StepFault, write_core, write_dump, write_outcome};
+use tm_reason::{Machine, Program, StepFault, write_core, write_dump, write_outcome};
 
 /// Tells that there is no core of a number.
 pub fn refuse_core<O: Out>(state: &SessionState, out: &mut O) -> Result<(), WriteFault>

@@ -2,7 +2,7 @@
 
 ghost use Rattle.std.specs.Prelude.{◌≡◌, ◌<◌, ◌≤◌, List, ℕ, OnErr, OnOk, length};
 ghost use Rattle.ia_text.specs.Writing.{Wrote};
-ghost use Rattle.tm_hist.specs.Board.{IsFull};
+ghost use Rattle.tm_reason.specs.TmHist.Board.{IsFull};
 ghost use Rattle.tm_debug.specs.Session.{GoAnswer, RunAnswer, RunAnswerBroken, RunBroken, RunWhole, TellsAnswer};
 ghost use Rattle.tm_debug.specs.Session.{value_of};
 
@@ -10,7 +10,7 @@ use crate::answer::end_run;
 use crate::state::{RunCheck, SessionState, Way};
 use debug_command::{Range, Refusal, refuse};
 use ia_text::{Out, WriteFault};
-use tm_hist::write_outcome;
+use tm_reason::write_outcome;
 
 // The step of a core whose turn it is.
 fn go<O: Out>(state: &mut SessionState, core: u8, out: &mut O) -> Result<(), WriteFault>

@@ -25,7 +25,7 @@ use std::alloc::Global;
 use std::fmt;
 use std::sync::Wait;
 use thiserror::Error;
-use tm_hist::Board;
+use tm_reason::Board;
 
 /// Why a session ended before its input did. Each gives the board back, after the steps that were made.
 #[derive(Drop, Error)]

@@ -2,16 +2,15 @@
 
 ghost use Rattle.std.specs.Prelude.{◌≡◌, ◌↔◌, ℕ, ◌+◌, ◌<◌, ◌≤◌, ◌^◌, ◌++◌, ◌∷◌, [], Err, IfOk, IfSome, OnErr, Some, is_some};
 ghost use Rattle.std.specs.Prelude.{length};
-ghost use Rattle.tm_hist.specs.Board.{IsFull, stop_shown};
-ghost use Rattle.tm_hist.specs.Machine.{shown_regs, shown_state};
+ghost use Rattle.tm_reason.specs.TmHist.Board.{IsFull, stop_shown};
+ghost use Rattle.tm_reason.specs.TmHist.Machine.{shown_regs, shown_state};
 ghost use Rattle.tm_debug.specs.Session.{IsStep, core_check, is_midway, is_stopped, next_running, plan_check};
 ghost use Rattle.tm_debug.specs.Session.{run_check, running_from, start, start_in, told_labels, value_of};
 
 use arrayvec::ArrayVec;
 use debug_command::{Manner, Names, Symbol};
 use std::alloc::Global;
-use tm_core::{CoreState, Outcome};
-use tm_hist::{Board, StepFault};
+use tm_reason::{Board, CoreState, Outcome, StepFault};
 
 /// The most breakpoints that are set at once.
 pub const MOST_BREAKPOINTS: usize = 64;

@@ -1,6 +1,6 @@
 -- Steps of a continued run, put together.
 use Rattle.std.proofs.Common.{◌≡◌, ◌⊎◌, inl, inr, refl, sym, subst, ℕ, List, ◌∙◌}
-use Rattle.tm_hist.specs.Board.{SameBoard, ShownBoard}
+use Rattle.tm_debug.specs.TmHist.Board.{SameBoard, ShownBoard}
 use Rattle.tm_gdb.specs.Moves.{GoesOn, IsOneMore, IsTurn}
 use Rattle.tm_gdb.specs.Moves.GoesOn.{goes, stands}
 

@@ -10,8 +10,8 @@ use Rattle.gdb_target.specs.declared.shown.CoreShown.{CoreShown}
 use Rattle.gdb_target.specs.Memory.{memory_text}
 use Rattle.gdb_target.specs.Registers.{register_of, register_text, registers_text}
 use Rattle.gdb_target.specs.Shown.{IsShown}
-use Rattle.tm_back.specs.Back.{IsFirst}
-use Rattle.tm_hist.specs.Board.{IsFull, ShownBoard}
+use Rattle.tm_debug.specs.TmBack.Back.{IsFirst}
+use Rattle.tm_debug.specs.TmHist.Board.{IsFull, ShownBoard}
 use Rattle.tm_gdb.specs.declared.target.Target.{Target}
 use Rattle.tm_gdb.specs.Moves.{GoesOn, IsOneMore}
 

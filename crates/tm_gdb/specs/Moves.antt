@@ -1,8 +1,8 @@
 -- What moves of a target do to its board.
 use Rattle.std.specs.Prelude.{◌≡◌, ℕ, if◌then◌else◌, List, [], ◌∷◌, ◌++◌, Option, Some, None, length, nat_lt}
 use Rattle.std.specs.List.{slice_get}
-use Rattle.tm_model.specs.declared.outcome.Outcome.{Outcome}
-use Rattle.tm_hist.specs.Board.{SameBoard, ShownBoard}
+use Rattle.tm_debug.specs.TmModel.Outcome.{Outcome}
+use Rattle.tm_debug.specs.TmHist.Board.{SameBoard, ShownBoard}
 
 -- one step of this core more
 pub record IsOneMore (old new : ShownBoard) (core : ℕ) : Type 0 where

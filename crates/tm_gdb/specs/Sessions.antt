@@ -11,7 +11,7 @@ use Rattle.gdb_packet.specs.declared.reader.Reader.{Reader}
 use Rattle.gdb_packet.specs.Packet.{framed}
 use Rattle.gdb_packet.specs.Reading.{Hears, IsBehind}
 use Rattle.ia_text.specs.Writing.{Device, Wrote}
-use Rattle.tm_hist.specs.Board.{ShownBoard}
+use Rattle.tm_debug.specs.TmHist.Board.{ShownBoard}
 use Rattle.tm_gdb.specs.declared.target.Target.{Target}
 use Rattle.tm_gdb.specs.Answers.{Answers}
 

@@ -1,7 +1,7 @@
 //! The answer to a command.
 
 ghost use Rattle.std.specs.Prelude.{◌≡◌, ◌≤◌, [], OnErr, OnOk, length};
-ghost use Rattle.tm_hist.specs.Board.{SameBoard};
+ghost use Rattle.tm_debug.specs.TmHist.Board.{SameBoard};
 ghost use Rattle.tm_gdb.specs.Answers.{Answers, MakesStep, Moves, Tells, thread_core};
 
 use crate::monitor::monitor_text;

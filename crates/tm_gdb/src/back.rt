@@ -1,14 +1,13 @@
 //! Moves back.
 
 ghost use Rattle.std.specs.Prelude.{◌≡◌, ◌-◌, ℕ, OnErr, OnOk, length};
-ghost use Rattle.tm_back.specs.Back.{IsFirst};
+ghost use Rattle.tm_debug.specs.TmBack.Back.{IsFirst};
 
 use crate::points::changed;
 use crate::stop::Stop;
 use crate::target::Target;
 use std::alloc::Global;
-use tm_back::{BackFault, first_steps};
-use tm_hist::Board;
+use tm_debug::{BackFault, Board, first_steps};
 
 /// Where a run back ends: behind so many steps, at this core, and why.
 #[derive(Clone, Copy, Debug)]

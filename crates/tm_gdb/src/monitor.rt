@@ -8,8 +8,7 @@ use ia_text::page::{Page, push, push_hex};
 use ia_text::{Out, WriteFault};
 use itoa::Buffer;
 use std::alloc::{AllocError, Global};
-use tm_core::{Kind, Machine};
-use tm_hist::write_outcome;
+use tm_debug::{Kind, Machine, write_outcome};
 
 /// The text of a command of `monitor`, which ends where 8000 bytes are full. `AllocError`, where there was no memory for
 /// the lines of a set, or to make the history once more.

@@ -1,13 +1,13 @@
 //! Moves forward.
 
 ghost use Rattle.std.specs.Prelude.{◌≡◌, ◌<◌, ◌⊎◌, [], IfSome, Some, length};
-ghost use Rattle.tm_hist.specs.Board.{IsFull, SameBoard};
+ghost use Rattle.tm_debug.specs.TmHist.Board.{IsFull, SameBoard};
 ghost use Rattle.tm_gdb.specs.Moves.{GoesOn, IsOneMore, IsTurn, known_core, planned};
 
 use crate::points::changed;
 use crate::stop::Stop;
 use crate::target::Target;
-use tm_hist::StepFault;
+use tm_debug::StepFault;
 
 impl Target {
     /// One step of a core, and none where the history is full.

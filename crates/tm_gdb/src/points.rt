@@ -5,7 +5,7 @@ ghost use Rattle.arrayvec.specs.ArrayVec.{array_vec_len};
 
 use arrayvec::ArrayVec;
 use gdb_command::{Point, PointKind, Span};
-use tm_core::{CoreState, Machine};
+use tm_debug::{CoreState, Machine};
 
 /// The most breakpoints, and the most watchpoints, that are set at once.
 pub const MOST_POINTS: usize = 64;

@@ -3,7 +3,7 @@
 ghost use Rattle.std.specs.Prelude.{◌≡◌, ◌∷◌, ℕ, List, Err, IfErr, IfOk, OnErr, OnOk, []};
 ghost use Rattle.gdb_packet.specs.Packet.{framed};
 ghost use Rattle.ia_text.specs.Writing.{Rose, Wrote};
-ghost use Rattle.tm_hist.specs.Board.{SameBoard};
+ghost use Rattle.tm_debug.specs.TmHist.Board.{SameBoard};
 ghost use Rattle.tm_debug.specs.Faults.{session_board, session_code};
 ghost use Rattle.tm_gdb.specs.Answers.{Answers};
 ghost use Rattle.tm_gdb.specs.Sessions.{IsAnswered, IsHeard, acknowledgement, reply_text};
@@ -15,8 +15,7 @@ use gdb_packet::{Bytes, Heard, Reader, write_packet};
 use ia_text::{Failed, Out};
 use std::alloc::Global;
 use std::sync::Wait;
-use tm_debug::{In, SessionFault};
-use tm_hist::Board;
+use tm_debug::{Board, In, SessionFault};
 
 /// What ends a session before its input or gdb does.
 #[derive(Clone, Copy, PartialEq, Eq, Debug)]

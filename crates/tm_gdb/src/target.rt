@@ -4,7 +4,7 @@ ghost use Rattle.std.specs.Prelude.{◌≡◌, ◌<◌, IfSome, length};
 
 use crate::points::Points;
 use crate::stop::Stop;
-use tm_hist::Board;
+use tm_debug::Board;
 
 /// A board, the cores that a continued run steps, the core that gdb selected, the points that it set, and why the board stands.
 #[derive(Drop)]

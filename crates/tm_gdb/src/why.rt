@@ -3,8 +3,7 @@
 use ia_text::{Out, WriteFault};
 use itoa::Buffer;
 use std::alloc::{AllocError, Global};
-use tm_hist::Board;
-use tm_reason::{reason_of, watched, write_reason};
+use tm_debug::{Board, reason_of, watched, write_reason};
 
 /// Writes of each core whose next step is an abort why it is one, which hit doomed its transaction, and when that began; steps are
 /// counted from 1. `AllocError`, where there was no memory to make the history once more.

@@ -2,7 +2,7 @@ mod UsualSteps
 pub mod Rows
 pub mod Bodies
 pub mod Runs
-pub mod Limits
+pub mod RunFronts
 pub mod Stops
 pub mod Idles
 pub mod Boards

@@ -2,17 +2,17 @@
 use Rattle.std.specs.Prelude.{◌≡◌, ◌≢◌, ℕ, ◌≤◌, Bool, ◌||◌, List, [], ◌++◌, All, Option, Some, None, drop, length, nat_lt}
 use Rattle.std.specs.Prelude.{refl}
 use Rattle.std.specs.Coded.{Coded, code_by, coded×, coded_ℕ, coded_list}
-use Rattle.ia_image.specs.Program.{ProgramValue as Program}
+use Rattle.tm_core.specs.IaImage.Program.{ProgramValue as Program}
 use Rattle.tm_rule.specs.declared.kinds.Stop.{Stop}
 use Rattle.tm_core.specs.declared.limits.Limits.{Limits}
-use Rattle.tm_model.specs.declared.outcome.CoreState.{CoreState}
-use Rattle.tm_model.specs.declared.outcome.CoreState.TheVariants as state
-use Rattle.tm_model.specs.declared.outcome.Outcome.{Outcome}
-use Rattle.tm_model.specs.declared.outcome.Outcome.TheVariants.{Idle}
-use Rattle.tm_model.specs.Runs.{AreOwed, doomed_at_end}
-use Rattle.tm_model.specs.Setting.{Setting, program_setting}
-use Rattle.tm_model.specs.State.{State, opening_state}
-use Rattle.tm_model.specs.Steps.{run}
+use Rattle.tm_core.specs.TmModel.CoreState.{CoreState}
+use Rattle.tm_core.specs.TmModel.CoreState.TheVariants as state
+use Rattle.tm_core.specs.TmModel.Outcome.{Outcome}
+use Rattle.tm_core.specs.TmModel.Outcome.TheVariants.{Idle}
+use Rattle.tm_core.specs.TmModel.Runs.{AreOwed, doomed_at_end}
+use Rattle.tm_core.specs.TmModel.Setting.{Setting, program_setting}
+use Rattle.tm_core.specs.TmModel.State.{State, opening_state}
+use Rattle.tm_core.specs.TmModel.Steps.{run}
 use Rattle.tm_core.specs.Theorem.{IsRun, ShownMachine as Machine, StandsFor, machine_setting}
 use Rattle.tm_hist.specs.Machine.{shown_state}
 

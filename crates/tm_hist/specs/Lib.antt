@@ -5,3 +5,6 @@ pub mod History
 pub mod Board
 pub mod BoardFaults
 pub mod Replay
+pub mod TmCore
+pub mod TmModel
+pub mod TmRule

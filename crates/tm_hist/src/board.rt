@@ -12,11 +12,10 @@ use crate::history::History;
 use crate::one_memory::serial;
 use crate::pair::Pair;
 use crate::replay::{Serial, SerialFault};
-use ia_image::Program;
 use std::alloc::Global;
 use std::marker::Model;
 use thiserror::Error;
-use tm_core::{CoreState, Limits, Machine, MachineFault, NoSuchCore, Outcome};
+use tm_core::{CoreState, Limits, Machine, MachineFault, NoSuchCore, Outcome, Program};
 
 /// Why no board was made.
 #[derive(Clone, Copy, PartialEq, Eq, Debug, Drop, Error)]
@@ -92,8 +91,8 @@ impl Model for Board {
     ghost use Rattle.std.specs.Prelude.{map, vec_capacity};
     ghost use Rattle.ia_regs.specs.contracts.Regs.{the_row as regs_row};
     ghost use Rattle.tm_core.specs.contracts.limits.Limits.{the_row as limits_row};
-    ghost use Rattle.tm_model.specs.contracts.outcome.CoreState.{the_row as state_row};
-    ghost use Rattle.tm_model.specs.contracts.outcome.Outcome.{the_row as outcome_row};
+    ghost use Rattle.tm_core.specs.TmModel.CoreStateContract.{the_row as state_row};
+    ghost use Rattle.tm_core.specs.TmModel.OutcomeContract.{the_row as outcome_row};
     ghost use Rattle.tm_core.specs.Machine.{shown_code};
     ghost use Rattle.tm_hist.specs.History.{pair_of};
     ghost use Rattle.tm_hist.specs.Board.{ShownBoard, board_code, IsBoard};

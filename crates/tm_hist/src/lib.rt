@@ -25,3 +25,7 @@ pub use history::History;
 pub use lines::{push_state, stop_text, write_core, write_dump, write_outcome, write_state};
 pub use one_memory::serial;
 pub use replay::{Serial, SerialFault};
+pub use tm_core::{
+    AbortReason, CoreState, Counts, Kind, Limits, Machine, MachineFault, Outcome, Reach, RunFault,
+    Stop, memory,
+};

@@ -4,12 +4,12 @@ ghost use Rattle.std.specs.Prelude.{◌≡◌, ℕ, ◌+◌, ◌<◌, ◌^◌, �
 ghost use Rattle.std.specs.Prelude.{if◌then◌else◌};
 ghost use Rattle.std.specs.List.{AllByRecursion};
 ghost use Rattle.ia_row.specs.Lines.{AreLines};
-ghost use Rattle.tm_model.specs.Setting.{outside_at, setting_of, value_at};
-ghost use Rattle.tm_model.specs.State.{Closed, Halted, Midway, Opened};
+ghost use Rattle.tm_core.specs.TmModel.Setting.{outside_at, setting_of, value_at};
+ghost use Rattle.tm_core.specs.TmModel.State.{Closed, Halted, Midway, Opened};
 ghost use Rattle.tm_rule.specs.Rule.{StandsAt, outside_of};
-ghost use Rattle.tm_model.specs.Steps.{after_load, after_begin, after_plain, after_step_of, after_stop};
-ghost use Rattle.tm_model.specs.Steps.{registers_after_abort};
-ghost use Rattle.tm_model.specs.Steps.{stop_number};
+ghost use Rattle.tm_core.specs.TmModel.Steps.{after_load, after_begin, after_plain, after_step_of, after_stop};
+ghost use Rattle.tm_core.specs.TmModel.Steps.{registers_after_abort};
+ghost use Rattle.tm_core.specs.TmModel.Steps.{stop_number};
 ghost use Rattle.tm_hist.specs.History.{outcome_of, pair_of};
 ghost use Rattle.tm_hist.specs.Serial.{core_of, list_step, steps_of};
 

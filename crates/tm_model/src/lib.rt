@@ -13,5 +13,6 @@ mod explain;
 mod outcome;
 
 pub use explain::{AbortReason, Counts, Hit, Reach};
+pub use ia_image::Program;
 pub use outcome::{CoreState, Outcome};
 pub use tm_rule::Stop;

@@ -1,6 +1,6 @@
 -- The run of a schedule: a list of cores, each of which takes the step that is owed. A schedule decides its run.
 use Rattle.std.specs.Prelude.{◌≡◌, ℕ, ◌<◌, List, [], ◌∷◌, Option, Some, None, option_map, option_and_then}
-use Rattle.ia_image.specs.Program.{ProgramValue as Program}
+use Rattle.tm_core.specs.IaImage.Program.{ProgramValue as Program}
 use Rattle.tm_model.specs.Conflicts.{Doomed, doomed_after}
 use Rattle.tm_model.specs.Owed.{owed_outcome}
 use Rattle.tm_model.specs.Setting.{Setting}

@@ -11,13 +11,12 @@ ghost use Rattle.tm_outcomes.specs.Schedules.{HasEnded, Situation};
 
 use crate::fault::SearchFault;
 use crate::trial::{Item, Trial};
-use ia_image::Program;
 use ia_regs::Regs;
 use ia_word::Width;
 use std::alloc::{AllocError, Global};
 use std::hash::{FoldHasher, Hasher};
 use tm_core::memory::{load, read};
-use tm_core::{CoreState, Machine, MachineFault, Outcome};
+use tm_core::{CoreState, Machine, MachineFault, Outcome, Program};
 use tm_rule::{Code, fetch, load_at};
 
 /// A machine, and of each core what the machine does not show: the value that the first of two steps has loaded, or how

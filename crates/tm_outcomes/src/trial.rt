@@ -3,8 +3,7 @@
 ghost use Rattle.std.specs.Prelude.{◌↔◌, IsTrue};
 ghost use Rattle.tm_outcomes.specs.Outcomes.{AreThere, IsThere};
 
-use ia_image::Program;
-use tm_core::Limits;
+use tm_core::{Limits, Program};
 
 /// A part of what an outcome shows.
 #[derive(Clone, Copy, PartialEq, Eq, Debug)]

@@ -1,9 +1,8 @@
 //! Cores that wait.
 
-use ia_image::Program;
 use ia_insn::Op;
 use ia_word::BareOp;
-use tm_core::{CoreState, Machine};
+use tm_core::{CoreState, Machine, Program};
 
 /// Whether a core is at a PAUSE outside of a transaction, by which a loop that waits for another core gives way (SDM
 /// volume 2, PAUSE). The machine is one of the program.

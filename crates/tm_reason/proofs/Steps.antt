@@ -1,8 +1,8 @@
 -- One step more of a history.
 use Rattle.std.proofs.Common.{◌≡◌, ℕ, zero, suc, ◌+◌, ◌<◌, List, [], ◌∷◌, ◌++◌, Some, refl, sym, ◌∙◌, ap, subst, length, take, arith}
 use Rattle.std.specs.List.{slice_get}
-use Rattle.tm_model.specs.declared.outcome.Outcome.{Outcome}
-use Rattle.tm_hist.specs.Board.{IsHistory, SameBoard, ShownBoard as Board}
+use Rattle.tm_back.specs.TmModel.Outcome.{Outcome}
+use Rattle.tm_back.specs.TmHist.Board.{IsHistory, SameBoard, ShownBoard as Board}
 use Rattle.tm_back.specs.Back.{IsFirst}
 use Rattle.tm_back.proofs.Owed.{first_more}
 use Rattle.tm_why.specs.Asked.{IsAsked}

@@ -1,2 +1,8 @@
 pub mod History
 pub mod Lines
+pub mod IaImage
+pub mod TmBack
+pub mod TmCore
+pub mod TmHist
+pub mod TmModel
+pub mod TmWhy

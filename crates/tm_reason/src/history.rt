@@ -2,11 +2,11 @@
 
 ghost use Rattle.std.specs.Prelude.{◌≡◌, ◌+◌, ◌<◌, IfOk, OnOk, length};
 ghost use Rattle.tm_back.specs.Back.{IsFirst};
-ghost use Rattle.tm_hist.specs.Board.{IsNew};
+ghost use Rattle.tm_back.specs.TmHist.Board.{IsNew};
 ghost use Rattle.tm_reason.specs.History.{IsReasonOf, IsWatchOf};
 
 use std::alloc::{AllocError, Global};
-use tm_hist::{Board, StepFault};
+use tm_back::{Board, StepFault};
 use tm_why::{Asked, Reason, Watch};
 
 /// A watch that was told of each step of a board's history. They are made once more on a board of their own, at the cost of a step

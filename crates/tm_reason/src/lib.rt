@@ -10,3 +10,8 @@ mod line;
 
 pub use history::{reason_of, watched};
 pub use line::write_reason;
+pub use tm_back::{
+    BackFault, Board, CoreState, Kind, Machine, Outcome, Program, StepFault, first_steps,
+    push_state, write_core, write_dump, write_outcome,
+};
+pub use tm_why::Reason;

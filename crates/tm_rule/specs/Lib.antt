@@ -1,1 +1,6 @@
 pub mod Rule
+pub mod IaAddr
+pub mod IaAlu
+pub mod IaDecode
+pub mod IaExec
+pub mod IaInsn

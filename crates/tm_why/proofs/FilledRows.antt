@@ -2,7 +2,7 @@
 use Rattle.std.proofs.Common.{◌≡◌, ℕ, zero, suc, ◌<◌, ◌≤◌, ◌+◌, List, length, get_or, set, replicate, Option, None, refl, sym, ◌∙◌, subst, ⊎_elim, arith}
 use Rattle.std.proofs.lemmas.Bool.{cases_eq}
 use Rattle.std.proofs.lemmas.List.{get_or-set_same, get_or-set_other}
-use Rattle.tm_model.specs.declared.explain.Hit.{Hit}
+use Rattle.tm_core.specs.TmModel.Hit.{Hit}
 use Rattle.tm_why.specs.Types.{Watched}
 use Rattle.tm_why.specs.Watched.{outside}
 use borrow.Author.Count.{below_more}

@@ -3,14 +3,14 @@ use Rattle.std.proofs.Common.{◌≡◌, ℕ, suc, Bool, true, false, eqb, if◌
 use Rattle.std.specs.Prelude.{IsSome, MatchOption, nat_eq, option_map}
 use Rattle.std.specs.Option.{is_some, option_or}
 use Rattle.std.proofs.lemmas.Bool.{eqb-true, eq-eqb, true≢false}
-use Rattle.tm_model.specs.Conflicts.{Doomed, addresses_loaded_by, addresses_stored_by, doom_after_other, doom_after_own, doomed_after}
-use Rattle.tm_model.specs.Explained.{IsHitTold}
-use Rattle.tm_model.specs.Owed.{owed_outcome}
-use Rattle.tm_model.specs.Setting.{Setting}
-use Rattle.tm_model.specs.State.{Closed, Core, Halted, Midway, Opened, State}
-use Rattle.tm_model.specs.declared.outcome.Outcome.{Outcome}
-use Rattle.tm_model.specs.declared.outcome.Outcome.TheVariants.{Aborted, Begun, Committed, Idle, Inside, Loaded, Plain, Stopped}
-use Rattle.tm_model.specs.declared.explain.Hit.{Hit}
+use Rattle.tm_core.specs.TmModel.Conflicts.{Doomed, addresses_loaded_by, addresses_stored_by, doom_after_other, doom_after_own, doomed_after}
+use Rattle.tm_core.specs.TmModel.Explained.{IsHitTold}
+use Rattle.tm_core.specs.TmModel.Owed.{owed_outcome}
+use Rattle.tm_core.specs.TmModel.Setting.{Setting}
+use Rattle.tm_core.specs.TmModel.State.{Closed, Core, Halted, Midway, Opened, State}
+use Rattle.tm_core.specs.TmModel.Outcome.{Outcome}
+use Rattle.tm_core.specs.TmModel.Outcome.TheVariants.{Aborted, Begun, Committed, Idle, Inside, Loaded, Plain, Stopped}
+use Rattle.tm_core.specs.TmModel.Hit.{Hit}
 use Rattle.tm_core.proofs.ExplainLaws.{condemn}
 use Rattle.tm_why.specs.Standing.{AreStanding, HitsStand}
 use Rattle.tm_why.specs.Types.{Asked, StandingHit}

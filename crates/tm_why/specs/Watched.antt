@@ -3,8 +3,8 @@
 use Rattle.std.specs.Prelude.{◌≡◌, ℕ, suc, ◌<◌, ◌==◌, if◌then◌else◌, List, [], ◌∷◌, length, Option, Some, None}
 use Rattle.std.specs.Prelude.{option_map, slice_index_or}
 use Rattle.std.specs.Option.{option_or}
-use Rattle.tm_model.specs.declared.outcome.Outcome.{Outcome}
-use Rattle.tm_model.specs.declared.outcome.Outcome.TheVariants.{Aborted, Begun, Committed}
+use Rattle.tm_core.specs.TmModel.Outcome.{Outcome}
+use Rattle.tm_core.specs.TmModel.Outcome.TheVariants.{Aborted, Begun, Committed}
 use Rattle.tm_why.specs.Types.{Asked, Hit, Reason, StandingHit, Watch, Watched}
 
 abbrev pub Told : Type 0

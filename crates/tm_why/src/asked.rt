@@ -1,8 +1,8 @@
 //! What a machine says of a step before it is made.
 
 ghost use Rattle.std.specs.Prelude.{◌≡◌, ℕ, ◌↔◌, ◌<◌, ◌≤◌, IfOk, IsOk, None, Option, length, slice_index_or};
-ghost use Rattle.tm_model.specs.Explained.{abort_reason};
-ghost use Rattle.tm_model.specs.State.{State};
+ghost use Rattle.tm_core.specs.TmModel.Explained.{abort_reason};
+ghost use Rattle.tm_core.specs.TmModel.State.{State};
 ghost use Rattle.tm_core.specs.Theorem.{StandsFor, machine_setting, view_at};
 ghost use Rattle.tm_why.specs.Said.{IsSaidOf};
 

@@ -1,8 +1,8 @@
 -- What seats know of a board, and when a ledger of that agrees with the board (docs/MACHINE.md, "Threads").
 use Rattle.std.specs.Prelude.{◌≡◌, ◌≢◌, ◌⊎◌, ⊤, ℕ, ◌+◌, ◌<◌, ◌≤◌, ◌==◌, Bool, true, false, List, [], ◌∷◌, ◌++◌, length}
 use Rattle.std.specs.Prelude.{All, count_by, drop, Option, Some, None, IfSome, slice_get, slice_set}
-use Rattle.tm_model.specs.declared.outcome.Outcome.{Outcome}
-use Rattle.tm_model.specs.declared.outcome.Outcome.TheVariants.{Idle}
+use Rattle.tm_hist.specs.TmModel.Outcome.{Outcome}
+use Rattle.tm_hist.specs.TmModel.Outcome.TheVariants.{Idle}
 use Rattle.tm_hist.specs.Board.{ShownBoard, SameBoard, IsStopped, IsFull}
 use Rattle.tm_work.specs.declared.progress.Progress.{Progress}
 use Rattle.tm_work.specs.declared.progress.Receipt.{Receipt}

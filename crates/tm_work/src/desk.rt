@@ -1,7 +1,7 @@
 //! The desk that threads share.
 
 ghost use Rattle.std.specs.Prelude.{◌≡◌, ◌≢◌, ◌+◌, ◌<◌, ◌≤◌, true, ◌++◌, ◌∷◌, [], length, All, IfOk, IfErr, IfSome, IfNone};
-ghost use Rattle.tm_model.specs.declared.outcome.Outcome.{Outcome};
+ghost use Rattle.tm_hist.specs.TmModel.Outcome.{Outcome};
 ghost use Rattle.tm_hist.specs.Board.{IsHistory};
 ghost use Rattle.tm_work.specs.Seats.{AreSeats, GoesOn, IsLater, SeatTells};
 ghost use Rattle.tm_work.specs.Seats.{no_progress, seat_with, progress_after_step, progress_at_end};

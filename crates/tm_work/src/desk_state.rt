@@ -1,7 +1,7 @@
 //! What lies under the desk's lock.
 
 ghost use Rattle.std.specs.Prelude.{◌≡◌, ◌≢◌, ◌+◌, ◌<◌, ◌≤◌, ◌⊎◌, true, length, All, IfSome, IfNone};
-ghost use Rattle.tm_model.specs.declared.outcome.Outcome.{Outcome};
+ghost use Rattle.tm_hist.specs.TmModel.Outcome.{Outcome};
 ghost use Rattle.tm_hist.specs.Board.{IsFull, IsHistory, IsStopped};
 ghost use Rattle.tm_work.specs.Seats.{AreStepsMade, GoesOn, HaveNoProgress, IsLast, IsLater, IsStepMade, SeatTells, Tells};
 ghost use Rattle.tm_work.specs.Seats.{progress_after_step, progress_at_end};

@@ -1,6 +1,6 @@
 //! What a worker tells the world.
 
-use tm_core::Outcome;
+use tm_hist::Outcome;
 
 /// What hears of each turn of a worker. It is called in the worker's thread, without the desk's lock, so it may wait
 /// for another worker.

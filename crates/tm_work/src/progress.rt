@@ -1,6 +1,6 @@
 //! What is known of one core's turns.
 
-use tm_core::Outcome;
+use tm_hist::Outcome;
 
 /// A step that a turn made.
 #[derive(Clone, Copy, PartialEq, Eq, Debug)]

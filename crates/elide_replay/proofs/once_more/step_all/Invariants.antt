@@ -1,5 +1,5 @@
 use Rattle.std.proofs.Common.{◌≡◌, ◌++◌, take}
-use Rattle.tm_hist.specs.Board.{SameBoard}
+use Rattle.elide_why.specs.TmHist.Board.{SameBoard}
 use Rattle.elide_replay.specs.Replayed.{cores_stepped}
 use Rattle.elide_replay.proofs.once_more.step_all.Given as goal
 

@@ -1,5 +1,5 @@
 use Rattle.std.proofs.Common.{◌≡◌}
-use Rattle.tm_hist.specs.Board.{SameBoard}
+use Rattle.tm_debug.specs.TmHist.Board.{SameBoard}
 use Rattle.tm_gdb.proofs.session.serve_bytes.Given as goal
 
 -- the board is of the same program and limits, and no device has failed

@@ -1,6 +1,6 @@
 use Rattle.std.proofs.Common.{◌≡◌, ◌<◌, ◌≤◌, ◌*◌, ◌^◌, ℕ, length, sym, ◌∙◌, subst, arith}
-use Rattle.ia_decode.specs.Offsets.{AreDecoded}
-use Rattle.ia_image.specs.Program.{ProgramValue as Program}
+use Rattle.tm_rule.specs.IaDecode.Offsets.{AreDecoded}
+use Rattle.tm_model.specs.IaImage.Program.{ProgramValue as Program}
 use Rattle.ia_row.specs.Lines.{AreLines}
 use Rattle.tm_sets.specs.Content.{Content}
 use Rattle.tm_core.specs.Machine.{IsStart}

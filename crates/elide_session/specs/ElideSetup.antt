@@ -1,0 +1,2 @@
+-- The words of elide_setup that crates above name, passed on.
+pub use Rattle.elide_setup.specs.declared.terminals.Terminals

@@ -1,0 +1,2 @@
+-- The words of tm_hist that crates above name, passed on.
+pub use Rattle.tm_debug.specs.TmHist.Board

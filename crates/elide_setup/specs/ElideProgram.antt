@@ -1,0 +1,5 @@
+-- The words of elide_program that crates above name, passed on.
+pub use Rattle.elide_program.specs.Files
+pub use Rattle.elide_program.specs.ProgramFile
+pub use Rattle.elide_program.specs.declared.file.ProgramFile as ProgramFileType
+pub use Rattle.elide_program.specs.Settings

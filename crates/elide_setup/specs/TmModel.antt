@@ -1,0 +1,2 @@
+-- The words of tm_model that crates above name, passed on.
+pub use Rattle.tm_hist.specs.TmModel.AbortReason

@@ -1,0 +1,2 @@
+-- The words of tm_rule that crates above name, passed on.
+pub use Rattle.tm_rule.specs.declared.kinds.Stop

@@ -1,0 +1,2 @@
+-- The words of tm_back that crates above name, passed on.
+pub use Rattle.tm_back.specs.Back
