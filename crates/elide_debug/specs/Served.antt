@@ -9,7 +9,6 @@ use Rattle.elide_session.specs.TmDebug.Session.{start_in}
 use Rattle.elide_session.specs.TmHist.Board.{ShownBoard as Board}
 use Rattle.elide_args.specs.declared.subcommand.SessionOptions.{SessionOptions}
 use Rattle.elide_session.specs.Opened.{IsOpened, is_scheduled}
-use Rattle.elide_session.specs.Symbols.{AreSymbolsIn}
 use Rattle.elide_session.specs.ElideSetup.Terminals.{Terminals}
 
 -- a session is spoken where a person types its input and reads its output
@@ -21,12 +20,11 @@ manner_at terminals = if terminals.input && terminals.output then Spoken else Pl
 pub record IsServed (options : SessionOptions) (terminals : Terminals) (content input left : Option (List ℕ))
     (old new : Device) : Type 0 where
   pub first : Board
-  pub opened : IsOpened options.machine first
   pub last : Board
   pub plan : List ℕ
   pub planned : is_scheduled options.schedule ≡ false → plan ≡ []
   pub symbols : List Symbol
-  pub named : AreSymbolsIn content symbols
+  pub opened : IsOpened content options.machine first symbols
   pub labels : List Symbol
   pub manner : Manner
   pub speaks : manner ≡ manner_at terminals

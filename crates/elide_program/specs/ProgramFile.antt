@@ -13,6 +13,7 @@ use Rattle.ia_image.specs.Load.{load_refusal}
 use Rattle.ia_image.specs.Program.{ProgramValue}
 use Rattle.ia_image.specs.declared.fault.LoadFault.{LoadFault}
 use Rattle.ia_image.specs.declared.fault.LoadFault.TheVariants as load
+use Rattle.elide_program.specs.Files.{Gives, most_bytes}
 use Rattle.elide_program.specs.declared.fault.ProgramFault.TheVariants as fault
 use Rattle.elide_program.specs.declared.fault.ProgramRefusal.{ProgramRefusal}
 use Rattle.elide_program.specs.declared.fault.ProgramRefusal.TheVariants as refusal
@@ -34,6 +35,12 @@ IsFile text (Image image) =
     × (image_read text ≡ Ok (record { bytes = image.bytes.items; base = image.base; code_len = image.code_len }))
 IsFile text (Elf elf) = IsMagic text × IsElf text elf
 IsFile text (Source program) = IsSource text × AssemblesImage text (Ok program)
+
+-- the program that this content is read as, of at most 640 MiB; of a content that is not known it is some text's
+pub record IsRead (content : Option (List ℕ)) (file : ProgramFile) : Type 0 where
+  pub text : List ℕ
+  pub given : Gives content most_bytes text
+  pub read : IsFile text file
 
 -- the refusal tells the first fault that an ELF file has
 abbrev pub TellsElf : List ℕ → ProgramRefusal → Type 0

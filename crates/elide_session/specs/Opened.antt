@@ -1,16 +1,20 @@
 -- The board that a session begins with (docs/FORMATS.md, "Debugger").
-use Rattle.std.specs.Prelude.{Bool, ◌||◌, is_some}
+use Rattle.std.specs.Prelude.{ℕ, Bool, ◌||◌, List, Option, is_some}
+use Rattle.debug_command.specs.declared.symbol.Symbol.{Symbol}
 use Rattle.elide_args.specs.declared.subcommand.MachineOptions.{MachineOptions}
 use Rattle.elide_args.specs.declared.subcommand.ScheduleOptions.{ScheduleOptions}
 use Rattle.elide_setup.specs.Setup.{IsAsked}
 use Rattle.elide_setup.specs.declared.machine.Setup.{Setup}
+use Rattle.elide_session.specs.Symbols.{AreSymbolsOf}
 use Rattle.tm_debug.specs.TmHist.Board.{IsNew, ShownBoard as Board}
 
--- the board of the options before its first step, with room for 1,000,000 of them
-pub record IsOpened (options : MachineOptions) (board : Board) : Type 0 where
+-- the board of the options and of the program that the content of FILE is read as, before its first step and with room for
+-- 1,000,000 of them, and that program's symbols
+pub record IsOpened (content : Option (List ℕ)) (options : MachineOptions) (board : Board) (symbols : List Symbol) : Type 0 where
   pub setup : Setup
-  pub asked : IsAsked options setup
+  pub asked : IsAsked content options setup
   pub new : IsNew setup.program setup.limits 1000000 board
+  pub named : AreSymbolsOf asked.file symbols
 
 -- a schedule is asked for
 abbrev pub is_scheduled : ScheduleOptions → Bool

@@ -2,22 +2,13 @@
 use Rattle.std.specs.Prelude.{◌≡◌, ℕ, ◌<◌, List, Option, Some, None}
 use Rattle.debug_command.specs.Symbols.{symbol_in}
 use Rattle.debug_command.specs.declared.symbol.Symbol.{Symbol}
-use Rattle.elide_setup.specs.ElideProgram.Files.{Gives, most_bytes}
-use Rattle.elide_setup.specs.ElideProgram.ProgramFile.{IsFile, IsFileSymbol}
+use Rattle.elide_setup.specs.ElideProgram.ProgramFile.{IsFileSymbol}
 use Rattle.elide_setup.specs.ElideProgram.ProgramFileType.{ProgramFile}
 use Rattle.ia_elf.specs.Symbols.{IsNamed, st_value}
 
 -- each name stands for what it stands for in the file
 abbrev pub AreSymbolsOf : ProgramFile → List Symbol → Type 0
 AreSymbolsOf file symbols = (name : List ℕ) → IsFileSymbol file name (symbol_in symbols name)
-
--- they are those of the program that this content is read as
-pub record AreSymbolsIn (content : Option (List ℕ)) (symbols : List Symbol) : Type 0 where
-  pub text : List ℕ
-  pub file : ProgramFile
-  pub given : Gives content most_bytes text
-  pub read : IsFile text file
-  pub named : AreSymbolsOf file symbols
 
 -- of an executable's table, the value of the first symbol of this name among its first so many entries
 abbrev pub IsFirstBelow : List ℕ → List ℕ → ℕ → List ℕ → Option ℕ → Type 0

@@ -1,13 +1,14 @@
 //! What `elide debug` and `elide gdb` begin with: a board, the schedule that a session goes along, and the program's symbols.
 //!
-//! Promised: the board is that of the options before its first step, with room for 1,000,000 steps; where no schedule is asked for
-//! there is none; each name stands for what it stands for in FILE; and the number of the fault that ends a session early. Which
-//! steps a schedule has, and which labels a program, is compared by `doc_tests`. Stands on `elide_setup` and, for sessions, on `tm_debug`.
+//! Promised: the board is that of the options and of the program in FILE before its first step, with room for 1,000,000 steps; where
+//! no schedule is asked for there is none; each name stands for what it stands for in that program; and the number of the fault that
+//! ends a session early. Which steps a schedule has, and which labels a program, is compared by `doc_tests`. Stands on `elide_setup`
+//! and, for sessions, on `tm_debug`.
 #![tactic(auto)]
 
 ghost use Rattle.std.specs.Prelude.{◌≡◌, [], IfOk, false};
 ghost use Rattle.elide_session.specs.Opened.{IsOpened, is_scheduled};
-ghost use Rattle.elide_session.specs.Symbols.{AreSymbolsIn, AreSymbolsOf};
+ghost use Rattle.elide_session.specs.Symbols.{AreSymbolsOf};
 ghost use Rattle.elide_setup.specs.Faults.{fault_number};
 ghost use Rattle.tm_debug.specs.Faults.{session_code};
 
@@ -46,9 +47,8 @@ pub fn opened<P: Paths>(
     wants_labels: bool,
     paths: &mut P,
 ) -> Result<Opening, Refusal>
-    ensures board { IfOk result (λ r. IsOpened machine.now r.board) }
+    ensures opened { IfOk result (λ r. IsOpened (P.content paths.old machine.now.file.now) machine.now r.board r.names.symbols.items) }
     ensures plan { IfOk result (λ r. is_scheduled schedule.now ≡ false → r.plan.items ≡ []) }
-    ensures symbols { IfOk result (λ r. AreSymbolsIn (P.content paths.old machine.now.file.now) r.names.symbols.items) }
 {
     if is_scheduled(schedule) {
         return opened_scheduled(alloc, machine, schedule, wants_labels, paths);
@@ -96,8 +96,7 @@ fn opened_scheduled<P: Paths>(
     wants_labels: bool,
     paths: &mut P,
 ) -> Result<Opening, Refusal>
-    ensures board { IfOk result (λ r. IsOpened machine.now r.board) }
-    ensures symbols { IfOk result (λ r. AreSymbolsIn (P.content paths.old machine.now.file.now) r.names.symbols.items) }
+    ensures opened { IfOk result (λ r. IsOpened (P.content paths.old machine.now.file.now) machine.now r.board r.names.symbols.items) }
 {
     let settings = Settings::read(machine)?;
     let plan = Plan::read(alloc, schedule)?;

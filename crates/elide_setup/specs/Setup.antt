@@ -1,8 +1,8 @@
 -- A program and its machine's settings, as the options say.
-use Rattle.std.specs.Prelude.{◌≡◌, length}
+use Rattle.std.specs.Prelude.{◌≡◌, ℕ, List, Option, length}
 use Rattle.elide_args.specs.declared.subcommand.MachineOptions.{MachineOptions}
 use Rattle.elide_program.specs.Parts.{AreParts}
-use Rattle.elide_program.specs.ProgramFile.{loaded}
+use Rattle.elide_program.specs.ProgramFile.{IsRead, loaded}
 use Rattle.elide_program.specs.Settings.{AreSettings}
 use Rattle.elide_program.specs.declared.file.ProgramFile.{ProgramFile}
 use Rattle.elide_program.specs.declared.settings.Settings.{Settings}
@@ -17,9 +17,10 @@ pub record IsSetup (file : ProgramFile) (settings : Settings) (setup : Setup) : 
   pub writes : setup.limits.write_lines ≡ settings.writes
   pub parts : AreParts file settings.dumps.now settings.shows.now setup.parts
 
--- the machine is that of the options
-pub record IsAsked (options : MachineOptions) (setup : Setup) : Type 0 where
+-- the machine is that of the options and of the program that the content of FILE is read as
+pub record IsAsked (content : Option (List ℕ)) (options : MachineOptions) (setup : Setup) : Type 0 where
   pub file : ProgramFile
+  pub read : IsRead content file
   pub settings : Settings
   pub said : AreSettings options settings
   pub made : IsSetup file settings setup

@@ -24,7 +24,7 @@ pub use elide_program::{
 pub use fault::{Fault, Refusal};
 pub use gathered::Gathered;
 pub use ia_image::Program;
-pub use machine::{Setup, new_board, planned, prepared, scheduled};
+pub use machine::{Setup, new_board, planned, scheduled};
 pub use plan::{Course, Drawn, Plan, limit_of};
 pub use progress::{Progress, Silent};
 pub use recorded::{record, record_path};

@@ -70,28 +70,14 @@ fn limits_of(settings: &Settings<'_>) -> Limits
     }
 }
 
-/// Reads FILE and loads it by the options.
-pub fn prepared<P: Paths>(
-    alloc: Global,
-    path: &str,
-    settings: &Settings<'_>,
-    paths: &mut P,
-) -> Result<Setup, Refusal>
-    ensures { IfOk result (λ setup. (file : ProgramFile) × IsSetup file settings.now setup) }
-{
-    let text = read_file(path, paths)?;
-    let file = ProgramFile::read(alloc, text.as_slice())?;
-    Setup::of_file(alloc, settings, &file)
-}
-
-/// The same for a command with a schedule, which is answered beside. It is read before the program is loaded.
+/// Reads FILE and loads it by the options, with the command's schedule, which is read before the program is loaded.
 pub fn scheduled<P: Paths>(
     alloc: Global,
     machine: &MachineOptions<'_>,
     schedule: &ScheduleOptions<'_>,
     paths: &mut P,
 ) -> Result<(Setup, Course), Refusal>
-    ensures setup { IfOk result (λ r. IsAsked machine.now r.0) }
+    ensures setup { IfOk result (λ r. IsAsked (P.content paths.old machine.now.file.now) machine.now r.0) }
 {
     let settings = Settings::read(machine)?;
     let plan = Plan::read(alloc, schedule)?;

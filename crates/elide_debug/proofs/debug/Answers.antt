@@ -3,12 +3,11 @@ use Rattle.elide_debug.proofs.debug.Goals as goal
 pub returns-in-Ok : goal.returns-in-Ok
 returns-in-Ok g c = record {
   first = c.in_ok-start.start.board;
-  opened = c.in_ok-start.ensures.board;
   last = c.in-Ok._board;
   plan = c.in_ok-start.start.plan.items;
   planned = c.in_ok-start.ensures.plan;
   symbols = c.in_ok-start.start.names.symbols.items;
-  named = c.in_ok-start.ensures.symbols;
+  opened = c.in_ok-start.ensures.opened;
   labels = c.in_ok-start.start.names.labels.items;
   manner = c.manner_at-manner.result;
   speaks = c.manner_at-manner.ensures;

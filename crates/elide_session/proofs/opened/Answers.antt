@@ -1,13 +1,17 @@
+use Rattle.std.proofs.Common.{ℕ, List, subst}
+use Rattle.elide_setup.specs.ElideProgram.ProgramFile.{IsFile}
 use Rattle.elide_session.proofs.opened.Goals as goal
 
-pub returns-clause-board : goal.returns-clause-board
-returns-clause-board g c = record {
+pub returns-clause-opened : goal.returns-clause-opened
+returns-clause-opened g c = record {
   setup = c.in_ok-setup.setup;
   asked = record {
     file = c.in_ok-file.file;
+    read = record { text = c.in_ok-text.text.items; given = c.in_ok-text.ensures; read = subst (λ (text : List ℕ). IsFile text c.in_ok-file.file) c.as_slice.ensures.value c.in_ok-file.ensures.file };
     settings = c.in_ok-settings.settings;
     said = c.in_ok-settings.ensures;
     made = c.in_ok-setup.ensures;
   };
   new = c.in_ok-board.ensures;
+  named = c.in_ok-names.ensures;
 }
