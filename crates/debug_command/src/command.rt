@@ -31,7 +31,7 @@ pub enum CommandName {
 }
 
 /// A command with its numbers, of which none is in its range for sure.
-#[derive(Clone, Copy, PartialEq, Eq, Debug)]
+#[derive(Clone, Copy, PartialEq, Eq)]
 pub enum Command {
     /// A step of this core.
     Step(u64),

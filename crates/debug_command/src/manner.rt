@@ -1,7 +1,7 @@
 //! How a session speaks.
 
 /// How a session speaks.
-#[derive(Clone, Copy, PartialEq, Eq, Debug)]
+#[derive(Clone, Copy, PartialEq, Eq)]
 pub enum Manner {
     /// Answers alone, as a program reads them.
     Plain,

@@ -6,7 +6,7 @@ ghost use Rattle.std.specs.Str.{bytes_eq};
 ghost use Rattle.debug_command.specs.Symbols.{is_named, symbol_in};
 
 /// A symbol of a program: its whole name, and the number that it stands for.
-#[derive(Debug, Drop)]
+#[derive(Drop)]
 pub struct Symbol {
     /// The name, as `start.next`.
     pub name: Vec<u8>,
@@ -15,7 +15,7 @@ pub struct Symbol {
 }
 
 /// The names that a session knows.
-#[derive(Debug, Drop)]
+#[derive(Drop)]
 pub struct Names {
     /// By which commands may write addresses: labels and constants.
     pub symbols: Vec<Symbol>,

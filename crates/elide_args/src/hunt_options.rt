@@ -3,7 +3,7 @@
 use crate::subcommand::MachineOptions;
 
 /// The options of `hunt`.
-#[derive(Debug, Drop)]
+#[derive(Drop)]
 pub struct HuntOptions<'a> {
     /// The machine.
     pub machine: MachineOptions<'a>,

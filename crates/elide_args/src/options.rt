@@ -1,7 +1,7 @@
 //! The options, as data.
 
 /// An option of a subcommand, or a word that has its place.
-#[derive(Clone, Copy, Debug)]
+#[derive(Clone, Copy)]
 pub struct OptionText {
     /// Its name: of an option, what stands behind `--`.
     pub name: &'static str,
@@ -12,7 +12,7 @@ pub struct OptionText {
 }
 
 /// How an option is given.
-#[derive(Clone, Copy, Debug)]
+#[derive(Clone, Copy)]
 pub enum Form {
     /// A word in its place, which has to be there.
     Word,

@@ -3,7 +3,7 @@
 use crate::hunt_options::HuntOptions;
 
 /// What the words of a command line come to.
-#[derive(Debug, Drop)]
+#[derive(Drop)]
 pub struct CommandLine<'a> {
     /// The subcommand.
     pub subcommand: Subcommand<'a>,
@@ -12,7 +12,7 @@ pub struct CommandLine<'a> {
 }
 
 /// A subcommand with its options.
-#[derive(Debug, Drop)]
+#[derive(Drop)]
 pub enum Subcommand<'a> {
     /// `asm`.
     Asm(AsmOptions<'a>),
@@ -41,7 +41,7 @@ pub enum Subcommand<'a> {
 }
 
 /// The options of `asm`.
-#[derive(Clone, Copy, Debug)]
+#[derive(Clone, Copy)]
 pub struct AsmOptions<'a> {
     /// The path of the source.
     pub file: &'a str,
@@ -50,7 +50,7 @@ pub struct AsmOptions<'a> {
 }
 
 /// The options of `dis`.
-#[derive(Clone, Copy, Debug)]
+#[derive(Clone, Copy)]
 pub struct DisOptions<'a> {
     /// The path of the program.
     pub file: &'a str,
@@ -59,7 +59,7 @@ pub struct DisOptions<'a> {
 }
 
 /// The options of `run`.
-#[derive(Debug, Drop)]
+#[derive(Drop)]
 pub struct RunOptions<'a> {
     /// The machine.
     pub machine: MachineOptions<'a>,
@@ -76,7 +76,7 @@ pub struct RunOptions<'a> {
 }
 
 /// The options of `threads`.
-#[derive(Debug, Drop)]
+#[derive(Drop)]
 pub struct ThreadsOptions<'a> {
     /// The machine.
     pub machine: MachineOptions<'a>,
@@ -95,7 +95,7 @@ pub struct ThreadsOptions<'a> {
 }
 
 /// The options of `replay`.
-#[derive(Debug, Drop)]
+#[derive(Drop)]
 pub struct ReplayOptions<'a> {
     /// The machine.
     pub machine: MachineOptions<'a>,
@@ -108,7 +108,7 @@ pub struct ReplayOptions<'a> {
 }
 
 /// The options of `debug` and of `gdb`.
-#[derive(Debug, Drop)]
+#[derive(Drop)]
 pub struct SessionOptions<'a> {
     /// The machine.
     pub machine: MachineOptions<'a>,
@@ -117,14 +117,14 @@ pub struct SessionOptions<'a> {
 }
 
 /// The options of `explain`.
-#[derive(Clone, Copy, Debug)]
+#[derive(Clone, Copy)]
 pub struct ExplainOptions<'a> {
     /// The number or the name of a fault.
     pub fault: Option<&'a str>,
 }
 
 /// The options of `outcomes`.
-#[derive(Debug, Drop)]
+#[derive(Drop)]
 pub struct OutcomesOptions<'a> {
     /// The machine.
     pub machine: MachineOptions<'a>,
@@ -135,7 +135,7 @@ pub struct OutcomesOptions<'a> {
 }
 
 /// The options of `stats`.
-#[derive(Debug, Drop)]
+#[derive(Drop)]
 pub struct StatsOptions<'a> {
     /// The machine.
     pub machine: MachineOptions<'a>,
@@ -148,7 +148,7 @@ pub struct StatsOptions<'a> {
 }
 
 /// The options of `draw`.
-#[derive(Debug, Drop)]
+#[derive(Drop)]
 pub struct DrawOptions<'a> {
     /// The machine.
     pub machine: MachineOptions<'a>,
@@ -165,7 +165,7 @@ pub struct DrawOptions<'a> {
 }
 
 /// The options of each command that makes a machine, of which only FILE is there for certain.
-#[derive(Debug, Drop)]
+#[derive(Drop)]
 pub struct MachineOptions<'a> {
     /// The path of the program.
     pub file: &'a str,
@@ -186,7 +186,7 @@ pub struct MachineOptions<'a> {
 }
 
 /// The options that give a schedule, of which a command takes exactly one; `debug` and `gdb` take none, too.
-#[derive(Clone, Copy, Debug)]
+#[derive(Clone, Copy)]
 pub struct ScheduleOptions<'a> {
     /// `--steps`: a list of core numbers.
     pub steps: Option<&'a str>,

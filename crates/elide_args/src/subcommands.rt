@@ -8,7 +8,7 @@ use crate::options::{
 };
 
 /// A subcommand.
-#[derive(Clone, Copy, Debug)]
+#[derive(Clone, Copy)]
 pub struct SubcommandText {
     /// Its name.
     pub name: &'static str,

@@ -7,7 +7,7 @@ use tm_check::{Check, Comparison};
 use tm_rule::Stop;
 
 /// A check as an option says it.
-#[derive(Debug, Drop)]
+#[derive(Drop)]
 enum Demand {
     // A doubleword in memory.
     Compare(u32, Comparison, u32),
@@ -20,7 +20,7 @@ enum Demand {
 }
 
 /// The checks of a search, in this order: those of `--check`, of `--stop`, and `--expect-halt`.
-#[derive(Debug, Drop)]
+#[derive(Drop)]
 pub struct Demands {
     demands: Vec<Demand>,
 }

@@ -9,7 +9,7 @@ use tm_pick::Method;
 const MOST_JOBS: u32 = 1024;
 
 /// What is asked of a search.
-#[derive(Clone, Copy, Debug)]
+#[derive(Clone, Copy)]
 pub struct Orders {
     /// The seed.
     pub seed: u32,

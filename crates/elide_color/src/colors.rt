@@ -5,7 +5,7 @@ ghost use Rattle.std.specs.Option.{option_copied};
 ghost use Rattle.elide_color.specs.Colors.{Says, is_painted};
 
 /// When text is painted: the value of `--color`.
-#[derive(Clone, Copy, PartialEq, Eq, Debug)]
+#[derive(Clone, Copy, PartialEq, Eq)]
 pub enum When {
     /// On a terminal, unless NO_COLOR is set.
     Auto,
@@ -42,7 +42,7 @@ impl When {
 }
 
 /// Which devices text is painted on.
-#[derive(Clone, Copy, PartialEq, Eq, Debug)]
+#[derive(Clone, Copy, PartialEq, Eq)]
 pub struct Colors {
     /// Standard output.
     pub output: bool,

@@ -8,7 +8,7 @@ use arrayvec::ArrayVec;
 use ia_text::page::push;
 
 /// What a text is, which tells its colour.
-#[derive(Clone, Copy, PartialEq, Eq, Debug)]
+#[derive(Clone, Copy, PartialEq, Eq)]
 pub enum Style {
     /// A fault, and what is wrong in a line: bold, red.
     Fault,

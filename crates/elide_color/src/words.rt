@@ -19,7 +19,7 @@ const MOST: usize = 12;
 type Row = ArrayVec<u8, 1024>;
 
 /// Which words of each line are painted, and how.
-#[derive(Clone, Copy, PartialEq, Eq, Debug)]
+#[derive(Clone, Copy, PartialEq, Eq)]
 pub enum Painting {
     /// None of them.
     Plain,
@@ -43,7 +43,7 @@ impl Painting {
 }
 
 // Where the next byte of the text stands.
-#[derive(Clone, Copy, Debug)]
+#[derive(Clone, Copy)]
 struct Place {
     // How many words of the line came before.
     words: usize,

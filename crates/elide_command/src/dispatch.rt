@@ -93,7 +93,7 @@ fn tell_early<E: Out>(fault: Fault, surroundings: Surroundings, err: &mut E) -> 
 }
 
 // How what a command writes looks.
-#[derive(Clone, Copy, Debug)]
+#[derive(Clone, Copy)]
 struct Look {
     // Which devices are a terminal's.
     terminals: Terminals,
@@ -142,7 +142,7 @@ impl Look {
 }
 
 // What a command that was not refused came to.
-#[derive(Clone, Copy, PartialEq, Eq, Debug)]
+#[derive(Clone, Copy, PartialEq, Eq)]
 enum Answer {
     // It did what it was asked.
     Done,

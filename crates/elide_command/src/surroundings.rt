@@ -7,7 +7,7 @@ use elide_color::{Colors, When};
 use elide_setup::Terminals;
 
 /// What stands around a command: its devices, and what its user asks of all programs.
-#[derive(Clone, Copy, PartialEq, Eq, Debug)]
+#[derive(Clone, Copy, PartialEq, Eq)]
 pub struct Surroundings {
     /// Which of the devices are a terminal's.
     pub terminals: Terminals,

@@ -17,7 +17,7 @@ use tm_hunt::{Failure, Found, Search, Trial, shorten, switches, usual_length};
 use tm_pick::Plan;
 
 /// What a search came to.
-#[derive(Clone, Copy, PartialEq, Eq, Debug)]
+#[derive(Clone, Copy, PartialEq, Eq)]
 pub enum Answer {
     /// No run failed.
     NoneFailed,

@@ -10,7 +10,7 @@ use tm_hunt::{Failure, switches};
 const MOST_SHOWN: usize = 1000;
 
 /// How long a schedule is.
-#[derive(Clone, Copy, Debug)]
+#[derive(Clone, Copy)]
 pub struct Counts {
     /// How many steps it has.
     pub steps: usize,

@@ -16,7 +16,7 @@ const MOST_SHARE: u32 = 4096;
 
 // What the runs of a thread came to: the first that failed, and how many before it passed, with all cores stopped or
 // not.
-#[derive(Clone, Copy, Debug)]
+#[derive(Clone, Copy)]
 struct Share {
     failed: Option<u32>,
     ended: u32,

@@ -16,7 +16,7 @@ use tm_outcomes::{Search, SearchFault, Trial, outcomes as searched};
 const USUAL_LIMIT: u32 = 1_000_000;
 
 /// What a search came to.
-#[derive(Clone, Copy, PartialEq, Eq, Debug)]
+#[derive(Clone, Copy, PartialEq, Eq)]
 pub enum Answer {
     /// All outcomes are told.
     Whole,

@@ -6,13 +6,13 @@ use crate::number::{is_name, word32};
 use std::alloc::{AllocError, Global};
 
 /// A list of entries as `--entry` writes it, in which each word is an address or a name: one entry, or one for each core.
-#[derive(Clone, Copy, Debug)]
+#[derive(Clone, Copy)]
 pub struct EntryList<'a> {
     text: &'a str,
 }
 
 // Where a core begins.
-#[derive(Clone, Copy, Debug)]
+#[derive(Clone, Copy)]
 enum Entry<'a> {
     // At an address.
     Address(u32),

@@ -14,7 +14,7 @@ use crate::sums::{is_sum, sum_of};
 use std::alloc::{AllocError, Global};
 
 /// A part of memory that is printed.
-#[derive(Clone, Copy, PartialEq, Eq, Debug)]
+#[derive(Clone, Copy, PartialEq, Eq)]
 pub struct Dump {
     /// The address of its first byte.
     pub address: u32,
@@ -23,7 +23,7 @@ pub struct Dump {
 }
 
 /// What is printed of memory behind the cores.
-#[derive(Debug, Drop)]
+#[derive(Drop)]
 pub struct MemoryParts {
     /// The parts, in the order of the command line.
     pub dumps: Vec<Dump>,

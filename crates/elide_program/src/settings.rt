@@ -21,7 +21,7 @@ const MEMORY: u32 = 65_536;
 const LINES: u32 = 512;
 
 /// What the options say of a machine. Ranges are tested where the machine is made.
-#[derive(Clone, Copy, Debug)]
+#[derive(Clone, Copy)]
 pub struct Settings<'a> {
     /// The number of cores.
     pub cores: u32,

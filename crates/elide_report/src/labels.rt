@@ -19,7 +19,7 @@ pub struct Labels<'a> {
 }
 
 // A symbol with its address.
-#[derive(Clone, Copy, Debug)]
+#[derive(Clone, Copy)]
 struct Label<'a> {
     address: u32,
     name: Name<'a>,

@@ -11,7 +11,7 @@ use tm_schedule::{ScheduleFault, read_schedule, read_steps};
 const MOST_STEPS: u32 = 1_000_000;
 
 /// A schedule of core steps: a list that was given, a file's, or one that is drawn.
-#[derive(Debug, Drop)]
+#[derive(Drop)]
 pub enum Plan<'a> {
     /// `--steps`.
     Steps(Vec<u8>),
@@ -22,7 +22,7 @@ pub enum Plan<'a> {
 }
 
 /// A schedule of core steps that was read, or is drawn.
-#[derive(Debug, Drop)]
+#[derive(Drop)]
 pub enum Course {
     /// The core numbers of the steps.
     Listed(Vec<u8>),
@@ -65,7 +65,7 @@ impl<'a> Plan<'a> {
 }
 
 /// A schedule that is drawn, whose steps stand in no list.
-#[derive(Clone, Copy, PartialEq, Eq, Debug)]
+#[derive(Clone, Copy, PartialEq, Eq)]
 pub struct Drawn {
     /// The seed of a schedule by chance; round by round, where there is none.
     pub seed: Option<u32>,

@@ -10,7 +10,7 @@ pub trait Progress {
 }
 
 /// A place that shows nothing.
-#[derive(Clone, Copy, PartialEq, Eq, Debug)]
+#[derive(Clone, Copy, PartialEq, Eq)]
 pub struct Silent;
 
 impl Progress for Silent {

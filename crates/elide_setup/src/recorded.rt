@@ -30,7 +30,7 @@ pub fn record<P: Paths>(path: Option<&str>, cores: &[u8], paths: &mut P) -> Resu
 }
 
 // The text of a schedule of these cores.
-#[derive(Clone, Copy, Debug)]
+#[derive(Clone, Copy)]
 struct Schedule<'a>(&'a [u8]);
 
 impl Text for Schedule<'_> {

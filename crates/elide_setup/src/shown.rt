@@ -18,7 +18,7 @@ use tm_hist::memory::read;
 use tm_hist::{Machine, write_dump, write_state};
 
 /// A memory and what is printed of it, all of which it has.
-#[derive(Clone, Copy, Debug)]
+#[derive(Clone, Copy)]
 pub struct ShownMemory<'a> {
     bytes: &'a [u8],
     dumps: &'a [Dump],

@@ -4,7 +4,7 @@ use elide_setup::{AbortReason, CoreState, Counts, Kind, Machine, Outcome, Stop};
 use tm_stats::{AbortCause, Conflict, Step};
 
 /// What a machine tells of the next step of a core.
-#[derive(Clone, Copy, Debug)]
+#[derive(Clone, Copy)]
 pub struct Asked {
     // The EIP of the core's registers before its open transaction: that of the XBEGIN, also where the step is it.
     place: u32,

@@ -36,7 +36,7 @@ impl<'a> Record<'a> {
 }
 
 // The text of a schedule of these cores.
-#[derive(Clone, Copy, Debug)]
+#[derive(Clone, Copy)]
 struct Schedule<'a>(&'a [u8]);
 
 impl Text for Schedule<'_> {

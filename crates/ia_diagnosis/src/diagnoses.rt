@@ -16,7 +16,7 @@ const MOST: usize = 20;
 const ROUNDS: usize = 40;
 
 /// The faults of a source that are told.
-#[derive(Debug, Drop)]
+#[derive(Drop)]
 pub struct Diagnoses<'a> {
     /// The faults, at most 20.
     pub told: Vec<Diagnosis<'a>>,

@@ -14,7 +14,7 @@ use ia_asm::AsmFault;
 use std::alloc::{AllocError, Global};
 
 /// A fault of a source, where it stands, and what is meant.
-#[derive(Clone, Copy, Debug)]
+#[derive(Clone, Copy)]
 pub struct Diagnosis<'a> {
     /// The fault, with its line.
     pub fault: AsmFault,
@@ -29,7 +29,7 @@ pub struct Diagnosis<'a> {
 }
 
 /// A part of a line that is at fault, and what is meant.
-#[derive(Clone, Copy, Debug)]
+#[derive(Clone, Copy)]
 pub struct Finding<'a> {
     /// Where the part begins, in bytes of the line.
     pub start: usize,
@@ -40,7 +40,7 @@ pub struct Finding<'a> {
 }
 
 /// A line of a source that is at fault.
-#[derive(Clone, Copy, Debug)]
+#[derive(Clone, Copy)]
 pub struct FaultyLine<'a> {
     /// The whole source.
     pub source: &'a [u8],

@@ -24,7 +24,7 @@ pub fn line_at(source: &[u8], number: u32) -> Option<(usize, &[u8])>
 }
 
 /// A line's label and what stands behind it.
-#[derive(Clone, Copy, Debug)]
+#[derive(Clone, Copy)]
 pub struct Head<'a> {
     /// The label.
     pub label: Option<Piece<'a>>,

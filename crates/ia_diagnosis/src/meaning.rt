@@ -3,7 +3,7 @@
 use std::{fmt, str};
 
 /// What is meant by a fault of a source. The texts are parts of the source, or names that stand for what is wanted.
-#[derive(Clone, Copy, Debug)]
+#[derive(Clone, Copy)]
 pub enum Meaning<'a> {
     /// A byte that is no character of a source.
     NoCharacter,
@@ -76,7 +76,7 @@ pub enum Meaning<'a> {
 }
 
 /// What a number goes into.
-#[derive(Clone, Copy, PartialEq, Eq, Debug)]
+#[derive(Clone, Copy, PartialEq, Eq)]
 pub enum Field {
     /// A byte.
     Byte,
@@ -106,7 +106,7 @@ impl fmt::Display for Field {
 const MOST: usize = 48;
 
 /// A name as it is told: cut where it is long.
-#[derive(Clone, Copy, Debug)]
+#[derive(Clone, Copy)]
 struct Told<'a>(&'a [u8]);
 
 impl fmt::Display for Told<'_> {

@@ -9,7 +9,7 @@ use strsim::osa_distance;
 const MOST: usize = 64;
 
 /// The nearest of names that were seen.
-#[derive(Clone, Copy, Debug)]
+#[derive(Clone, Copy)]
 pub struct Nearest<'w, 'a> {
     word: &'w [u8],
     // How many edits a name may be away.

@@ -7,7 +7,7 @@ use ia_source::is_label;
 use std::alloc::{AllocError, Global};
 
 /// A part of a line: a name, a number, a quoted text, or a byte alone.
-#[derive(Clone, Copy, Debug)]
+#[derive(Clone, Copy)]
 pub struct Piece<'a> {
     /// Where it begins, in bytes of the line.
     pub start: usize,

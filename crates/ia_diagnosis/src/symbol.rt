@@ -14,7 +14,7 @@ use std::alloc::{AllocError, Global};
 const SIZES: [&str; 4] = ["byte", "dword", "near", "short"];
 
 /// A symbol of a source.
-#[derive(Clone, Copy, Debug)]
+#[derive(Clone, Copy)]
 struct Symbol<'a> {
     // Its name.
     name: Name<'a>,

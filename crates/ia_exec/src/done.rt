@@ -66,7 +66,7 @@ pub enum AbortKind {
 }
 
 /// What an instruction comes to.
-#[derive(Clone, Copy, PartialEq, Eq, Debug)]
+#[derive(Clone, Copy, PartialEq, Eq)]
 pub enum Done {
     /// It goes on with these registers, and with at most one store.
     Go(Regs, Option<Store>),

@@ -13,7 +13,7 @@ use ia_word::{
 };
 
 /// An instruction's name (SDM volume 2, the page of each). Instructions of one shape share a variant.
-#[derive(Clone, Copy, PartialEq, Eq, Debug)]
+#[derive(Clone, Copy, PartialEq, Eq)]
 pub enum Mnemonic {
     /// ADD, OR, ADC, SBB, AND, SUB, XOR, CMP.
     Alu(AluOp),

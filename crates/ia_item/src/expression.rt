@@ -3,7 +3,7 @@
 use crate::symbol::Symbol;
 
 /// A number or a symbol.
-#[derive(Clone, Copy, Debug)]
+#[derive(Clone, Copy)]
 pub enum ScopedAtom {
     /// A number.
     Number(u64),
@@ -14,7 +14,7 @@ pub enum ScopedAtom {
 }
 
 /// An atom that is added or taken away.
-#[derive(Clone, Copy, Debug)]
+#[derive(Clone, Copy)]
 pub struct ScopedTerm {
     /// Whether it is taken away.
     pub negative: bool,
@@ -23,7 +23,7 @@ pub struct ScopedTerm {
 }
 
 /// A sum of 1 to 16 terms.
-#[derive(Debug, Drop)]
+#[derive(Drop)]
 pub struct ScopedExpression {
     /// Its terms, in the order of the source.
     pub terms: Vec<ScopedTerm>,

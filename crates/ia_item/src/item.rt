@@ -5,7 +5,7 @@ use crate::symbol::Definition;
 use ia_insn::Insn;
 
 /// What the number of an instruction goes into.
-#[derive(Clone, Copy, Debug, PartialEq, Eq)]
+#[derive(Clone, Copy, PartialEq, Eq)]
 pub enum Field {
     /// A byte: an immediate, a count of a shift, a bit's number or the code of XABORT.
     Byte,
@@ -22,7 +22,7 @@ pub enum Field {
 
 /// An instruction, and the expressions that its number and its displacement are written as. In `insn` both stand as 0,
 /// or as what makes the instruction encodable.
-#[derive(Debug, Drop)]
+#[derive(Drop)]
 pub struct Template {
     /// The instruction.
     pub insn: Insn,
@@ -33,7 +33,7 @@ pub struct Template {
 }
 
 /// What a line, or a part of it, asks for.
-#[derive(Debug, Drop)]
+#[derive(Drop)]
 pub enum Item<'a> {
     /// A symbol whose value is the address of what follows.
     Label(Definition<'a>),
@@ -58,7 +58,7 @@ pub enum Item<'a> {
 }
 
 /// A part of the image.
-#[derive(Clone, Copy, Debug, PartialEq, Eq)]
+#[derive(Clone, Copy, PartialEq, Eq)]
 pub enum Section {
     /// The code, from the base on.
     Text,
@@ -67,7 +67,7 @@ pub enum Section {
 }
 
 /// An item, the section in force, and its line, counted from 1.
-#[derive(Debug, Drop)]
+#[derive(Drop)]
 pub struct Entry<'a> {
     /// Its line.
     pub line: u32,

@@ -19,7 +19,7 @@ pub struct Scope<'a> {
 /// A symbol's name. The name of a local label begins with a dot and belongs to the label before it, whose name is the
 /// scope; of any other name the scope is empty. The whole name is the scope and the own name behind it, and names are
 /// equal where their whole names are.
-#[derive(Clone, Copy, Debug)]
+#[derive(Clone, Copy)]
 pub struct Name<'a> {
     /// The name of the label that a local label belongs to, else empty.
     pub scope: &'a [u8],

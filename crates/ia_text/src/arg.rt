@@ -4,7 +4,7 @@ use ia_decode::Mem;
 use ia_word::Width;
 
 /// An operand as it is printed.
-#[derive(Clone, Copy, Debug, PartialEq, Eq)]
+#[derive(Clone, Copy)]
 pub enum Arg {
     /// The name of a register.
     Register(Width, u8),

@@ -79,7 +79,7 @@ fn shown_if_any(says: bool, at: u32, argument: Option<Argument>) -> Option<Arg>
 }
 
 /// The operands of an operation as they are printed, in their order: none, one, two or three.
-#[derive(Clone, Copy, Debug, PartialEq, Eq)]
+#[derive(Clone, Copy)]
 pub struct Printed {
     /// The destination, where there is one.
     pub first: Option<Arg>,

@@ -81,25 +81,38 @@ const CODE: [u8; 20] = [
     0xc8, 0xf4, 0x0f,
 ];
 
+// What the rows of this program are called here.
+fn name_of(row: Row) -> &'static str {
+    match row {
+        Row::Inc(0) => "inc eax",
+        Row::Dec(1) => "dec ecx",
+        Row::Push(2) => "push edx",
+        Row::End => "xend",
+        Row::Nothing => "nothing",
+        Row::Other => "no row",
+        _ => "another row",
+    }
+}
+
 #[test]
 fn rows_and_lines(rt: HostRuntime) -> Result<(), Fail> {
     let program = load(rt.alloc(), &CODE, 256, 20, 12_288, &[256])?;
     assert_eq!(rt; program.rows().len(), 20);
     assert_eq!(rt; program.lines().len(), 20);
-    let cases: [(usize, Row, u8); 9] = [
-        (0, Row::Inc(0), 1),
-        (1, Row::Dec(1), 1),
-        (2, Row::Push(2), 1),
-        (5, Row::End, 3),
-        (8, Row::Nothing, 1),
-        (9, Row::Other, 7),
-        (16, Row::Other, 2),
-        (18, Row::Other, 1),
-        (19, Row::Other, 0),
+    let cases = [
+        (0, "inc eax", 1),
+        (1, "dec ecx", 1),
+        (2, "push edx", 1),
+        (5, "xend", 3),
+        (8, "nothing", 1),
+        (9, "no row", 7),
+        (16, "no row", 2),
+        (18, "no row", 1),
+        (19, "no row", 0),
     ];
     for (offset, row, len) in cases {
         let line = program.lines().get(offset).copied();
-        assert_eq!(rt; line.map(|line| line.row), Some(row));
+        assert_eq!(rt; line.map(|line| name_of(line.row)), Some(row));
         assert_eq!(rt; line.map(|line| line.len), Some(len));
         let length = program.insn_at(offset as u32).map_or(0, |(_, len)| len);
         assert_eq!(rt; length, len);

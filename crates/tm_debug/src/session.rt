@@ -80,7 +80,7 @@ impl SessionFault {
 }
 
 /// What a line requests.
-#[derive(Clone, Copy, PartialEq, Eq, Debug)]
+#[derive(Clone, Copy, PartialEq, Eq)]
 pub enum Request {
     /// The end of the session.
     Leave,

@@ -9,7 +9,7 @@ use crate::going::Going;
 const LENGTHS: u32 = 9;
 
 /// Bursts of a mean length that is drawn once: after each step of a core it goes on with the same chance.
-#[derive(Debug, Drop)]
+#[derive(Drop)]
 pub struct Bursts {
     chance: Chance,
     mean: u32,

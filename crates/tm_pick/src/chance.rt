@@ -8,7 +8,7 @@ use rand_core::SeedableRng;
 use rand_xoshiro::Xoshiro256PlusPlus;
 
 /// A generator of one run: a function of the seed and the run's number alone.
-#[derive(Debug, Drop)]
+#[derive(Drop)]
 pub struct Chance {
     words: Xoshiro256PlusPlus,
 }

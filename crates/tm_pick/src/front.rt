@@ -7,7 +7,7 @@ use crate::tail::Tail;
 
 /// The steps of a list, of which those of cores that have stopped are left out; and behind them one core after another
 /// to its end, the core of the last step first.
-#[derive(Debug, Drop)]
+#[derive(Drop)]
 pub struct Front<'a> {
     left: &'a [u8],
     tail: Tail,

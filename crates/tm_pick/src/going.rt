@@ -6,7 +6,7 @@ use arrayvec::ArrayVec;
 use std::marker::Model;
 
 /// The numbers of the cores that have not stopped, at most 64.
-#[derive(Debug, Drop)]
+#[derive(Drop)]
 pub struct Going {
     cores: ArrayVec<u8, 64>,
 }

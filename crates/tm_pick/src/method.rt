@@ -6,7 +6,7 @@ use crate::chance::Chance;
 use crate::picker::Picker;
 
 /// How the core of each step is drawn.
-#[derive(Clone, Copy, PartialEq, Eq, Debug)]
+#[derive(Clone, Copy, PartialEq, Eq)]
 pub enum Method {
     /// By the run's number each third run uniform, in bursts, or by priorities.
     Mix,
@@ -19,7 +19,7 @@ pub enum Method {
 }
 
 /// What the runs of a search are drawn by.
-#[derive(Clone, Copy, PartialEq, Eq, Debug)]
+#[derive(Clone, Copy, PartialEq, Eq)]
 pub struct Plan {
     /// The seed.
     pub seed: u32,

@@ -9,13 +9,13 @@ use crate::going::Going;
 use crate::priorities::Priorities;
 
 /// What picks the core of one step after another.
-#[derive(Debug, Drop)]
+#[derive(Drop)]
 pub struct Picker<'a> {
     manner: Manner<'a>,
 }
 
 // How the cores are picked.
-#[derive(Debug, Drop)]
+#[derive(Drop)]
 enum Manner<'a> {
     // Round by round, from this core on.
     InTurn(u8),

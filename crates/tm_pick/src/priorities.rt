@@ -14,7 +14,7 @@ const MOST_FALLS: usize = 3;
 /// a priority by chance, and the step is that of the highest one. At some steps by chance, 1 to 3 of them, the core
 /// that ran falls behind all others; it falls too where it is at a PAUSE, and after 400 steps in a row, or a core that
 /// waits for another one would never let go.
-#[derive(Debug, Drop)]
+#[derive(Drop)]
 pub struct Priorities {
     // The highest first.
     order: ArrayVec<u8, 64>,

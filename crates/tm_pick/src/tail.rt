@@ -8,7 +8,7 @@ use crate::going::Going;
 pub const MOST_IN_A_ROW: u32 = 400;
 
 /// One core after another: each runs until it stops, is at a PAUSE or has made 400 steps in a row.
-#[derive(Debug, Drop)]
+#[derive(Drop)]
 pub struct Tail {
     core: u8,
     in_a_row: u32,

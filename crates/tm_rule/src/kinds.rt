@@ -31,7 +31,7 @@ pub enum Stop {
 }
 
 /// The code: its bytes, the address of the first, and what decoding gives from each of its first offsets.
-#[derive(Clone, Copy, Debug)]
+#[derive(Clone, Copy)]
 pub struct Code<'a> {
     /// The bytes.
     pub bytes: &'a [u8],
@@ -54,7 +54,7 @@ pub enum OutsideResult {
 }
 
 /// What one instruction comes to outside of transactions, whose registers are changed in place.
-#[derive(Clone, Copy, PartialEq, Eq, Debug)]
+#[derive(Clone, Copy, PartialEq, Eq)]
 pub enum Outside {
     /// It goes on, with at most one store.
     Goes(Option<Store>),
@@ -78,7 +78,7 @@ pub enum InsideResult {
 }
 
 /// What one instruction comes to inside a transaction, whose registers are changed in place.
-#[derive(Clone, Copy, PartialEq, Eq, Debug)]
+#[derive(Clone, Copy, PartialEq, Eq)]
 pub enum Inside {
     /// It goes on, with at most one store.
     GoesOn(Option<Store>),

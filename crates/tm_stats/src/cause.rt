@@ -4,7 +4,7 @@ use std::fmt;
 use std::fmt::{Display, Formatter, Write};
 
 /// Why a transaction aborts, as statistics tell causes apart (docs/FORMATS.md, "Statistics").
-#[derive(Clone, Copy, PartialEq, Eq, PartialOrd, Ord, Hash, Debug)]
+#[derive(Clone, Copy, PartialEq, Eq, PartialOrd, Ord, Hash)]
 pub enum AbortCause {
     /// A step of another core hit it.
     Conflict,

@@ -13,7 +13,7 @@ use std::alloc::{AllocError, Global};
 use tm_model::{Outcome, Reach};
 
 /// A step of a core, with the bytes that it reached.
-#[derive(Clone, Copy, Debug)]
+#[derive(Clone, Copy)]
 pub struct ByteStep {
     /// What the step was.
     pub outcome: Outcome,

@@ -7,7 +7,7 @@ use crate::tally::plus;
 use tm_model::Outcome;
 
 /// What the transactions of one place came to.
-#[derive(Clone, Copy, PartialEq, Eq, Debug)]
+#[derive(Clone, Copy, PartialEq, Eq)]
 pub struct PlaceCounts {
     /// How many began.
     pub begun: u64,

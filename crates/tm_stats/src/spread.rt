@@ -4,7 +4,7 @@ use crate::step::PlaceSize;
 use crate::tally::Tally;
 
 /// The sizes of the transactions of a place, each size as often as there are transactions of it.
-#[derive(Clone, Copy, PartialEq, Eq, Debug)]
+#[derive(Clone, Copy, PartialEq, Eq)]
 pub struct Spread {
     /// The address of the XBEGIN.
     pub place: u32,

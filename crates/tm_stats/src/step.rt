@@ -4,7 +4,7 @@ use crate::cause::AbortCause;
 use tm_model::Outcome;
 
 /// One step of a run, as it is told.
-#[derive(Clone, Copy, Debug)]
+#[derive(Clone, Copy)]
 pub struct Step {
     /// The core that stepped.
     pub core: u8,
@@ -21,7 +21,7 @@ pub struct Step {
 }
 
 /// A cause of aborts at a place.
-#[derive(Clone, Copy, PartialEq, Eq, PartialOrd, Ord, Hash, Debug)]
+#[derive(Clone, Copy, PartialEq, Eq, PartialOrd, Ord, Hash)]
 pub struct PlaceCause {
     /// The address of the XBEGIN.
     pub place: u32,
@@ -30,7 +30,7 @@ pub struct PlaceCause {
 }
 
 /// A size of committed transactions of a place: how many steps they took, or how many lines they read or wrote.
-#[derive(Clone, Copy, PartialEq, Eq, PartialOrd, Ord, Hash, Debug)]
+#[derive(Clone, Copy, PartialEq, Eq, PartialOrd, Ord, Hash)]
 pub struct PlaceSize {
     /// The address of the XBEGIN.
     pub place: u32,

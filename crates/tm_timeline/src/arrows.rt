@@ -11,7 +11,7 @@ use crate::window::WIDTH;
 use std::fmt;
 
 // Where an arrow stands, in pixels from above.
-#[derive(Clone, Copy, Debug)]
+#[derive(Clone, Copy)]
 struct Place {
     // Its middle, from the left.
     x: Tenths,
@@ -118,7 +118,7 @@ fn draw_names<W: fmt::Write, L: LineLabels>(
 }
 
 // On which side of its arrow a line's name stands.
-#[derive(Clone, Copy, PartialEq, Eq, Debug)]
+#[derive(Clone, Copy, PartialEq, Eq)]
 enum Side {
     Right,
     Left,

@@ -14,7 +14,7 @@ const MANY: u32 = 372;
 const FEW: u32 = 186;
 
 /// What became of the steps of a core in a column.
-#[derive(Clone, Copy, PartialEq, Eq, Debug)]
+#[derive(Clone, Copy, PartialEq, Eq)]
 pub struct Share {
     /// In transactions that were committed.
     pub committed: u32,
@@ -101,7 +101,7 @@ impl Share {
 }
 
 /// Where a step is counted.
-#[derive(Clone, Copy, PartialEq, Eq, Debug)]
+#[derive(Clone, Copy, PartialEq, Eq)]
 pub enum StepKind {
     /// In a transaction, also its first and its last step.
     Inside,
@@ -112,7 +112,7 @@ pub enum StepKind {
 }
 
 /// A layer of the columns of a core.
-#[derive(Clone, Copy, PartialEq, Eq, Debug)]
+#[derive(Clone, Copy, PartialEq, Eq)]
 pub enum Layer {
     /// Committed transactions, at the bottom.
     Committed,
@@ -151,7 +151,7 @@ impl Layer {
 }
 
 /// What a picture of many steps shows.
-#[derive(Debug, Drop)]
+#[derive(Drop)]
 pub struct Columns {
     /// How many columns there are.
     pub count: u32,

@@ -17,7 +17,7 @@ pub const ROW: u32 = 54;
 const BELOW: u32 = 74;
 
 /// What a picture is drawn on.
-#[derive(Clone, Copy, Debug)]
+#[derive(Clone, Copy)]
 pub struct Sheet<'a> {
     /// The steps that are drawn.
     pub window: Window,

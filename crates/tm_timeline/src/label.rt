@@ -12,7 +12,7 @@ const MOST: usize = 60;
 const ROOM: usize = 400;
 
 /// A text, escaped for XML, of which the first 60 characters are shown.
-#[derive(Debug, Drop)]
+#[derive(Drop)]
 pub struct Label {
     text: ArrayString<ROOM>,
     // How many characters were given.

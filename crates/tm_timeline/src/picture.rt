@@ -13,7 +13,7 @@ use crate::ticks::draw_ticks;
 use std::fmt;
 
 /// What is drawn.
-#[derive(Debug, Drop)]
+#[derive(Drop)]
 pub enum Picture {
     /// Few steps.
     Few(Spans),

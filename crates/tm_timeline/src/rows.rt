@@ -5,7 +5,7 @@ ghost use Rattle.std.specs.Prelude.{◌≤◌};
 use arrayvec::ArrayVec;
 
 /// The cores that are drawn, a row each, from above; at most 64.
-#[derive(Debug, Drop)]
+#[derive(Drop)]
 pub struct Rows {
     cores: ArrayVec<u8, 64>,
 }

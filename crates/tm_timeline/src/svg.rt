@@ -23,7 +23,7 @@ impl<O: Out> fmt::Write for Svg<'_, O> {
 }
 
 /// A length in tenths of a pixel, printed in pixels.
-#[derive(Clone, Copy, PartialEq, Eq, Debug)]
+#[derive(Clone, Copy, PartialEq, Eq)]
 pub struct Tenths(pub u32);
 
 impl Tenths {

@@ -20,7 +20,7 @@ const CORES: usize = 64;
 
 /// What a picture of a window of a run shows, told step by step from the run's first step on, of which the steps of
 /// transactions that reach into the window count also where they lie before and behind it.
-#[derive(Debug, Drop)]
+#[derive(Drop)]
 pub struct Timeline {
     window: Window,
     cores: u8,
@@ -32,7 +32,7 @@ pub struct Timeline {
 }
 
 // An open transaction.
-#[derive(Clone, Copy, PartialEq, Eq, Debug)]
+#[derive(Clone, Copy, PartialEq, Eq)]
 struct Transaction {
     // The step of its XBEGIN.
     begin: u32,

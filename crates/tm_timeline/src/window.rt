@@ -19,7 +19,7 @@ const PIXELS: u64 = 1116;
 const TENTHS: u64 = 11160;
 
 /// The steps of a run that are drawn. Here steps are counted from 0; in pictures, as outcome lines stand, from 1.
-#[derive(Clone, Copy, Debug)]
+#[derive(Clone, Copy)]
 pub struct Window {
     /// The first step that is drawn.
     pub from: u32,
