@@ -55,20 +55,6 @@ fn is_equ(line: &[u8], kept: usize) -> bool {
     }
 }
 
-/// A line with other bytes in place of a part.
-pub fn changed(
-    alloc: Global,
-    line: &[u8],
-    start: usize,
-    end: usize,
-    bytes: &[u8],
-) -> Result<Vec<u8>, AllocError> {
-    let mut other = Vec::from_slice(alloc, line.get(..start).unwrap_or(line))?;
-    other.extend_from_slice(bytes)?;
-    other.extend_from_slice(line.get(end..).unwrap_or(b""))?;
-    Ok(other)
-}
-
 /// Whether a line alone is read without a fault.
 pub fn reads(alloc: Global, line: &[u8]) -> Result<bool, AllocError> {
     match entries(alloc, line) {
@@ -86,6 +72,8 @@ pub fn reads_with(
     end: usize,
     bytes: &[u8],
 ) -> Result<bool, AllocError> {
-    let other = changed(alloc, line, start, end, bytes)?;
+    let front = line.get(..start).unwrap_or(line);
+    let behind = line.get(end..).unwrap_or(b"");
+    let other = [front, bytes, behind].concat(alloc)?;
     reads(alloc, other.as_slice())
 }

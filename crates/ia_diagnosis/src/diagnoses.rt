@@ -85,14 +85,13 @@ fn tell_next<'a>(
 fn further<'a>(
     alloc: Global,
     source: &'a [u8],
-    copy: Vec<u8>,
+    copy: &mut Vec<u8>,
     first: Diagnosis<'a>,
 ) -> Result<Diagnoses<'a>, AllocError>
     requires refused { RefusedAs source.now first.fault }
     requires placed { IsPlaced source.now first }
     ensures { IfOk result (λ found. AreDiagnoses source.now found.told.items) }
 {
-    let mut copy = copy;
     let mut told = Vec::new(alloc);
     let mut least = tell(&mut told, first)?;
     for _round in 0..ROUNDS {
@@ -102,7 +101,7 @@ fn further<'a>(
         if told.as_slice().len() >= MOST {
             return Ok(Diagnoses { told, more: true });
         }
-        take_out(&mut copy, source, fault);
+        take_out(copy, source, fault);
         least = tell_next(alloc, source, fault, least, &mut told)?;
     }
     Ok(Diagnoses { told, more: true })
@@ -113,14 +112,21 @@ fn further<'a>(
 pub fn diagnose<'a>(alloc: Global, source: &'a [u8]) -> Result<Diagnoses<'a>, AllocError>
     ensures { IfOk result (λ found. AreDiagnoses source.now found.told.items) }
 {
-    let told = Vec::new(alloc);
     let Some(fault) = fault_of(alloc, source)? else {
-        return Ok(Diagnoses { told, more: false });
+        return Ok(Diagnoses {
+            told: Vec::new(alloc),
+            more: false,
+        });
     };
     let Some(diagnosis) = diagnosis_of(alloc, source, fault)? else {
-        return Ok(Diagnoses { told, more: true });
+        return Ok(Diagnoses {
+            told: Vec::new(alloc),
+            more: true,
+        });
     };
     let mut copy = Vec::from_slice(alloc, source)?;
     take_out(&mut copy, source, fault);
-    further(alloc, source, copy, diagnosis)
+    let found = further(alloc, source, &mut copy, diagnosis);
+    drop(copy);
+    found
 }

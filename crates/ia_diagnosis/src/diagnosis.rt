@@ -3,9 +3,11 @@
 ghost use Rattle.std.specs.Prelude.{◌≡◌, ◌≤◌, ◌+◌, ◌-◌, IfOk, MatchOption, length};
 ghost use Rattle.ia_diagnosis.specs.Diagnoses.{HasNoLine, IsPlaced};
 
+use crate::finding::Finding;
 use crate::line::line_at;
 use crate::meaning::Meaning;
 use crate::operand::bad_operand;
+use crate::piece::{Piece, pieces};
 use crate::range::{range, short_jump};
 use crate::symbol::{symbol_twice, unknown_symbol};
 use crate::token::bad_token;
@@ -28,17 +30,6 @@ pub struct Diagnosis<'a> {
     pub meaning: Meaning<'a>,
 }
 
-/// A part of a line that is at fault, and what is meant.
-#[derive(Clone, Copy)]
-pub struct Finding<'a> {
-    /// Where the part begins, in bytes of the line.
-    pub start: usize,
-    /// Where it ends.
-    pub end: usize,
-    /// What is meant.
-    pub meaning: Meaning<'a>,
-}
-
 /// A line of a source that is at fault.
 #[derive(Clone, Copy)]
 pub struct FaultyLine<'a> {
@@ -56,14 +47,27 @@ fn found<'a>(
     line: FaultyLine<'a>,
     fault: AsmFault,
 ) -> Result<Finding<'a>, AllocError> {
+    let pieces = pieces(alloc, line.text)?;
+    let finding = found_among(alloc, line, pieces.as_slice(), fault);
+    drop(pieces);
+    finding
+}
+
+// The same among the pieces of a line.
+fn found_among<'a>(
+    alloc: Global,
+    line: FaultyLine<'a>,
+    pieces: &[Piece<'a>],
+    fault: AsmFault,
+) -> Result<Finding<'a>, AllocError> {
     match fault {
-        AsmFault::BadToken(_) => bad_token(alloc, line.text),
+        AsmFault::BadToken(_) => bad_token(alloc, line.text, pieces),
         AsmFault::NotInSubset(_) => not_in_subset(alloc, line.text),
         AsmFault::SymbolTwice(_) => symbol_twice(alloc, line),
-        AsmFault::BadOperand(_) => bad_operand(alloc, line.text),
-        AsmFault::UnknownSymbol(_) => unknown_symbol(alloc, line),
-        AsmFault::Range(_) => range(alloc, line.text),
-        AsmFault::ShortJumpTooFar(_) => short_jump(alloc, line.text),
+        AsmFault::BadOperand(_) => bad_operand(alloc, line.text, pieces),
+        AsmFault::UnknownSymbol(_) => unknown_symbol(alloc, line, pieces),
+        AsmFault::Range(_) => Ok(range(line.text, pieces)),
+        AsmFault::ShortJumpTooFar(_) => Ok(short_jump(line.text, pieces)),
         AsmFault::NoMemory => Err(AllocError),
     }
 }

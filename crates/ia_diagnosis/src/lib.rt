@@ -9,14 +9,18 @@
 #![tactic(auto)]
 
 mod change;
+mod check;
 mod diagnoses;
 mod diagnosis;
+mod finding;
 mod line;
 mod meaning;
 mod near;
 mod operand;
 mod piece;
 mod range;
+mod sentence;
+mod suspect;
 mod symbol;
 mod token;
 mod word;

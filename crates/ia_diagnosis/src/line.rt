@@ -28,8 +28,6 @@ pub fn line_at(source: &[u8], number: u32) -> Option<(usize, &[u8])>
 pub struct Head<'a> {
     /// The label.
     pub label: Option<Piece<'a>>,
-    /// Whether a colon stands behind the label.
-    pub has_colon: bool,
     /// Where the rest begins.
     pub rest: usize,
 }
@@ -38,7 +36,6 @@ impl Head<'_> {
     /// A line without a label.
     const BARE: Head<'static> = Head {
         label: None,
-        has_colon: false,
         rest: 0,
     };
 }
@@ -54,21 +51,14 @@ pub fn head_of<'a>(line: &'a [u8]) -> Head<'a> {
     }
     let rest = first.end();
     match next_piece(line, rest) {
-        None => Head {
-            label: Some(first),
-            has_colon: false,
-            rest,
-        },
         Some(colon) if colon.is_mark(b':') => Head {
             label: Some(first),
-            has_colon: true,
             rest: colon.end(),
         },
-        Some(keyword) if keyword.is_keyword() => Head {
+        Some(other) if !other.is_keyword() => Head::BARE,
+        _ => Head {
             label: Some(first),
-            has_colon: false,
             rest,
         },
-        Some(_) => Head::BARE,
     }
 }

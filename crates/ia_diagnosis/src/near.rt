@@ -12,52 +12,44 @@ const MOST: usize = 64;
 #[derive(Clone, Copy)]
 pub struct Nearest<'w, 'a> {
     word: &'w [u8],
-    // How many edits a name may be away.
-    room: usize,
+    // A nearer name is fewer edits away.
+    below: usize,
     /// The nearest name so far.
     pub name: Option<&'a [u8]>,
 }
 
 impl<'w, 'a> Nearest<'w, 'a> {
-    /// Of no names.
+    /// Of no names: one is near a word that a third of its letters leads to, of three letters one.
     pub fn new(word: &'w [u8]) -> Nearest<'w, 'a> {
         Nearest {
             word,
-            room: room_of(word),
+            below: word.len().max(3) / 3 + 1,
             name: None,
         }
     }
 
     /// The same with one more name.
     pub fn with(self, alloc: Global, name: &'a [u8]) -> Result<Nearest<'w, 'a>, AllocError> {
-        let Some(away) = distance(alloc, self.word, name, self.room)? else {
-            return Ok(self);
-        };
-        if away > self.room || (self.name.is_some() && away == self.room) {
-            return Ok(self);
+        match distance(alloc, self.word, name, self.below)? {
+            Some(away) if away < self.below => Ok(Nearest {
+                word: self.word,
+                below: away,
+                name: Some(name),
+            }),
+            _ => Ok(self),
         }
-        Ok(Nearest {
-            word: self.word,
-            room: away,
-            name: Some(name),
-        })
     }
 }
 
-/// How many edits a name may be away from a word: a third of its letters, one of three.
-pub fn room_of(word: &[u8]) -> usize {
-    word.len().max(3) / 3
-}
-
-/// How many edits lead from a word to a name, in any case; none where the lengths differ by more than the room, or a text is
-/// long.
-pub fn distance(
+// How many edits lead from a word to a name, in any case; none where the lengths tell that they are not below a number, or a
+// text is long.
+fn distance(
     alloc: Global,
     word: &[u8],
     name: &[u8],
-    room: usize,
+    below: usize,
 ) -> Result<Option<usize>, AllocError> {
-    if word.len() > MOST || name.len() > MOST || word.len().abs_diff(name.len()) > room {
+    if word.len() > MOST || name.len() > MOST || word.len().abs_diff(name.len()) >= below {
         return Ok(None);
     }
     match (str::from_utf8(word), str::from_utf8(name)) {
@@ -78,6 +70,15 @@ const OTHERS: [&str; 29] = [
     "sete", "setne", "cmove",
 ];
 
+// The nearest among directives, prefixes and the usual names of jumps.
+fn nearest_other(alloc: Global, word: &[u8]) -> Result<Nearest<'_, 'static>, AllocError> {
+    let mut nearest = Nearest::new(word);
+    for name in &OTHERS {
+        nearest = nearest.with(alloc, name.as_bytes())?;
+    }
+    Ok(nearest)
+}
+
 // The nearest with the names of instructions among these.
 fn with_mnemonics<'w>(
     alloc: Global,
@@ -93,13 +94,15 @@ fn with_mnemonics<'w>(
 
 /// The name of an instruction or a directive that is near a word.
 pub fn near_keyword(alloc: Global, word: &[u8]) -> Result<Option<&'static [u8]>, AllocError> {
-    let mut nearest = Nearest::new(word);
-    for name in OTHERS {
-        nearest = nearest.with(alloc, name.as_bytes())?;
+    let names = [
+        Mnemonic::moves(),
+        Mnemonic::arithmetic(),
+        Mnemonic::jumps(),
+        Mnemonic::bare_names(),
+    ];
+    let mut nearest = nearest_other(alloc, word)?;
+    for mnemonics in names {
+        nearest = with_mnemonics(alloc, nearest, mnemonics)?;
     }
-    nearest = with_mnemonics(alloc, nearest, Mnemonic::moves())?;
-    nearest = with_mnemonics(alloc, nearest, Mnemonic::arithmetic())?;
-    nearest = with_mnemonics(alloc, nearest, Mnemonic::jumps())?;
-    nearest = with_mnemonics(alloc, nearest, Mnemonic::bare_names())?;
     Ok(nearest.name)
 }

@@ -61,13 +61,38 @@ impl Piece<'_> {
     }
 }
 
+/// Bytes that stand in a row.
+#[derive(Clone, Copy)]
+enum Class {
+    // Blanks.
+    Blank,
+    // Those of names and numbers.
+    Name,
+    // All but the quote that ends a quoted text.
+    Quoted(u8),
+}
+
+impl Class {
+    fn has(self, byte: u8) -> bool {
+        match self {
+            Class::Blank => byte == b' ' || byte == b'\t',
+            Class::Name => is_of_name(byte),
+            Class::Quoted(quote) => byte != quote,
+        }
+    }
+}
+
 // Whether a byte is a part of names and numbers.
 fn is_of_name(byte: u8) -> bool {
     byte.is_ascii_alphanumeric() || byte == b'_' || byte == b'.'
 }
 
-fn is_blank(byte: u8) -> bool {
-    byte == b' ' || byte == b'\t'
+// How many bytes of a class stand in front.
+fn run_length(text: &[u8], class: Class) -> usize
+    ensures { result ≤ length text.now }
+{
+    let found = text.iter().position(|byte| !class.has(*byte));
+    found.unwrap_or(text.len()).min(text.len())
 }
 
 // How many bytes of the text belong to what stands in front.
@@ -75,10 +100,7 @@ fn piece_length(text: &[u8]) -> usize {
     match text.first() {
         None => 0,
         Some(quote) if *quote == b'\'' || *quote == b'"' => quoted_length(*quote, text),
-        Some(byte) if is_of_name(*byte) => {
-            let end = text.iter().position(|b| !is_of_name(*b));
-            end.unwrap_or(text.len())
-        }
+        Some(byte) if is_of_name(*byte) => run_length(text, Class::Name),
         Some(_) => 1,
     }
 }
@@ -86,24 +108,15 @@ fn piece_length(text: &[u8]) -> usize {
 // How many bytes a quoted text has with its quotes; all, where the second one is missing.
 fn quoted_length(quote: u8, text: &[u8]) -> usize {
     let rest = text.get(1..).unwrap_or(b"");
-    match rest.iter().position(|b| *b == quote) {
-        Some(long) => long.saturating_add(2),
-        None => text.len(),
-    }
-}
-
-// How many blanks stand in front.
-fn blanks(text: &[u8]) -> usize
-    ensures { result ≤ length text.now }
-{
-    let found = text.iter().position(|b| !is_blank(*b));
-    found.unwrap_or(text.len()).min(text.len())
+    run_length(rest, Class::Quoted(quote))
+        .saturating_add(2)
+        .min(text.len())
 }
 
 /// What stands behind this place of a line, up to a comment.
 pub fn next_piece<'a>(line: &'a [u8], from: usize) -> Option<Piece<'a>> {
     let behind = line.get(from..)?;
-    let start = blanks(behind);
+    let start = run_length(behind, Class::Blank);
     let rest = &behind[start..];
     let first = *rest.first()?;
     if first == b';' {
@@ -129,4 +142,24 @@ pub fn pieces<'a>(alloc: Global, line: &'a [u8]) -> Result<Vec<Piece<'a>>, Alloc
         found.push(piece)?;
     }
     Ok(found)
+}
+
+/// Whether this word is among the pieces of a line.
+pub fn has_word(pieces: &[Piece<'_>], name: &str) -> bool {
+    for piece in pieces {
+        if piece.is_named(name) {
+            return true;
+        }
+    }
+    false
+}
+
+/// The first piece from this place on that is this mark.
+pub fn next_mark<'a>(pieces: &[Piece<'a>], from: usize, mark: u8) -> Option<Piece<'a>> {
+    for piece in pieces {
+        if piece.start >= from && piece.is_mark(mark) {
+            return Some(*piece);
+        }
+    }
+    None
 }

@@ -1,84 +1,76 @@
 //! Numbers outside their range, and jumps that lead too far.
 
-use crate::diagnosis::Finding;
+use crate::finding::Finding;
 use crate::line::head_of;
 use crate::meaning::{Field, Meaning};
-use crate::piece::{Piece, next_piece, pieces};
+use crate::piece::{Piece, has_word, next_piece};
+use crate::words::is_among;
 use ia_lex::{register_of, word_number};
 use ia_word::Width;
-use std::alloc::{AllocError, Global};
 
 /// The most bytes from the base to an item's end.
 const FAR: u64 = 268_435_456;
 
-/// Instructions whose number goes into a byte.
-const OF_BYTES: [&str; 12] = [
-    "db", "xabort", "rol", "ror", "shl", "sal", "shr", "sar", "bt", "bts", "btr", "btc",
+/// Words that say that a number goes into a byte.
+const OF_BYTES: [&str; 13] = [
+    "byte", "db", "xabort", "rol", "ror", "shl", "sal", "shr", "sar", "bt", "bts", "btr", "btc",
 ];
 
 /// The first number of a line that is outside its range, or all operands.
-pub fn range<'a>(alloc: Global, line: &'a [u8]) -> Result<Finding<'a>, AllocError> {
-    let found = pieces(alloc, line)?;
+pub fn range<'a>(line: &'a [u8], pieces: &[Piece<'a>]) -> Finding<'a> {
     let from = operands_from(line);
-    let field = field_of(found.as_slice());
-    for piece in found.as_slice() {
-        if piece.start >= from && is_outside(field, piece) {
-            return Ok(Finding {
-                start: piece.start,
-                end: piece.end(),
-                meaning: meaning_of(field, piece),
-            });
+    let field = field_of(pieces);
+    match first_outside(field, pieces, from) {
+        Some(piece) if field == Field::Size => Finding::at(&piece, Meaning::TooFar),
+        Some(piece) => Finding::at(&piece, Meaning::OutOfRange(field)),
+        None if field == Field::Dword && !has_number(pieces, from) => {
+            operands(line, from, pieces, Meaning::TooFar)
         }
+        None => operands(line, from, pieces, Meaning::OutOfRange(field)),
     }
-    let meaning = match field {
-        Field::Size => Meaning::OutOfRange(Field::Size),
-        _ if has_number(found.as_slice(), from) || field != Field::Dword => {
-            Meaning::OutOfRange(field)
-        }
-        _ => Meaning::TooFar,
-    };
-    Ok(operands(line, from, found.as_slice(), meaning))
 }
 
 /// The operands of a short jump.
-pub fn short_jump<'a>(alloc: Global, line: &'a [u8]) -> Result<Finding<'a>, AllocError> {
-    let found = pieces(alloc, line)?;
-    let from = operands_from(line);
-    let instead = if found.as_slice().iter().any(|piece| piece.is_named("loop")) {
+pub fn short_jump<'a>(line: &'a [u8], pieces: &[Piece<'a>]) -> Finding<'a> {
+    let instead = if has_word(pieces, "loop") {
         "write dec ecx and jnz"
-    } else if found.as_slice().iter().any(|piece| piece.is_named("jecxz")) {
+    } else if has_word(pieces, "jecxz") {
         "write test ecx, ecx and jz"
     } else {
         "leave short away"
     };
-    Ok(operands(line, from, found.as_slice(), Meaning::ShortJump(instead)))
+    operands(
+        line,
+        operands_from(line),
+        pieces,
+        Meaning::ShortJump(instead),
+    )
 }
 
 // Where the operands of a line begin.
 fn operands_from(line: &[u8]) -> usize {
     let rest = head_of(line).rest;
-    match next_piece(line, rest) {
-        Some(word) if word.is_named("lock") => match next_piece(line, word.end()) {
-            Some(word) => word.end(),
-            None => word.end(),
-        },
-        Some(word) => word.end(),
-        None => rest,
+    let Some(word) = next_piece(line, rest) else {
+        return rest;
+    };
+    if !word.is_named("lock") {
+        return word.end();
     }
+    next_piece(line, word.end()).unwrap_or(word).end()
 }
 
 // All parts of a line from this place on.
 fn operands<'a>(
     line: &'a [u8],
     from: usize,
-    found: &[Piece<'a>],
+    pieces: &[Piece<'a>],
     meaning: Meaning<'a>,
 ) -> Finding<'a> {
     let start = match next_piece(line, from) {
         Some(piece) => piece.start,
         None => 0,
     };
-    let end = match found.last() {
+    let end = match pieces.last() {
         Some(piece) => piece.end(),
         None => line.len(),
     };
@@ -89,35 +81,57 @@ fn operands<'a>(
     }
 }
 
-fn has_number(found: &[Piece<'_>], from: usize) -> bool {
-    found
-        .iter()
-        .any(|piece| piece.start >= from && piece.is_number())
+// Whether there is a number from this place on.
+fn has_number(pieces: &[Piece<'_>], from: usize) -> bool {
+    for piece in pieces {
+        if piece.start >= from && piece.is_number() {
+            return true;
+        }
+    }
+    false
+}
+
+// The first number from this place on that no such field takes.
+fn first_outside<'a>(field: Field, pieces: &[Piece<'a>], from: usize) -> Option<Piece<'a>> {
+    for piece in pieces {
+        if piece.start >= from && is_outside(field, piece) {
+            return Some(*piece);
+        }
+    }
+    None
 }
 
 // What the numbers of a line go into.
-fn field_of(found: &[Piece<'_>]) -> Field {
-    let is_there = |name: &str| found.iter().any(|piece| piece.is_named(name));
-    if is_there("org") {
+fn field_of(pieces: &[Piece<'_>]) -> Field {
+    if has_word(pieces, "org") {
         Field::Base
-    } else if is_there("resb") {
+    } else if has_word(pieces, "resb") {
         Field::Size
-    } else if is_there("ret") {
+    } else if has_word(pieces, "ret") {
         Field::Return
-    } else if is_there("byte") || found.iter().any(is_of_byte) {
+    } else if is_of_bytes(pieces) {
         Field::Byte
     } else {
         Field::Dword
     }
 }
 
-// Whether a word says that a number goes into a byte: an instruction, or a register of 8 bits.
-fn is_of_byte(piece: &Piece<'_>) -> bool {
-    let is_register = match register_of(piece.text) {
+// Whether a line says that a number goes into a byte: by such a word, or a register of 8 bits.
+fn is_of_bytes(pieces: &[Piece<'_>]) -> bool {
+    for piece in pieces {
+        if is_among(&OF_BYTES, piece.text) || is_narrow(piece.text) {
+            return true;
+        }
+    }
+    false
+}
+
+// Whether a word is a register of 8 bits.
+fn is_narrow(word: &[u8]) -> bool {
+    match register_of(word) {
         Some((Width::B, _number)) => true,
         _ => false,
-    };
-    is_register || OF_BYTES.iter().any(|name| piece.is_named(name))
+    }
 }
 
 // Whether a part is a number that no such field takes.
@@ -135,12 +149,5 @@ fn is_outside(field: Field, piece: &Piece<'_>) -> bool {
     match word_number(piece.text) {
         Some(number) => number > most,
         None => true,
-    }
-}
-
-fn meaning_of<'a>(field: Field, piece: &Piece<'a>) -> Meaning<'a> {
-    match field {
-        Field::Size if piece.is_number() => Meaning::TooFar,
-        _ => Meaning::OutOfRange(field),
     }
 }

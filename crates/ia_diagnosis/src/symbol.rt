@@ -1,11 +1,12 @@
 //! Symbols that are defined twice or not at all.
 
-use crate::diagnosis::{FaultyLine, Finding};
+use crate::diagnosis::FaultyLine;
+use crate::finding::Finding;
 use crate::line::head_of;
 use crate::meaning::Meaning;
-use crate::near::{distance, room_of};
-use crate::piece::{Piece, next_piece, pieces};
-use crate::words::{is_other_register, is_sixteen_bits};
+use crate::near::Nearest;
+use crate::piece::{Piece, next_piece};
+use crate::words::{is_among, is_other_register, is_sixteen_bits};
 use ia_item::{Name, Scope};
 use ia_lex::{first_line, register_of};
 use std::alloc::{AllocError, Global};
@@ -112,30 +113,22 @@ fn line_of(symbols: &[Symbol<'_>], name: &Name<'_>) -> Option<u32> {
     None
 }
 
+// The first line that defines what this line defines.
+fn first_line_of(symbols: &[Symbol<'_>], number: u32) -> u32 {
+    match name_on(symbols, number) {
+        Some(name) => line_of(symbols, &name).unwrap_or(number),
+        None => number,
+    }
+}
+
 /// A label that is defined above.
 pub fn symbol_twice<'a>(alloc: Global, line: FaultyLine<'a>) -> Result<Finding<'a>, AllocError> {
     let symbols = symbols_for(alloc, line)?;
-    let Some(label) = next_piece(line.text, 0) else {
-        return Ok(whole(line.text, Meaning::NoStatement));
-    };
-    let all = symbols.all.as_slice();
-    let above = match name_on(all, line.number) {
-        Some(name) => line_of(all, &name),
-        None => None,
-    };
-    Ok(Finding {
-        start: label.start,
-        end: label.end(),
-        meaning: Meaning::SymbolTwice(label.text, above.unwrap_or(line.number)),
-    })
-}
-
-// A whole line.
-fn whole<'a>(text: &'a [u8], meaning: Meaning<'a>) -> Finding<'a> {
-    Finding {
-        start: 0,
-        end: text.len(),
-        meaning,
+    let above = first_line_of(symbols.all.as_slice(), line.number);
+    drop(symbols);
+    match next_piece(line.text, 0) {
+        Some(label) => Ok(Finding::at(&label, Meaning::SymbolTwice(label.text, above))),
+        None => Ok(Finding::whole(line.text, Meaning::NoStatement)),
     }
 }
 
@@ -144,82 +137,131 @@ fn is_symbol(piece: &Piece<'_>) -> bool {
     piece.is_word()
         && register_of(piece.text).is_none()
         && !piece.is_keyword()
-        && !SIZES.iter().any(|size| piece.is_named(size))
+        && !is_among(&SIZES, piece.text)
 }
 
 /// The first symbol of a line that is defined nowhere; of `equ` and `resb`, by no `equ` above.
-pub fn unknown_symbol<'a>(alloc: Global, line: FaultyLine<'a>) -> Result<Finding<'a>, AllocError> {
+pub fn unknown_symbol<'a>(
+    alloc: Global,
+    line: FaultyLine<'a>,
+    pieces: &[Piece<'a>],
+) -> Result<Finding<'a>, AllocError> {
     let symbols = symbols_for(alloc, line)?;
-    let found = pieces(alloc, line.text)?;
-    let from = head_of(line.text).rest;
-    for piece in found.as_slice() {
-        if piece.start >= from && is_symbol(piece) && !is_defined(&symbols, piece) {
-            let meaning = unknown(alloc, &symbols, piece.text)?;
-            return Ok(Finding {
-                start: piece.start,
-                end: piece.end(),
-                meaning,
-            });
+    let finding = unknown_among(alloc, &symbols, line, pieces);
+    drop(symbols);
+    finding
+}
+
+// The first symbol of a line that is not among these, or that is no `equ` name from above.
+fn unknown_among<'a>(
+    alloc: Global,
+    symbols: &Symbols<'a>,
+    line: FaultyLine<'a>,
+    pieces: &[Piece<'a>],
+) -> Result<Finding<'a>, AllocError> {
+    match symbols.first_missing(line.text, pieces, Wanted::Any) {
+        Some(piece) => unknown(alloc, symbols, &piece),
+        None => Ok(not_above(symbols, line, pieces)),
+    }
+}
+
+// The first symbol of a line that is no `equ` name from above.
+fn not_above<'a>(symbols: &Symbols<'a>, line: FaultyLine<'a>, pieces: &[Piece<'a>]) -> Finding<'a> {
+    match symbols.first_missing(line.text, pieces, Wanted::EquAbove(line.number)) {
+        Some(piece) => Finding::at(&piece, Meaning::NotAbove(piece.text)),
+        None => Finding::whole(line.text, Meaning::UnknownSymbol(line.text, None)),
+    }
+}
+
+/// Which symbols an operand may name.
+#[derive(Clone, Copy)]
+enum Wanted {
+    // Any.
+    Any,
+    // An `equ` above this line.
+    EquAbove(u32),
+}
+
+impl Wanted {
+    fn takes(self, symbol: &Symbol<'_>) -> bool {
+        match self {
+            Wanted::Any => true,
+            Wanted::EquAbove(number) => symbol.is_equ && symbol.line < number,
         }
     }
-    Ok(not_above(&symbols, line, found.as_slice(), from))
 }
 
-fn is_defined<'a>(symbols: &Symbols<'a>, piece: &Piece<'a>) -> bool {
-    let name = name_in(symbols.scope, piece.text);
-    symbols.all.iter().any(|symbol| symbol.name == name)
+impl<'a> Symbols<'a> {
+    // The first symbol of a line's operands that is none of these.
+    fn first_missing(
+        &self,
+        line: &'a [u8],
+        pieces: &[Piece<'a>],
+        wanted: Wanted,
+    ) -> Option<Piece<'a>> {
+        let from = head_of(line).rest;
+        for piece in pieces {
+            if piece.start >= from && is_symbol(piece) && !self.has(piece.text, wanted) {
+                return Some(*piece);
+            }
+        }
+        None
+    }
+
+    // Whether a word names one of these symbols.
+    fn has(&self, word: &'a [u8], wanted: Wanted) -> bool {
+        let name = name_in(self.scope, word);
+        for symbol in self.all.as_slice() {
+            if wanted.takes(symbol) && symbol.name == name {
+                return true;
+            }
+        }
+        false
+    }
 }
 
-// What is meant by a word that names no symbol.
+// A word that names no symbol.
 fn unknown<'a>(
     alloc: Global,
     symbols: &Symbols<'a>,
-    word: &'a [u8],
-) -> Result<Meaning<'a>, AllocError> {
-    if is_sixteen_bits(word) {
-        return Ok(Meaning::SixteenBits(word));
-    }
-    if is_other_register(word) {
-        return Ok(Meaning::NoRegister(word));
-    }
-    let near = near_symbol(alloc, symbols.all.as_slice(), symbols.scope, word)?;
-    Ok(Meaning::UnknownSymbol(word, near))
+    piece: &Piece<'a>,
+) -> Result<Finding<'a>, AllocError> {
+    let word = piece.text;
+    let meaning = if is_sixteen_bits(word) {
+        Meaning::SixteenBits(word)
+    } else if is_other_register(word) {
+        Meaning::NoRegister(word)
+    } else {
+        Meaning::UnknownSymbol(word, near_symbol(alloc, symbols, word)?)
+    };
+    Ok(Finding::at(piece, meaning))
 }
 
 // The symbol that is near a word.
 fn near_symbol<'a>(
     alloc: Global,
-    symbols: &[Symbol<'a>],
-    scope: &[u8],
+    symbols: &Symbols<'a>,
     word: &[u8],
 ) -> Result<Option<&'a [u8]>, AllocError> {
-    let mut least = room_of(word).saturating_add(1);
-    let mut found = symbols.len();
-    for (index, symbol) in symbols.iter().enumerate() {
-        let away = away_of(alloc, scope, word, symbol)?;
-        if away < least {
-            least = away;
-            found = index;
-        }
+    let mut nearest = Nearest::new(word);
+    for symbol in symbols.all.as_slice() {
+        nearest = if_meant(alloc, nearest, symbols.scope, word, symbol)?;
     }
-    match symbols.get(found) {
-        Some(symbol) => Ok(Some(symbol.name.own)),
-        None => Ok(None),
-    }
+    Ok(nearest.name)
 }
 
-// How many edits lead from a word to a symbol that could be meant.
-fn away_of(
+// The nearest with one more symbol, if it could be meant.
+fn if_meant<'w, 'a>(
     alloc: Global,
+    nearest: Nearest<'w, 'a>,
     scope: &[u8],
     word: &[u8],
-    symbol: &Symbol<'_>,
-) -> Result<usize, AllocError> {
+    symbol: &Symbol<'a>,
+) -> Result<Nearest<'w, 'a>, AllocError> {
     if !is_beside(scope, word, symbol) {
-        return Ok(usize::MAX);
+        return Ok(nearest);
     }
-    let away = distance(alloc, word, symbol.name.own, room_of(word))?;
-    Ok(away.unwrap_or(usize::MAX))
+    nearest.with(alloc, symbol.name.own)
 }
 
 // Whether a symbol could be meant by a word: a local one, of this label, where the word is local.
@@ -229,28 +271,4 @@ fn is_beside(scope: &[u8], word: &[u8], symbol: &Symbol<'_>) -> bool {
     } else {
         !is_local(symbol.name.own)
     }
-}
-
-// The first symbol of a line that is no `equ` name from above.
-fn not_above<'a>(
-    symbols: &Symbols<'a>,
-    line: FaultyLine<'a>,
-    found: &[Piece<'a>],
-    from: usize,
-) -> Finding<'a> {
-    for piece in found {
-        if piece.start >= from && is_symbol(piece) && !is_above(symbols, line.number, piece) {
-            return Finding {
-                start: piece.start,
-                end: piece.end(),
-                meaning: Meaning::NotAbove(piece.text),
-            };
-        }
-    }
-    whole(line.text, Meaning::UnknownSymbol(line.text, None))
-}
-
-fn is_above<'a>(symbols: &Symbols<'a>, number: u32, piece: &Piece<'a>) -> bool {
-    let name = name_in(symbols.scope, piece.text);
-    symbols.all.iter().any(|symbol| symbol.is_equ && symbol.line < number && symbol.name == name)
 }

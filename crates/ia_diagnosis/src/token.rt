@@ -1,8 +1,8 @@
 //! Bytes that are no token.
 
-use crate::diagnosis::Finding;
+use crate::finding::Finding;
 use crate::meaning::Meaning;
-use crate::piece::{Piece, next_piece, pieces};
+use crate::piece::{Piece, next_piece};
 use ia_lex::{LexFault, tokens};
 use std::alloc::{AllocError, Global};
 
@@ -16,18 +16,17 @@ fn is_bad(alloc: Global, piece: &Piece<'_>) -> Result<bool, AllocError> {
 }
 
 /// The first part of a line that is no token.
-pub fn bad_token<'a>(alloc: Global, line: &'a [u8]) -> Result<Finding<'a>, AllocError> {
-    let found = pieces(alloc, line)?;
-    for piece in found.as_slice() {
+pub fn bad_token<'a>(
+    alloc: Global,
+    line: &'a [u8],
+    pieces: &[Piece<'a>],
+) -> Result<Finding<'a>, AllocError> {
+    for piece in pieces {
         if is_bad(alloc, piece)? {
             return Ok(meant(line, piece));
         }
     }
-    Ok(Finding {
-        start: 0,
-        end: line.len(),
-        meaning: Meaning::NoCharacter,
-    })
+    Ok(Finding::whole(line, Meaning::NoCharacter))
 }
 
 // What is meant by a part that is no token.
@@ -42,11 +41,7 @@ fn meant<'a>(line: &'a [u8], piece: &Piece<'a>) -> Finding<'a> {
     } else {
         Meaning::NoCharacter
     };
-    Finding {
-        start: piece.start,
-        end: piece.end(),
-        meaning,
-    }
+    Finding::at(piece, meaning)
 }
 
 // What is meant by `%`: the word behind it is of a preprocessor.

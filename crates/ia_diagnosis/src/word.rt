@@ -1,6 +1,6 @@
 //! Words that stand where an instruction or a directive belongs.
 
-use crate::diagnosis::Finding;
+use crate::finding::Finding;
 use crate::meaning::Meaning;
 use crate::near::near_keyword;
 use crate::piece::{Piece, next_piece};
@@ -9,36 +9,42 @@ use std::alloc::{AllocError, Global};
 
 /// What stands on a line in place of an instruction or a directive.
 pub fn not_in_subset<'a>(alloc: Global, line: &'a [u8]) -> Result<Finding<'a>, AllocError> {
-    let Some(first) = next_piece(line, 0) else {
-        return no_statement(line, None);
-    };
-    if first.is_named("lock") {
-        return of_statement(alloc, line, next_piece(line, first.end()));
-    }
-    if !first.is_label() {
-        return of_statement(alloc, line, Some(first));
-    }
-    match next_piece(line, first.end()) {
-        Some(colon) if colon.is_mark(b':') => {
-            of_statement(alloc, line, next_piece(line, colon.end()))
-        }
-        second => of_two(alloc, line, first, second),
+    match statement_of(alloc, line)? {
+        Some(piece) => of_statement(alloc, &piece),
+        None => Ok(Finding::whole(line, Meaning::NoStatement)),
     }
 }
 
-// Two words of which neither names an instruction: the first, unless the second is near one and the first is not.
-fn of_two<'a>(
+// The part of a line that stands where an instruction or a directive belongs.
+fn statement_of<'a>(alloc: Global, line: &'a [u8]) -> Result<Option<Piece<'a>>, AllocError> {
+    let Some(first) = next_piece(line, 0) else {
+        return Ok(None);
+    };
+    let second = next_piece(line, first.end());
+    if first.is_named("lock") {
+        return Ok(second);
+    }
+    match second {
+        Some(second) if first.is_label() => behind_label(alloc, line, first, second),
+        _ => Ok(Some(first)),
+    }
+}
+
+// What follows the colon of a label. Of two words of which neither names an instruction: the first, unless the second is near
+// one and the first is not.
+fn behind_label<'a>(
     alloc: Global,
     line: &'a [u8],
     first: Piece<'a>,
-    second: Option<Piece<'a>>,
-) -> Result<Finding<'a>, AllocError> {
-    if let Some(word) = second {
-        if word.is_label() && is_strange(alloc, &first)? && !is_strange(alloc, &word)? {
-            return of_statement(alloc, line, Some(word));
-        }
+    second: Piece<'a>,
+) -> Result<Option<Piece<'a>>, AllocError> {
+    if second.is_mark(b':') {
+        return Ok(next_piece(line, second.end()));
     }
-    of_statement(alloc, line, Some(first))
+    if second.is_label() && is_strange(alloc, &first)? && !is_strange(alloc, &second)? {
+        return Ok(Some(second));
+    }
+    Ok(Some(first))
 }
 
 // Whether a word is near no instruction, and no other assembler's.
@@ -46,38 +52,14 @@ fn is_strange(alloc: Global, word: &Piece<'_>) -> Result<bool, AllocError> {
     Ok(instead_of(word.text).is_none() && near_keyword(alloc, word.text)?.is_none())
 }
 
-// A word in place of an instruction.
-fn of_statement<'a>(
-    alloc: Global,
-    line: &'a [u8],
-    word: Option<Piece<'a>>,
-) -> Result<Finding<'a>, AllocError> {
-    let Some(piece) = word else {
-        return no_statement(line, None);
-    };
+// A part in place of an instruction.
+fn of_statement<'a>(alloc: Global, piece: &Piece<'a>) -> Result<Finding<'a>, AllocError> {
     if !piece.is_label() {
-        return no_statement(line, Some(piece));
+        return Ok(Finding::at(piece, Meaning::NoStatement));
     }
     let meaning = match instead_of(piece.text) {
         Some(instead) => Meaning::NotRead(piece.text, instead),
         None => Meaning::NoInstruction(piece.text, near_keyword(alloc, piece.text)?),
     };
-    Ok(Finding {
-        start: piece.start,
-        end: piece.end(),
-        meaning,
-    })
-}
-
-// Something else than a word, or nothing.
-fn no_statement<'a>(line: &'a [u8], piece: Option<Piece<'a>>) -> Result<Finding<'a>, AllocError> {
-    let (start, end) = match piece {
-        Some(piece) => (piece.start, piece.end()),
-        None => (0, line.len()),
-    };
-    Ok(Finding {
-        start,
-        end,
-        meaning: Meaning::NoStatement,
-    })
+    Ok(Finding::at(piece, meaning))
 }

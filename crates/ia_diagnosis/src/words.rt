@@ -33,10 +33,14 @@ const DIRECTIVES: [(&str, &str); 16] = [
     ("struc", "equ is"),
 ];
 
-fn is_among(names: &[&str], word: &[u8]) -> bool {
-    names
-        .iter()
-        .any(|name| word.eq_ignore_ascii_case(name.as_bytes()))
+/// Whether a word is one of these, in any case.
+pub fn is_among(names: &[&str], word: &[u8]) -> bool {
+    for name in names {
+        if word.eq_ignore_ascii_case(name.as_bytes()) {
+            return true;
+        }
+    }
+    false
 }
 
 /// Whether a word is a register of 16 bits.
@@ -56,8 +60,10 @@ pub fn is_other_size(word: &[u8]) -> bool {
 
 /// What is read in place of a directive of NASM.
 pub fn instead_of(word: &[u8]) -> Option<&'static [u8]> {
-    let found = DIRECTIVES
-        .iter()
-        .find(|row| word.eq_ignore_ascii_case(row.0.as_bytes()))?;
-    Some(found.1.as_bytes())
+    for (name, instead) in &DIRECTIVES {
+        if word.eq_ignore_ascii_case(name.as_bytes()) {
+            return Some(instead.as_bytes());
+        }
+    }
+    None
 }
