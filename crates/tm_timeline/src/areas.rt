@@ -2,9 +2,11 @@
 
 use crate::columns::{Columns, Layer, Share};
 use crate::frame::Sheet;
-use crate::svg::Tenths;
+use crate::svg::Svg;
+use crate::value::Tenths;
+use crate::value::Value::{Core, Length, Number, Word};
 use crate::window::{LEFT, RIGHT};
-use std::fmt;
+use ia_text::Out;
 
 /// The height of the columns in pixels.
 pub const AREA: u32 = 34;
@@ -12,77 +14,82 @@ pub const AREA: u32 = 34;
 // The height of the columns in tenths of a pixel.
 const TENTHS: u64 = 340;
 
-/// Draws the columns of each row. Each layer covers those below it, and these are drawn above it.
-pub fn draw_areas<W: fmt::Write>(svg: &mut W, sheet: &Sheet<'_>, columns: &Columns) -> fmt::Result {
+/// Draws the columns of each row.
+pub fn draw_areas<O: Out>(svg: &mut Svg<'_, O>, sheet: &Sheet<'_>, columns: &Columns) {
     for row in 0..sheet.rows.count() {
         if let Some(core) = sheet.rows.core(row) {
-            let whole = columns.whole(core);
-            let foot = sheet.top(row) + AREA;
-            draw_area(svg, columns, core, foot, Layer::Outside, &whole)?;
-            draw_area(svg, columns, core, foot, Layer::Open, &whole)?;
-            draw_area(svg, columns, core, foot, Layer::Other, &whole)?;
-            draw_area(svg, columns, core, foot, Layer::Conflict, &whole)?;
-            draw_area(svg, columns, core, foot, Layer::Committed, &whole)?;
+            draw_core(svg, columns, core, sheet.top(row) + AREA);
         }
     }
-    Ok(())
 }
 
-// A layer of a core, where it has steps: a line along its columns, which is begun and ended at their foot.
-fn draw_area<W: fmt::Write>(
-    svg: &mut W,
+// The columns of a core, above their foot. Each layer covers those below it, and these are drawn above it.
+fn draw_core<O: Out>(svg: &mut Svg<'_, O>, columns: &Columns, core: u8, foot: u32) {
+    let whole = columns.whole(core);
+    for layer in [
+        Layer::Outside,
+        Layer::Open,
+        Layer::Other,
+        Layer::Conflict,
+        Layer::Committed,
+    ] {
+        let steps = whole.of(layer);
+        if steps > 0 {
+            draw_area(svg, columns, core, foot, layer, steps);
+        }
+    }
+}
+
+// A layer of a core with so many steps: a line along its columns, which is begun and ended at their foot.
+fn draw_area<O: Out>(
+    svg: &mut Svg<'_, O>,
     columns: &Columns,
     core: u8,
     foot: u32,
     layer: Layer,
-    whole: &Share,
-) -> fmt::Result {
-    let steps = whole.of(layer);
-    if steps == 0 {
-        return Ok(());
-    }
-    let class = layer.class();
-    let meaning = layer.meaning();
-    write!(svg, "<path class='{class}' d='M{LEFT} {foot}")?;
-    draw_outline(svg, columns, core, layer)?;
-    write!(svg, "H{RIGHT}V{foot}z'><title>core {core}: ")?;
-    writeln!(svg, "{steps} {meaning}</title></path>")
+    steps: u32,
+) {
+    svg.put(
+        "<path class='{}' d='M{} {}",
+        &[Word(layer.class()), Number(LEFT), Number(foot)],
+    );
+    draw_outline(svg, columns, core, layer);
+    svg.put(
+        "H{}V{}z'><title>core {}: {} {}</title></path>\n",
+        &[
+            Number(RIGHT),
+            Number(foot),
+            Core(core),
+            Number(steps),
+            Word(layer.meaning()),
+        ],
+    );
 }
 
 // The heights of a layer, where they change.
-fn draw_outline<W: fmt::Write>(
-    svg: &mut W,
-    columns: &Columns,
-    core: u8,
-    layer: Layer,
-) -> fmt::Result {
+fn draw_outline<O: Out>(svg: &mut Svg<'_, O>, columns: &Columns, core: u8, layer: Layer) {
     let width = (RIGHT - LEFT) / columns.count.max(1);
     let mut drawn = 0;
     let mut run: u32 = 0;
     for column in 0..columns.count {
         let height = height_of(&columns.share(core, column), layer);
         if height != drawn {
-            draw_turn(svg, run, drawn, height)?;
+            draw_turn(svg, run, drawn, height);
             drawn = height;
             run = 0;
         }
         run = run.saturating_add(width);
     }
-    Ok(())
 }
 
 // A line so far to the right, and then from a height to another. What is relative takes fewer bytes.
-fn draw_turn<W: fmt::Write>(svg: &mut W, run: u32, from: u32, to: u32) -> fmt::Result {
+fn draw_turn<O: Out>(svg: &mut Svg<'_, O>, run: u32, from: u32, to: u32) {
     if run > 0 {
-        write!(svg, "h{run}")?;
+        svg.put("h{}", &[Number(run)]);
     }
-    let down = Tenths(from.saturating_sub(to));
-    let up = Tenths(to.saturating_sub(from));
-    if from < to {
-        write!(svg, "v-{up}")
-    } else {
-        write!(svg, "v{down}")
-    }
+    let sign = if from < to { "-" } else { "" };
+    let height = Tenths(from.abs_diff(to));
+    svg.put("v{}{}", &[Word(sign), Length(height)]);
 }
 
 // The height of a column up to a layer, in tenths of a pixel.

@@ -6,9 +6,11 @@ use crate::bars::{BAR, draw_hit, draw_line};
 use crate::frame::{ROW, Sheet};
 use crate::label::LineLabels;
 use crate::spans::{Arrow, Hit, Spans};
-use crate::svg::Tenths;
+use crate::svg::Svg;
+use crate::value::Tenths;
+use crate::value::Value::{Core, Length, Number, Word};
 use crate::window::WIDTH;
-use std::fmt;
+use ia_text::Out;
 
 // Where an arrow stands, in pixels from above.
 #[derive(Clone, Copy)]
@@ -26,81 +28,82 @@ struct Place {
 }
 
 /// Draws the arrows, first what parts them from bars that they cross, so that none hides another.
-pub fn draw_arrows<W: fmt::Write, L: LineLabels>(
-    svg: &mut W,
+pub fn draw_arrows<O: Out, L: LineLabels>(
+    svg: &mut Svg<'_, O>,
     sheet: &Sheet<'_>,
     spans: &Spans,
     labels: &L,
-) -> fmt::Result {
+) {
+    draw_gaps(svg, sheet, spans);
     for arrow in spans.arrows.as_slice() {
         if let Some(place) = place_of(sheet, arrow) {
-            let Place { x, tail, head, .. } = place;
-            writeln!(svg, "<path class='u' d='M{x} {tail}V{head}'/>")?;
+            draw_arrow(svg, place, arrow, labels);
         }
     }
+    draw_names(svg, sheet, spans, labels);
+}
+
+// What parts the arrows from bars.
+fn draw_gaps<O: Out>(svg: &mut Svg<'_, O>, sheet: &Sheet<'_>, spans: &Spans) {
     for arrow in spans.arrows.as_slice() {
-        if let Some(place) = place_of(sheet, arrow) {
-            draw_arrow(svg, place, arrow, labels)?;
+        if let Some(Place { x, tail, head, .. }) = place_of(sheet, arrow) {
+            svg.put(
+                "<path class='u' d='M{} {}V{}'/>\n",
+                &[Length(x), Number(tail), Number(head)],
+            );
         }
     }
-    draw_names(svg, sheet, spans, labels)
 }
 
 // Where an arrow stands, if the core that it points to is drawn.
 fn place_of(sheet: &Sheet<'_>, arrow: &Arrow) -> Option<Place> {
     let row = sheet.rows.row_of(arrow.victim)?;
-    let x = sheet.window.middle(arrow.hit.step);
     let top = sheet.top(row);
-    match sheet.rows.row_of(arrow.hit.by) {
-        Some(by) if by < row => Some(Place {
-            x,
-            tail: sheet.top(by) + BAR + 7,
-            head: top - 1,
-            gap: by,
-            has_tail: true,
-        }),
-        Some(by) => Some(Place {
-            x,
-            tail: sheet.top(by) - 2,
-            head: top + BAR + 6,
-            gap: row,
-            has_tail: true,
-        }),
-        None => Some(Place {
-            x,
-            tail: top - 18,
-            head: top - 1,
-            gap: row,
-            has_tail: false,
-        }),
-    }
+    let by = sheet.rows.row_of(arrow.hit.by);
+    let (tail, head, gap) = match by {
+        Some(by) if by < row => (sheet.top(by) + BAR + 7, top - 1, by),
+        Some(by) => (sheet.top(by) - 2, top + BAR + 6, row),
+        None => (top - 18, top - 1, row),
+    };
+    Some(Place {
+        x: sheet.window.middle(arrow.hit.step),
+        tail,
+        head,
+        gap,
+        has_tail: by.is_some(),
+    })
 }
 
 // An arrow, with a dot where it begins.
-fn draw_arrow<W: fmt::Write, L: LineLabels>(
-    svg: &mut W,
+fn draw_arrow<O: Out, L: LineLabels>(
+    svg: &mut Svg<'_, O>,
     place: Place,
     arrow: &Arrow,
     labels: &L,
-) -> fmt::Result {
+) {
     let Place { x, tail, head, .. } = place;
-    let victim = arrow.victim;
-    write!(svg, "<g><title>core {victim} is hit at ")?;
-    draw_hit(svg, arrow.hit, labels)?;
-    write!(svg, "</title><path class='a' d='M{x} {tail}V{head}'/>")?;
+    svg.put("<g><title>core {} is hit at ", &[Core(arrow.victim)]);
+    draw_hit(svg, arrow.hit, labels);
+    svg.put(
+        "</title><path class='a' d='M{} {}V{}'/>",
+        &[Length(x), Number(tail), Number(head)],
+    );
     if place.has_tail {
-        write!(svg, "<circle cx='{x}' cy='{tail}' r='3'/>")?;
+        svg.put(
+            "<circle cx='{}' cy='{}' r='3'/>",
+            &[Length(x), Number(tail)],
+        );
     }
-    svg.write_str("</g>\n")
+    svg.text("</g>\n");
 }
 
 // The lines of the hits, each in a gap between two rows, where no other stands in its place.
-fn draw_names<W: fmt::Write, L: LineLabels>(
-    svg: &mut W,
+fn draw_names<O: Out, L: LineLabels>(
+    svg: &mut Svg<'_, O>,
     sheet: &Sheet<'_>,
     spans: &Spans,
     labels: &L,
-) -> fmt::Result {
+) {
     let mut taken = [0; 64];
     for arrow in spans.arrows.as_slice() {
         if let Some(place) = place_of(sheet, arrow) {
@@ -110,15 +113,14 @@ fn draw_names<W: fmt::Write, L: LineLabels>(
             let begin = side.begin(place.x, width);
             if gap < 64 && taken[gap] <= begin && arrow.hit.on.is_some() {
                 taken[gap] = begin.saturating_add(width);
-                draw_name(svg, sheet, place, side, arrow.hit, labels)?;
+                draw_name(svg, sheet, place, side, arrow.hit, labels);
             }
         }
     }
-    Ok(())
 }
 
 // On which side of its arrow a line's name stands.
-#[derive(Clone, Copy, PartialEq, Eq)]
+#[derive(Clone, Copy)]
 enum Side {
     Right,
     Left,
@@ -144,22 +146,25 @@ impl Side {
 }
 
 // The line of a hit beside its arrow.
-fn draw_name<W: fmt::Write, L: LineLabels>(
-    svg: &mut W,
+fn draw_name<O: Out, L: LineLabels>(
+    svg: &mut Svg<'_, O>,
     sheet: &Sheet<'_>,
     place: Place,
     side: Side,
     hit: Hit,
     labels: &L,
-) -> fmt::Result {
+) {
     let (class, x) = match side {
         Side::Right => ("n", place.x.plus(50)),
         Side::Left => ("n e", place.x.past(Tenths(50))),
     };
     let y = sheet.top(place.gap) + (ROW + BAR) / 2 + 6;
-    write!(svg, "<text class='{class}' x='{x}' y='{y}'>")?;
-    draw_line(svg, hit, labels)?;
-    svg.write_str("</text>\n")
+    svg.put(
+        "<text class='{}' x='{}' y='{}'>",
+        &[Word(class), Length(x), Number(y)],
+    );
+    draw_line(svg, hit, labels);
+    svg.text("</text>\n");
 }
 
 // The width of a line's name in tenths of a pixel, with a gap beside it.

@@ -14,7 +14,7 @@ const MANY: u32 = 372;
 const FEW: u32 = 186;
 
 /// What became of the steps of a core in a column.
-#[derive(Clone, Copy, PartialEq, Eq)]
+#[derive(Clone, Copy)]
 pub struct Share {
     /// In transactions that were committed.
     pub committed: u32,
@@ -101,7 +101,7 @@ impl Share {
 }
 
 /// Where a step is counted.
-#[derive(Clone, Copy, PartialEq, Eq)]
+#[derive(Clone, Copy)]
 pub enum StepKind {
     /// In a transaction, also its first and its last step.
     Inside,
@@ -112,7 +112,7 @@ pub enum StepKind {
 }
 
 /// A layer of the columns of a core.
-#[derive(Clone, Copy, PartialEq, Eq)]
+#[derive(Clone, Copy)]
 pub enum Layer {
     /// Committed transactions, at the bottom.
     Committed,

@@ -6,7 +6,7 @@ ghost use Rattle.tm_timeline.specs.Fates.{fate_of};
 use tm_status::causes;
 
 /// What a transaction came to.
-#[derive(Clone, Copy, PartialEq, Eq)]
+#[derive(Clone, Copy)]
 pub enum Fate {
     /// It was committed.
     Committed,

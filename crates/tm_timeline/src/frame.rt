@@ -4,8 +4,10 @@ ghost use Rattle.std.specs.Prelude.{◌≤◌};
 
 use crate::label::Label;
 use crate::rows::Rows;
+use crate::svg::Svg;
+use crate::value::Value::{Core, Length, Number, Word};
 use crate::window::{LEFT, RIGHT, WIDTH, Window, number_of};
-use std::fmt;
+use ia_text::Out;
 
 /// Where the first row begins, in pixels from above.
 const TOP: u32 = 46;
@@ -46,6 +48,13 @@ impl Sheet<'_> {
     }
 }
 
+// The element of the picture, with its title.
+const HEAD: &str =
+    "<svg xmlns='http://www.w3.org/2000/svg' width='{}' height='{}' viewBox='0 0 {} {}' role='img' \
+font-family='DejaVu Sans,Helvetica,Arial,sans-serif' font-size='12' fill='#222'>
+<title>{}: timeline of a run</title>
+";
+
 // Okabe and Ito's colours, which the colour-blind tell apart. The outlines carry the same without colour: plain where a
 // transaction was committed, bold where a conflict aborted it, hatched where it was doomed, broken where something else
 // aborted it, and dotted where it is open.
@@ -62,68 +71,74 @@ orient='auto'><path d='M0 0L8 4L0 8z' fill='#222'/></marker></defs>
 ";
 
 /// Draws the head of a picture, and the names of its rows. So much height is added below the rows.
-pub fn draw_head<W: fmt::Write>(svg: &mut W, sheet: &Sheet<'_>, added: u32) -> fmt::Result
+pub fn draw_head<O: Out>(svg: &mut Svg<'_, O>, sheet: &Sheet<'_>, added: u32)
     requires { added ≤ 100 }
 {
-    let height = sheet.foot() + added + BELOW;
-    write!(
-        svg,
-        "<svg xmlns='http://www.w3.org/2000/svg' width='{WIDTH}' height='{height}'"
-    )?;
-    write!(svg, " viewBox='0 0 {WIDTH} {height}' role='img'")?;
-    svg.write_str(
-        " font-family='DejaVu Sans,Helvetica,Arial,sans-serif' font-size='12' fill='#222'>\n",
-    )?;
-    let title = sheet.title.as_str();
-    writeln!(svg, "<title>{title}: timeline of a run</title>")?;
-    svg.write_str(STYLE)?;
-    writeln!(svg, "<rect width='{WIDTH}' height='{height}' fill='#fff'/>")?;
-    write!(svg, "<text class='c' x='12' y='20'>{title}</text>")?;
-    draw_extent(svg, sheet)?;
-    draw_names(svg, sheet)
+    let width = Number(WIDTH);
+    let height = Number(sheet.foot() + added + BELOW);
+    let title = Word(sheet.title.as_str());
+    svg.put(HEAD, &[width, height, width, height, title]);
+    svg.text(STYLE);
+    svg.put(
+        "<rect width='{}' height='{}' fill='#fff'/>\n<text class='c' x='12' y='20'>{}</text>",
+        &[width, height, title],
+    );
+    draw_extent(svg, sheet);
+    draw_names(svg, sheet);
 }
 
 // How many cores and steps there are.
-fn draw_extent<W: fmt::Write>(svg: &mut W, sheet: &Sheet<'_>) -> fmt::Result {
-    let Window { to, total, .. } = sheet.window;
-    let from = number_of(sheet.window.from);
-    let cores = sheet.cores;
-    write!(svg, "<text class='e' x='{RIGHT}' y='20'>cores: {cores}, ")?;
-    writeln!(svg, "steps {from} to {to} of {total}</text>")
+fn draw_extent<O: Out>(svg: &mut Svg<'_, O>, sheet: &Sheet<'_>) {
+    let Window { from, to, total } = sheet.window;
+    svg.put(
+        "<text class='e' x='{}' y='20'>cores: {}, steps {} to {} of {}</text>\n",
+        &[
+            Number(RIGHT),
+            Core(sheet.cores),
+            Number(number_of(from)),
+            Number(to),
+            Number(total),
+        ],
+    );
 }
 
 // The names of the rows.
-fn draw_names<W: fmt::Write>(svg: &mut W, sheet: &Sheet<'_>) -> fmt::Result {
+fn draw_names<O: Out>(svg: &mut Svg<'_, O>, sheet: &Sheet<'_>) {
     for row in 0..sheet.rows.count() {
-        let y = sheet.top(row) + 15;
         if let Some(core) = sheet.rows.core(row) {
-            writeln!(svg, "<text x='12' y='{y}'>core {core}</text>")?;
+            let y = sheet.top(row) + 15;
+            svg.put(
+                "<text x='12' y='{}'>core {}</text>\n",
+                &[Number(y), Core(core)],
+            );
         }
     }
-    Ok(())
 }
 
 /// Draws the axis of the steps at this height.
-pub fn draw_axis<W: fmt::Write>(svg: &mut W, sheet: &Sheet<'_>, y: u32) -> fmt::Result
+pub fn draw_axis<O: Out>(svg: &mut Svg<'_, O>, sheet: &Sheet<'_>, y: u32)
     requires { y ≤ 20000 }
 {
-    writeln!(svg, "<path class='l' d='M{LEFT} {y}H{RIGHT}'/>")?;
+    svg.put(
+        "<path class='l' d='M{} {}H{}'/>\n",
+        &[Number(LEFT), Number(y), Number(RIGHT)],
+    );
     let window = sheet.window;
     let every = steps_between(window);
     for index in number_of(window.from).div_ceil(every)..(window.to / every).saturating_add(1) {
-        draw_number(svg, window, index.saturating_mul(every), y)?;
+        draw_number(svg, window, index.saturating_mul(every), y);
     }
-    Ok(())
 }
 
 // The number of a step below the axis, counted from 1.
-fn draw_number<W: fmt::Write>(svg: &mut W, window: Window, number: u32, y: u32) -> fmt::Result
+fn draw_number<O: Out>(svg: &mut Svg<'_, O>, window: Window, number: u32, y: u32)
     requires { y ≤ 20000 }
 {
-    let x = window.middle(number.saturating_sub(1));
-    let below = y + 18;
-    write!(svg, "<path class='l' d='M{x} {y}v5'/>")?;
-    writeln!(svg, "<text class='m' x='{x}' y='{below}'>{number}</text>")
+    let x = Length(window.middle(number.saturating_sub(1)));
+    svg.put(
+        "<path class='l' d='M{} {}v5'/><text class='m' x='{}' y='{}'>{}</text>\n",
+        &[x, Number(y), x, Number(y + 18), Number(number)],
+    );
 }
 
 // After how many steps there is a number: 1, 2 or 5 times a power of ten, the least that takes 60 pixels.

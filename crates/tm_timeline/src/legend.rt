@@ -2,7 +2,9 @@
 
 ghost use Rattle.std.specs.Prelude.{◌≤◌};
 
-use std::fmt;
+use crate::svg::Svg;
+use crate::value::Value::{Number, Word};
+use ia_text::Out;
 
 // A class with its meaning.
 #[derive(Clone, Copy)]
@@ -13,70 +15,118 @@ struct Entry {
     meaning: &'static str,
 }
 
-/// Draws what the classes of a picture mean, below an axis at this height, and ends the document. Only bars are hatched and hit
-/// by arrows.
-pub fn draw_legend<W: fmt::Write>(svg: &mut W, axis: u32, has_bars: bool) -> fmt::Result
+// The classes of a picture of few steps. Only bars are hatched.
+const BARS: [Entry; 6] = [
+    Entry {
+        x: 64,
+        class: "b k",
+        meaning: "committed",
+    },
+    Entry {
+        x: 174,
+        class: "b x",
+        meaning: "aborted by a conflict",
+    },
+    Entry {
+        x: 354,
+        class: "b h",
+        meaning: "doomed, not yet aborted",
+    },
+    Entry {
+        x: 544,
+        class: "b o",
+        meaning: "other abort",
+    },
+    Entry {
+        x: 664,
+        class: "b p",
+        meaning: "not ended",
+    },
+    Entry {
+        x: 770,
+        class: "g",
+        meaning: "outside",
+    },
+];
+
+// The classes of a picture of many steps.
+const AREAS: [Entry; 5] = [
+    Entry {
+        x: 64,
+        class: "b k",
+        meaning: "committed",
+    },
+    Entry {
+        x: 174,
+        class: "b x",
+        meaning: "aborted by a conflict",
+    },
+    Entry {
+        x: 354,
+        class: "b o",
+        meaning: "other abort",
+    },
+    Entry {
+        x: 474,
+        class: "b p",
+        meaning: "not ended",
+    },
+    Entry {
+        x: 580,
+        class: "q",
+        meaning: "outside",
+    },
+];
+
+/// Draws what the classes of a picture of few steps mean, below an axis at this height, and ends the document.
+pub fn draw_bar_legend<O: Out>(svg: &mut Svg<'_, O>, axis: u32)
     requires { axis ≤ 20000 }
 {
     let y = axis + 64;
-    if has_bars {
-        draw_bar_entries(svg, y)?;
-        draw_arrow_entry(svg, 864, y)?;
-    } else {
-        draw_area_entries(svg, y)?;
-    }
-    svg.write_str("</svg>\n")
+    draw_entries(svg, &BARS, y);
+    draw_arrow_entry(svg, y);
+    svg.text("</svg>\n");
 }
 
-fn draw_bar_entries<W: fmt::Write>(svg: &mut W, y: u32) -> fmt::Result {
-    for (x, class, meaning) in [
-        (64, "b k", "committed"),
-        (174, "b x", "aborted by a conflict"),
-        (354, "b h", "doomed, not yet aborted"),
-        (544, "b o", "other abort"),
-        (664, "b p", "not ended"),
-        (770, "g", "outside"),
-    ] {
-        draw_entry(svg, Entry { x, class, meaning }, y)?;
-    }
-    Ok(())
+/// Draws what the classes of a picture of many steps mean, below an axis at this height, and ends the document.
+pub fn draw_area_legend<O: Out>(svg: &mut Svg<'_, O>, axis: u32)
+    requires { axis ≤ 20000 }
+{
+    draw_entries(svg, &AREAS, axis + 64);
+    svg.text("</svg>\n");
 }
 
-fn draw_area_entries<W: fmt::Write>(svg: &mut W, y: u32) -> fmt::Result {
-    for (x, class, meaning) in [
-        (64, "b k", "committed"),
-        (174, "b x", "aborted by a conflict"),
-        (354, "b o", "other abort"),
-        (474, "b p", "not ended"),
-        (580, "q", "outside"),
-    ] {
-        draw_entry(svg, Entry { x, class, meaning }, y)?;
+// Classes and their meanings, at this height.
+fn draw_entries<O: Out>(svg: &mut Svg<'_, O>, entries: &[Entry], y: u32) {
+    for entry in entries {
+        draw_entry(svg, *entry, y);
     }
-    Ok(())
 }
 
-// A class and its meaning.
-fn draw_entry<W: fmt::Write>(svg: &mut W, entry: Entry, y: u32) -> fmt::Result {
+fn draw_entry<O: Out>(svg: &mut Svg<'_, O>, entry: Entry, y: u32) {
     let Entry { x, class, meaning } = entry;
-    let above = y.saturating_sub(11);
-    let behind = x.saturating_add(20);
-    write!(
-        svg,
-        "<rect class='{class}' x='{x}' y='{above}' width='14' height='14'/>"
-    )?;
-    writeln!(svg, "<text x='{behind}' y='{y}'>{meaning}</text>")
+    svg.put(
+        "<rect class='{}' x='{}' y='{}' width='14' height='14'/><text x='{}' y='{}'>{}</text>\n",
+        &[
+            Word(class),
+            Number(x),
+            Number(y.saturating_sub(11)),
+            Number(x.saturating_add(20)),
+            Number(y),
+            Word(meaning),
+        ],
+    );
 }
 
 // An arrow and its meaning.
-fn draw_arrow_entry<W: fmt::Write>(svg: &mut W, x: u32, y: u32) -> fmt::Result {
-    let middle = y.saturating_sub(4);
-    let behind = x.saturating_add(32);
-    write!(
-        svg,
-        "<circle cx='{x}' cy='{middle}' r='3'/><path class='a' d='M{x} {middle}h26'/>"
-    )?;
-    writeln!(
-        svg,
-        "<text x='{behind}' y='{y}'>access that dooms, and its line</text>"
-    )
+fn draw_arrow_entry<O: Out>(svg: &mut Svg<'_, O>, y: u32) {
+    let middle = Number(y.saturating_sub(4));
+    svg.put(
+        "<circle cx='864' cy='{}' r='3'/><path class='a' d='M864 {}h26'/>",
+        &[middle, middle],
+    );
+    svg.put(
+        "<text x='896' y='{}'>access that dooms, and its line</text>\n",
+        &[Number(y)],
+    );
 }

@@ -25,6 +25,7 @@ mod strip;
 mod svg;
 mod ticks;
 mod timeline;
+mod value;
 mod window;
 
 pub use fate::{Fate, fate_of};

@@ -6,11 +6,12 @@ use crate::bars::draw_bars;
 use crate::columns::Columns;
 use crate::frame::{Sheet, draw_axis, draw_head};
 use crate::label::LineLabels;
-use crate::legend::draw_legend;
+use crate::legend::{draw_area_legend, draw_bar_legend};
 use crate::spans::Spans;
 use crate::strip::draw_strip;
+use crate::svg::Svg;
 use crate::ticks::draw_ticks;
-use std::fmt;
+use ia_text::Out;
 
 /// What is drawn.
 #[derive(Drop)]
@@ -22,39 +23,39 @@ pub enum Picture {
 }
 
 /// Draws a picture as an SVG document.
-pub fn draw<W: fmt::Write, L: LineLabels>(
-    svg: &mut W,
+pub fn draw<O: Out, L: LineLabels>(
+    svg: &mut Svg<'_, O>,
     sheet: &Sheet<'_>,
     picture: &Picture,
     labels: &L,
-) -> fmt::Result {
+) {
     match picture {
         Picture::Few(spans) => draw_spans(svg, sheet, spans, labels),
         Picture::Many(columns) => draw_columns(svg, sheet, columns),
     }
 }
 
-fn draw_spans<W: fmt::Write, L: LineLabels>(
-    svg: &mut W,
+fn draw_spans<O: Out, L: LineLabels>(
+    svg: &mut Svg<'_, O>,
     sheet: &Sheet<'_>,
     spans: &Spans,
     labels: &L,
-) -> fmt::Result {
-    draw_head(svg, sheet, 0)?;
-    draw_ticks(svg, sheet, spans)?;
-    draw_bars(svg, sheet, spans, labels)?;
-    draw_arrows(svg, sheet, spans, labels)?;
-    draw_axis(svg, sheet, sheet.foot())?;
-    draw_legend(svg, sheet.foot(), true)
+) {
+    draw_head(svg, sheet, 0);
+    draw_ticks(svg, sheet, spans);
+    draw_bars(svg, sheet, spans, labels);
+    draw_arrows(svg, sheet, spans, labels);
+    draw_axis(svg, sheet, sheet.foot());
+    draw_bar_legend(svg, sheet.foot());
 }
 
-fn draw_columns<W: fmt::Write>(svg: &mut W, sheet: &Sheet<'_>, columns: &Columns) -> fmt::Result {
-    draw_head(svg, sheet, STRIP)?;
-    draw_areas(svg, sheet, columns)?;
-    draw_strip(svg, sheet, columns)?;
+fn draw_columns<O: Out>(svg: &mut Svg<'_, O>, sheet: &Sheet<'_>, columns: &Columns) {
+    draw_head(svg, sheet, STRIP);
+    draw_areas(svg, sheet, columns);
+    draw_strip(svg, sheet, columns);
     let axis = sheet.foot() + STRIP;
-    draw_axis(svg, sheet, axis)?;
-    draw_legend(svg, axis, false)
+    draw_axis(svg, sheet, axis);
+    draw_area_legend(svg, axis);
 }
 
 /// The height of the strip of hits in pixels, with the room below it.

@@ -8,7 +8,7 @@ use std::alloc::{AllocError, Global};
 use tm_model::Outcome;
 
 /// How a step used a line of 64 bytes, when it hit a transaction.
-#[derive(Clone, Copy, PartialEq, Eq)]
+#[derive(Clone, Copy)]
 pub struct LineUse {
     /// The number of the line: address / 64.
     pub line: u32,
@@ -17,7 +17,7 @@ pub struct LineUse {
 }
 
 /// A hit: what doomed a transaction.
-#[derive(Clone, Copy, PartialEq, Eq)]
+#[derive(Clone, Copy)]
 pub struct Hit {
     /// The step that hit it.
     pub step: u32,
@@ -28,7 +28,7 @@ pub struct Hit {
 }
 
 /// A transaction of a core.
-#[derive(Clone, Copy, PartialEq, Eq)]
+#[derive(Clone, Copy)]
 pub struct Span {
     /// The core.
     pub core: u8,
@@ -43,7 +43,7 @@ pub struct Span {
 }
 
 /// An arrow: a hit, and the core whose transaction it dooms.
-#[derive(Clone, Copy, PartialEq, Eq)]
+#[derive(Clone, Copy)]
 pub struct Arrow {
     /// The core of the transaction.
     pub victim: u8,
@@ -52,7 +52,7 @@ pub struct Arrow {
 }
 
 /// A step that is drawn.
-#[derive(Clone, Copy, PartialEq, Eq)]
+#[derive(Clone, Copy)]
 pub struct Step {
     /// Its number.
     pub number: u32,

@@ -1,56 +1,65 @@
-//! The device that a picture is written to, and its numbers.
+//! The device that a picture is written to.
 
-use ia_text::Out;
-use std::fmt;
+use crate::value::Value;
+use ia_text::{Out, WriteFault};
+use std::fmt::{self, Write};
 
-/// A device that text is formatted to, which takes no memory.
+/// A picture in the making, which takes no memory. Once its device has failed nothing more is written, so that what draws need not
+/// ask, and the failure is told at the end.
 #[derive(Drop)]
 pub struct Svg<'o, O> {
     out: &'o mut O,
+    has_failed: bool,
 }
 
 impl<'o, O: Out> Svg<'o, O> {
     /// Writes to this device.
     pub fn new(out: &'o mut O) -> Svg<'o, O> {
-        Svg { out }
-    }
-}
-
-impl<O: Out> fmt::Write for Svg<'_, O> {
-    fn write_str(&mut self, text: &str) -> fmt::Result {
-        self.out.put(text.as_bytes()).map_err(|_| fmt::Error)
-    }
-}
-
-/// A length in tenths of a pixel, printed in pixels.
-#[derive(Clone, Copy, PartialEq, Eq)]
-pub struct Tenths(pub u32);
-
-impl Tenths {
-    /// The width of a step without a pixel that parts it from the next one, and a pixel at least.
-    pub fn less_gap(self) -> Tenths {
-        Tenths(self.0.saturating_sub(10).max(10))
-    }
-
-    /// So many tenths of a pixel more.
-    pub fn plus(self, tenths: u32) -> Tenths {
-        Tenths(self.0.saturating_add(tenths))
-    }
-
-    /// How far it is from another place on, 0 where that lies behind.
-    pub fn past(self, other: Tenths) -> Tenths {
-        Tenths(self.0.saturating_sub(other.0))
-    }
-}
-
-impl fmt::Display for Tenths {
-    fn fmt<W: fmt::Write>(&self, f: &mut fmt::Formatter<W>) -> fmt::Result {
-        let whole = self.0 / 10;
-        let part = self.0 % 10;
-        if part == 0 {
-            write!(f, "{whole}")
-        } else {
-            write!(f, "{whole}.{part}")
+        Svg {
+            out,
+            has_failed: false,
         }
+    }
+
+    /// Writes a text as it stands.
+    pub fn text(&mut self, text: &str) {
+        if !self.has_failed {
+            self.has_failed = self.out.put(text.as_bytes()).is_err();
+        }
+    }
+
+    /// Writes a text with these values where it has `{}`, one after another. All of an element in one call is proved much sooner
+    /// than by `write!`, which is a call for each part.
+    pub fn put(&mut self, text: &str, values: &[Value<'_>]) {
+        let mut rest = text;
+        for value in values {
+            if let Some((before, behind)) = rest.split_once("{}") {
+                self.text(before);
+                self.put_value(*value);
+                rest = behind;
+            }
+        }
+        self.text(rest);
+    }
+
+    // Writes a value. That the device has failed is noted there.
+    fn put_value(&mut self, value: Value<'_>) {
+        let _ = write!(self, "{value}");
+    }
+
+    /// Ends the picture: whether all of it was written.
+    pub fn finish(self) -> Result<(), WriteFault> {
+        if self.has_failed {
+            Err(WriteFault::Write)
+        } else {
+            Ok(())
+        }
+    }
+}
+
+impl<O: Out> Write for Svg<'_, O> {
+    fn write_str(&mut self, text: &str) -> fmt::Result {
+        self.text(text);
+        Ok(())
     }
 }

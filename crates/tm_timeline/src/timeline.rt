@@ -32,7 +32,7 @@ pub struct Timeline {
 }
 
 // An open transaction.
-#[derive(Clone, Copy, PartialEq, Eq)]
+#[derive(Clone, Copy)]
 struct Transaction {
     // The step of its XBEGIN.
     begin: u32,
@@ -259,10 +259,8 @@ impl Timeline {
             cores: self.cores,
         };
         let mut svg = Svg::new(out);
-        match draw(&mut svg, &sheet, &self.picture, labels) {
-            Ok(()) => Ok(()),
-            Err(_) => Err(WriteFault::Write),
-        }
+        draw(&mut svg, &sheet, &self.picture, labels);
+        svg.finish()
     }
 }
 

@@ -2,7 +2,7 @@
 
 ghost use Rattle.std.specs.Prelude.{◌≡◌, ◌-◌, ◌<◌, ◌≤◌, ◌^◌};
 
-use crate::svg::Tenths;
+use crate::value::Tenths;
 
 /// The width of a picture in pixels.
 pub const WIDTH: u32 = 1200;

@@ -1,7 +1,7 @@
 -- The bar that is added is the transaction that ended, which is drawn: it ends behind this step, and begins no later.
 use Rattle.std.proofs.Common.{◌≡◌, ◌∷◌, ◌++◌, [], true, false, ap, sym, ◌∙◌, arith}
 use Rattle.std.proofs.lemmas.Result.{on_ok_weaker}
-use Rattle.tm_timeline.specs.Told.{AddsBar, IsEnded, bars, is_few}
+use Rattle.tm_timeline.specs.Told.{bars, is_few}
 use Rattle.tm_timeline.proofs.timeline.Timeline.end.Goals as goal
 
 pub returns-then-is_drawn-clause-bar : goal.returns-then-is_drawn-clause-bar

@@ -1,7 +1,7 @@
 -- Neither what begins nor what is kept of a step changes the bars, so the bar of the end is added to those that were there.
-use Rattle.std.proofs.Common.{◌≡◌, ◌≤◌, ◌<◌, ◌∷◌, ◌++◌, [], ap, sym, subst, ◌∙◌}
+use Rattle.std.proofs.Common.{◌≤◌, ◌<◌, ◌∷◌, ◌++◌, [], ap, sym, subst, ◌∙◌}
 use Rattle.std.proofs.lemmas.Result.{on_ok_weaker}
-use Rattle.tm_timeline.specs.Told.{AddsBar, IsEnded, bars, is_few}
+use Rattle.tm_timeline.specs.Told.{bars, is_few}
 use Rattle.tm_timeline.proofs.timeline.Timeline.told.Goals as goal
 
 pub returns-in-Committed-clause-commit : goal.returns-in-Committed-clause-commit
