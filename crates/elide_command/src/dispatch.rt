@@ -2,25 +2,29 @@
 
 ghost use Rattle.std.specs.Prelude.{◌≤◌};
 
+use crate::answer::{Answer, done, ran, replayed, searched, sought};
 use crate::surroundings::Surroundings;
 use crate::telling::tell;
 use elide_advice::advise;
-use elide_args::{CommandLine, NotASubcommand, Subcommand, command_line_of};
+use elide_args::{
+    AsmOptions, CommandLine, DisOptions, NotASubcommand, Subcommand, command_line_of,
+};
 use elide_asm::{asm, dis};
 use elide_color::{Colors, PaintedWords, Painting, When};
 use elide_debug::debug;
 use elide_draw::draw;
 use elide_explain::explain;
 use elide_gdb::gdb;
-use elide_hunt::{Answer as Hunted, hunt};
-use elide_outcomes::{Answer as Searched, outcomes};
+use elide_hunt::hunt;
+use elide_outcomes::outcomes;
 use elide_program::{Paths, WarnedPaths};
-use elide_replay::{Agreement, replay};
-use elide_run::{Ending, run};
+use elide_replay::replay;
+use elide_run::run;
 use elide_setup::{Fault, Progress, Refusal, Terminals};
 use elide_stats::stats;
 use elide_threads::threads;
 use ia_text::Out;
+use std::alloc::Global;
 use std::sync::Wait;
 use std::thread::Threads;
 use tm_debug::In;
@@ -54,34 +58,58 @@ pub fn command<
     ensures { result ≤ 3 }
 {
     match command_line_of(rt.alloc(), words, out, err) {
-        Ok(line) => {
-            let look = Look::new(&line, surroundings);
-            match obey_warned(rt, &line.subcommand, paths, input, out, err, look, progress) {
-                Ok(Answer::Done) => 0,
-                Ok(Answer::Differs) => 1,
-                Ok(Answer::Fails) => 3,
-                Err(refusal) => {
-                    let status = tell(refusal, look.colors.errors, err);
-                    if look.terminals.errors {
-                        let is_painted = look.colors.errors;
-                        advise(
-                            rt.alloc(),
-                            &line.subcommand,
-                            refusal,
-                            paths,
-                            is_painted,
-                            err,
-                        );
-                    }
-                    status
-                }
-            }
-        }
+        Ok(line) => carry_out(rt, &line, paths, input, out, err, surroundings, progress),
         Err(NotASubcommand::Helped) => 0,
         Err(NotASubcommand::Misused) => 2,
         Err(NotASubcommand::NotWritten) => tell_early(Fault::Output, surroundings, err),
         Err(NotASubcommand::NoMemory) => tell_early(Fault::NoWords, surroundings, err),
     }
+}
+
+// Does what a command line asks for, and gives the exit status.
+fn carry_out<
+    R: Threads + Wait + Sync + AllocGlobal,
+    P: Paths,
+    I: In,
+    O: Out,
+    E: Out,
+    G: Progress + Send,
+>(
+    rt: &R,
+    line: &CommandLine<'_>,
+    paths: &mut P,
+    input: &mut I,
+    out: &mut O,
+    err: &mut E,
+    surroundings: Surroundings,
+    progress: &mut G,
+) -> u8
+    ensures { result ≤ 3 }
+{
+    let look = Look::new(line, surroundings);
+    match obey_warned(rt, &line.subcommand, paths, input, out, err, look, progress) {
+        Ok(answer) => answer.status(),
+        Err(refusal) => tell_refusal(rt.alloc(), line, refusal, paths, look, err),
+    }
+}
+
+// Tells why a command line was refused, at a terminal with what is meant, and gives the exit status.
+fn tell_refusal<P: Paths, E: Out>(
+    alloc: Global,
+    line: &CommandLine<'_>,
+    refusal: Refusal,
+    paths: &mut P,
+    look: Look,
+    err: &mut E,
+) -> u8
+    ensures { result ≤ 2 }
+{
+    let is_painted = look.colors.errors;
+    let status = tell(refusal, is_painted, err);
+    if look.terminals.errors {
+        advise(alloc, &line.subcommand, refusal, paths, is_painted, err);
+    }
+    status
 }
 
 // Tells a fault where `--color` is not read.
@@ -141,17 +169,6 @@ impl Look {
     }
 }
 
-// What a command that was not refused came to.
-#[derive(Clone, Copy, PartialEq, Eq)]
-enum Answer {
-    // It did what it was asked.
-    Done,
-    // A history that was run again ended otherwise.
-    Differs,
-    // A run failed what was asked of it, or a search was cut.
-    Fails,
-}
-
 // Does what is asked for, and tells the warnings of its program.
 fn obey_warned<
     R: Threads + Wait + Sync + AllocGlobal,
@@ -195,6 +212,32 @@ fn program_of<'s>(subcommand: &'s Subcommand<'_>) -> Option<&'s str> {
     }
 }
 
+// Prints what a source assembles to.
+fn assemble<P: Paths, O: Out>(
+    alloc: Global,
+    options: &AsmOptions<'_>,
+    paths: &mut P,
+    out: &mut O,
+    look: Look,
+) -> Result<Answer, Refusal> {
+    let mut out = PaintedWords::new(out, look.assembly(options.lists));
+    asm(alloc, options, paths, &mut out)?;
+    Ok(Answer::Done)
+}
+
+// Prints a program's instructions.
+fn disassemble<P: Paths, O: Out>(
+    alloc: Global,
+    options: &DisOptions<'_>,
+    paths: &mut P,
+    out: &mut O,
+    look: Look,
+) -> Result<Answer, Refusal> {
+    let mut out = PaintedWords::new(out, look.listing());
+    dis(alloc, options, paths, &mut out)?;
+    Ok(Answer::Done)
+}
+
 // Does what is asked for.
 fn obey<R: Threads + Wait + Sync + AllocGlobal, P: Paths, I: In, O: Out, G: Progress + Send>(
     rt: &R,
@@ -207,40 +250,19 @@ fn obey<R: Threads + Wait + Sync + AllocGlobal, P: Paths, I: In, O: Out, G: Prog
 ) -> Result<Answer, Refusal> {
     let alloc = rt.alloc();
     match subcommand {
-        Subcommand::Asm(options) => {
-            let mut out = PaintedWords::new(out, look.assembly(options.lists));
-            asm(alloc, options, paths, &mut out)?;
+        Subcommand::Asm(options) => assemble(alloc, options, paths, out, look),
+        Subcommand::Dis(options) => disassemble(alloc, options, paths, out, look),
+        Subcommand::Explain(options) => done(explain(options, out)),
+        Subcommand::Threads(options) => done(threads(rt, options, paths, out, progress)),
+        Subcommand::Debug(options) => {
+            done(debug(rt, alloc, options, paths, input, out, look.terminals))
         }
-        Subcommand::Dis(options) => {
-            let mut out = PaintedWords::new(out, look.listing());
-            dis(alloc, options, paths, &mut out)?;
-        }
-        Subcommand::Explain(options) => explain(options, out)?,
-        Subcommand::Threads(options) => threads(rt, options, paths, out, progress)?,
-        Subcommand::Debug(options) => debug(rt, alloc, options, paths, input, out, look.terminals)?,
-        Subcommand::Gdb(options) => gdb(rt, alloc, options, paths, input, out)?,
-        Subcommand::Draw(options) => draw(alloc, options, paths, out, progress)?,
-        Subcommand::Stats(options) => stats(alloc, options, paths, out, progress)?,
-        Subcommand::Run(options) => {
-            if run(alloc, options, paths, out, progress)? == Ending::RunsOn {
-                return Ok(Answer::Fails);
-            }
-        }
-        Subcommand::Hunt(options) => {
-            if hunt(rt, options, paths, out, progress)? == Hunted::Failed {
-                return Ok(Answer::Fails);
-            }
-        }
-        Subcommand::Outcomes(options) => {
-            if outcomes(alloc, options, paths, out)? == Searched::Cut {
-                return Ok(Answer::Fails);
-            }
-        }
-        Subcommand::Replay(options) => {
-            if replay(alloc, options, paths, out, progress)? == Agreement::Differs {
-                return Ok(Answer::Differs);
-            }
-        }
+        Subcommand::Gdb(options) => done(gdb(rt, alloc, options, paths, input, out)),
+        Subcommand::Draw(options) => done(draw(alloc, options, paths, out, progress)),
+        Subcommand::Stats(options) => done(stats(alloc, options, paths, out, progress)),
+        Subcommand::Run(options) => ran(run(alloc, options, paths, out, progress)),
+        Subcommand::Hunt(options) => sought(hunt(rt, options, paths, out, progress)),
+        Subcommand::Outcomes(options) => searched(outcomes(alloc, options, paths, out)),
+        Subcommand::Replay(options) => replayed(replay(alloc, options, paths, out, progress)),
     }
-    Ok(Answer::Done)
 }

@@ -6,6 +6,7 @@
 //! `elide_explain`, and this one chooses among them and tells how they ended, in the colours of `elide_color`.
 #![tactic(auto)]
 
+mod answer;
 mod dispatch;
 mod surroundings;
 mod telling;
