@@ -37,44 +37,115 @@ pub fn threads<R: Threads + Wait + Sync + AllocGlobal, P: Paths, O: Out, G: Prog
     if options.is_json && !options.counts {
         return Err(Refusal::Usage("--json"));
     }
-    let alloc = rt.alloc();
     let settings = Settings::read(&options.machine)?;
-    let budget = number_of(options.budget, "--budget")?;
-    let burst = burst_of(options.burst)?;
-    let path = path_of(options, paths)?;
+    let work = Work::read(options, paths)?;
     let text = read_file(options.machine.file, paths)?;
-    let file = ProgramFile::read(alloc, text.as_slice())?;
-    let setup = Setup::of_file(alloc, &settings, &file)?;
-    let places = places_of(alloc, options, text.as_slice())?;
-    let board = opened(alloc, &setup, budget)?;
-    let board = recorded(rt, board, budget, burst, path, paths, progress)?;
-    tell_run(
-        alloc,
+    let end = threads_of_text(
+        rt,
         options,
+        &settings,
+        work,
+        text.as_slice(),
+        paths,
+        out,
+        progress,
+    );
+    drop(text);
+    end
+}
+
+// What is asked of the workers.
+#[derive(Clone, Copy)]
+struct Work<'a> {
+    // How many steps each core makes.
+    budget: u32,
+    // How many of them before another core can come between.
+    burst: Burst,
+    // Where the schedule that comes about is written.
+    path: Option<&'a str>,
+}
+
+impl<'a> Work<'a> {
+    fn read<P: Paths>(
+        options: &ThreadsOptions<'a>,
+        paths: &mut P,
+    ) -> Result<Work<'a>, ProgramRefusal> {
+        let budget = number_of(options.budget, "--budget")?;
+        let burst = burst_of(options.burst)?;
+        let path = path_of(options, paths)?;
+        Ok(Work {
+            budget,
+            burst,
+            path,
+        })
+    }
+}
+
+// The same over the text of FILE.
+fn threads_of_text<R: Threads + Wait + Sync + AllocGlobal, P: Paths, O: Out, G: Progress + Send>(
+    rt: &R,
+    options: &ThreadsOptions<'_>,
+    settings: &Settings,
+    work: Work<'_>,
+    text: &[u8],
+    paths: &mut P,
+    out: &mut O,
+    progress: &mut G,
+) -> Result<(), Refusal> {
+    let alloc = rt.alloc();
+    let file = ProgramFile::read(alloc, text)?;
+    let setup = Setup::of_file(alloc, settings, &file)?;
+    let places = places_of(alloc, options, text)?;
+    let end = run_and_tell(
+        rt,
+        options,
+        work,
         &file,
         &setup,
         places.as_ref(),
-        &board,
+        paths,
         out,
         progress,
-    )
+    );
+    drop(places);
+    drop(setup);
+    drop(file);
+    end
+}
+
+// Runs each core on a thread of its own, and prints what is asked for.
+fn run_and_tell<R: Threads + Wait + Sync + AllocGlobal, P: Paths, O: Out, G: Progress + Send>(
+    rt: &R,
+    options: &ThreadsOptions<'_>,
+    work: Work<'_>,
+    file: &ProgramFile<'_>,
+    setup: &Setup,
+    places: Option<&Places>,
+    paths: &mut P,
+    out: &mut O,
+    progress: &mut G,
+) -> Result<(), Refusal> {
+    let alloc = rt.alloc();
+    let board = opened(alloc, setup, work.budget)?;
+    let board = recorded(rt, board, work, paths, progress)?;
+    let end = tell_run(alloc, options, file, setup, places, &board, out, progress);
+    drop(board);
+    end
 }
 
 // The board after each core made so many steps, and its schedule, written where it is asked for.
 fn recorded<R: Threads + Wait + Sync + AllocGlobal, P: Paths, G: Progress + Send>(
     rt: &R,
     board: Board,
-    budget: u32,
-    burst: Burst,
-    path: Option<&str>,
+    work: Work<'_>,
     paths: &mut P,
     progress: &mut G,
 ) -> Result<Board, Refusal>
     ensures { IfOk result (λ last. (steps : List ℕ)
-        × IsReport board (replicate (length board.program.entries) budget) last steps) }
+        × IsReport board (replicate (length board.program.entries) work.entry.budget) last steps) }
 {
-    let record = record_of(rt.alloc(), path, &board)?;
-    let board = worked(rt, board, budget, burst, progress)?;
+    let record = record_of(rt.alloc(), work.path, &board)?;
+    let board = worked(rt, board, work.budget, work.burst, progress)?;
     if let Some(record) = record {
         record.write(&board, paths)?;
     }
