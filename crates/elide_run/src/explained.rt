@@ -1,9 +1,11 @@
 //! Runs that tell why transactions abort.
 
+use crate::opening::machine_of;
 use elide_args::RunOptions;
+use elide_places::Places;
 use elide_why::{
-    Fault, Machine, Outcome, Paths, Progress, Refusal, Setup, StepMaker, Teller, record_path,
-    scheduled_places, shown_memory,
+    Course, Machine, Outcome, Paths, Progress, Refusal, Setup, StepMaker, Teller, record_path,
+    scheduled_places,
 };
 use ia_text::Out;
 use std::alloc::Global;
@@ -17,26 +19,42 @@ pub fn run_explained<P: Paths, O: Out, G: Progress>(
     out: &mut O,
     progress: &mut G,
 ) -> Result<(Setup, Machine), Refusal> {
-    let file = options.machine.file;
-    let path = record_path(options.record, file, paths)?;
+    let path = record_path(options.record, options.machine.file, paths)?;
     let (setup, course, places) = scheduled_places(
         alloc,
         &options.machine,
         &options.schedule,
         paths,
     )?;
-    let machine = Machine::new(alloc, &setup.program, setup.limits);
-    let mut machine = machine.map_err(Fault::Machine)?;
-    course.check_cores(machine.cores())?;
-    shown_memory(machine.view(), &setup.parts, &[])?;
+    let machine = stepped(
+        alloc, options, &setup, &course, &places, path, paths, out, progress,
+    );
+    drop(places);
+    drop(course);
+    Ok((setup, machine?))
+}
+
+// The machine behind a run's steps, which are told.
+fn stepped<P: Paths, O: Out, G: Progress>(
+    alloc: Global,
+    options: &RunOptions<'_>,
+    setup: &Setup,
+    course: &Course,
+    places: &Places,
+    path: Option<&str>,
+    paths: &mut P,
+    out: &mut O,
+    progress: &mut G,
+) -> Result<Machine, Refusal> {
+    let mut machine = machine_of(alloc, setup, course)?;
     let cores = machine.cores();
     let mut telling = Telling {
         machine: &mut machine,
-        teller: Teller::new(&setup.program, file, &places, options.traces),
+        teller: Teller::new(&setup.program, options.machine.file, places, options.traces),
         out,
     };
     course.walk_recorded(alloc, cores, path, &mut telling, paths, progress)?;
-    Ok((setup, machine))
+    Ok(machine)
 }
 
 // A machine whose steps are told.

@@ -6,6 +6,7 @@
 
 mod explained;
 mod halting;
+mod opening;
 mod schedule;
 
 pub use halting::Ending;

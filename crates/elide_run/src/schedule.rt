@@ -2,9 +2,10 @@
 
 use crate::explained::run_explained;
 use crate::halting::{Ending, ending_of};
+use crate::opening::machine_of;
 use elide_args::RunOptions;
 use elide_why::{
-    Fault, Gathered, Machine, Outcome, Paths, Progress, Refusal, Setup, StepMaker, record_path,
+    Course, Gathered, Machine, Outcome, Paths, Progress, Refusal, Setup, StepMaker, record_path,
     scheduled, show, shown_memory, write_outcome,
 };
 use ia_text::Out;
@@ -25,7 +26,10 @@ pub fn run<P: Paths, O: Out, G: Progress>(
     } else {
         run_plainly(alloc, options, paths, &mut page, progress)?
     };
-    tell(&machine, &setup, options, &mut page)
+    let ending = tell(&machine, &setup, options, &mut page);
+    drop(machine);
+    drop(setup);
+    ending
 }
 
 // Makes a run's steps, and prints the outcomes where they are asked for.
@@ -38,21 +42,35 @@ fn run_plainly<P: Paths, O: Out, G: Progress>(
 ) -> Result<(Setup, Machine), Refusal> {
     let path = record_path(options.record, options.machine.file, paths)?;
     let (setup, course) = scheduled(alloc, &options.machine, &options.schedule, paths)?;
-    let machine = Machine::new(alloc, &setup.program, setup.limits);
-    let mut machine = machine.map_err(Fault::Machine)?;
+    let machine = stepped(alloc, options, &setup, &course, path, paths, out, progress);
+    drop(course);
+    Ok((setup, machine?))
+}
+
+// The machine behind a run's steps, whose outcomes are printed where they are asked for.
+fn stepped<P: Paths, O: Out, G: Progress>(
+    alloc: Global,
+    options: &RunOptions<'_>,
+    setup: &Setup,
+    course: &Course,
+    path: Option<&str>,
+    paths: &mut P,
+    out: &mut O,
+    progress: &mut G,
+) -> Result<Machine, Refusal> {
+    let mut machine = machine_of(alloc, setup, course)?;
     let cores = machine.cores();
-    course.check_cores(cores)?;
-    shown_memory(machine.view(), &setup.parts, &[])?;
-    if options.traces {
+    let walked = if options.traces {
         let mut tracing = Tracing {
             machine: &mut machine,
             out,
         };
-        course.walk_recorded(alloc, cores, path, &mut tracing, paths, progress)?;
+        course.walk_recorded(alloc, cores, path, &mut tracing, paths, progress)
     } else {
-        course.walk_recorded(alloc, cores, path, &mut machine, paths, progress)?;
-    }
-    Ok((setup, machine))
+        course.walk_recorded(alloc, cores, path, &mut machine, paths, progress)
+    };
+    walked?;
+    Ok(machine)
 }
 
 // A machine whose outcomes are printed.

@@ -2,7 +2,7 @@
 
 use elide_args::{MachineOptions, ScheduleOptions};
 use elide_places::Places;
-use elide_setup::{Course, Paths, Plan, ProgramFile, Refusal, Settings, Setup, read_file};
+use elide_setup::{Course, Paths, Plan, ProgramFile, Refusal, Settings, Setup, planned, read_file};
 use std::alloc::Global;
 
 /// The program, the schedule and the places of FILE, as [`elide_setup::scheduled`] answers them without the places. FILE is
@@ -16,11 +16,21 @@ pub fn scheduled_places<P: Paths>(
     let settings = Settings::read(machine)?;
     let plan = Plan::read(alloc, schedule)?;
     let text = read_file(machine.file, paths)?;
-    let file = ProgramFile::read(alloc, text.as_slice())?;
-    // What is wrong with the starts is told before what is wrong with the schedule.
-    let _starts = file.starts(alloc, &settings)?;
-    let course = plan.course(alloc, paths)?;
-    let setup = Setup::of_file(alloc, &settings, &file)?;
-    let places = Places::of_text(alloc, text.as_slice())?;
+    let found = places_of_text(alloc, &settings, plan, text.as_slice(), paths);
+    drop(text);
+    found
+}
+
+// The same of a file of this text.
+fn places_of_text<P: Paths>(
+    alloc: Global,
+    settings: &Settings<'_>,
+    plan: Plan<'_>,
+    text: &[u8],
+    paths: &mut P,
+) -> Result<(Setup, Course, Places), Refusal> {
+    let file = ProgramFile::read(alloc, text)?;
+    let (setup, course) = planned(alloc, settings, plan, &file, paths)?;
+    let places = Places::of_text(alloc, text)?;
     Ok((setup, course, places))
 }
