@@ -16,12 +16,36 @@ pub fn dis<P: Paths, O: Out>(
     out: &mut O,
 ) -> Result<(), ProgramRefusal> {
     let text = read_file(options.file, paths)?;
-    let file = ProgramFile::read(alloc, text.as_slice())?;
-    let Some(code) = code_of(&file) else {
+    let listed = list_text(alloc, options.shows_labels, text.as_slice(), out);
+    drop(text);
+    listed
+}
+
+// Prints the listing of a file of this text.
+fn list_text<O: Out>(
+    alloc: Global,
+    shows_labels: bool,
+    text: &[u8],
+    out: &mut O,
+) -> Result<(), ProgramRefusal> {
+    let file = ProgramFile::read(alloc, text)?;
+    let listed = list(alloc, shows_labels, text, &file, out);
+    drop(file);
+    listed
+}
+
+fn list<O: Out>(
+    alloc: Global,
+    shows_labels: bool,
+    text: &[u8],
+    file: &ProgramFile<'_>,
+    out: &mut O,
+) -> Result<(), ProgramRefusal> {
+    let Some(code) = code_of(file) else {
         return Err(ProgramRefusal::Fault(ProgramFault::Load(LoadFault::CodeTooLong)));
     };
-    let written = if options.shows_labels {
-        let places = Places::of_text(alloc, text.as_slice())?;
+    let written = if shows_labels {
+        let places = Places::of_text(alloc, text)?;
         list_labelled(alloc, code, file.base(), &places, out)?
     } else {
         disassemble(code, file.base(), out)

@@ -83,14 +83,31 @@ fn hunted<R: Threads + Sync + AllocGlobal, G: Progress>(
     let file = ProgramFile::read(alloc, text)?;
     let demands = Demands::read(alloc, options, &file)?;
     let setup = Setup::of_file(alloc, settings, &file)?;
-    let checks = demands.checks(alloc, setup.program.mem_size())?;
+    let made = hunted_in(rt, &demands, &setup, orders, progress);
+    drop(setup);
+    drop(demands);
+    drop(file);
+    made
+}
+
+// The same of a program that is loaded.
+fn hunted_in<R: Threads + Sync + AllocGlobal, G: Progress>(
+    rt: &R,
+    demands: &Demands,
+    setup: &Setup,
+    orders: &Orders,
+    progress: &mut G,
+) -> Result<(Search, Counts), Refusal> {
+    let checks = demands.checks(rt.alloc(), setup.program.mem_size())?;
     let trial = Trial {
         program: &setup.program,
         limits: setup.limits,
         most: orders.most,
         checks: checks.as_slice(),
     };
-    shortest(rt, &trial, orders, progress)
+    let made = shortest(rt, &trial, orders, progress);
+    drop(checks);
+    made
 }
 
 // A search whose schedule is shortened, with how long it was before.
