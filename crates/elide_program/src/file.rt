@@ -1,6 +1,6 @@
 //! FILE as a program: image text, an executable in ELF, or a source that is assembled.
 
-ghost use Rattle.std.specs.Prelude.{◌≡◌, ◌≤◌, ◌↔◌, IfErr, IfOk, IsTrue, MatchResult, None, length, min, replicate};
+ghost use Rattle.std.specs.Prelude.{◌≡◌, ◌≤◌, ◌↔◌, IfErr, IfOk, IsTrue, List, MatchResult, None, length, min, replicate, ℕ};
 ghost use Rattle.elide_program.specs.Faults.{unread, unread_source};
 ghost use Rattle.elide_program.specs.Files.{Gives, Tells, most_bytes};
 ghost use Rattle.elide_program.specs.ProgramFile.{IsSource, is_image};
@@ -31,9 +31,10 @@ pub const MOST_BYTES: usize = 671_088_640;
 
 /// The content of a program's file, of at most [`MOST_BYTES`].
 pub fn read_file<P: Paths>(path: &str, paths: &mut P) -> Result<Vec<u8>, ProgramRefusal>
-    ensures { MatchResult result
+    ensures given { MatchResult result
         (λ bytes. Gives (P.content paths.old path.now) most_bytes bytes.items)
         (λ refusal. Tells unread (P.content paths.old path.now) refusal) }
+    ensures kept { (other : List ℕ) → P.content paths.new other ≡ P.content paths.old other }
 {
     match paths.read(path, MOST_BYTES) {
         Ok(text) => Ok(text),

@@ -1,6 +1,6 @@
 //! Files by their paths.
 
-ghost use Rattle.std.specs.Prelude.{◌≤◌, ℕ, IfOk, List, MatchResult, Option, length};
+ghost use Rattle.std.specs.Prelude.{◌≡◌, ◌≤◌, ℕ, IfOk, List, MatchResult, Option, length};
 ghost use Rattle.elide_program.specs.Files.{Gives, Refuses};
 
 use ia_text::{Failed, Out, WriteFault};
@@ -45,17 +45,20 @@ pub trait Paths {
     // The content of the file at a path, where it is known.
     ghost content: { Self → List ℕ → Option (List ℕ) };
 
-    /// The whole content of a file of at most so many bytes. A longer one is [`ReadFault::TooLong`], and no other is.
+    /// The whole content of a file of at most so many bytes. A longer one is [`ReadFault::TooLong`], and no other is. No
+    /// file is changed.
     fn read(&mut self, path: &str, most: usize) -> Result<Vec<u8>, ReadFault>
         ensures few { IfOk result (λ bytes. length bytes.items ≤ most) }
         ensures content { MatchResult result
             (λ bytes. Gives (content self.old path.now) most bytes.items)
-            (λ fault. Refuses (content self.old path.now) most fault) };
+            (λ fault. Refuses (content self.old path.now) most fault) }
+        ensures kept { (other : List ℕ) → content self.new other ≡ content self.old other };
 
     /// Makes a file with this text, or replaces one that is there. Where that fails, a file that was there stays as it was.
     /// What is no regular file, such as a device, is written as it is.
     fn write<T: Text>(&mut self, path: &str, text: &T) -> Result<(), Failed>;
 
-    /// Whether both paths lead to one regular file.
-    fn is_same_file(&mut self, path: &str, other: &str) -> bool;
+    /// Whether both paths lead to one regular file. No file is changed.
+    fn is_same_file(&mut self, path: &str, other: &str) -> bool
+        ensures kept { (name : List ℕ) → content self.new name ≡ content self.old name };
 }

@@ -1,6 +1,6 @@
 //! The warnings of a program, told as its file is read.
 
-ghost use Rattle.std.specs.Prelude.{◌≤◌, [], IfOk, None, length};
+ghost use Rattle.std.specs.Prelude.{◌≡◌, ◌≤◌, ℕ, [], IfOk, List, MatchResult, Option, length};
 ghost use Rattle.elide_program.specs.ProgramFile.{IsSource};
 ghost use Rattle.ia_warn.specs.Warnings.{warnings};
 ghost use Rattle.ia_text.specs.Writing.{Writes};
@@ -40,7 +40,7 @@ impl<'a, P: Paths, E: Out> WarnedPaths<'a, P, E> {
 }
 
 impl<P: Paths, E: Out> Paths for WarnedPaths<'_, P, E> {
-    ghost content = { λ _ _. None };
+    ghost content = { λ w. P.content w.paths.now };
 
     fn read(&mut self, path: &str, most: usize) -> Result<Vec<u8>, ReadFault> {
         match self.paths.read(path, most) {
