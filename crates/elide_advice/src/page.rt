@@ -1,14 +1,14 @@
 //! The device that advice is written on.
 
 use elide_color::{ENDING, Style};
-use elide_setup::Gathered;
+use elide_setup::{Gathered, Lent};
 use ia_text::Out;
 use std::fmt;
 
 /// A device that text is formatted to, painted or not.
 #[derive(Drop)]
 pub struct Page<'o, O> {
-    out: Gathered<'o, O>,
+    out: Gathered<Lent<'o, O>>,
     is_painted: bool,
 }
 
@@ -16,7 +16,7 @@ impl<'o, O: Out> Page<'o, O> {
     /// Writes to this device.
     pub fn new(out: &'o mut O, is_painted: bool) -> Page<'o, O> {
         Page {
-            out: Gathered::new(out),
+            out: Gathered::new(Lent::new(out)),
             is_painted,
         }
     }
@@ -53,8 +53,12 @@ impl<'o, O: Out> Page<'o, O> {
     }
 
     /// Hands on what was written.
-    pub fn finish(&mut self) -> fmt::Result {
-        self.out.finish().map_err(|_| fmt::Error)
+    pub fn finish(self) -> fmt::Result {
+        let Page { out, .. } = self;
+        match out.finish() {
+            Ok(_) => Ok(()),
+            Err(_) => Err(fmt::Error),
+        }
     }
 }
 

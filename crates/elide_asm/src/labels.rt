@@ -1,8 +1,8 @@
 //! Listings with labels.
 
 use elide_places::{Label, Places};
-use elide_setup::Gathered;
-use ia_text::{Failed, Out, WriteFault, write_line};
+use elide_setup::{Gathered, Lent};
+use ia_text::{Out, WriteFault, write_line};
 use std::alloc::{AllocError, Global};
 
 /// Writes the listing of some code at an address, with a line `NAME:` for each label above the instruction that it stands
@@ -17,15 +17,14 @@ pub fn list_labelled<O: Out>(
 ) -> Result<Result<(), WriteFault>, AllocError> {
     let labels = places.labels();
     let order = by_address(alloc, labels)?;
-    let mut gathered = Gathered::new(out);
+    let mut gathered = Gathered::new(Lent::new(out));
     if let Err(fault) = write_listing(code, base, labels, order.as_slice(), &mut gathered) {
         return Ok(Err(fault));
     }
-    Ok(gathered.finish().map_err(failed))
-}
-
-fn failed(_failed: Failed) -> WriteFault {
-    WriteFault::Write
+    match gathered.finish() {
+        Ok(_) => Ok(Ok(())),
+        Err(_) => Ok(Err(WriteFault::Write)),
+    }
 }
 
 // The labels' addresses and their places in the list, in the order of the addresses.

@@ -9,7 +9,7 @@ mod orders;
 
 pub use demands::Demands;
 pub use elide_setup::{
-    Fault, Gathered, Paths, ProgramFile, Progress, Refusal, RunFault, Settings, Setup, read_file,
-    record, record_path,
+    Fault, Gathered, Lent, Paths, ProgramFile, Progress, Refusal, RunFault, Settings, Setup,
+    read_file, record, record_path,
 };
 pub use orders::Orders;

@@ -1,6 +1,8 @@
 //! What a command that was not refused came to.
 
-ghost use Rattle.std.specs.Prelude.{◌≤◌};
+ghost use Rattle.std.specs.Prelude.{◌≡◌, ◌≤◌};
+ghost use Rattle.elide_command.specs.Answers.{IsAnswered, answer_status, ran_answer, replayed_answer};
+ghost use Rattle.elide_command.specs.Answers.{searched_answer, sought_answer};
 
 use elide_hunt::Answer as Hunted;
 use elide_outcomes::Answer as Searched;
@@ -22,7 +24,8 @@ pub enum Answer {
 impl Answer {
     /// The exit status.
     pub fn status(self) -> u8
-        ensures { result ≤ 3 }
+        ensures exact { result ≡ answer_status self }
+        ensures most { result ≤ 3 }
     {
         match self {
             Answer::Done => 0,
@@ -33,23 +36,29 @@ impl Answer {
 }
 
 /// What a command came to that can only do what it is asked, or be refused.
-pub fn done(end: Result<(), Refusal>) -> Result<Answer, Refusal> {
+pub fn done(end: Result<(), Refusal>) -> Result<Answer, Refusal>
+    ensures { IsAnswered (λ _. Answer.Done) end result }
+{
     match end {
         Ok(()) => Ok(Answer::Done),
         Err(refusal) => Err(refusal),
     }
 }
 
-/// What a run came to: one that goes on at its limit, where its end was asked for, fails.
-pub fn ran(end: Result<Ending, Refusal>) -> Result<Answer, Refusal> {
+/// What a run came to, which gives its device back: one that goes on at its limit, where its end was asked for, fails.
+pub fn ran<O: Drop>(end: Result<(Ending, O), Refusal>) -> Result<Answer, Refusal>
+    ensures { IsAnswered (λ ran. ran_answer ran.0) end result }
+{
     match end? {
-        Ending::AsAsked => Ok(Answer::Done),
-        Ending::RunsOn => Ok(Answer::Fails),
+        (Ending::AsAsked, _) => Ok(Answer::Done),
+        (Ending::RunsOn, _) => Ok(Answer::Fails),
     }
 }
 
 /// What a search for a failing run came to.
-pub fn sought(end: Result<Hunted, Refusal>) -> Result<Answer, Refusal> {
+pub fn sought(end: Result<Hunted, Refusal>) -> Result<Answer, Refusal>
+    ensures { IsAnswered sought_answer end result }
+{
     match end? {
         Hunted::NoneFailed => Ok(Answer::Done),
         Hunted::Failed => Ok(Answer::Fails),
@@ -57,17 +66,21 @@ pub fn sought(end: Result<Hunted, Refusal>) -> Result<Answer, Refusal> {
 }
 
 /// What a search over all schedules came to.
-pub fn searched(end: Result<Searched, Refusal>) -> Result<Answer, Refusal> {
+pub fn searched(end: Result<Searched, Refusal>) -> Result<Answer, Refusal>
+    ensures { IsAnswered searched_answer end result }
+{
     match end? {
         Searched::Whole => Ok(Answer::Done),
         Searched::Cut => Ok(Answer::Fails),
     }
 }
 
-/// What a second run of a history came to.
-pub fn replayed(end: Result<Agreement, Refusal>) -> Result<Answer, Refusal> {
+/// What a second run of a history came to, which gives its device back.
+pub fn replayed<O: Drop>(end: Result<(Agreement, O), Refusal>) -> Result<Answer, Refusal>
+    ensures { IsAnswered (λ replayed. replayed_answer replayed.0) end result }
+{
     match end? {
-        Agreement::Agrees => Ok(Answer::Done),
-        Agreement::Differs => Ok(Answer::Differs),
+        (Agreement::Agrees, _) => Ok(Answer::Done),
+        (Agreement::Differs, _) => Ok(Answer::Differs),
     }
 }

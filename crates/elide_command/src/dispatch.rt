@@ -20,7 +20,7 @@ use elide_outcomes::outcomes;
 use elide_program::{Paths, WarnedPaths};
 use elide_replay::replay;
 use elide_run::run;
-use elide_setup::{Fault, Progress, Refusal, Terminals};
+use elide_setup::{Fault, Lent, Progress, Refusal, Terminals};
 use elide_stats::stats;
 use elide_threads::threads;
 use ia_text::Out;
@@ -260,9 +260,11 @@ fn obey<R: Threads + Wait + Sync + AllocGlobal, P: Paths, I: In, O: Out, G: Prog
         Subcommand::Gdb(options) => done(gdb(rt, alloc, options, paths, input, out)),
         Subcommand::Draw(options) => done(draw(alloc, options, paths, out, progress)),
         Subcommand::Stats(options) => done(stats(alloc, options, paths, out, progress)),
-        Subcommand::Run(options) => ran(run(alloc, options, paths, out, progress)),
+        Subcommand::Run(options) => ran(run(alloc, options, paths, Lent::new(out), progress)),
         Subcommand::Hunt(options) => sought(hunt(rt, options, paths, out, progress)),
         Subcommand::Outcomes(options) => searched(outcomes(alloc, options, paths, out)),
-        Subcommand::Replay(options) => replayed(replay(alloc, options, paths, out, progress)),
+        Subcommand::Replay(options) => {
+            replayed(replay(alloc, options, paths, Lent::new(out), progress))
+        }
     }
 }

@@ -6,8 +6,8 @@ use crate::symbols::Symbols;
 use elide_args::DrawOptions;
 use elide_places::Places;
 use elide_setup::{
-    Course, Gathered, Paths, Plan, ProgramFile, Progress, Refusal, Settings, Setup, read_file,
-    record_path,
+    Course, Gathered, Lent, Paths, Plan, ProgramFile, Progress, Refusal, Settings, Setup,
+    read_file, record_path,
 };
 use ia_text::Out;
 use std::alloc::Global;
@@ -168,7 +168,7 @@ fn write_timeline<O: Out>(
     asked: &Asked<'_>,
     out: &mut O,
 ) -> Result<(), Refusal> {
-    let mut page = Gathered::new(out);
+    let mut page = Gathered::new(Lent::new(out));
     let title = Label::of(name_of(asked.file));
     timeline.write(&title, &asked.rows, symbols, &mut page)?;
     page.finish()?;

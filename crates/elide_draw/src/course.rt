@@ -1,7 +1,9 @@
 //! A schedule, run twice: once to count its steps, where it is drawn step by step, and once to watch them.
 
+ghost use Rattle.elide_setup.specs.Runs.{IsMachineStep};
+
 use crate::watch::Watcher;
-use elide_setup::{Course, Fault, Machine, Outcome, Progress, Refusal, Setup, StepMaker};
+use elide_setup::{Course, Machine, Outcome, Progress, Refusal, Setup, StepMaker, new_machine};
 use std::alloc::Global;
 use tm_timeline::{Timeline, Window};
 
@@ -30,7 +32,7 @@ pub fn counted<G: Progress>(
         }),
         Course::Drawn(_) => {
             let mut counter = Counter {
-                machine: machine_of(alloc, setup)?,
+                machine: new_machine(alloc, setup)?,
                 total: 0,
             };
             let cores = counter.machine.cores();
@@ -53,17 +55,11 @@ struct Counter {
 }
 
 impl StepMaker for Counter {
+    ghost takes = { λ before core outcome after. IsMachineStep before.machine core outcome after.machine };
+
     fn make_step(&mut self, core: u8) -> Result<Outcome, Refusal> {
         self.total = self.total.saturating_add(1);
         self.machine.make_step(core)
-    }
-}
-
-// A machine at the start of the program.
-fn machine_of(alloc: Global, setup: &Setup) -> Result<Machine, Refusal> {
-    match Machine::new(alloc, &setup.program, setup.limits) {
-        Ok(machine) => Ok(machine),
-        Err(fault) => Err(Refusal::Fault(Fault::Machine(fault))),
     }
 }
 
@@ -76,7 +72,7 @@ pub fn watched<G: Progress>(
     window: Window,
     progress: &mut G,
 ) -> Result<Timeline, Refusal> {
-    let machine = machine_of(alloc, setup)?;
+    let machine = new_machine(alloc, setup)?;
     match Timeline::new(alloc, machine.cores(), window) {
         Ok(timeline) => watched_by(alloc, course, Watcher { machine, timeline }, progress),
         Err(refused) => {

@@ -1,5 +1,8 @@
 //! A step, and whom it hits.
 
+ghost use Rattle.std.specs.Prelude.{IfOk};
+ghost use Rattle.elide_setup.specs.Runs.{IsMachineStep};
+
 use elide_setup::{CoreState, Kind, Machine, Outcome, Refusal, StepMaker};
 use std::alloc::AllocError;
 use tm_timeline::{LineUse, Timeline};
@@ -28,17 +31,17 @@ impl Watcher {
 }
 
 impl StepMaker for Watcher {
+    ghost takes = { λ before core outcome after. IsMachineStep before.machine core outcome after.machine };
+
     fn make_step(&mut self, core: u8) -> Result<Outcome, Refusal> {
         watch_step(&mut self.machine, core, &mut self.timeline)
     }
 }
 
 // Makes a step, and tells a timeline whom it hits and what it was.
-fn watch_step(
-    machine: &mut Machine,
-    core: u8,
-    timeline: &mut Timeline,
-) -> Result<Outcome, Refusal> {
+fn watch_step(machine: &mut Machine, core: u8, timeline: &mut Timeline) -> Result<Outcome, Refusal>
+    ensures { IfOk result (λ outcome. IsMachineStep machine.old core outcome machine.new) }
+{
     let uses = if timeline.shows_lines() {
         Some(uses_of(machine, core))
     } else {

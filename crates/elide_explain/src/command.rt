@@ -3,13 +3,13 @@
 use crate::entry::{head_of, is_asked};
 use crate::faults::FAULTS;
 use elide_args::ExplainOptions;
-use elide_setup::{Gathered, Refusal};
+use elide_setup::{Gathered, Lent, Refusal};
 use ia_text::{Out, WriteFault};
 
 /// Prints what a fault means, by its number or its name; of several of one name, each. Where none is asked for it prints the
 /// numbers and names of all.
 pub fn explain<O: Out>(options: &ExplainOptions<'_>, out: &mut O) -> Result<(), Refusal> {
-    let mut page = Gathered::new(out);
+    let mut page = Gathered::new(Lent::new(out));
     match options.fault {
         None => put_heads(&mut page)?,
         Some(what) if is_told(what) => put_entries(what, &mut page)?,

@@ -7,8 +7,8 @@ use crate::report::{Counts, tell_failure, tell_none};
 use crate::searching::{fault_of, searched};
 use elide_args::HuntOptions;
 use elide_checks::{
-    Demands, Gathered, Orders, Paths, ProgramFile, Progress, Refusal, Settings, Setup, read_file,
-    record, record_path,
+    Demands, Gathered, Lent, Orders, Paths, ProgramFile, Progress, Refusal, Settings, Setup,
+    read_file, record, record_path,
 };
 use ia_text::Out;
 use std::alloc::Global;
@@ -57,14 +57,14 @@ fn one_failed<O: Out>(
     before: Counts,
     out: &mut O,
 ) -> Result<Answer, Refusal> {
-    let mut page = Gathered::new(out);
+    let mut page = Gathered::new(Lent::new(out));
     tell_failure(options, found.run, &found.failure, before, &mut page)?;
     page.finish()?;
     Ok(Answer::Failed)
 }
 
 fn none_failed<O: Out>(ended: u32, cut: u32, out: &mut O) -> Result<Answer, Refusal> {
-    let mut page = Gathered::new(out);
+    let mut page = Gathered::new(Lent::new(out));
     tell_none(ended, cut, &mut page)?;
     page.finish()?;
     Ok(Answer::NoneFailed)

@@ -7,7 +7,7 @@ use crate::items::items_of;
 use crate::report::tell;
 use elide_args::OutcomesOptions;
 use elide_program::{Paths, ProgramFile, Settings, number_of, read_file};
-use elide_setup::{Fault, Gathered, MachineFault, Refusal, RunFault, Setup};
+use elide_setup::{Fault, Gathered, Lent, MachineFault, Refusal, RunFault, Setup};
 use ia_text::Out;
 use std::alloc::{AllocError, Global};
 use tm_outcomes::{Search, SearchFault, Trial, outcomes as searched};
@@ -99,7 +99,7 @@ fn outcomes_of_trial<O: Out>(
 // Prints the outcomes in the order of their values.
 fn tell_in_order<O: Out>(alloc: Global, search: &Search, out: &mut O) -> Result<(), Refusal> {
     let order = order_of(alloc, search)?;
-    let mut page = Gathered::new(out);
+    let mut page = Gathered::new(Lent::new(out));
     tell(search, order.as_slice(), &mut page)?;
     page.finish()?;
     Ok(())

@@ -1,3 +1,4 @@
 pub mod Alike
+pub mod Printed
 pub mod Replayed
 pub mod Told

@@ -1,7 +1,12 @@
 //! `elide replay`.
 
-ghost use Rattle.std.specs.Prelude.{◌≡◌, ◌↔◌, ◌++◌, ◌∷◌, [], IfOk, OnOk};
-ghost use Rattle.elide_replay.specs.Replayed.{IsReplayed, cores_stepped};
+ghost use Rattle.std.specs.Prelude.{◌≡◌, ◌↔◌, ◌++◌, ◌∷◌, ℕ, [], IfOk, List, None, OnOk, false};
+ghost use Rattle.ia_text.specs.Writing.{Wrote};
+ghost use Rattle.elide_setup.specs.Schedules.{AreAsked, AreOf};
+ghost use Rattle.elide_setup.specs.Setup.{IsAsked};
+ghost use Rattle.elide_setup.specs.Shown.{shown_text};
+ghost use Rattle.elide_replay.specs.Printed.{IsPrinted, IsTold};
+ghost use Rattle.elide_replay.specs.Replayed.{IsBoardOf, IsReplayed, cores_stepped};
 ghost use Rattle.elide_replay.specs.Told.{agreement_text};
 ghost use Rattle.elide_why.specs.ElideSetup.Shown.{IsWhole};
 ghost use Rattle.elide_why.specs.TmHist.Board.{SameBoard};
@@ -12,7 +17,7 @@ use elide_args::ReplayOptions;
 use elide_places::Places;
 use elide_why::{
     Board, Course, Drawn, Fault, Gathered, Paths, Progress, Refusal, RunFault, Serial, Setup,
-    ShownMemory, print, record, record_path, scheduled, scheduled_places, shown_memory,
+    ShownMemory, record, record_path, scheduled, scheduled_places, show, shown_memory,
     tell_history,
 };
 use ia_text::Out;
@@ -24,35 +29,34 @@ const PORTION: u64 = 65536;
 
 /// Runs a schedule on a board, and its history again on one memory; prints the aborts with their reasons where they are
 /// asked for, the state, what is asked for of memory, and whether both ended alike, which they always do: a board's history replays.
-pub fn replay<P: Paths, O: Out, G: Progress>(
+/// Gives the device back.
+pub fn replay<P: Paths, O: Out + Drop, G: Progress>(
     alloc: Global,
     options: &ReplayOptions<'_>,
     paths: &mut P,
-    out: &mut O,
+    out: O,
     progress: &mut G,
-) -> Result<Agreement, Refusal>
-    ensures { IfOk result (λ agreement. agreement ≡ Agreement.Agrees) }
+) -> Result<(Agreement, O), Refusal>
+    ensures agrees { IfOk result (λ r. r.0 ≡ Agreement.Agrees) }
+    ensures printed { IfOk result (λ r. IsPrinted (P.content paths.old) options.now
+        (O.device out).contents (O.device r.1).contents) }
 {
     let path = record_path(options.record, options.machine.file, paths)?;
     let (setup, course, places) = begun(alloc, options, paths)?;
     let made = board_of(alloc, &setup, course, progress);
     progress.end();
     let board = made?;
-    let asked = Asked {
-        file: options.machine.file,
+    compared(
+        alloc,
+        &setup,
+        &board,
+        options,
+        places.as_ref(),
         path,
-        places: places.as_ref(),
-    };
-    let sums = options.machine.shows.as_slice();
-    compared(alloc, &setup, &board, &asked, sums, paths, out, progress)
-}
-
-// What is asked for beside the state.
-#[derive(Clone, Copy)]
-struct Asked<'a> {
-    file: &'a str,
-    path: Option<&'a str>,
-    places: Option<&'a Places>,
+        paths,
+        out,
+        progress,
+    )
 }
 
 // A board after the steps of a schedule.
@@ -61,38 +65,53 @@ fn board_of<G: Progress>(
     setup: &Setup,
     course: Course,
     progress: &mut G,
-) -> Result<Board, Refusal> {
+) -> Result<Board, Refusal>
+    ensures made { IfOk result (IsBoardOf setup.now) }
+    ensures steps { IfOk result (λ board. AreOf course (cores_stepped board)) }
+{
     match course {
         Course::Listed(steps) => replayed(alloc, setup, steps.as_slice(), progress),
         Course::Drawn(drawn) => drawn_board(alloc, setup, drawn, progress),
     }
 }
 
-// Runs the board's history again, and prints what is asked for, of memory by these sums too, and whether both ended alike.
-fn compared<P: Paths, O: Out, G: Progress>(
+// Runs the board's history again, and prints what is asked for, and whether both ended alike.
+fn compared<P: Paths, O: Out + Drop, G: Progress>(
     alloc: Global,
     setup: &Setup,
     board: &Board,
-    asked: &Asked<'_>,
-    sums: &[&str],
+    options: &ReplayOptions<'_>,
+    places: Option<&Places>,
+    path: Option<&str>,
     paths: &mut P,
-    out: &mut O,
+    out: O,
     progress: &mut G,
-) -> Result<Agreement, Refusal>
-    ensures { IfOk result (λ agreement. agreement ≡ Agreement.Agrees) }
+) -> Result<(Agreement, O), Refusal>
+    requires { options.now.explains ≡ false → places ≡ None }
+    ensures agrees { IfOk result (λ r. r.0 ≡ Agreement.Agrees) }
+    ensures told { IfOk result (λ r. IsTold setup.now options.now board.now (O.device out).contents (O.device r.1).contents) }
 {
+    board.is_run();
+    let sums = options.machine.shows.as_slice();
     let memory = shown_memory(board.machine().view(), &setup.parts, sums)?;
     let serial = again(alloc, board)?;
-    if asked.path.is_some() {
-        record(asked.path, cores_of(alloc, board)?.as_slice(), paths)?;
+    if path.is_some() {
+        record(path, cores_of(alloc, board)?.as_slice(), paths)?;
     }
     let mut page = Gathered::new(out);
-    if let Some(places) = asked.places {
-        tell_history(alloc, board, asked.file, places, &mut page, progress)?;
+    if let Some(places) = places {
+        tell_history(
+            alloc,
+            board,
+            options.machine.file,
+            places,
+            &mut page,
+            progress,
+        )?;
     }
     let agreement = tell(board, &serial, memory, &mut page)?;
-    page.finish()?;
-    Ok(agreement)
+    let out = page.finish()?;
+    Ok((agreement, out))
 }
 
 // The program and the schedule, and the places of its source where the reasons of the aborts are asked for.
@@ -100,7 +119,12 @@ fn begun<P: Paths>(
     alloc: Global,
     options: &ReplayOptions<'_>,
     paths: &mut P,
-) -> Result<(Setup, Course, Option<Places>), Refusal> {
+) -> Result<(Setup, Course, Option<Places>), Refusal>
+    ensures setup { IfOk result (λ r. IsAsked (P.content paths.old options.now.machine.file.now) options.now.machine r.0) }
+    ensures course { IfOk result (λ r. (cores : List ℕ) → AreOf r.1 cores →
+        AreAsked (P.content paths.old) options.now.schedule cores) }
+    ensures places { IfOk result (λ r. options.now.explains ≡ false → r.2 ≡ None) }
+{
     if options.explains {
         let (setup, course, places) = scheduled_places(
             alloc,
@@ -133,10 +157,13 @@ fn tell<O: Out>(
     out: &mut O,
 ) -> Result<Agreement, Refusal>
     requires { IsWhole memory }
-    ensures { IfOk result (λ agreement. agreement ≡ Agreement.Agrees ↔ Replays board.now serial.now) }
+    ensures agrees { IfOk result (λ agreement. agreement ≡ Agreement.Agrees ↔ Replays board.now serial.now) }
+    ensures told { IfOk result (λ agreement. Wrote (O.device out.old) (O.device out.new)
+        (shown_text board.now.machine memory.entry ++ agreement_text agreement)) }
 {
     let agreement = agreement_of(board, serial);
-    print(board.machine(), memory, text_of(agreement), out)?;
+    show(board.machine(), memory, out)?;
+    out.put(text_of(agreement))?;
     Ok(agreement)
 }
 
@@ -171,7 +198,9 @@ fn drawn_board<G: Progress>(
     setup: &Setup,
     drawn: Drawn,
     progress: &mut G,
-) -> Result<Board, Refusal> {
+) -> Result<Board, Refusal>
+    ensures { IfOk result (IsBoardOf setup.now) }
+{
     let board = Board::new(alloc, &setup.program, setup.limits, u64::from(drawn.most));
     let mut board = board.map_err(Fault::Board)?;
     let mut going = Going::all(board.cores());

@@ -1,24 +1,34 @@
 //! Runs that tell why transactions abort.
 
+ghost use Rattle.std.specs.Prelude.{◌≡◌, ℕ, IfOk, List, true};
+ghost use Rattle.ia_text.specs.Writing.{Wrote};
+ghost use Rattle.elide_setup.specs.Runs.{IsMachineStep, IsRunOf};
+ghost use Rattle.elide_setup.specs.Schedules.{AreOf, cores_of};
+ghost use Rattle.elide_setup.specs.TmModel.Outcome.{Outcome};
+ghost use Rattle.elide_run.specs.Printed.{IsRunAsAsked};
+
 use crate::opening::machine_of;
 use elide_args::RunOptions;
-use elide_places::Places;
 use elide_why::{
-    Course, Machine, Outcome, Paths, Progress, Refusal, Setup, StepMaker, Teller, record_path,
-    scheduled_places,
+    Course, Gathered, Machine, Outcome, Paths, Progress, Refusal, Setup, StepMaker, Teller,
+    record_path, scheduled_places,
 };
 use ia_text::Out;
 use std::alloc::Global;
 
 /// Makes a run's steps, and prints the line of each abort with its reason, and the other outcomes where they are asked
 /// for; writes the schedule where there is a path.
-pub fn run_explained<P: Paths, O: Out, G: Progress>(
+pub fn run_explained<P: Paths, O: Out + Drop, G: Progress>(
     alloc: Global,
     options: &RunOptions<'_>,
     paths: &mut P,
-    out: &mut O,
+    page: Gathered<O>,
     progress: &mut G,
-) -> Result<(Setup, Machine), Refusal> {
+) -> Result<(Setup, Machine, Gathered<O>), Refusal>
+    requires { options.now.explains ≡ true }
+    ensures { IfOk result (λ r. IsRunAsAsked (P.content paths.old) options.now r.0 r.1
+        (⟦<Gathered<O> as Out>⟧.device page) (⟦<Gathered<O> as Out>⟧.device r.2)) }
+{
     let path = record_path(options.record, options.machine.file, paths)?;
     let (setup, course, places) = scheduled_places(
         alloc,
@@ -26,47 +36,85 @@ pub fn run_explained<P: Paths, O: Out, G: Progress>(
         &options.schedule,
         paths,
     )?;
-    let machine = stepped(
-        alloc, options, &setup, &course, &places, path, paths, out, progress,
+    let teller = Teller::new(
+        &setup.program,
+        options.machine.file,
+        &places,
+        options.traces,
     );
+    let made = stepped(alloc, teller, &setup, &course, path, paths, page, progress);
     drop(places);
     drop(course);
-    Ok((setup, machine?))
+    let (machine, page) = made?;
+    Ok((setup, machine, page))
 }
 
-// The machine behind a run's steps, which are told.
-fn stepped<P: Paths, O: Out, G: Progress>(
+// The machine behind a run's steps, which this teller tells.
+fn stepped<T: StepTeller + Drop, P: Paths, O: Out + Drop, G: Progress>(
     alloc: Global,
-    options: &RunOptions<'_>,
+    teller: T,
     setup: &Setup,
     course: &Course,
-    places: &Places,
     path: Option<&str>,
     paths: &mut P,
-    out: &mut O,
+    page: Gathered<O>,
     progress: &mut G,
-) -> Result<Machine, Refusal> {
-    let mut machine = machine_of(alloc, setup, course)?;
+) -> Result<(Machine, Gathered<O>), Refusal>
+    ensures { IfOk result (λ r. (history : List (ℕ × Outcome)) × AreOf course.now (cores_of history)
+        × IsRunOf setup.now.program setup.now.limits history r.0 × (text : List ℕ)
+        × Wrote (⟦<Gathered<O> as Out>⟧.device page) (⟦<Gathered<O> as Out>⟧.device r.1) text) }
+{
+    let machine = machine_of(alloc, setup, course)?;
     let cores = machine.cores();
     let mut telling = Telling {
-        machine: &mut machine,
-        teller: Teller::new(&setup.program, options.machine.file, places, options.traces),
-        out,
+        machine,
+        teller,
+        page,
     };
     course.walk_recorded(alloc, cores, path, &mut telling, paths, progress)?;
-    Ok(machine)
+    let Telling { machine, page, .. } = telling;
+    Ok((machine, page))
+}
+
+// What makes a machine's step and tells of it. A trait, since what a walk comes to is known of a maker whose type names no
+// lifetime.
+trait StepTeller {
+    fn tell_step<O: Out>(
+        &mut self,
+        machine: &mut Machine,
+        core: u8,
+        out: &mut O,
+    ) -> Result<Outcome, Refusal>
+        ensures step { IfOk result (λ outcome. IsMachineStep machine.old core outcome machine.new) }
+        ensures told { IfOk result (λ _. (text : List ℕ) × Wrote (O.device out.old) (O.device out.new) text) };
+}
+
+impl StepTeller for Teller<'_> {
+    fn tell_step<O: Out>(
+        &mut self,
+        machine: &mut Machine,
+        core: u8,
+        out: &mut O,
+    ) -> Result<Outcome, Refusal> {
+        self.step(machine, core, out)
+    }
 }
 
 // A machine whose steps are told.
 #[derive(Drop)]
-struct Telling<'a, O> {
-    machine: &'a mut Machine,
-    teller: Teller<'a>,
-    out: &'a mut O,
+struct Telling<T, O> {
+    machine: Machine,
+    teller: T,
+    page: Gathered<O>,
 }
 
-impl<O: Out> StepMaker for Telling<'_, O> {
+impl<T: StepTeller, O: Out> StepMaker for Telling<T, O> {
+    ghost takes = { λ before core outcome after. IsMachineStep before.machine core outcome after.machine
+        × (text : List ℕ)
+        × Wrote (⟦<Gathered<O> as Out>⟧.device before.page) (⟦<Gathered<O> as Out>⟧.device after.page) text };
+
     fn make_step(&mut self, core: u8) -> Result<Outcome, Refusal> {
-        self.teller.step(self.machine, core, self.out)
+        self.teller
+            .tell_step(&mut self.machine, core, &mut self.page)
     }
 }

@@ -1,13 +1,17 @@
 //! What a run begins with.
 
-use elide_why::{Course, Fault, Machine, Refusal, Setup, shown_memory};
+ghost use Rattle.std.specs.Prelude.{[], IfOk};
+ghost use Rattle.elide_setup.specs.Runs.{IsRunOf};
+
+use elide_why::{Course, Machine, Refusal, Setup, new_machine, shown_memory};
 use std::alloc::Global;
 
 /// The machine of a program before its first step, where the schedule names its cores alone, and what is to be printed of memory
 /// is there.
-pub fn machine_of(alloc: Global, setup: &Setup, course: &Course) -> Result<Machine, Refusal> {
-    let machine = Machine::new(alloc, &setup.program, setup.limits);
-    let machine = machine.map_err(Fault::Machine)?;
+pub fn machine_of(alloc: Global, setup: &Setup, course: &Course) -> Result<Machine, Refusal>
+    ensures { IfOk result (IsRunOf setup.now.program setup.now.limits []) }
+{
+    let machine = new_machine(alloc, setup)?;
     course.check_cores(machine.cores())?;
     shown_memory(machine.view(), &setup.parts, &[])?;
     Ok(machine)

@@ -1,5 +1,13 @@
 //! `elide run`.
 
+ghost use Rattle.std.specs.Prelude.{◌≡◌, ℕ, IfOk, List, false};
+ghost use Rattle.ia_text.specs.Writing.{Wrote};
+ghost use Rattle.elide_setup.specs.Runs.{IsMachineStep, IsRunOf};
+ghost use Rattle.elide_setup.specs.Schedules.{AreOf, cores_of};
+ghost use Rattle.elide_setup.specs.TmHist.Lines.{outcome_line};
+ghost use Rattle.elide_setup.specs.TmModel.Outcome.{Outcome};
+ghost use Rattle.elide_run.specs.Printed.{IsPrinted, IsRunAsAsked, IsTold, trace_text};
+
 use crate::explained::run_explained;
 use crate::halting::{Ending, ending_of};
 use crate::opening::machine_of;
@@ -12,100 +20,119 @@ use ia_text::Out;
 use std::alloc::Global;
 
 /// Runs a schedule of core steps, and prints the outcomes where they are asked for, the reasons of the aborts where these
-/// are, the state, and what is asked for of memory; and where it is expected that all cores stop, those that did not.
-pub fn run<P: Paths, O: Out, G: Progress>(
+/// are, the state, and what is asked for of memory; and where it is expected that all cores stop, those that did not. Gives the
+/// device back.
+pub fn run<P: Paths, O: Out + Drop, G: Progress>(
     alloc: Global,
     options: &RunOptions<'_>,
     paths: &mut P,
-    out: &mut O,
+    out: O,
     progress: &mut G,
-) -> Result<Ending, Refusal> {
-    let mut page = Gathered::new(out);
-    let (setup, machine) = if options.explains {
-        run_explained(alloc, options, paths, &mut page, progress)?
+) -> Result<(Ending, O), Refusal>
+    ensures { IfOk result (λ r. IsPrinted (P.content paths.old) options.now
+        (O.device out).contents (O.device r.1).contents) }
+{
+    let page = Gathered::new(out);
+    let (setup, machine, page) = if options.explains {
+        run_explained(alloc, options, paths, page, progress)?
     } else {
-        run_plainly(alloc, options, paths, &mut page, progress)?
+        run_plainly(alloc, options, paths, page, progress)?
     };
-    let ending = tell(&machine, &setup, options, &mut page);
+    let told = tell(&machine, &setup, options, page);
     drop(machine);
     drop(setup);
-    ending
+    told
 }
 
 // Makes a run's steps, and prints the outcomes where they are asked for.
-fn run_plainly<P: Paths, O: Out, G: Progress>(
+fn run_plainly<P: Paths, O: Out + Drop, G: Progress>(
     alloc: Global,
     options: &RunOptions<'_>,
     paths: &mut P,
-    out: &mut O,
+    page: Gathered<O>,
     progress: &mut G,
-) -> Result<(Setup, Machine), Refusal> {
+) -> Result<(Setup, Machine, Gathered<O>), Refusal>
+    requires { options.now.explains ≡ false }
+    ensures { IfOk result (λ r. IsRunAsAsked (P.content paths.old) options.now r.0 r.1
+        (⟦<Gathered<O> as Out>⟧.device page) (⟦<Gathered<O> as Out>⟧.device r.2)) }
+{
     let path = record_path(options.record, options.machine.file, paths)?;
     let (setup, course) = scheduled(alloc, &options.machine, &options.schedule, paths)?;
-    let machine = stepped(alloc, options, &setup, &course, path, paths, out, progress);
+    let made = stepped(alloc, options, &setup, &course, path, paths, page, progress);
     drop(course);
-    Ok((setup, machine?))
+    let (machine, page) = made?;
+    Ok((setup, machine, page))
 }
 
 // The machine behind a run's steps, whose outcomes are printed where they are asked for.
-fn stepped<P: Paths, O: Out, G: Progress>(
+fn stepped<P: Paths, O: Out + Drop, G: Progress>(
     alloc: Global,
     options: &RunOptions<'_>,
     setup: &Setup,
     course: &Course,
     path: Option<&str>,
     paths: &mut P,
-    out: &mut O,
+    page: Gathered<O>,
     progress: &mut G,
-) -> Result<Machine, Refusal> {
+) -> Result<(Machine, Gathered<O>), Refusal>
+    ensures { IfOk result (λ r. (history : List (ℕ × Outcome)) × AreOf course.now (cores_of history)
+        × IsRunOf setup.now.program setup.now.limits history r.0
+        × Wrote (⟦<Gathered<O> as Out>⟧.device page) (⟦<Gathered<O> as Out>⟧.device r.1)
+        (trace_text options.now.traces history)) }
+{
     let mut machine = machine_of(alloc, setup, course)?;
     let cores = machine.cores();
-    let walked = if options.traces {
-        let mut tracing = Tracing {
-            machine: &mut machine,
-            out,
-        };
-        course.walk_recorded(alloc, cores, path, &mut tracing, paths, progress)
-    } else {
-        course.walk_recorded(alloc, cores, path, &mut machine, paths, progress)
-    };
-    walked?;
-    Ok(machine)
+    if !options.traces {
+        course.walk_recorded(alloc, cores, path, &mut machine, paths, progress)?;
+        return Ok((machine, page));
+    }
+    let mut tracing = Tracing { machine, page };
+    course.walk_recorded(alloc, cores, path, &mut tracing, paths, progress)?;
+    let Tracing { machine, page } = tracing;
+    Ok((machine, page))
 }
 
 // A machine whose outcomes are printed.
 #[derive(Drop)]
-struct Tracing<'a, O> {
-    machine: &'a mut Machine,
-    out: &'a mut O,
+struct Tracing<O> {
+    machine: Machine,
+    page: Gathered<O>,
 }
 
-impl<O: Out> StepMaker for Tracing<'_, O> {
+impl<O: Out> StepMaker for Tracing<O> {
+    ghost takes = { λ before core outcome after. IsMachineStep before.machine core outcome after.machine
+        × Wrote (⟦<Gathered<O> as Out>⟧.device before.page) (⟦<Gathered<O> as Out>⟧.device after.page)
+        (outcome_line core outcome) };
+
     fn make_step(&mut self, core: u8) -> Result<Outcome, Refusal> {
         let outcome = self.machine.make_step(core)?;
-        write_outcome(core, &outcome, self.out)?;
+        write_outcome(core, &outcome, &mut self.page)?;
         Ok(outcome)
     }
 }
 
 // Prints the state and what is asked for of memory, and the cores that have not stopped where they are asked for.
-fn tell<O: Out>(
+fn tell<O: Out + Drop>(
     machine: &Machine,
     setup: &Setup,
     options: &RunOptions<'_>,
-    page: &mut Gathered<'_, O>,
-) -> Result<Ending, Refusal> {
+    page: Gathered<O>,
+) -> Result<(Ending, O), Refusal>
+    ensures { IfOk result (λ r. IsTold options.now setup.now machine.now
+        (⟦<Gathered<O> as Out>⟧.device page).contents (O.device r.1).contents) }
+{
+    let mut page = page;
     let memory = shown_memory(
         machine.view(),
         &setup.parts,
         options.machine.shows.as_slice(),
     )?;
-    show(machine, memory, page)?;
+    show(machine, memory, &mut page)?;
     let ending = if options.expects_halt {
-        ending_of(machine, page)?
+        ending_of(machine, &mut page)?
     } else {
         Ending::AsAsked
     };
-    page.finish()?;
-    Ok(ending)
+    let out = page.finish()?;
+    Ok((ending, out))
 }

@@ -17,12 +17,13 @@ mod symbols;
 use elide_args::{MachineOptions, ScheduleOptions};
 pub use elide_setup::{Paths, Refusal, Terminals};
 use elide_setup::{
-    Course, Fault, Plan, ProgramFile, Settings, Setup, Silent, new_board, planned, read_file,
+    Course, Fault, Plan, ProgramFile, Settings, Setup, Silent, new_board, new_machine, planned,
+    read_file,
 };
 use std::alloc::{AllocError, Global};
 use symbols::{labels_of, symbols_of};
 pub use tm_debug::{In, Manner, serve_in};
-use tm_debug::{Board, Machine, Names, SessionFault};
+use tm_debug::{Board, Names, SessionFault};
 
 /// How many steps a session can make.
 const MOST_STEPS: u64 = 1_000_000;
@@ -133,8 +134,7 @@ fn plan_of(alloc: Global, setup: &Setup, course: Course) -> Result<Vec<u8>, Refu
     match course {
         Course::Listed(steps) => Ok(steps),
         drawn => {
-            let machine = Machine::new(alloc, &setup.program, setup.limits);
-            let mut machine = machine.map_err(Fault::Machine)?;
+            let mut machine = new_machine(alloc, setup)?;
             drawn.walk(
                 alloc,
                 setup.program.cores(),

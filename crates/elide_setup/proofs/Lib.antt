@@ -1,3 +1,6 @@
 mod Decimal
 mod Held
+pub mod Runs
+pub mod Schedules
 mod ShownTexts
+mod Walks

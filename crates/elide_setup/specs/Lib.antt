@@ -1,8 +1,11 @@
 pub mod Faults
 pub mod Gathering
+pub mod Runs
+pub mod Schedules
 pub mod Setup
 pub mod Shown
 pub mod Told
+pub mod Walks
 pub mod ElideProgram
 pub mod IaImage
 pub mod TmCore

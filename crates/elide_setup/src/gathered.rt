@@ -1,7 +1,7 @@
 //! Text that is gathered in a row of fixed room before it is handed on, so that a line costs no system call, and printing no
 //! memory.
 
-ghost use Rattle.std.specs.Prelude.{◌≡◌, [], OnErr, OnOk};
+ghost use Rattle.std.specs.Prelude.{◌≡◌, [], IfOk, OnErr, OnOk};
 ghost use Rattle.ia_text.specs.Writing.{Writes};
 ghost use Rattle.elide_setup.specs.Gathering.{told};
 
@@ -15,8 +15,8 @@ const ROOM: usize = 16384;
 /// A device that gathers text for another one. It hands the text on where its room is full, and at [`Gathered::finish`]; once
 /// the other device fails, each further call is a failure of this one. Takes no memory.
 #[derive(Drop)]
-pub struct Gathered<'o, O> {
-    out: &'o mut O,
+pub struct Gathered<O> {
+    out: O,
     row: ArrayVec<u8, ROOM>,
     // How often this device failed. At 0 the other one holds what was handed on, and the row stands behind it.
     failures: u64,
@@ -24,14 +24,14 @@ pub struct Gathered<'o, O> {
     before: Snapshot<O>,
 }
 
-impl<'o, O: Out> Gathered<'o, O> {
+impl<O: Out + Drop> Gathered<O> {
+    ghost use Rattle.std.specs.Io.KnownBytes.{Keeps};
+
     /// Gathers for this device.
-    pub fn new(out: &'o mut O) -> Gathered<'o, O>
-        ensures out { result.out ≡ out.entry }
-        ensures row { result.row.items ≡ [] }
-        ensures failures { result.failures ≡ 0 }
+    pub fn new(out: O) -> Gathered<O>
+        ensures { Keeps (O.device out).contents (⟦<Gathered<O> as Out>⟧.device result).contents }
     {
-        let before = Snapshot::of(&*out);
+        let before = Snapshot::of(&out);
         Gathered {
             out,
             row: ArrayVec::new(),
@@ -40,27 +40,30 @@ impl<'o, O: Out> Gathered<'o, O> {
         }
     }
 
-    /// Hands on what was gathered. A beginning of it, where the other device fails.
-    pub fn finish(&mut self) -> Result<(), Failed>
-        ensures ok { OnOk result (self.old.failures ≡ 0) }
-        ensures handed { self.old.failures ≡ 0
-            → Writes (O.device self.old.out.now) (O.device self.new.out.now) self.old.row.items result }
+    /// Hands on what was gathered, and gives the other device back, which holds all that this one did.
+    pub fn finish(self) -> Result<O, Failed>
+        ensures { IfOk result (λ out. Keeps (⟦<Gathered<O> as Out>⟧.device self).contents (O.device out).contents) }
     {
-        if self.failures != 0 {
+        let mut gathered = self;
+        if gathered.failures != 0 {
             return Err(Failed);
         }
-        self.hand_on()
+        gathered.hand_on()?;
+        let Gathered { out, .. } = gathered;
+        Ok(out)
     }
+}
 
+impl<O: Out> Gathered<O> {
     // Hands the row on, which is empty then. Where the other device fails it is kept.
     fn hand_on(&mut self) -> Result<(), Failed>
         requires { self.old.failures ≡ 0 }
-        ensures handed { Writes (O.device self.old.out.now) (O.device self.new.out.now) self.old.row.items result }
+        ensures handed { Writes (O.device self.old.out) (O.device self.new.out) self.old.row.items result }
         ensures ok { OnOk result ((self.new.row.items ≡ []) × (self.new.failures ≡ 0)) }
         ensures err { OnErr result ((self.new.row.items ≡ self.old.row.items) × (self.new.failures ≡ 1)
-            × (O.device self.new.before.value ≡ O.device self.old.out.now)) }
+            × (O.device self.new.before.value ≡ O.device self.old.out)) }
     {
-        self.before = Snapshot::of(&*self.out);
+        self.before = Snapshot::of(&self.out);
         match self.out.put(self.row.as_slice()) {
             Ok(()) => {
                 self.row.clear();
@@ -76,13 +79,13 @@ impl<'o, O: Out> Gathered<'o, O> {
     // Hands on bytes that the row has no room for, and which is empty.
     fn pass(&mut self, bytes: &[u8]) -> Result<(), Failed>
         requires { self.old.failures ≡ 0 }
-        ensures handed { Writes (O.device self.old.out.now) (O.device self.new.out.now) bytes.now result }
+        ensures handed { Writes (O.device self.old.out) (O.device self.new.out) bytes.now result }
         ensures row { self.new.row.items ≡ self.old.row.items }
         ensures ok { OnOk result (self.new.failures ≡ 0) }
         ensures err { OnErr result ((self.new.failures ≡ 1)
-            × (O.device self.new.before.value ≡ O.device self.old.out.now)) }
+            × (O.device self.new.before.value ≡ O.device self.old.out)) }
     {
-        self.before = Snapshot::of(&*self.out);
+        self.before = Snapshot::of(&self.out);
         match self.out.put(bytes) {
             Ok(()) => Ok(()),
             Err(_) => {
@@ -93,10 +96,10 @@ impl<'o, O: Out> Gathered<'o, O> {
     }
 }
 
-impl<O: Out> Out for Gathered<'_, O> {
+impl<O: Out> Out for Gathered<O> {
     // What was handed on, and the row behind it.
     ghost device = { λ g. record {
-      contents = told (O.device g.out.now).contents (O.device g.before.value).contents g.failures g.row.items;
+      contents = told (O.device g.out).contents (O.device g.before.value).contents g.failures g.row.items;
       failures = g.failures;
     } };
 

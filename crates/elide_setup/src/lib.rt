@@ -1,14 +1,15 @@
 //! What the commands that make a machine have in common: its program, its schedule, a board, and how they are shown.
 //!
 //! Promised: the number and line of each fault and the exit status of a refusal; that the machine of a command is that of a file with
-//! the cores, the memory and the limits of its options, and what is printed of its memory is what they ask for; what `show` writes
-//! of a machine; and that text which is gathered is handed on. The order
-//! of faults is compared by `doc_tests`. Stands on `elide_program`, and on the machine and its history (`tm_core`, `tm_hist`),
-//! whose clauses say what a machine comes to.
+//! the cores, the memory and the limits of its options, and what is printed of its memory is what they ask for; that the steps of a
+//! listed schedule are those that the options or their file state, and that a walk makes them one after another; what `show` writes
+//! of a machine; and that text which is gathered is handed on. The order of faults is compared by `doc_tests`. Stands on
+//! `elide_program`, and on the machine and its history (`tm_core`, `tm_hist`), whose clauses say what a machine comes to.
 #![tactic(auto)]
 
 mod fault;
 mod gathered;
+mod lent;
 mod machine;
 mod plan;
 mod progress;
@@ -24,11 +25,12 @@ pub use elide_program::{
 pub use fault::{Fault, Refusal};
 pub use gathered::Gathered;
 pub use ia_image::Program;
-pub use machine::{Setup, new_board, planned, scheduled};
+pub use lent::Lent;
+pub use machine::{Setup, new_board, new_machine, planned, scheduled};
 pub use plan::{Course, Drawn, Plan, limit_of};
 pub use progress::{Progress, Silent};
 pub use recorded::{record, record_path};
-pub use shown::{ShownMemory, print, show, shown_memory};
+pub use shown::{ShownMemory, show, shown_memory};
 pub use terminals::Terminals;
 pub use tm_hist::{
     AbortReason, Board, BoardFault, CoreState, Counts, Kind, Limits, Machine, MachineFault,

@@ -1,9 +1,11 @@
 //! What the commands that make a machine begin with.
 
-ghost use Rattle.std.specs.Prelude.{◌≡◌, ◌≤◌, IfOk, length};
+ghost use Rattle.std.specs.Prelude.{◌≡◌, ◌≤◌, ℕ, [], IfOk, List, length};
 ghost use Rattle.tm_hist.specs.Board.{IsNew};
 ghost use Rattle.elide_program.specs.Parts.{AreParts};
 ghost use Rattle.elide_program.specs.declared.file.ProgramFile.{ProgramFile};
+ghost use Rattle.elide_setup.specs.Runs.{IsRunOf};
+ghost use Rattle.elide_setup.specs.Schedules.{AreAsked, AreOf, ArePlanned};
 ghost use Rattle.elide_setup.specs.Setup.{IsAsked, IsSetup};
 
 use crate::fault::{Fault, Refusal};
@@ -13,7 +15,7 @@ use elide_args::{MachineOptions, ScheduleOptions};
 use elide_program::{MemoryParts, Paths, ProgramFile, Settings, read_file};
 use ia_image::Program;
 use std::alloc::Global;
-use tm_hist::{Board, Limits};
+use tm_hist::{Board, Limits, Machine};
 
 /// A program, and what the options say of its machine.
 #[derive(Drop)]
@@ -78,6 +80,8 @@ pub fn scheduled<P: Paths>(
     paths: &mut P,
 ) -> Result<(Setup, Course), Refusal>
     ensures setup { IfOk result (λ r. IsAsked (P.content paths.old machine.now.file.now) machine.now r.0) }
+    ensures course { IfOk result (λ r. (cores : List ℕ) → AreOf r.1 cores →
+        AreAsked (P.content paths.old) schedule.now cores) }
 {
     let settings = Settings::read(machine)?;
     let plan = Plan::read(alloc, schedule)?;
@@ -94,13 +98,25 @@ pub fn planned<P: Paths>(
     file: &ProgramFile<'_>,
     paths: &mut P,
 ) -> Result<(Setup, Course), Refusal>
-    ensures { IfOk result (λ r. IsSetup file.now settings.now r.0) }
+    ensures setup { IfOk result (λ r. IsSetup file.now settings.now r.0) }
+    ensures course { IfOk result (λ r. (cores : List ℕ) → AreOf r.1 cores →
+        ArePlanned (P.content paths.old) plan.entry cores) }
 {
     let starts = file.starts(alloc, settings)?;
     let parts = MemoryParts::of_file(alloc, settings, file)?;
     let course = plan.course(alloc, paths)?;
     let setup = Setup::load(alloc, settings, file, starts.as_slice(), parts)?;
     Ok((setup, course))
+}
+
+/// A machine of the program before its first step.
+pub fn new_machine(alloc: Global, setup: &Setup) -> Result<Machine, Refusal>
+    ensures { IfOk result (IsRunOf setup.now.program setup.now.limits []) }
+{
+    match Machine::new(alloc, &setup.program, setup.limits) {
+        Ok(machine) => Ok(machine),
+        Err(fault) => Err(Refusal::Fault(Fault::Machine(fault))),
+    }
 }
 
 /// A board of the program with room for so many steps, where what is to be printed of memory is there.

@@ -1,5 +1,9 @@
 //! Where a command's schedule comes from.
 
+ghost use Rattle.std.specs.Prelude.{◌≡◌, ℕ, IfOk, IfSome, List, Ok, Option};
+ghost use Rattle.tm_schedule.specs.Schedule.{schedule_of};
+ghost use Rattle.elide_setup.specs.Schedules.{AreAsked, AreOf, ArePlanned};
+
 use crate::fault::{Fault, Refusal};
 use elide_args::ScheduleOptions;
 use elide_program::{MOST_BYTES, Paths, ProgramFault, ReadFault, number_of};
@@ -32,7 +36,10 @@ pub enum Course {
 
 impl<'a> Plan<'a> {
     /// Reads `--steps`, `--schedule`, `--in-turn` or `--random`, of which exactly one is given.
-    pub fn read(alloc: Global, options: &ScheduleOptions<'a>) -> Result<Plan<'a>, Refusal> {
+    pub fn read(alloc: Global, options: &ScheduleOptions<'a>) -> Result<Plan<'a>, Refusal>
+        ensures { IfOk result (λ plan. (content : List ℕ → Option (List ℕ)) (cores : List ℕ) →
+            ArePlanned content plan cores → AreAsked content options.now cores) }
+    {
         let given = (options.steps, options.path, options.in_turn, options.random);
         match given {
             (None, None, true, None) => Ok(Plan::Drawn(Drawn::read(None, options.limit)?)),
@@ -52,7 +59,10 @@ impl<'a> Plan<'a> {
     }
 
     /// The steps.
-    pub fn course<P: Paths>(self, alloc: Global, paths: &mut P) -> Result<Course, Refusal> {
+    pub fn course<P: Paths>(self, alloc: Global, paths: &mut P) -> Result<Course, Refusal>
+        ensures { IfOk result (λ course. (cores : List ℕ) → AreOf course cores →
+            ArePlanned (P.content paths.old) self.entry cores) }
+    {
         match self {
             Plan::Steps(steps) => Ok(Course::Listed(steps)),
             Plan::Drawn(drawn) => Ok(Course::Drawn(drawn)),
@@ -105,7 +115,9 @@ pub fn limit_of(limit: Option<&str>) -> Result<u32, Refusal> {
 }
 
 // The content of a schedule's file.
-fn text_of<P: Paths>(path: &str, paths: &mut P) -> Result<Vec<u8>, Fault> {
+fn text_of<P: Paths>(path: &str, paths: &mut P) -> Result<Vec<u8>, Fault>
+    ensures { IfOk result (λ text. IfSome (P.content paths.old path.now) (λ content. text.items ≡ content)) }
+{
     match paths.read(path, MOST_BYTES) {
         Ok(text) => Ok(text),
         Err(ReadFault::NoMemory) => Err(Fault::Schedule(ScheduleFault::NoMemory)),
@@ -114,7 +126,9 @@ fn text_of<P: Paths>(path: &str, paths: &mut P) -> Result<Vec<u8>, Fault> {
 }
 
 // The core numbers of a schedule text.
-fn steps_of(alloc: Global, text: &[u8]) -> Result<Vec<u8>, Refusal> {
+fn steps_of(alloc: Global, text: &[u8]) -> Result<Vec<u8>, Refusal>
+    ensures { IfOk result (λ cores. schedule_of text.now ≡ Ok cores.items) }
+{
     match read_schedule(alloc, text) {
         Ok(steps) => Ok(steps),
         Err(fault) => Err(Refusal::Fault(Fault::Schedule(fault))),

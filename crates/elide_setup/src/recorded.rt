@@ -1,7 +1,10 @@
 //! Schedules that are written to a file.
 
+ghost use Rattle.std.specs.Prelude.{◌≡◌, ℕ, List};
+
 use crate::fault::{Fault, Refusal};
 use crate::gathered::Gathered;
+use crate::lent::Lent;
 use elide_program::{Paths, Text};
 use ia_text::{Out, WriteFault};
 use tm_schedule::write_schedule;
@@ -11,7 +14,9 @@ pub fn record_path<'a, P: Paths>(
     path: Option<&'a str>,
     file: &str,
     paths: &mut P,
-) -> Result<Option<&'a str>, Refusal> {
+) -> Result<Option<&'a str>, Refusal>
+    ensures kept { (other : List ℕ) → P.content paths.new other ≡ P.content paths.old other }
+{
     match path {
         Some(path) if paths.is_same_file(path, file) => Err(Refusal::Usage("--record")),
         path => Ok(path),
@@ -35,7 +40,7 @@ struct Schedule<'a>(&'a [u8]);
 
 impl Text for Schedule<'_> {
     fn write_to<O: Out>(&self, out: &mut O) -> Result<(), WriteFault> {
-        let mut page = Gathered::new(out);
+        let mut page = Gathered::new(Lent::new(out));
         write_schedule(self.0, &mut page)?;
         page.finish()?;
         Ok(())

@@ -7,7 +7,6 @@ ghost use Rattle.elide_setup.specs.Shown.{IsShownOf, IsWhole, are_held, doublewo
 ghost use Rattle.elide_setup.specs.Shown.{is_value_held, parts_text, shown_text, value_line, value_text, values_text};
 
 use crate::fault::{Fault, Refusal};
-use crate::gathered::Gathered;
 use elide_program::{Dump, MemoryParts};
 use ia_text::page::{push, push_eight};
 use ia_text::text_line::TextLine;
@@ -84,22 +83,6 @@ pub fn show<O: Out>(
 {
     write_state(machine, out)?;
     show_memory(memory, out)
-}
-
-/// Prints the state lines of a machine, what is printed of its memory, and a last text. Takes no memory.
-pub fn print<O: Out>(
-    machine: &Machine,
-    memory: ShownMemory<'_>,
-    last: &[u8],
-    out: &mut O,
-) -> Result<(), WriteFault>
-    requires { IsWhole memory }
-{
-    let mut page = Gathered::new(out);
-    show(machine, memory, &mut page)?;
-    page.put(last)?;
-    page.finish()?;
-    Ok(())
 }
 
 // What is printed of a memory.

@@ -1,6 +1,10 @@
 //! Runs over a schedule, listed or drawn.
 
-ghost use Rattle.std.specs.Prelude.{◌≤◌};
+ghost use Rattle.std.specs.Prelude.{◌≡◌, ◌≤◌, ℕ, IfOk, List};
+ghost use Rattle.elide_setup.specs.Runs.{IsMachineStep};
+ghost use Rattle.elide_setup.specs.Schedules.{AreOf, cores_of};
+ghost use Rattle.elide_setup.specs.TmModel.Outcome.{Outcome};
+ghost use Rattle.elide_setup.specs.Walks.{Leads};
 
 use crate::fault::{Fault, Refusal};
 use crate::plan::{Course, Drawn};
@@ -16,11 +20,17 @@ const PORTION: u32 = 65536;
 
 /// What makes the steps of a run.
 pub trait StepMaker {
+    // What one step of a core does, with its outcome.
+    ghost takes: { Self → ℕ → Outcome → Self → Type 0 };
+
     /// Makes one step of a core.
-    fn make_step(&mut self, core: u8) -> Result<Outcome, Refusal>;
+    fn make_step(&mut self, core: u8) -> Result<Outcome, Refusal>
+        ensures { IfOk result (λ outcome. takes self.old core outcome self.new) };
 }
 
 impl StepMaker for Machine {
+    ghost takes = { IsMachineStep };
+
     // Inlined, so that a walk that drops the outcome pays nothing for it.
     #[inline(always)]
     fn make_step(&mut self, core: u8) -> Result<Outcome, Refusal> {
@@ -54,6 +64,8 @@ impl Course {
         progress: &mut G,
     ) -> Result<Vec<u8>, Refusal>
         requires { cores ≤ 64 }
+        ensures { IfOk result (λ _. (steps : List (ℕ × Outcome)) × AreOf self.now (cores_of steps)
+            × Leads S.takes maker.old steps maker.new) }
     {
         let mut made = Vec::new(alloc);
         let walked = match self {
@@ -79,6 +91,8 @@ impl Course {
         progress: &mut G,
     ) -> Result<(), Refusal>
         requires { cores ≤ 64 }
+        ensures { IfOk result (λ _. (steps : List (ℕ × Outcome)) × AreOf self.now (cores_of steps)
+            × Leads S.takes maker.old steps maker.new) }
     {
         if let Course::Listed(steps) = self {
             record(path, steps.as_slice(), paths)?;
@@ -108,7 +122,10 @@ fn walk_list<S: StepMaker, G: Progress>(
     steps: &[u8],
     maker: &mut S,
     progress: &mut G,
-) -> Result<(), Refusal> {
+) -> Result<(), Refusal>
+    ensures { IfOk result (λ _. (made : List (ℕ × Outcome)) × (cores_of made ≡ steps.now)
+        × Leads S.takes maker.old made maker.new) }
+{
     for index in 0..steps.len() {
         if index % PORTION as usize == 0 {
             progress.tell(index as u64, steps.len() as u64, "steps");
@@ -127,6 +144,7 @@ fn walk_drawn<S: StepMaker, G: Progress>(
     progress: &mut G,
 ) -> Result<(), Refusal>
     requires { cores ≤ 64 }
+    ensures { IfOk result (λ _. (steps : List (ℕ × Outcome)) × Leads S.takes maker.old steps maker.new) }
 {
     let mut going = Going::all(cores);
     let mut picker = drawn.picker();

@@ -1,5 +1,7 @@
 //! A run whose steps are counted.
 
+ghost use Rattle.elide_setup.specs.Runs.{IsMachineStep};
+
 use crate::asked::Asked;
 use crate::hits::{CoreBytes, Hits};
 use elide_setup::{
@@ -22,6 +24,8 @@ pub struct Counting {
 }
 
 impl StepMaker for Counting {
+    ghost takes = { λ before core outcome after. IsMachineStep before.machine core outcome after.machine };
+
     // Makes a step, and counts it with the transactions that it hits.
     fn make_step(&mut self, core: u8) -> Result<Outcome, Refusal> {
         let asked = Asked::before(&self.machine, core);

@@ -2,7 +2,7 @@
 
 use crate::counting::{Counting, no_memory};
 use elide_report::{Labels, Report, json_line, put_columns};
-use elide_setup::{Board, Gathered, ProgramFile, Progress, Refusal};
+use elide_setup::{Board, Gathered, Lent, ProgramFile, Progress, Refusal};
 use ia_text::Out;
 use std::alloc::Global;
 
@@ -44,7 +44,7 @@ fn tell_report<O: Out>(
     is_json: bool,
     out: &mut O,
 ) -> Result<(), Refusal> {
-    let mut page = Gathered::new(out);
+    let mut page = Gathered::new(Lent::new(out));
     if is_json {
         put_json(alloc, report, &mut page)?;
     } else {

@@ -1,6 +1,6 @@
 //! The schedule that comes about.
 
-use elide_setup::{Board, Fault, Gathered, Paths, Refusal, Text};
+use elide_setup::{Board, Fault, Gathered, Lent, Paths, Refusal, Text};
 use ia_text::{Out, WriteFault};
 use std::alloc::{AllocError, Global};
 use tm_schedule::write_schedule;
@@ -41,7 +41,7 @@ struct Schedule<'a>(&'a [u8]);
 
 impl Text for Schedule<'_> {
     fn write_to<O: Out>(&self, out: &mut O) -> Result<(), WriteFault> {
-        let mut page = Gathered::new(out);
+        let mut page = Gathered::new(Lent::new(out));
         write_schedule(self.0, &mut page)?;
         page.finish()?;
         Ok(())

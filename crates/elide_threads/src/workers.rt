@@ -13,8 +13,8 @@ use crate::watch::Told;
 use elide_args::ThreadsOptions;
 use elide_places::Places;
 use elide_setup::{
-    Board, Fault, Gathered, Paths, ProgramFile, ProgramRefusal, Progress, Refusal, Settings, Setup,
-    new_board, number_of, print, read_file, shown_memory,
+    Board, Fault, Gathered, Lent, Paths, ProgramFile, ProgramRefusal, Progress, Refusal, Settings,
+    Setup, new_board, number_of, read_file, show, shown_memory,
 };
 use elide_stats::tell_counts;
 use elide_why::tell_history;
@@ -163,7 +163,7 @@ fn tell_run<O: Out, G: Progress>(
     out: &mut O,
     progress: &mut G,
 ) -> Result<(), Refusal> {
-    let mut page = Gathered::new(out);
+    let mut page = Gathered::new(Lent::new(out));
     if let Some(places) = places {
         tell_history(
             alloc,
@@ -287,6 +287,6 @@ fn fault_of(fault: &WorkFault) -> Fault
 fn tell<O: Out>(board: &Board, setup: &Setup, sums: &[&str], out: &mut O) -> Result<(), Refusal> {
     let machine = board.machine();
     let memory = shown_memory(machine.view(), &setup.parts, sums)?;
-    print(machine, memory, b"", out)?;
+    show(machine, memory, out)?;
     Ok(())
 }

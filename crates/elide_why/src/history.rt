@@ -1,5 +1,8 @@
 //! The steps of a board that are told.
 
+ghost use Rattle.std.specs.Prelude.{ℕ, IfOk, List};
+ghost use Rattle.ia_text.specs.Writing.{Wrote};
+
 use crate::teller::Teller;
 use elide_places::Places;
 use elide_setup::{Board, Fault, Machine, Progress, Refusal};
@@ -17,7 +20,9 @@ pub fn tell_history<O: Out, G: Progress>(
     places: &Places,
     out: &mut O,
     progress: &mut G,
-) -> Result<(), Refusal> {
+) -> Result<(), Refusal>
+    ensures { IfOk result (λ _. (text : List ℕ) × Wrote (O.device out.old) (O.device out.new) text) }
+{
     let told = told_steps(alloc, board, path, places, out, progress);
     progress.end();
     told
@@ -30,7 +35,9 @@ fn told_steps<O: Out, G: Progress>(
     places: &Places,
     out: &mut O,
     progress: &mut G,
-) -> Result<(), Refusal> {
+) -> Result<(), Refusal>
+    ensures { IfOk result (λ _. (text : List ℕ) × Wrote (O.device out.old) (O.device out.new) text) }
+{
     let machine = Machine::new(alloc, board.program(), board.limits());
     let mut machine = machine.map_err(Fault::Machine)?;
     let mut teller = Teller::new(board.program(), path, places, false);

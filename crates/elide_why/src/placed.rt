@@ -1,5 +1,11 @@
 //! What a command that tells of the places of its source begins with.
 
+ghost use Rattle.std.specs.Prelude.{ℕ, IfOk, List};
+ghost use Rattle.elide_setup.specs.ElideProgram.ProgramFile.{IsFile};
+ghost use Rattle.elide_setup.specs.ElideProgram.ProgramFileType.{ProgramFile};
+ghost use Rattle.elide_setup.specs.Schedules.{AreAsked, AreOf, ArePlanned};
+ghost use Rattle.elide_setup.specs.Setup.{IsAsked, IsSetup};
+
 use elide_args::{MachineOptions, ScheduleOptions};
 use elide_places::Places;
 use elide_setup::{Course, Paths, Plan, ProgramFile, Refusal, Settings, Setup, planned, read_file};
@@ -12,7 +18,11 @@ pub fn scheduled_places<P: Paths>(
     machine: &MachineOptions<'_>,
     schedule: &ScheduleOptions<'_>,
     paths: &mut P,
-) -> Result<(Setup, Course, Places), Refusal> {
+) -> Result<(Setup, Course, Places), Refusal>
+    ensures setup { IfOk result (λ r. IsAsked (P.content paths.old machine.now.file.now) machine.now r.0) }
+    ensures course { IfOk result (λ r. (cores : List ℕ) → AreOf r.1 cores →
+        AreAsked (P.content paths.old) schedule.now cores) }
+{
     let settings = Settings::read(machine)?;
     let plan = Plan::read(alloc, schedule)?;
     let text = read_file(machine.file, paths)?;
@@ -28,7 +38,11 @@ fn places_of_text<P: Paths>(
     plan: Plan<'_>,
     text: &[u8],
     paths: &mut P,
-) -> Result<(Setup, Course, Places), Refusal> {
+) -> Result<(Setup, Course, Places), Refusal>
+    ensures setup { IfOk result (λ r. (file : ProgramFile) × IsFile text.now file × IsSetup file settings.now r.0) }
+    ensures course { IfOk result (λ r. (cores : List ℕ) → AreOf r.1 cores →
+        ArePlanned (P.content paths.old) plan.entry cores) }
+{
     let file = ProgramFile::read(alloc, text)?;
     let (setup, course) = planned(alloc, settings, plan, &file, paths)?;
     let places = Places::of_text(alloc, text)?;

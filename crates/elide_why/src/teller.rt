@@ -1,5 +1,9 @@
 //! Steps that are made and told.
 
+ghost use Rattle.std.specs.Prelude.{ℕ, IfOk, List};
+ghost use Rattle.elide_setup.specs.Runs.{IsMachineStep};
+ghost use Rattle.ia_text.specs.Writing.{Wrote};
+
 use crate::lines::write_abort;
 use crate::outside::Outside;
 use crate::subset::write_stop;
@@ -44,7 +48,10 @@ impl<'a> Teller<'a> {
         machine: &mut Machine,
         core: u8,
         out: &mut O,
-    ) -> Result<Outcome, Refusal> {
+    ) -> Result<Outcome, Refusal>
+        ensures step { IfOk result (λ outcome. IsMachineStep machine.old core outcome machine.new) }
+        ensures told { IfOk result (λ _. (text : List ℕ) × Wrote (O.device out.old) (O.device out.new) text) }
+    {
         let Ok(asked) = Asked::of(machine, core) else {
             return Err(Refusal::Fault(Fault::Run(RunFault::NoSuchCore)));
         };

@@ -1,0 +1,51 @@
+use Rattle.std.proofs.Common.{◌≡◌, ℕ, false, List, [], ◌++◌, refl, sym, ap, ◌∙◌, subst}
+use Rattle.std.specs.Io.KnownBytes.{Appends}
+use Rattle.ia_text.proofs.Writing.{appends_none}
+use Rattle.ia_text.specs.Writing.{Device}
+use Rattle.elide_setup.specs.Gathering.{told}
+use Rattle.elide_setup.specs.Shown.{shown_text}
+use Rattle.elide_setup.specs.TmCore.Theorem.{ShownMachine as Machine}
+use Rattle.elide_setup.specs.declared.gathered.Gathered.{Gathered}
+use Rattle.elide_replay.specs.Told.{agreement_text}
+use Rattle.elide_replay.specs.declared.agreement.Agreement.{Agreement}
+use Rattle.elide_replay.specs.declared.agreement.Agreement.TheVariants.{Agrees}
+use Rattle.elide_replay.proofs.Passing.{both_passed_on}
+use Rattle.elide_replay.proofs.once_more.compared.Goals.{in-Some+in_ok-tell_history, in_default}
+use Rattle.elide_replay.proofs.once_more.compared.Goals as goal
+
+pub returns-clause-told : goal.returns-clause-told
+returns-clause-told g c =
+    let held : Gathered g.row.O.Denot → Device = λ m. record { contents = told (g.O.Out.device m.out).contents (g.O.Out.device m.before.value).contents m.failures m.row.items; failures = m.failures } in
+    let begun = c.new-page.result in
+    let page = c.match-places.page in
+    let above : (lines : List ℕ) × (c.args.options.now.explains ≡ false → lines ≡ []) × Appends (held begun).contents (held page).contents lines =
+    elim c.match-places.branch [
+      | in-Some+in_ok-tell_history w ↦
+          let more = w.in_ok-tell_history.ensures in (
+            more.0,
+            (λ e. let none = c.requires e in let some = w.in-Some.is in cc),
+            subst (λ (m : Gathered g.row.O.Denot). Appends (held begun).contents (held m).contents more.0) (sym w.page-is) more.1.bytes,
+          )
+      | in_default w ↦
+          ([], (λ e. refl), subst (λ (m : Gathered g.row.O.Denot). Appends (held begun).contents (held m).contents []) (sym w.page-is) (appends_none (held begun).contents))
+    ] in
+    let memory = c.in_ok-memory.memory in
+    let is = c.in_ok-memory.ensures in
+    let agrees : c.in_ok-agreement.agreement ≡ Agrees = c.in_ok-agreement.ensures.agrees.1 c.in_ok-serial.ensures in
+    let rest : Appends (held page).contents (held c.tell.new.out).contents (shown_text c.args.board.now.machine memory ++ agreement_text Agrees) =
+    subst (λ (a : Agreement). Appends (held page).contents (held c.tell.new.out).contents (shown_text c.args.board.now.machine memory ++ agreement_text a)) agrees c.in_ok-agreement.ensures.told.bytes in
+    record {
+      law = c.is_run.ensures;
+      lines = above.0;
+      unexplained = above.1;
+      memory = memory;
+      shown = record {
+        bytes = is.bytes ∙ c.view.ensures ∙ ap (λ (m : Machine). m.memory) c.machine.ensures;
+        dumps = is.dumps;
+        sums = is.sums ∙ c.as_slice-sums.ensures.value;
+        values = is.values;
+        whole = is.whole;
+      };
+      wrote = both_passed_on (g.O.Out.device c.args.out).contents (held begun).contents (held page).contents (held c.tell.new.out).contents (g.O.Out.device c.in_ok-out.out).contents above.0 _
+          c.new-page.ensures above.2 rest c.in_ok-out.ensures;
+    }

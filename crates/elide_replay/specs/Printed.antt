@@ -1,0 +1,32 @@
+-- What `elide replay` prints (docs/FORMATS.md, "Printed lines"): the state of the machine that the schedule's steps made of FILE's
+-- program, what is asked for of memory, and whether the second run ended alike.
+use Rattle.std.specs.Prelude.{◌≡◌, ℕ, false, List, [], ◌++◌, Option}
+use Rattle.std.specs.Io.KnownBytes.{Appends}
+use Rattle.elide_args.specs.declared.subcommand.ReplayOptions.{ReplayOptions}
+use Rattle.elide_setup.specs.Schedules.{AreAsked}
+use Rattle.elide_setup.specs.Setup.{IsAsked}
+use Rattle.elide_setup.specs.Shown.{IsShownOf, shown_text}
+use Rattle.elide_setup.specs.TmHist.Board.{IsHistory, ShownBoard as Board}
+use Rattle.elide_setup.specs.declared.machine.Setup.{Setup}
+use Rattle.elide_setup.specs.declared.shown.ShownMemory.{ShownMemory}
+use Rattle.elide_replay.specs.Replayed.{IsBoardOf, cores_stepped}
+use Rattle.elide_replay.specs.Told.{agreement_text}
+use Rattle.elide_replay.specs.declared.agreement.Agreement.TheVariants.{Agrees}
+
+-- the state, and below it what the second run came to, and above both the lines of aborts with their reasons, where these are asked for
+pub record IsTold (setup : Setup) (options : ReplayOptions) (board : Board) (before after : Option (List ℕ)) : Type 0 where
+  pub law : IsHistory board
+  pub lines : List ℕ
+  pub unexplained : options.explains ≡ false → lines ≡ []
+  pub memory : ShownMemory
+  pub shown : IsShownOf board.machine.memory setup.parts options.machine.shows.items memory
+  pub wrote : Appends before after (lines ++ (shown_text board.machine memory ++ agreement_text Agrees))
+
+-- the board is one of the options and of what FILE's content is read as, and made the steps of their schedule
+pub record IsPrinted (content : List ℕ → Option (List ℕ)) (options : ReplayOptions) (before after : Option (List ℕ)) : Type 0 where
+  pub setup : Setup
+  pub asked : IsAsked (content options.machine.file.now) options.machine setup
+  pub board : Board
+  pub made : IsBoardOf setup board
+  pub steps : AreAsked content options.schedule (cores_stepped board)
+  pub told : IsTold setup options board before after

@@ -1,0 +1,32 @@
+//! A device that is lent.
+
+ghost use Rattle.std.specs.Prelude.{◌≡◌};
+
+use ia_text::{Failed, Out};
+
+/// A device that is lent to what takes one by value.
+#[derive(Drop)]
+pub struct Lent<'a, O> {
+    out: &'a mut O,
+}
+
+impl<'a, O: Out> Lent<'a, O> {
+    /// Lends this device.
+    pub fn new(out: &'a mut O) -> Lent<'a, O>
+        ensures { result.out ≡ out.entry }
+    {
+        Lent { out }
+    }
+}
+
+impl<O: Out> Out for Lent<'_, O> {
+    ghost device = { λ l. O.device l.out.now };
+
+    fn put(&mut self, bytes: &[u8]) -> Result<(), Failed> {
+        self.out.put(bytes)
+    }
+
+    fn failures(&self) -> u64 {
+        self.out.failures()
+    }
+}

@@ -1,0 +1,7 @@
+use Rattle.std.proofs.Common.{ℕ, List}
+use Rattle.ia_text.specs.Writing.{Wrote}
+use Rattle.elide_why.proofs.history.told_steps.Given as goal
+
+-- some text was written
+abbrev pub invariant-loop-index : goal.invariant-loop-index
+invariant-loop-index g l = (text : List ℕ) × Wrote (g.O.Out.device l.initial.out) (g.O.Out.device l.out) text
