@@ -35,12 +35,12 @@ impl Answer {
     }
 }
 
-/// What a command came to that can only do what it is asked, or be refused.
-pub fn done(end: Result<(), Refusal>) -> Result<Answer, Refusal>
+/// What a command came to that can only do what it is asked, or be refused, whatever it gives back.
+pub fn done<T: Drop>(end: Result<T, Refusal>) -> Result<Answer, Refusal>
     ensures { IsAnswered (λ _. Answer.Done) end result }
 {
     match end {
-        Ok(()) => Ok(Answer::Done),
+        Ok(_) => Ok(Answer::Done),
         Err(refusal) => Err(refusal),
     }
 }

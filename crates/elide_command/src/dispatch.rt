@@ -253,7 +253,9 @@ fn obey<R: Threads + Wait + Sync + AllocGlobal, P: Paths, I: In, O: Out, G: Prog
         Subcommand::Asm(options) => assemble(alloc, options, paths, out, look),
         Subcommand::Dis(options) => disassemble(alloc, options, paths, out, look),
         Subcommand::Explain(options) => done(explain(options, out)),
-        Subcommand::Threads(options) => done(threads(rt, options, paths, out, progress)),
+        Subcommand::Threads(options) => {
+            done(threads(rt, options, paths, Lent::new(out), progress))
+        }
         Subcommand::Debug(options) => {
             done(debug(rt, alloc, options, paths, input, out, look.terminals))
         }

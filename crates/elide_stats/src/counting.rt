@@ -31,7 +31,7 @@ impl StepMaker for Counting {
         let asked = Asked::before(&self.machine, core);
         let hits = Hits::before(&self.machine, core);
         let outcome = self.machine.make_step(core)?;
-        self.count_hits(core, &hits, outcome)?;
+        count_hits(&mut self.conflicts, &mut self.bytes, core, &hits, outcome)?;
         match self.counts.told(asked.step(core, outcome)) {
             Ok(()) => Ok(outcome),
             Err(_) => Err(no_memory()),
@@ -103,21 +103,27 @@ impl Counting {
     pub fn conflicts(&self) -> &Conflicts {
         &self.conflicts
     }
+}
 
-    // Counts the transactions of other cores that a step of a core has hit.
-    fn count_hits(&mut self, core: u8, hits: &Hits, outcome: Outcome) -> Result<(), Refusal> {
-        let step = hits.step(outcome);
-        for (victim, conflict) in hits.conflicts() {
-            let mut conflict = *conflict;
-            conflict.is_apart = self.bytes.is_apart(core, step, *victim, conflict.line);
-            if self.conflicts.told(conflict).is_err() {
-                return Err(no_memory());
-            }
+// Counts the transactions of other cores that a step of a core has hit.
+fn count_hits(
+    conflicts: &mut Conflicts,
+    bytes: &mut CoreBytes,
+    core: u8,
+    hits: &Hits,
+    outcome: Outcome,
+) -> Result<(), Refusal> {
+    let step = hits.step(outcome);
+    for (victim, conflict) in hits.conflicts() {
+        let mut conflict = *conflict;
+        conflict.is_apart = bytes.is_apart(core, step, *victim, conflict.line);
+        if conflicts.told(conflict).is_err() {
+            return Err(no_memory());
         }
-        match self.bytes.told(core, step) {
-            Ok(()) => Ok(()),
-            Err(_) => Err(no_memory()),
-        }
+    }
+    match bytes.told(core, step) {
+        Ok(()) => Ok(()),
+        Err(_) => Err(no_memory()),
     }
 }
 

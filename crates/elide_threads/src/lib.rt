@@ -1,7 +1,9 @@
 //! `elide threads`.
 //!
-//! That the workers' history is a run of the machine is proved of `tm_work`, and what is printed is compared by `doc_tests`; here
-//! the budget and the burst of the options are proved to be those of the work. Stands on `elide_setup` and `tm_work`.
+//! Promised: what is printed, where the device tells its bytes and no counts are asked for, is the state and what is asked for of
+//! memory, of a board of the options and of FILE's program that workers came back with, each with the budget of the options
+//! (`specs/Printed.antt`); that their history is a run of the machine is proved of `tm_work`. The texts of reasons and counts, and what
+//! is recorded, are compared by `doc_tests`. Stands on `elide_setup` and `tm_work`.
 #![tactic(auto)]
 
 mod record;

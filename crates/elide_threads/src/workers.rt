@@ -1,10 +1,19 @@
 //! The workers of a command.
 
-ghost use Rattle.std.specs.Prelude.{◌≡◌, ◌*◌, ℕ, IfOk, List, MatchResult, None, Some, length, replicate};
+ghost use Rattle.std.specs.Prelude.{◌≡◌, ◌*◌, ℕ, IfOk, List, MatchResult, None, Some, false, length, replicate};
 ghost use Rattle.std.specs.Option.{option_copied};
+ghost use Rattle.ia_text.specs.Writing.{Wrote};
+ghost use Rattle.elide_setup.specs.ElideProgram.ProgramFile.{IsFile};
+ghost use Rattle.elide_setup.specs.ElideProgram.ProgramFileType.{ProgramFile};
+ghost use Rattle.elide_setup.specs.ElideProgram.Settings.{number_said};
 ghost use Rattle.elide_setup.specs.Faults.{fault_number};
+ghost use Rattle.elide_setup.specs.Setup.{IsSetup};
+ghost use Rattle.elide_setup.specs.Shown.{IsShownOf, shown_text};
+ghost use Rattle.elide_setup.specs.TmHist.Board.{IsNew, ShownBoard as Board};
+ghost use Rattle.elide_setup.specs.declared.machine.Setup.{Setup};
+ghost use Rattle.elide_setup.specs.declared.shown.ShownMemory.{ShownMemory};
 ghost use Rattle.elide_threads.specs.Burst.{burst_said};
-ghost use Rattle.elide_setup.specs.TmHist.Board.{IsNew};
+ghost use Rattle.elide_threads.specs.Printed.{IsPrinted, IsTold, IsWorked};
 ghost use Rattle.tm_work.specs.Faults.{work_number};
 ghost use Rattle.tm_work.specs.Workers.{IsReport};
 
@@ -13,8 +22,8 @@ use crate::watch::Told;
 use elide_args::ThreadsOptions;
 use elide_places::Places;
 use elide_setup::{
-    Board, Fault, Gathered, Lent, Paths, ProgramFile, ProgramRefusal, Progress, Refusal, Settings,
-    Setup, new_board, number_of, read_file, show, shown_memory,
+    Board, Fault, Gathered, Paths, ProgramFile, ProgramRefusal, Progress, Refusal, Settings, Setup,
+    new_board, number_of, read_file, show, shown_memory,
 };
 use elide_stats::tell_counts;
 use elide_why::tell_history;
@@ -26,14 +35,18 @@ use tm_work::{Burst, WorkFault, run_steadily};
 
 /// Runs each core on a thread of its own, writes the schedule that came about where it is asked for, and prints the aborts
 /// with their reasons where these are asked for, and then what the transactions came to, or where that is not asked for
-/// the state and what is asked for of memory. While the cores run, `progress` is told how many steps the history has.
-pub fn threads<R: Threads + Wait + Sync + AllocGlobal, P: Paths, O: Out, G: Progress + Send>(
+/// the state and what is asked for of memory. While the cores run, `progress` is told how many steps the history has. Gives the
+/// device back.
+pub fn threads<R: Threads + Wait + Sync + AllocGlobal, P: Paths, O: Out + Drop, G: Progress + Send>(
     rt: &R,
     options: &ThreadsOptions<'_>,
     paths: &mut P,
-    out: &mut O,
+    out: O,
     progress: &mut G,
-) -> Result<(), Refusal> {
+) -> Result<O, Refusal>
+    ensures { IfOk result (λ given. IsPrinted (P.content paths.old) options.now
+        (O.device out).contents (O.device given).contents) }
+{
     if options.is_json && !options.counts {
         return Err(Refusal::Usage("--json"));
     }
@@ -69,7 +82,10 @@ impl<'a> Work<'a> {
     fn read<P: Paths>(
         options: &ThreadsOptions<'a>,
         paths: &mut P,
-    ) -> Result<Work<'a>, ProgramRefusal> {
+    ) -> Result<Work<'a>, ProgramRefusal>
+        ensures budget { IfOk result (λ work. number_said (option_copied options.now.budget) ≡ Some work.budget) }
+        ensures kept { (other : List ℕ) → P.content paths.new other ≡ P.content paths.old other }
+    {
         let budget = number_of(options.budget, "--budget")?;
         let burst = burst_of(options.burst)?;
         let path = path_of(options, paths)?;
@@ -82,16 +98,25 @@ impl<'a> Work<'a> {
 }
 
 // The same over the text of FILE.
-fn threads_of_text<R: Threads + Wait + Sync + AllocGlobal, P: Paths, O: Out, G: Progress + Send>(
+fn threads_of_text<
+    R: Threads + Wait + Sync + AllocGlobal,
+    P: Paths,
+    O: Out + Drop,
+    G: Progress + Send,
+>(
     rt: &R,
     options: &ThreadsOptions<'_>,
     settings: &Settings,
     work: Work<'_>,
     text: &[u8],
     paths: &mut P,
-    out: &mut O,
+    out: O,
     progress: &mut G,
-) -> Result<(), Refusal> {
+) -> Result<O, Refusal>
+    ensures { IfOk result (λ given. (file : ProgramFile) × (setup : Setup) × (board : Board) × IsFile text.now file
+        × IsSetup file settings.now setup × IsWorked setup work.entry.budget board
+        × IsTold options.now setup board (O.device out).contents (O.device given).contents) }
+{
     let alloc = rt.alloc();
     let file = ProgramFile::read(alloc, text)?;
     let setup = Setup::of_file(alloc, settings, &file)?;
@@ -114,7 +139,12 @@ fn threads_of_text<R: Threads + Wait + Sync + AllocGlobal, P: Paths, O: Out, G: 
 }
 
 // Runs each core on a thread of its own, and prints what is asked for.
-fn run_and_tell<R: Threads + Wait + Sync + AllocGlobal, P: Paths, O: Out, G: Progress + Send>(
+fn run_and_tell<
+    R: Threads + Wait + Sync + AllocGlobal,
+    P: Paths,
+    O: Out + Drop,
+    G: Progress + Send,
+>(
     rt: &R,
     options: &ThreadsOptions<'_>,
     work: Work<'_>,
@@ -122,9 +152,13 @@ fn run_and_tell<R: Threads + Wait + Sync + AllocGlobal, P: Paths, O: Out, G: Pro
     setup: &Setup,
     places: Option<&Places>,
     paths: &mut P,
-    out: &mut O,
+    out: O,
     progress: &mut G,
-) -> Result<(), Refusal> {
+) -> Result<O, Refusal>
+    requires { options.now.explains ≡ false → places ≡ None }
+    ensures { IfOk result (λ given. (board : Board) × IsWorked setup.now work.entry.budget board
+        × IsTold options.now setup.now board (O.device out).contents (O.device given).contents) }
+{
     let alloc = rt.alloc();
     let board = opened(alloc, setup, work.budget)?;
     let board = recorded(rt, board, work, paths, progress)?;
@@ -153,17 +187,20 @@ fn recorded<R: Threads + Wait + Sync + AllocGlobal, P: Paths, G: Progress + Send
 }
 
 // Prints what is asked for of a run.
-fn tell_run<O: Out, G: Progress>(
+fn tell_run<O: Out + Drop, G: Progress>(
     alloc: Global,
     options: &ThreadsOptions<'_>,
     file: &ProgramFile<'_>,
     setup: &Setup,
     places: Option<&Places>,
     board: &Board,
-    out: &mut O,
+    out: O,
     progress: &mut G,
-) -> Result<(), Refusal> {
-    let mut page = Gathered::new(Lent::new(out));
+) -> Result<O, Refusal>
+    requires { options.now.explains ≡ false → places ≡ None }
+    ensures { IfOk result (λ given. IsTold options.now setup.now board.now (O.device out).contents (O.device given).contents) }
+{
+    let mut page = Gathered::new(out);
     if let Some(places) = places {
         tell_history(
             alloc,
@@ -179,8 +216,7 @@ fn tell_run<O: Out, G: Progress>(
     } else {
         tell(board, setup, options.machine.shows.as_slice(), &mut page)?;
     }
-    page.finish()?;
-    Ok(())
+    Ok(page.finish()?)
 }
 
 // The places of the source, where the reasons of the aborts are asked for.
@@ -188,7 +224,9 @@ fn places_of(
     alloc: Global,
     options: &ThreadsOptions<'_>,
     text: &[u8],
-) -> Result<Option<Places>, Refusal> {
+) -> Result<Option<Places>, Refusal>
+    ensures { IfOk result (λ places. options.now.explains ≡ false → places ≡ None) }
+{
     if options.explains {
         Ok(Some(Places::of_text(alloc, text)?))
     } else {
@@ -215,7 +253,9 @@ fn burst_of(text: Option<&str>) -> Result<Burst, ProgramRefusal>
 fn path_of<'a, P: Paths>(
     options: &ThreadsOptions<'a>,
     paths: &mut P,
-) -> Result<Option<&'a str>, ProgramRefusal> {
+) -> Result<Option<&'a str>, ProgramRefusal>
+    ensures kept { (other : List ℕ) → P.content paths.new other ≡ P.content paths.old other }
+{
     match options.record {
         Some(path) if paths.is_same_file(path, options.machine.file) => {
             Err(ProgramRefusal::Usage("--record"))
@@ -284,7 +324,10 @@ fn fault_of(fault: &WorkFault) -> Fault
 }
 
 // Prints the state and what is asked for of memory.
-fn tell<O: Out>(board: &Board, setup: &Setup, sums: &[&str], out: &mut O) -> Result<(), Refusal> {
+fn tell<O: Out>(board: &Board, setup: &Setup, sums: &[&str], out: &mut O) -> Result<(), Refusal>
+    ensures { IfOk result (λ _. (memory : ShownMemory) × IsShownOf board.now.machine.memory setup.now.parts sums.now memory
+        × Wrote (O.device out.old) (O.device out.new) (shown_text board.now.machine memory)) }
+{
     let machine = board.machine();
     let memory = shown_memory(machine.view(), &setup.parts, sums)?;
     show(machine, memory, out)?;

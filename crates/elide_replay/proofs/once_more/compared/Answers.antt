@@ -9,7 +9,7 @@ use Rattle.elide_setup.specs.declared.gathered.Gathered.{Gathered}
 use Rattle.elide_replay.specs.Told.{agreement_text}
 use Rattle.elide_replay.specs.declared.agreement.Agreement.{Agreement}
 use Rattle.elide_replay.specs.declared.agreement.Agreement.TheVariants.{Agrees}
-use Rattle.elide_replay.proofs.Passing.{both_passed_on}
+use Rattle.elide_why.proofs.Passing.{both_passed_on}
 use Rattle.elide_replay.proofs.once_more.compared.Goals.{in-Some+in_ok-tell_history, in_default}
 use Rattle.elide_replay.proofs.once_more.compared.Goals as goal
 

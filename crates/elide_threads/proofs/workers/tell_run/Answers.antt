@@ -1,0 +1,42 @@
+use Rattle.std.proofs.Common.{◌≡◌, ℕ, false, List, [], ◌++◌, refl, sym, ◌∙◌, subst}
+use Rattle.std.specs.Io.KnownBytes.{Appends}
+use Rattle.ia_text.proofs.Writing.{appends_none}
+use Rattle.ia_text.specs.Writing.{Device}
+use Rattle.elide_setup.specs.Gathering.{told}
+use Rattle.elide_setup.specs.Shown.{shown_text}
+use Rattle.elide_setup.specs.declared.gathered.Gathered.{Gathered}
+use Rattle.elide_why.proofs.Passing.{both_passed_on}
+use Rattle.elide_threads.proofs.workers.tell_run.Goals.{in-Some+in_ok-tell_history, in_default, then-options+in_ok-tell_counts, else-options+in_ok-tell}
+use Rattle.elide_threads.proofs.workers.tell_run.Goals as goal
+
+pub returns : goal.returns
+returns g c =
+    let held : Gathered g.row.O.Denot → Device = λ m. record { contents = told (g.O.Out.device m.out).contents (g.O.Out.device m.before.value).contents m.failures m.row.items; failures = m.failures } in
+    let begun = c.new-page.result in
+    let page = c.match-places.page in
+    let last = c.if-options.page in
+    let above : (lines : List ℕ) × (c.args.options.now.explains ≡ false → lines ≡ []) × Appends (held begun).contents (held page).contents lines =
+    elim c.match-places.branch [
+      | in-Some+in_ok-tell_history w ↦
+          let more = w.in_ok-tell_history.ensures in (
+            more.0,
+            (λ e. let none = c.requires e in let some = w.in-Some.is in cc),
+            subst (λ (m : Gathered g.row.O.Denot). Appends (held begun).contents (held m).contents more.0) (sym w.page-is) more.1.bytes,
+          )
+      | in_default w ↦
+          ([], (λ e. refl), subst (λ (m : Gathered g.row.O.Denot). Appends (held begun).contents (held m).contents []) (sym w.page-is) (appends_none (held begun).contents))
+    ] in
+    record {
+      lines = above.0;
+      unexplained = above.1;
+      state = λ e. elim c.if-options.branch [
+        | then-options+in_ok-tell_counts w ↦ let counts = w.if-options.true in cc
+        | else-options+in_ok-tell w ↦
+            let t = w.in_ok-tell.ensures in (
+              t.0,
+              record { bytes = t.1.bytes; dumps = t.1.dumps; sums = t.1.sums ∙ w.as_slice.ensures.value; values = t.1.values; whole = t.1.whole },
+              both_passed_on (g.O.Out.device c.args.out).contents (held begun).contents (held page).contents (held last).contents (g.O.Out.device c.in_ok-finish.field-0).contents above.0 (shown_text c.args.board.now.machine t.0)
+                  c.new-page.ensures above.2 (subst (λ (m : Gathered g.row.O.Denot). Appends (held page).contents (held m).contents (shown_text c.args.board.now.machine t.0)) (sym w.page-is) t.2.bytes) c.in_ok-finish.ensures,
+            )
+      ];
+    }

@@ -1,0 +1,38 @@
+-- What `elide threads` prints (docs/FORMATS.md, "Printed lines"): the state of the machine that the workers' history made of FILE's
+-- program, and what is asked for of memory.
+use Rattle.std.specs.Prelude.{◌≡◌, ◌*◌, ℕ, false, List, [], ◌++◌, length, Option, Some, replicate}
+use Rattle.std.specs.Io.KnownBytes.{Appends}
+use Rattle.std.specs.Option.{option_copied}
+use Rattle.elide_args.specs.declared.subcommand.ThreadsOptions.{ThreadsOptions}
+use Rattle.elide_setup.specs.ElideProgram.Settings.{number_said}
+use Rattle.elide_setup.specs.Setup.{IsAsked}
+use Rattle.elide_setup.specs.Shown.{IsShownOf, shown_text}
+use Rattle.elide_setup.specs.TmHist.Board.{IsNew, ShownBoard as Board}
+use Rattle.elide_setup.specs.declared.machine.Setup.{Setup}
+use Rattle.elide_setup.specs.declared.shown.ShownMemory.{ShownMemory}
+use Rattle.tm_work.specs.Workers.{IsReport}
+
+-- a new board of this program and these limits was given to workers, one a core, each with this budget, and came back as this one
+pub record IsWorked (setup : Setup) (budget : ℕ) (board : Board) : Type 0 where
+  pub first : Board
+  pub new : IsNew setup.program setup.limits (length setup.program.entries * budget) first
+  pub steps : List ℕ
+  pub report : IsReport first (replicate (length first.program.entries) budget) board steps
+
+-- the state, where no counts are asked for in its place, and above it the lines of aborts with their reasons, where these are
+pub record IsTold (options : ThreadsOptions) (setup : Setup) (board : Board) (before after : Option (List ℕ)) : Type 0 where
+  pub lines : List ℕ
+  pub unexplained : options.explains ≡ false → lines ≡ []
+  pub state :
+      options.counts ≡ false → (memory : ShownMemory) × IsShownOf board.machine.memory setup.parts options.machine.shows.items memory
+      × Appends before after (lines ++ shown_text board.machine memory)
+
+-- of a board that was worked on, of the options and of what FILE's content is read as
+pub record IsPrinted (content : List ℕ → Option (List ℕ)) (options : ThreadsOptions) (before after : Option (List ℕ)) : Type 0 where
+  pub setup : Setup
+  pub asked : IsAsked (content options.machine.file.now) options.machine setup
+  pub budget : ℕ
+  pub said : number_said (option_copied options.budget) ≡ Some budget
+  pub board : Board
+  pub worked : IsWorked setup budget board
+  pub told : IsTold options setup board before after
