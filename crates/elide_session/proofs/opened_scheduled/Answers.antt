@@ -8,10 +8,10 @@ returns g c = record {
     setup = c.in_ok-setup.setup;
     asked = record {
       file = c.in_ok-file.file;
-      read = record { text = c.in_ok-text.text.items; given = c.in_ok-text.ensures; read = subst (λ (text : List ℕ). IsFile text c.in_ok-file.file) c.as_slice.ensures.value c.in_ok-file.ensures.file };
+      read = record { text = c.in_ok-text.text.items; given = c.in_ok-text.ensures.given; read = subst (λ (text : List ℕ). IsFile text c.in_ok-file.file) c.as_slice.ensures.value c.in_ok-file.ensures.file };
       settings = c.in_ok-settings.settings;
       said = c.in_ok-settings.ensures;
-      made = c.in_ok-setup.ensures;
+      made = c.in_ok-setup.ensures.setup;
     };
     new = c.in_ok-board.ensures;
     named = c.in_ok-names.ensures;
