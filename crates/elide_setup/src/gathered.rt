@@ -1,8 +1,8 @@
 //! Text that is gathered in a row of fixed room before it is handed on, so that a line costs no system call, and printing no
 //! memory.
 
-ghost use Rattle.std.specs.Prelude.{◌≡◌, [], IfOk, OnErr, OnOk};
-ghost use Rattle.ia_text.specs.Writing.{Writes};
+ghost use Rattle.std.specs.Prelude.{◌≡◌, ◌≢◌, ◌⊎◌, [], IfOk, OnErr, OnOk};
+ghost use Rattle.ia_text.specs.Writing.{Stopped, Writes};
 ghost use Rattle.elide_setup.specs.Gathering.{told};
 
 use arrayvec::ArrayVec;
@@ -29,7 +29,8 @@ impl<O: Out + Drop> Gathered<O> {
 
     /// Gathers for this device.
     pub fn new(out: O) -> Gathered<O>
-        ensures { Keeps (O.device out).contents (⟦<Gathered<O> as Out>⟧.device result).contents }
+        ensures none { (⟦<Gathered<O> as Out>⟧.device result).failures ≡ 0 }
+        ensures kept { Keeps (O.device out).contents (⟦<Gathered<O> as Out>⟧.device result).contents }
     {
         let before = Snapshot::of(&out);
         Gathered {
@@ -40,9 +41,13 @@ impl<O: Out + Drop> Gathered<O> {
         }
     }
 
-    /// Hands on what was gathered, and gives the other device back, which holds all that this one did.
+    /// Hands on what was gathered, and gives the other device back, which holds all that this one did. A failure only where one
+    /// of the two has failed.
     pub fn finish(self) -> Result<O, Failed>
-        ensures { IfOk result (λ out. Keeps (⟦<Gathered<O> as Out>⟧.device self).contents (O.device out).contents) }
+        ensures ok { OnOk result ((⟦<Gathered<O> as Out>⟧.device self).failures ≡ 0) }
+        ensures kept { IfOk result (λ out. Keeps (⟦<Gathered<O> as Out>⟧.device self).contents (O.device out).contents) }
+        ensures err { OnErr result (((⟦<Gathered<O> as Out>⟧.device self).failures ≢ 0)
+            ⊎ ((last : O) × Stopped (O.device self.out) (O.device last) self.row.items)) }
     {
         let mut gathered = self;
         if gathered.failures != 0 {

@@ -47,5 +47,5 @@ returns-clause-told g c =
         whole = is.whole;
       };
       wrote = both_passed_on (g.O.Out.device c.args.out).contents (held begun).contents (held page).contents (held c.tell.new.out).contents (g.O.Out.device c.in_ok-out.out).contents above.0 _
-          c.new-page.ensures above.2 rest c.in_ok-out.ensures;
+          c.new-page.ensures.kept above.2 rest c.in_ok-out.ensures.kept;
     }

@@ -26,5 +26,5 @@ returns g c =
     IfOk-weaker c.tell-told.result
     (λ (r : Ending × g.row.O.Denot). IsTold c.args.options.now made.0 made.1 (held made.2).contents (g.O.Out.device r.1).contents)
     (λ (r : Ending × g.row.O.Denot). IsPrinted content c.args.options.now (g.O.Out.device c.args.out).contents (g.O.Out.device r.1).contents)
-    (λ r told. printed content c.args.options.now made.0 made.1 (held c.new-page.result) (held made.2) (g.O.Out.device c.args.out).contents (g.O.Out.device r.1).contents c.new-page.ensures ran told)
+    (λ r told. printed content c.args.options.now made.0 made.1 (held c.new-page.result) (held made.2) (g.O.Out.device c.args.out).contents (g.O.Out.device r.1).contents c.new-page.ensures.kept ran told)
     c.tell-told.ensures

@@ -36,7 +36,7 @@ returns g c =
               t.0,
               record { bytes = t.1.bytes; dumps = t.1.dumps; sums = t.1.sums ∙ w.as_slice.ensures.value; values = t.1.values; whole = t.1.whole },
               both_passed_on (g.O.Out.device c.args.out).contents (held begun).contents (held page).contents (held last).contents (g.O.Out.device c.in_ok-finish.field-0).contents above.0 (shown_text c.args.board.now.machine t.0)
-                  c.new-page.ensures above.2 (subst (λ (m : Gathered g.row.O.Denot). Appends (held page).contents (held m).contents (shown_text c.args.board.now.machine t.0)) (sym w.page-is) t.2.bytes) c.in_ok-finish.ensures,
+                  c.new-page.ensures.kept above.2 (subst (λ (m : Gathered g.row.O.Denot). Appends (held page).contents (held m).contents (shown_text c.args.board.now.machine t.0)) (sym w.page-is) t.2.bytes) c.in_ok-finish.ensures.kept,
             )
       ];
     }
