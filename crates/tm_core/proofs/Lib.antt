@@ -30,3 +30,7 @@ pub mod ExplainHits
 pub mod ExplainStates
 pub mod ExplainMachine
 pub mod ExplainTouches
+pub mod TouchLists
+pub mod AtOnce
+pub mod WholeSteps
+pub mod WholeMachine

@@ -152,7 +152,7 @@ own_midway k m s value v (Stops x) e is = cc
 
 -- ---- inside
 
-grown_view : (s : Regs) (b : Body) (depth : ℕ) (t : Regs) (ps : List ℕ) (ws : Stores) → grows (view_of_body s b) depth t ps ws ≡ view_of_body s (record { regs = t; depth = depth; stores = ws ++ b.stores; loads = ps ++ b.loads })
+pub grown_view : (s : Regs) (b : Body) (depth : ℕ) (t : Regs) (ps : List ℕ) (ws : Stores) → grows (view_of_body s b) depth t ps ws ≡ view_of_body s (record { regs = t; depth = depth; stores = ws ++ b.stores; loads = ps ++ b.loads })
 grown_view s b depth t ps ws = λ i. record {
   mode = Open depth;
   base = s;

@@ -1,7 +1,7 @@
 -- What a machine promises. It stands for a state of one flat memory with its doomed cores, and so it does after each
 -- step: the step is one of that memory, on which each committed transaction ran alone at its XEND (SDM volume 1,
 -- 16.2.1), with the outcome that is owed. What each of these words means stands in tm_model.
-use Rattle.std.specs.Prelude.{◌≡◌, ℕ, ◌<◌, List, [], length, slice_index_or, Option, Some, None}
+use Rattle.std.specs.Prelude.{◌≡◌, ℕ, zero, suc, ◌<◌, List, [], ◌∷◌, ◌++◌, length, slice_index_or, Option, Some, None}
 use Rattle.tm_model.specs.IaImage.Program.{ProgramValue as Program}
 use Rattle.tm_sets.specs.declared.interface.Kind.{Kind}
 use Rattle.tm_sets.specs.declared.interface.Kind.TheVariants.{Read, Write}
@@ -12,7 +12,8 @@ use Rattle.tm_model.specs.Setting.{Setting, setting_of}
 use Rattle.tm_model.specs.Shown.{View, ViewsStandFor, body_alone, view_outside, view_with_body}
 use Rattle.tm_model.specs.State.{State, opening_state}
 use Rattle.tm_model.specs.Steps.{run, step}
-use Rattle.tm_core.specs.Types.{AtStop, Condemned, CoreState, Mid, Open, Outcome, Regs, Running}
+use Rattle.tm_core.specs.Types.{AtStop, Begun, Committed, Condemned, CoreState, Inside, Mid, Open, Outcome, Regs}
+use Rattle.tm_core.specs.Types.{Running}
 use Rattle.tm_model.specs.Went.{StateWithBodies, opening_with_bodies, run_with_bodies}
 
 -- ---- what is shown
@@ -74,6 +75,17 @@ pub record IsRun (start now : ShownMachine) (state : State) (doomed : Doomed) (h
     : Type 0 where
   pub same : SameMachine start now
   pub takes : TakesSteps start now state doomed history
+
+-- ---- a whole transaction
+
+-- an XBEGIN that opens a transaction, and so many instructions behind it
+abbrev pub steps_inside : ℕ → ℕ → List (ℕ × Outcome)
+steps_inside number zero = (number, Begun) ∷ []
+steps_inside number (suc count) = steps_inside number count ++ (number, Inside) ∷ []
+
+-- the same, and the XEND that commits it
+abbrev pub transaction_of : ℕ → ℕ → List (ℕ × Outcome)
+transaction_of number count = steps_inside number count ++ (number, Committed) ∷ []
 
 -- ---- transactions as they went
 

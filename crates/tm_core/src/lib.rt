@@ -5,11 +5,16 @@
 //! transaction ran alone at its XEND. `Machine` is that promise's type, over any sets that keep the laws of
 //! `tm_sets`. What serves the proofs alone is named for it: `specs/StepRefinement.antt` (a step on what is shown),
 //! `specs/Representation.antt` (how a core's parts show it), `specs/ExplainedViews.antt` (the same of a hit, of the
-//! reason of an abort and of the bytes of a step) and `specs/Machine.antt` (the machine as one value).
+//! reason of an abort and of the bytes of a step), `specs/AtOnce.antt` (a transaction that runs at once) and
+//! `specs/Machine.antt` (the machine as one value).
 //!
 //! A step is explained by calls that are asked before it, and that change nothing: `Machine::hit` (whom it hits, on which
 //! line), `Machine::abort_reason` (why it is an abort), `Machine::counts` (how large the sets are) and `Machine::reach`
 //! (which bytes it loads and stores). `Machine::seen` tells a byte of memory as a core sees it.
+//!
+//! `Machine::transact` makes the steps of a whole transaction as one, where no other core steps between: its instructions
+//! run on registers alone, and its stores go to memory at its XEND. Its proof goes by the isolated body of `tm_model`, which
+//! is what it runs (`specs/AtOnce.antt`).
 //!
 //! Stands on `tm_rule` (one instruction), `tm_status`, `tm_sets` (read and write sets), `tm_buffer` (a transaction's
 //! bytes) and `ia_image` (programs). Memory is asked for only where a machine is made and by the answers of `run` and
@@ -17,6 +22,7 @@
 #![tactic(auto)]
 
 mod alone;
+mod body;
 mod boundary;
 mod conflict;
 mod cpu;
@@ -34,6 +40,8 @@ mod opening;
 mod seen;
 mod start;
 mod step;
+mod touches;
+mod transact;
 mod transaction;
 mod two_steps;
 mod usual;
