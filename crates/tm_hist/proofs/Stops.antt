@@ -135,3 +135,20 @@ stays_stopped old new a d c o stands same takes j why stop =
     let before : IsHalted (a.cores j) (d j) why = is_halted (machine_setting old) a.memory why (a.cores j) (d j) (view_at old j) (stands.each j below) stop in
     let after : IsHalted (takes.next.cores j) (doomed_after (machine_setting old) a d c o j) why = still_halted (machine_setting old) a d c j o why takes.next takes.is_step before in
     shows_stop (machine_setting new) takes.next.memory (takes.next.cores j) (doomed_after (machine_setting old) a d c o j) (view_at new j) why after (takes.stands.each j within)
+
+is_stop : (mode : CoreState) (why : Stop) → stop_shown mode ≡ Some why → mode ≡ AtStop why
+is_stop (AtStop x) why e = ap AtStop (same_Some x why e)
+is_stop Running why e = cc
+is_stop Mid why e = cc
+is_stop (Open depth) why e = cc
+is_stop (Condemned depth) why e = cc
+
+-- the same of a machine whose stopped cores stay so
+pub keeps_stops : (old new : Machine) →
+    ((j : ℕ) (why : Stop) → j < length old.views → (view_at old j).mode ≡ AtStop why → (view_at new j).mode ≡ AtStop why) →
+    (j : ℕ) (why : Stop) → stop_shown (view_at old j).mode ≡ Some why → stop_shown (view_at new j).mode ≡ Some why
+keeps_stops old new stay j why stop = ap stop_shown (stay j why (is_there old j why stop) (is_stop (view_at old j).mode why stop))
+
+-- a running core shows no stop
+pub shows_none : (mode : CoreState) (why : Stop) → mode ≡ Running → stop_shown mode ≡ Some why → ⊥
+shows_none mode why running stop = let e : stop_shown Running ≡ Some why = ap stop_shown (sym running) ∙ stop in cc

@@ -12,6 +12,7 @@ use crate::history::History;
 use crate::one_memory::serial;
 use crate::pair::Pair;
 use crate::replay::{Serial, SerialFault};
+use crate::whole::push_transaction;
 use std::alloc::Global;
 use std::marker::Model;
 use thiserror::Error;
@@ -203,17 +204,40 @@ impl Board {
         ensures made { AreSteps self.old self.new core result }
         ensures fewer { result < most → IsStopped self.new core ⊎ IsFull self.new }
     {
-        for made in 0..most {
+        let mut made = 0;
+        while made < most {
             if self.is_stopped(core) {
                 return made;
             }
-            match self.step(core) {
-                Ok(_outcome) => {}
-                Err(StepFault::LimitReached) => return made,
-                Err(StepFault::NoSuchCore) => unreachable!(),
+            match self.transact(core, most - made) {
+                0 => match self.step(core) {
+                    Ok(_outcome) => made += 1,
+                    Err(StepFault::LimitReached) => return made,
+                    Err(StepFault::NoSuchCore) => unreachable!(),
+                },
+                whole => made += whole,
             }
         }
-        most
+        made
+    }
+
+    // The transaction at a core's XBEGIN as a whole, of at most so many steps and as many as the history has room for:
+    // how many steps it was, 0 where there is none.
+    #[inline(always)]
+    fn transact(&mut self, core: u8, most: u32) -> u32
+        requires { core < length self.old.program.entries }
+        ensures most { result ≤ most }
+        ensures made { AreSteps self.old self.new core result }
+        ensures none { result ≡ 0 → self.new ≡ self.old }
+    {
+        let room = (self.limit() - self.made()).min(u64::from(most)) as u32;
+        match self.machine.transact(core, room) {
+            Some(inside) => {
+                push_transaction(&mut self.made, core, inside);
+                inside + 2
+            }
+            None => 0,
+        }
     }
 
     /// The machine.

@@ -19,6 +19,7 @@ mod replay;
 mod serial_core;
 mod step;
 mod usual;
+mod whole;
 
 pub use board::{Board, BoardFault, MOST_STEPS, StepFault};
 pub use history::History;

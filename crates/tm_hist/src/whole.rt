@@ -1,0 +1,21 @@
+//! The steps of a whole transaction, as a history keeps them.
+
+ghost use Rattle.std.specs.Prelude.{◌≡◌, ◌≤◌, ◌+◌, ◌++◌, map, vec_capacity, vec_len};
+ghost use Rattle.tm_core.specs.Theorem.{transaction_of};
+ghost use Rattle.tm_hist.specs.History.{pair_of};
+
+use crate::pair::Pair;
+use tm_core::Outcome;
+
+/// Keeps a core's transaction: its XBEGIN, so many instructions inside, and the XEND that commits it.
+pub fn push_transaction(made: &mut Vec<Pair>, core: u8, inside: u32)
+    requires { vec_len made.old + inside + 2 ≤ vec_capacity made.old }
+    ensures pairs { map pair_of made.new.items ≡ map pair_of made.old.items ++ transaction_of core inside }
+    ensures capacity { vec_capacity made.new ≡ vec_capacity made.old }
+{
+    made.push_reserved(Pair::new(core, Outcome::Begun));
+    for _ in 0..inside {
+        made.push_reserved(Pair::new(core, Outcome::Inside));
+    }
+    made.push_reserved(Pair::new(core, Outcome::Committed));
+}
