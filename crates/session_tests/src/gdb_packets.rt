@@ -2,34 +2,27 @@
 
 use gdb_packet::{Heard, Reader, write_packet};
 use ia_text::ToVec;
-use std::process::Abort;
 use std::test::Fail;
 
 #[test]
 fn packets_are_written(rt: HostRuntime) -> Result<(), Fail> {
+    let cases: [(&[u8], &[u8]); 8] = [
+        (b"g", b"$g#67"),
+        (b"OK", b"$OK#9a"),
+        (b"", b"$#00"),
+        (b"qSupported", b"$qSupported#37"),
+        (b"}a", b"$}]a#3b"),
+        (b"*", b"$}\x0a#87"),
+        (b"#", b"$}\x03#80"),
+        (b"$", b"$}\x04#81"),
+    ];
     let mut out = ToVec::new(Vec::new(rt.alloc()));
-    write_packet(b"g", &mut out)?;
-    write_packet(b"OK", &mut out)?;
-    write_packet(b"", &mut out)?;
-    write_packet(b"qSupported", &mut out)?;
-    assert_eq!(rt;
-        out.bytes.as_slice(),
-        b"$g#67$OK#9a$#00$qSupported#37".as_slice()
-    );
-    Ok(())
-}
-
-#[test]
-fn escapes_are_written(rt: HostRuntime) -> Result<(), Fail> {
-    let mut out = ToVec::new(Vec::new(rt.alloc()));
-    write_packet(b"}a", &mut out)?;
-    write_packet(b"*", &mut out)?;
-    write_packet(b"#", &mut out)?;
-    write_packet(b"$", &mut out)?;
-    assert_eq!(rt;
-        out.bytes.as_slice(),
-        b"$}]a#3b$}\x0a#87$}\x03#80$}\x04#81".as_slice()
-    );
+    for (packet, text) in cases {
+        assert!(rt; packet.len() <= 16384);
+        out.bytes.clear();
+        write_packet(packet, &mut out)?;
+        assert_eq!(rt; out.bytes.as_slice(), text);
+    }
     Ok(())
 }
 
@@ -42,50 +35,52 @@ fn last_heard(reader: &mut Reader, bytes: &[u8]) -> Heard {
     heard
 }
 
-fn assert_packet(rt: &impl Abort, reader: &mut Reader, sent: &[u8], told: &[u8]) {
-    match last_heard(reader, sent) {
-        Heard::Packet(bytes) => assert_eq!(rt; bytes.as_slice(), told),
-        _ => assert!(rt; false, "no packet"),
+// Whether this is heard, with these bytes where some come with it.
+fn is_heard(heard: &Heard, word: &str, bytes: &[u8]) -> bool {
+    match heard {
+        Heard::Packet(packet) => word == "packet" && packet.as_slice() == bytes,
+        Heard::Stray(byte) => word == "stray" && [*byte].as_slice() == bytes,
+        Heard::Damaged => word == "damaged",
+        Heard::TooLong => word == "too long",
+        Heard::Resend => word == "resend",
+        Heard::Nothing => word == "nothing",
+        Heard::Interrupt => word == "interrupt",
+        Heard::Received => word == "received",
     }
 }
 
+// One reader hears all of these, one behind the other.
 #[test]
 fn packets_are_read(rt: HostRuntime) {
+    let cases: [(&[u8], &str, &[u8]); 15] = [
+        (b"$g#67", "packet", b"g"),
+        (b"+$qSupported#37", "packet", b"qSupported"),
+        (b"$#00", "packet", b""),
+        (b"$}]a#3b", "packet", b"}a"),
+        (b"$}\x03}\x04#01", "packet", b"#$"),
+        (b"$g#68", "damaged", b""),
+        (b"$g}#e4", "damaged", b""),
+        (b"$g$g#f2", "damaged", b""),
+        (b"$g#67", "packet", b"g"),
+        (b"+", "received", b""),
+        (b"-", "resend", b""),
+        (b"\x03", "interrupt", b""),
+        (b"x", "stray", b"x"),
+        (b"$", "nothing", b""),
+        (b"\x03", "nothing", b""),
+    ];
     let mut reader = Reader::new();
-    assert_packet(&rt, &mut reader, b"$g#67", b"g");
-    assert_packet(&rt, &mut reader, b"+$qSupported#37", b"qSupported");
-    assert_packet(&rt, &mut reader, b"$#00", b"");
-    assert_packet(&rt, &mut reader, b"$}]a#3b", b"}a");
-    assert_packet(&rt, &mut reader, b"$}\x03}\x04#01", b"#$");
-}
-
-#[test]
-fn damage_is_told(rt: HostRuntime) {
-    let mut reader = Reader::new();
-    assert!(rt; matches!(last_heard(&mut reader, b"$g#68"), Heard::Damaged));
-    assert!(rt; matches!(last_heard(&mut reader, b"$g}#e4"), Heard::Damaged));
-    assert!(rt; matches!(last_heard(&mut reader, b"$g$g#f2"), Heard::Damaged));
-    assert_packet(&rt, &mut reader, b"$g#67", b"g");
-}
-
-#[test]
-fn bytes_outside_are_told(rt: HostRuntime) {
-    let mut reader = Reader::new();
-    assert!(rt; matches!(reader.hear(b'+'), Heard::Received));
-    assert!(rt; matches!(reader.hear(b'-'), Heard::Resend));
-    assert!(rt; matches!(reader.hear(3), Heard::Interrupt));
-    assert!(rt; matches!(reader.hear(b'x'), Heard::Stray(b'x')));
-    assert!(rt; matches!(reader.hear(b'$'), Heard::Nothing));
-    assert!(rt; matches!(reader.hear(3), Heard::Nothing));
-}
-
-#[test]
-fn a_long_packet_is_told(rt: HostRuntime) {
+    for (sent, word, bytes) in cases {
+        let heard = last_heard(&mut reader, sent);
+        assert!(rt; is_heard(&heard, word, bytes), "{word}: {sent:?}");
+    }
     let mut reader = Reader::new();
     let _ = reader.hear(b'$');
     for _ in 0..16385_u32 {
         let _ = reader.hear(b'a');
     }
-    assert!(rt; matches!(last_heard(&mut reader, b"#00"), Heard::TooLong));
-    assert_packet(&rt, &mut reader, b"$g#67", b"g");
+    let heard = last_heard(&mut reader, b"#00");
+    assert!(rt; is_heard(&heard, "too long", b""));
+    let heard = last_heard(&mut reader, b"$g#67");
+    assert!(rt; is_heard(&heard, "packet", b"g"));
 }
