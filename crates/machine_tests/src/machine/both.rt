@@ -1,17 +1,128 @@
-//! The worked schedules over both representations of the sets: what each step comes to, and what is shown behind it, is
-//! the same. The outcomes themselves stand beside, over the directory.
+//! Runs over both representations of the sets: what each step comes to, and what is shown and told before and behind it, is the
+//! same. What that is over the directory, the worked rows of `doc_tests` show.
 
 ghost use Rattle.std.specs.Prelude.{◌≤◌};
 
-use super::{ADDS, BEGIN, LIMITS, joined, program};
+use super::program;
 use ia_image::Program;
 use std::alloc::Global;
 use std::process::Abort;
-use tm_core::{Limits, Machine};
+use tm_core::{Limits, Machine, transactions_are_as_they_went};
 use tm_sets::{Kind, PlainSets};
 
+/// Runs, one a line: the code and the entries of the cores in hex, how many lines each may read and write, and the cores that step.
+const RUNS: &str = "\
+c7f80f000000a10010000040a3001000000f01d5f4f4; 100 100; 512 512; 0 0 1 1 0 0 0 1\n\
+c7f80f000000a10010000040a3001000000f01d5f4f4; 100 100; 512 512; 0 0 0 0 1 1 0 1 1 1\n\
+c7f80f000000a10010000040a3001000000f01d5f4f4; 100 100; 512 512; 0 0 0 0 0 0 1 1 1 1 1 1\n\
+ff0500100000f4; 100 100; 512 512; 0 1 0 1 0 1 0 1\n\
+f0ff0500100000f4; 100 100; 512 512; 0 1 0 1\n\
+c7f80f000000a10010000040a3001000000f01d5f4f4c6053c10000007; 100 116; 512 512; 0 0 1 0\n\
+c7f80f000000a10010000040a3001000000f01d5f4f4c6055410000007; 100 116; 512 512; 0 0 1 0\n\
+c7f80f000000a10010000040a3001000000f01d5f4f4f00fb11d00100000; 100 116; 512 512; 0 0 1 0\n\
+c7f80f000000a10010000040a3001000000f01d5f4f4c6050010000007c6050010000007; 100 116; 512 512; 0 0 0 0 1 1 0\n\
+c7f80f000000a10010000040a3001000000f01d5f4f4a100100000; 100 116; 512 512; 0 0 0 0 1 0\n\
+c7f80f000000a10010000040a3001000000f01d5f4f4a13c100000; 100 116; 512 512; 0 0 1 0\n\
+c7f80f000000a10010000040a3001000000f01d5f4f4ff0500100000; 100 116; 512 512; 0 0 1 0 1 0\n\
+c7f80f000000a10010000040a3001000000f01d5f4f4ff0500100000; 100 116; 512 512; 0 0 0 0 1 0\n\
+c7f800000000c6f8ab; 100; 512 512; 0 0\n\
+c7f800000000c7f800000000c6f8ab; 100; 512 512; 0 0 0\n\
+c7f8fafffffff4; 100; 512 512; 0 0 0 0\n\
+c7f800000000f7f3; 100; 512 512; 0 0\n\
+c7f800000000c7f800000000c7f800000000c7f800000000c7f800000000c7f800000000c7f800000000c7f800000000; \
+100; 512 512; 0 0 0 0 0 0 0 0\n\
+c7f800000000c7053e10000044332211a13e1000000f01d5; 100; 512 512; 0 0 0 0\n\
+c7f800000000c7053e10000044332211a13e1000000f01d5; 100; 512 1; 0 0\n\
+c7f800000000f9c6050010000001c6054010000002; 100; 512 1; 0 0 0 0\n\
+c7f800000000f9c6050010000001c6054010000002; 100; 512 2; 0 0 0 0\n\
+c7f800000000c6050110000055a100100000; 100; 512 512; 0 0 0\n\
+0f01d6c7f8000000000f01d6; 100; 512 512; 0 0 0\n\
+0f01d5; 100; 512 512; 0 0\n\
+a10010000083c001a300100000f4; 100 100; 512 512; 0 1 0 1 0 1 0 1\n\
+b8ffffffff83c001; 100; 512 512; 0 0\n\
+b800000080bb0100000039d801d803c3; 100; 512 512; 0 0 0 0 0\n\
+545c; 100; 512 512; 0 0\n\
+b80700000031c90fa2; 100; 512 512; 0 0 0\n\
+ebffc0f4; 100; 512 512; 0 0 0\n\
+c7f80f00; 100; 512 512; 0 0\n\
+f08918; 100; 512 512; 0 0\n\
+f7f3; 100; 512 512; 0 0\n\
+a300010000; 100; 512 512; 0 0\n\
+c7f800000000a300010000; 100; 512 512; 0 0\n\
+a1feff0000; 100; 512 512; 0 0\n\
+a1fdff0000; 100; 512 512; 0 0\n\
+a1fcff0000; 100; 512 512; 0\n\
+c7f800000000a13e100000a33e100000; 100 10b; 512 512; 0 0 1 0\n\
+c7f800000000a13e100000a340100000; 100 10b; 512 512; 0 0 1\n\
+c7f800000000a340100000a13e100000; 100 10b; 512 512; 0 0 1\n\
+c7f800000000a13e100000a13e100000; 100 10b; 512 512; 0 0 1\n\
+c7f800000000a340100000c7f800000000a13e100000; 100 10b; 512 512; 0 0 1 1\n\
+c7f800000000a30010000087050010000090; 100 10b; 512 512; 0 0 1\n\
+c7f800000000a300100000f0ff0500100000; 100 10b; 512 512; 0 0 1\n\
+c7f800000000a100100000ff0500100000; 100 10b; 512 512; 0 0 1 1\n\
+c7f800000000a300100000ff0500100000; 100 10b; 512 512; 0 0 1 1\n\
+c7f800000000a380100000a3001000000f01d5c7f800000000a180100000a100100000; 100 113; 512 512; 1 1 1 0 0 0 0 1\n\
+c7f800000000cc; 100; 512 512; 0 0\n\
+c7f800000000f390; 100; 512 512; 0 0\n\
+c7f8000000000fa2; 100; 512 512; 0 0\n\
+c7f800000000f4; 100; 512 512; 0 0\n\
+c7f8000000000f0b; 100; 512 512; 0 0\n\
+c7f800000000a100000100; 100; 512 512; 0 0\n\
+c7f800000000a300000100; 100; 512 512; 0 0\n\
+c7f800000000; 100; 512 512; 0 0\n\
+c7f80000000006; 100; 512 512; 0 0\n\
+c7f800000000a13e100000f4f4f4f4f4; 100; 1 1; 0 0\n\
+c7f800000000a33e100000f4f4f4f4f4; 100; 1 1; 0 0\n\
+c7f800000000a100100000a17e100000; 100; 1 1; 0 0 0\n\
+c7f800000000a300100000a3fc0f0000; 100; 1 1; 0 0 0\n";
+
+/// A run of the table.
+#[derive(Drop)]
+struct Run {
+    code: Vec<u8>,
+    entries: Vec<u32>,
+    limits: Limits,
+    steps: Vec<u8>,
+}
+
+fn entries_of(alloc: Global, words: &str) -> Option<Vec<u32>> {
+    let mut entries = Vec::new(alloc);
+    for word in words.split_whitespace() {
+        entries.push(u32::from_str_radix(word, 16).ok()?).ok()?;
+    }
+    Some(entries)
+}
+
+fn steps_of(alloc: Global, words: &str) -> Option<Vec<u8>> {
+    let mut steps = Vec::new(alloc);
+    for word in words.split_whitespace() {
+        steps.push(word.parse::<u8>().ok()?).ok()?;
+    }
+    Some(steps)
+}
+
+fn limits_of(words: &str) -> Option<Limits> {
+    let (reads, writes) = words.split_once(' ')?;
+    Some(Limits {
+        read_lines: reads.parse::<u32>().ok()?,
+        write_lines: writes.parse::<u32>().ok()?,
+    })
+}
+
+fn run_of(alloc: Global, row: &str) -> Option<Run> {
+    let (digits, rest) = row.split_once("; ")?;
+    let (entries, rest) = rest.split_once("; ")?;
+    let (limits, steps) = rest.split_once("; ")?;
+    Some(Run {
+        code: hex::decode(alloc, digits).ok()?,
+        entries: entries_of(alloc, entries)?,
+        limits: limits_of(limits)?,
+        steps: steps_of(alloc, steps)?,
+    })
+}
+
 /// A machine over plain sets.
-pub fn over_plain_sets(
+fn over_plain_sets(
     rt: &impl Abort,
     alloc: Global,
     program: &Program,
@@ -53,235 +164,50 @@ fn show_alike(
     }
 }
 
-/// Both show the same memory, and the same of each core.
+/// Both tell the same of a core's next step before it is made: why it is an abort, whom it hits and on which line. And both tell how
+/// large its sets are.
+fn tell_alike(rt: &impl Abort, listed: &Machine, plain: &Machine<PlainSets>, core: u8) {
+    assert_eq!(rt; listed.abort_reason(core), plain.abort_reason(core));
+    assert_eq!(rt; listed.counts(core), plain.counts(core));
+    for victim in 0..listed.cores() {
+        assert_eq!(rt; listed.hit(core, victim), plain.hit(core, victim));
+    }
+}
+
+/// Both show the same memory, and show and tell the same of each core.
 fn all_alike(rt: &impl Abort, alloc: Global, listed: &Machine, plain: &Machine<PlainSets>) {
     assert_eq!(rt; listed.cores(), plain.cores());
     assert!(rt; listed.view() == plain.view());
     for core in 0..listed.cores() {
         show_alike(rt, alloc, listed, plain, core);
+        tell_alike(rt, listed, plain, core);
     }
 }
 
-/// A schedule comes to the same on both, with room for so many lines that are written.
-fn run_alike(
-    rt: &impl Abort,
-    alloc: Global,
-    code: &[u8],
-    entries: &[u32],
-    write_lines: u32,
-    schedule: &[u8],
-)
-    requires some { 1 ≤ write_lines }
-    requires most { write_lines ≤ 4096 }
-{
-    let program = program(rt, alloc, code, entries);
-    let limits = Limits {
-        read_lines: 512,
-        write_lines,
-    };
+/// A run comes to the same on both.
+fn run_alike(rt: &impl Abort, alloc: Global, run: &Run) {
+    let limits = run.limits;
+    assert!(rt; limits.read_lines >= 1);
+    assert!(rt; limits.read_lines <= 4096);
+    assert!(rt; limits.write_lines >= 1);
+    assert!(rt; limits.write_lines <= 4096);
+    let program = program(rt, alloc, run.code.as_slice(), run.entries.as_slice());
     let mut listed: Machine = Machine::new(alloc, &program, limits).expect(rt, "makes");
     let mut plain = over_plain_sets(rt, alloc, &program, limits);
     all_alike(rt, alloc, &listed, &plain);
-    for core in schedule {
+    for core in run.steps.as_slice() {
         assert_eq!(rt; listed.step(*core), plain.step(*core));
         all_alike(rt, alloc, &listed, &plain);
     }
 }
 
-/// One core at this code.
-fn alone(rt: &impl Abort, alloc: Global, code: &[u8], write_lines: u32, schedule: &[u8])
-    requires some { 1 ≤ write_lines }
-    requires most { write_lines ≤ 4096 }
-{
-    run_alike(rt, alloc, code, &[0x100], write_lines, schedule);
-}
-
-/// Core 0 at `ADDS`, and core 1 at this code behind it.
-fn beside(rt: &impl Abort, alloc: Global, other: &[u8], schedule: &[u8]) {
-    let code = joined(rt, alloc, &ADDS, other);
-    run_alike(rt, alloc, &code, &[0x100, 0x116], 512, schedule);
-}
-
 #[test]
-fn two_cores_at_the_same_code(rt: HostRuntime) {
-    let alloc = rt.alloc();
-    let entries = [0x100, 0x100];
-    run_alike(
-        &rt,
-        alloc,
-        &ADDS,
-        &entries,
-        LIMITS.write_lines,
-        &[0, 0, 1, 1, 0, 0, 0, 1],
-    );
-    run_alike(
-        &rt,
-        alloc,
-        &ADDS,
-        &entries,
-        512,
-        &[0, 0, 0, 0, 1, 1, 0, 1, 1, 1],
-    );
-    run_alike(
-        &rt,
-        alloc,
-        &ADDS,
-        &entries,
-        512,
-        &[0, 0, 0, 0, 0, 0, 1, 1, 1, 1, 1, 1],
-    );
-    // inc dword [1000h]; hlt
-    let steps = [0xff, 0x05, 0, 0x10, 0, 0, 0xf4];
-    run_alike(&rt, alloc, &steps, &entries, 512, &[0, 1, 0, 1, 0, 1, 0, 1]);
-    // the same with LOCK
-    let locked = joined(&rt, alloc, &[0xf0], &steps);
-    run_alike(&rt, alloc, &locked, &entries, 512, &[0, 1, 0, 1]);
-}
-
-#[test]
-fn a_store_beside_a_transaction(rt: HostRuntime) {
-    let alloc = rt.alloc();
-    // mov byte [103ch], 7 and mov byte [1054h], 7
-    beside(
-        &rt,
-        alloc,
-        &[0xc6, 0x05, 0x3c, 0x10, 0, 0, 7],
-        &[0, 0, 1, 0],
-    );
-    beside(
-        &rt,
-        alloc,
-        &[0xc6, 0x05, 0x54, 0x10, 0, 0, 7],
-        &[0, 0, 1, 0],
-    );
-    // lock cmpxchg [1000h], ebx
-    beside(
-        &rt,
-        alloc,
-        &[0xf0, 0x0f, 0xb1, 0x1d, 0, 0x10, 0, 0],
-        &[0, 0, 1, 0],
-    );
-    // mov byte [1000h], 7, twice
-    let store = [0xc6, 0x05, 0, 0x10, 0, 0, 7];
-    let twice = joined(&rt, alloc, &store, &store);
-    beside(&rt, alloc, &twice, &[0, 0, 0, 0, 1, 1, 0]);
-}
-
-#[test]
-fn a_load_beside_a_transaction(rt: HostRuntime) {
-    let alloc = rt.alloc();
-    // mov eax, [1000h] and mov eax, [103ch]
-    beside(&rt, alloc, &[0xa1, 0, 0x10, 0, 0], &[0, 0, 0, 0, 1, 0]);
-    beside(&rt, alloc, &[0xa1, 0x3c, 0x10, 0, 0], &[0, 0, 1, 0]);
-    // inc dword [1000h], in two steps
-    beside(
-        &rt,
-        alloc,
-        &[0xff, 0x05, 0, 0x10, 0, 0],
-        &[0, 0, 1, 0, 1, 0],
-    );
-    beside(
-        &rt,
-        alloc,
-        &[0xff, 0x05, 0, 0x10, 0, 0],
-        &[0, 0, 0, 0, 1, 0],
-    );
-}
-
-#[test]
-fn aborts_and_levels(rt: HostRuntime) {
-    let alloc = rt.alloc();
-    // xabort abh, alone and nested; an XBEGIN that is its own fallback; div ebx
-    let code = joined(&rt, alloc, &BEGIN, &[0xc6, 0xf8, 0xab]);
-    alone(&rt, alloc, &code, 512, &[0, 0]);
-    let nested = joined(&rt, alloc, &BEGIN, &code);
-    alone(&rt, alloc, &nested, 512, &[0, 0, 0]);
-    alone(
-        &rt,
-        alloc,
-        &[0xc7, 0xf8, 0xfa, 0xff, 0xff, 0xff, 0xf4],
-        512,
-        &[0, 0, 0, 0],
-    );
-    let divides = joined(&rt, alloc, &BEGIN, &[0xf7, 0xf3]);
-    alone(&rt, alloc, &divides, 512, &[0, 0]);
-    let two = joined(&rt, alloc, &BEGIN, &BEGIN);
-    let four = joined(&rt, alloc, &two, &two);
-    let eight = joined(&rt, alloc, &four, &four);
-    alone(&rt, alloc, &eight, 512, &[0, 0, 0, 0, 0, 0, 0, 0]);
-}
-
-#[test]
-fn room_and_lines(rt: HostRuntime) {
-    let alloc = rt.alloc();
-    // mov dword [103eh], 11223344h, over the end of a line; mov eax, [103eh]; xend
-    let over = [
-        0xc7, 0x05, 0x3e, 0x10, 0, 0, 0x44, 0x33, 0x22, 0x11, 0xa1, 0x3e, 0x10, 0, 0, 0x0f, 0x01,
-        0xd5,
-    ];
-    let code = joined(&rt, alloc, &BEGIN, &over);
-    alone(&rt, alloc, &code, 512, &[0, 0, 0, 0]);
-    alone(&rt, alloc, &code, 1, &[0, 0]);
-    // stc; mov byte [1000h], 1; mov byte [1040h], 2
-    let stores = [
-        0xf9, 0xc6, 0x05, 0, 0x10, 0, 0, 1, 0xc6, 0x05, 0x40, 0x10, 0, 0, 2,
-    ];
-    let code = joined(&rt, alloc, &BEGIN, &stores);
-    alone(&rt, alloc, &code, 1, &[0, 0, 0, 0]);
-    alone(&rt, alloc, &code, 2, &[0, 0, 0, 0]);
-    // mov byte [1001h], 55h; mov eax, [1000h]
-    let sees = [0xc6, 0x05, 0x01, 0x10, 0, 0, 0x55, 0xa1, 0, 0x10, 0, 0];
-    let code = joined(&rt, alloc, &BEGIN, &sees);
-    alone(&rt, alloc, &code, 512, &[0, 0, 0]);
-    // xtest, outside and inside; xend outside
-    let test = joined(&rt, alloc, &[0x0f, 0x01, 0xd6], &BEGIN);
-    let code = joined(&rt, alloc, &test, &[0x0f, 0x01, 0xd6]);
-    alone(&rt, alloc, &code, 512, &[0, 0, 0]);
-    alone(&rt, alloc, &[0x0f, 0x01, 0xd5], 512, &[0, 0]);
-}
-
-#[test]
-fn outside_of_transactions(rt: HostRuntime) {
-    let alloc = rt.alloc();
-    // mov eax, [1000h]; add eax, 1; mov [1000h], eax; hlt
-    let adds = [
-        0xa1, 0, 0x10, 0, 0, 0x83, 0xc0, 1, 0xa3, 0, 0x10, 0, 0, 0xf4,
-    ];
-    let entries = [0x100, 0x100];
-    run_alike(&rt, alloc, &adds, &entries, 512, &[0, 1, 0, 1, 0, 1, 0, 1]);
-    // mov eax, -1; add eax, 1
-    let carries = [0xb8, 0xff, 0xff, 0xff, 0xff, 0x83, 0xc0, 1];
-    alone(&rt, alloc, &carries, 512, &[0, 0]);
-    // mov eax, 80000000h; mov ebx, 1; cmp eax, ebx; add eax, ebx, in both spellings
-    let compares = [
-        0xb8, 0, 0, 0, 0x80, 0xbb, 1, 0, 0, 0, 0x39, 0xd8, 0x01, 0xd8, 0x03, 0xc3,
-    ];
-    alone(&rt, alloc, &compares, 512, &[0, 0, 0, 0, 0]);
-    // push esp; pop esp
-    alone(&rt, alloc, &[0x54, 0x5c], 512, &[0, 0]);
-    // mov eax, 7; xor ecx, ecx; cpuid
-    let asks = [0xb8, 7, 0, 0, 0, 0x31, 0xc9, 0x0f, 0xa2];
-    alone(&rt, alloc, &asks, 512, &[0, 0, 0]);
-    // jmp short into its own second byte: inc eax; hlt
-    alone(&rt, alloc, &[0xeb, 0xff, 0xc0, 0xf4], 512, &[0, 0, 0]);
-}
-
-#[test]
-fn what_stops_a_core(rt: HostRuntime) {
-    let alloc = rt.alloc();
-    // an XBEGIN cut short; LOCK before a store of a register; div ebx
-    alone(&rt, alloc, &[0xc7, 0xf8, 0x0f, 0], 512, &[0, 0]);
-    alone(&rt, alloc, &[0xf0, 0x89, 0x18], 512, &[0, 0]);
-    alone(&rt, alloc, &[0xf7, 0xf3], 512, &[0, 0]);
-    // mov [100h], eax, into the code, outside and inside
-    let into_code = [0xa3, 0, 0x01, 0, 0];
-    alone(&rt, alloc, &into_code, 512, &[0, 0]);
-    let inside = joined(&rt, alloc, &BEGIN, &into_code);
-    alone(&rt, alloc, &inside, 512, &[0, 0]);
-    // mov eax, [fffeh] and mov eax, [fffdh], past the end of memory; mov eax, [fffch], its last four bytes
-    alone(&rt, alloc, &[0xa1, 0xfe, 0xff, 0, 0], 512, &[0, 0]);
-    alone(&rt, alloc, &[0xa1, 0xfd, 0xff, 0, 0], 512, &[0, 0]);
-    alone(&rt, alloc, &[0xa1, 0xfc, 0xff, 0, 0], 512, &[0]);
-    // no step at all: the opening state
-    run_alike(&rt, alloc, &ADDS, &[0x100, 0x100], 512, &[]);
+fn runs_are_the_same(rt: HostRuntime) {
+    transactions_are_as_they_went();
+    for row in RUNS.lines() {
+        match run_of(rt.alloc(), row) {
+            Some(run) => run_alike(&rt, rt.alloc(), &run),
+            None => assert!(rt; false, "no run: {row}"),
+        }
+    }
 }

@@ -4,16 +4,15 @@ use super::program;
 use ia_addr::Access;
 use ia_exec::Store;
 use ia_regs::{Flags, Regs};
-use ia_word::Width;
 use std::alloc::Global;
 use std::process::Abort;
 use tm_quick::{
-    Loaded, Ran, Told, Touched, access_of, line_at, quick, quick_inside, quick_load, quick_store,
+    Loaded, Ran, Told, access_of, line_at, quick, quick_inside, quick_load, quick_store,
     quick_store_told, quick_told, quick_whole, quick_with_value,
 };
 
 /// What each call answers at one instruction.
-#[derive(Clone, Copy, PartialEq, Eq, Debug)]
+#[derive(Clone, Copy, Debug)]
 struct Answered {
     ran: Ran,
     told: Told,
@@ -37,12 +36,6 @@ const NONE: Answered = Answered {
     whole: false,
     access: None,
     with_value: None,
-};
-
-/// The doubleword at 1000h.
-const PLACE: Access = Access {
-    addr: 0x1000,
-    width: Width::D,
 };
 
 /// Each call at the instruction at 100h, with EAX 7, a memory of zeros, and 5 as what is told to be loaded.
@@ -88,110 +81,48 @@ fn asked(rt: &impl Abort, alloc: Global, code: &[u8]) -> Answered {
     }
 }
 
-/// A store of this value to 1000h.
-fn stored(value: u32) -> Store {
-    Store {
-        addr: 0x1000,
-        width: Width::D,
-        value,
+/// Code in hex, and what each call answers at it, as it is printed. The code is test eax, eax; mov eax, [1000h]; mov [1000h], eax;
+/// inc dword [1000h]; inc dword [100h], into the code; mov eax, [2000h], past the memory's end, where whoever tells what it loads has
+/// asked before where that lies; hlt; xend; mul ebx.
+const ANSWERS: &str = "\
+85c0; Answered { ran: Whole, told: Whole(Touched { load: None, store: None }), load: None, store: false, \
+store_told: None, inside: true, whole: true, access: None, with_value: None }\n\
+a100100000; Answered { ran: Whole, told: Whole(Touched { load: Some(Access { addr: 4096, width: D }), store: None }), load: None, \
+store: false, store_told: None, inside: false, whole: true, access: Some(Some(Access { addr: 4096, width: D })), with_value: Some(None) }\n\
+a300100000; Answered { ran: Whole, told: Whole(Touched { load: None, store: Some(Store { addr: 4096, width: D, value: 7 }) }), \
+load: None, store: false, store_told: None, inside: false, whole: true, access: Some(None), \
+with_value: Some(Some(Store { addr: 4096, width: D, value: 7 })) }\n\
+ff0500100000; Answered { ran: First(0), told: First(Loaded { load: Access { addr: 4096, width: D }, value: 0 }), \
+load: Some(Loaded { load: Access { addr: 4096, width: D }, value: 0 }), store: true, \
+store_told: Some(Store { addr: 4096, width: D, value: 6 }), inside: false, whole: true, \
+access: Some(Some(Access { addr: 4096, width: D })), with_value: Some(Some(Store { addr: 4096, width: D, value: 6 })) }\n\
+ff0500010000; Answered { ran: Other, told: Other, load: None, store: false, store_told: None, inside: false, whole: false, \
+access: Some(Some(Access { addr: 256, width: D })), with_value: None }\n\
+a100200000; Answered { ran: Other, told: Other, load: None, store: false, store_told: None, inside: false, whole: false, \
+access: None, with_value: Some(None) }\n\
+f4; Answered { ran: Other, told: Other, load: None, store: false, store_told: None, inside: false, whole: false, \
+access: None, with_value: None }\n\
+0f01d5; Answered { ran: Other, told: Other, load: None, store: false, store_told: None, inside: false, whole: false, \
+access: None, with_value: None }\n\
+f7e3; Answered { ran: Other, told: Other, load: None, store: false, store_told: None, inside: false, whole: false, \
+access: None, with_value: None }\n";
+
+/// What each call answers at the instruction of these digits, as it is printed.
+fn printed(rt: &impl Abort, alloc: Global, digits: &str) -> Option<String> {
+    let code = hex::decode(alloc, digits).ok()?;
+    let answered = asked(rt, alloc, code.as_slice());
+    format!(in alloc; "{answered:?}").ok()
+}
+
+#[test]
+fn each_call_answers(rt: HostRuntime) {
+    for row in ANSWERS.lines() {
+        match row.split_once("; ") {
+            Some((digits, want)) => match printed(&rt, rt.alloc(), digits) {
+                Some(text) => assert_eq!(rt; text.as_str(), want, "{digits}"),
+                None => assert!(rt; false, "no answer: {digits}"),
+            },
+            None => assert!(rt; false, "no row: {row}"),
+        }
     }
-}
-
-/// That an instruction went on, with this load and this store.
-fn touched(load: Option<Access>, store: Option<Store>) -> Told {
-    Told::Whole(Touched { load, store })
-}
-
-#[test]
-fn on_registers(rt: HostRuntime) {
-    // test eax, eax
-    let expected = Answered {
-        ran: Ran::Whole,
-        told: touched(None, None),
-        inside: true,
-        whole: true,
-        ..NONE
-    };
-    assert_eq!(rt; asked(&rt, rt.alloc(), &[0x85, 0xc0]), expected);
-}
-
-#[test]
-fn loads(rt: HostRuntime) {
-    // mov eax, [1000h]
-    let expected = Answered {
-        ran: Ran::Whole,
-        told: touched(Some(PLACE), None),
-        whole: true,
-        access: Some(Some(PLACE)),
-        with_value: Some(None),
-        ..NONE
-    };
-    assert_eq!(rt; asked(&rt, rt.alloc(), &[0xa1, 0, 0x10, 0, 0]), expected);
-}
-
-#[test]
-fn stores(rt: HostRuntime) {
-    // mov [1000h], eax
-    let expected = Answered {
-        ran: Ran::Whole,
-        told: touched(None, Some(stored(7))),
-        whole: true,
-        access: Some(None),
-        with_value: Some(Some(stored(7))),
-        ..NONE
-    };
-    assert_eq!(rt; asked(&rt, rt.alloc(), &[0xa3, 0, 0x10, 0, 0]), expected);
-}
-
-#[test]
-fn changes_in_two_steps(rt: HostRuntime) {
-    // inc dword [1000h]
-    let first = Loaded {
-        load: PLACE,
-        value: 0,
-    };
-    let expected = Answered {
-        ran: Ran::First(0),
-        told: Told::First(first),
-        load: Some(first),
-        store: true,
-        store_told: Some(stored(6)),
-        inside: false,
-        whole: true,
-        access: Some(Some(PLACE)),
-        with_value: Some(Some(stored(6))),
-    };
-    assert_eq!(rt;
-        asked(&rt, rt.alloc(), &[0xff, 0x05, 0, 0x10, 0, 0]),
-        expected
-    );
-}
-
-#[test]
-fn what_does_not_go_on(rt: HostRuntime) {
-    // inc dword [100h], into the code
-    let into_code = Answered {
-        access: Some(Some(Access {
-            addr: 0x100,
-            width: Width::D,
-        })),
-        ..NONE
-    };
-    assert_eq!(rt;
-        asked(&rt, rt.alloc(), &[0xff, 0x05, 0, 1, 0, 0]),
-        into_code
-    );
-    // mov eax, [2000h], past the memory's end; whoever tells what it loads has asked before where that lies
-    let past_the_end = Answered {
-        with_value: Some(None),
-        ..NONE
-    };
-    assert_eq!(rt;
-        asked(&rt, rt.alloc(), &[0xa1, 0, 0x20, 0, 0]),
-        past_the_end
-    );
-    // hlt; xend; mul ebx
-    assert_eq!(rt; asked(&rt, rt.alloc(), &[0xf4]), NONE);
-    assert_eq!(rt; asked(&rt, rt.alloc(), &[0x0f, 0x01, 0xd5]), NONE);
-    assert_eq!(rt; asked(&rt, rt.alloc(), &[0xf7, 0xe3]), NONE);
 }

@@ -1,33 +1,18 @@
-//! What is refused.
+//! Cores that there are not, which a command refuses before it asks for them, and the numbers of faults.
 
-use super::{ADDS, LIMITS, program};
+use super::program;
 use tm_core::{CoreState, Limits, Machine, MachineFault, NoSuchCore, RunFault};
 use tm_sets::Kind;
 
-#[test]
-fn limits(rt: HostRuntime) {
-    let program = program(&rt, rt.alloc(), &ADDS, &[0x100]);
-    for (read_lines, write_lines) in [(0, 1), (1, 0), (4097, 1), (1, 4097)] {
-        let limits = Limits {
-            read_lines,
-            write_lines,
-        };
-        let refused: Result<Machine, MachineFault> = Machine::new(rt.alloc(), &program, limits);
-        assert!(rt; matches!(refused, Err(MachineFault::BadLimits)));
-    }
-    for (read_lines, write_lines) in [(1, 1), (4096, 4096)] {
-        let limits = Limits {
-            read_lines,
-            write_lines,
-        };
-        let made: Result<Machine, MachineFault> = Machine::new(rt.alloc(), &program, limits);
-        assert!(rt; made.is_ok());
-    }
-}
+const LIMITS: Limits = Limits {
+    read_lines: 512,
+    write_lines: 512,
+};
 
 #[test]
-fn cores(rt: HostRuntime) {
-    let program = program(&rt, rt.alloc(), &ADDS, &[0x100]);
+fn cores_that_there_are_not(rt: HostRuntime) {
+    // HLT.
+    let program = program(&rt, rt.alloc(), &[0xf4], &[0x100]);
     let mut machine: Machine = Machine::new(rt.alloc(), &program, LIMITS).expect(&rt, "makes");
     assert_eq!(rt; machine.cores(), 1);
     assert_eq!(rt; machine.step(1), Err(NoSuchCore));
@@ -41,11 +26,11 @@ fn cores(rt: HostRuntime) {
             Err(RunFault::NoSuchCore)
         )
     );
+    assert_eq!(rt; machine.hit(1, 0), Err(NoSuchCore));
+    assert_eq!(rt; machine.hit(0, 1), Err(NoSuchCore));
+    assert_eq!(rt; machine.abort_reason(1), Err(NoSuchCore));
+    assert_eq!(rt; machine.counts(1), Err(NoSuchCore));
     assert_eq!(rt; machine.state(0), Ok(CoreState::Running));
-}
-
-#[test]
-fn numbers(rt: HostRuntime) {
     assert_eq!(rt;
         (
             MachineFault::BadLimits.code(),
