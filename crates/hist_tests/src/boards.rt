@@ -87,17 +87,6 @@ fn a_full_history(rt: HostRuntime) {
 }
 
 #[test]
-fn an_open_transaction_replays(rt: HostRuntime) {
-    let mut board = board(&rt, rt.alloc(), &[0x100], 1000);
-    for _ in 0..4 {
-        assert!(rt; board.step(0).is_ok());
-    }
-    let end = board.replay(rt.alloc()).expect(&rt, "a run is replayed");
-    assert_eq!(rt; end.memory().get(0x1000), Some(&0));
-    assert_eq!(rt; end.regs(0), board.machine().base_regs(0));
-}
-
-#[test]
 fn limits_of_a_board(rt: HostRuntime) {
     let program = program(&rt, rt.alloc(), &[0x100]);
     let none = Limits {
@@ -144,21 +133,4 @@ fn steps_are_made_until_the_core_stops(rt: HostRuntime) {
     assert_eq!(rt; board.steps(0, 2), 2);
     assert_eq!(rt; board.steps(0, 9), 1);
     assert_eq!(rt; board.steps(0, 9), 0);
-}
-
-// Two XBEGIN and an XABORT of abh: the argument is the highest byte of the status.
-#[test]
-fn each_byte_of_a_status_is_kept(rt: HostRuntime) {
-    let code = [
-        0xc7, 0xf8, 0, 0, 0, 0, 0xc7, 0xf8, 0, 0, 0, 0, 0xc6, 0xf8, 0xab,
-    ];
-    let alloc = rt.alloc();
-    let program = load(alloc, &code, 0x100, 15, 8192, &[0x100]);
-    let program = program.expect(&rt, "it is loaded");
-    let board = Board::new(alloc, &program, LIMITS, 10);
-    let mut board = board.expect(&rt, "the board is made");
-    for outcome in [Begun, Inside, Aborted(0xab00_0021)] {
-        assert_eq!(rt; board.step(0), Ok(outcome));
-    }
-    assert_eq!(rt; board.history().get(2), Some((0, Aborted(0xab00_0021))));
 }

@@ -1,4 +1,5 @@
-//! Texts that were written by hand, each as it is to be printed or read.
+//! Texts with numbers that no command has, and serial runs of histories that were written by hand. All other lines, schedules and
+//! dumps the worked rows of `doc_tests` show.
 
 use ia_image::load;
 use ia_text::{ToVec, WriteFault};
@@ -7,155 +8,32 @@ use tm_hist::{History, SerialFault, serial, write_dump, write_outcome};
 use tm_rule::Stop;
 use tm_schedule::{ScheduleFault, read_schedule, read_steps, write_schedule};
 
+// Cores above 63, and addresses that go on at 0.
 #[test]
-fn outcome_lines(rt: HostRuntime) -> Result<(), WriteFault> {
+fn texts_are_written(rt: HostRuntime) -> Result<(), WriteFault> {
     let mut out = ToVec::new(Vec::new(rt.alloc()));
-    let steps = [
-        (0, Outcome::Plain),
-        (0, Outcome::Stopped(Stop::Protection)),
-        (0, Outcome::Stopped(Stop::Fetch)),
-        (9, Outcome::Idle),
-        (10, Outcome::Begun),
-        (100, Outcome::Inside),
-        (255, Outcome::Committed),
-        (1, Outcome::Aborted(0xab00_0021)),
-    ];
-    for (core, outcome) in &steps {
-        write_outcome(*core, outcome, &mut out)?;
-    }
-    let text =
-        b"0 plain\n0 stopped #GP\n0 stopped fetch\n9 idle\n10 begun\n100 inside\n255 committed\n1 aborted ab000021\n";
-    assert_eq!(rt; out.bytes.as_slice(), text.as_slice());
-    Ok(())
-}
-
-#[test]
-fn dump_lines(rt: HostRuntime) -> Result<(), WriteFault> {
-    let mut out = ToVec::new(Vec::new(rt.alloc()));
-    write_dump(&[1, 0, 0, 0], 0x1000, &mut out)?;
-    write_dump(&[], 0x1000, &mut out)?;
+    write_outcome(100, &Outcome::Inside, &mut out)?;
+    write_outcome(255, &Outcome::Committed, &mut out)?;
     write_dump(b"0123456789abcdefg", 0xffff_fff8, &mut out)?;
-    let text = b"00001000 01000000\nfffffff8 30313233343536373839616263646566\n00000008 67\n";
+    write_dump(&[], 0x1000, &mut out)?;
+    write_schedule(&[200; 33], &mut out)?;
+    let text =
+        b"100 inside\n255 committed\nfffffff8 30313233343536373839616263646566\n00000008 67\nschedule 2\n200*33\n";
     assert_eq!(rt; out.bytes.as_slice(), text.as_slice());
     Ok(())
 }
 
+// Cores above 63, and a list of steps in two lines.
 #[test]
-fn schedules_read(rt: HostRuntime) -> Result<(), ScheduleFault> {
-    let readable = [
-        (
-            b"schedule 1\n0 0 1 1 0 0 0 1\n".as_slice(),
-            [0, 0, 1, 1, 0, 0, 0, 1].as_slice(),
-        ),
-        (b"schedule 1", [].as_slice()),
-        (b"schedule 1\r\n\r\n 7  007\r\n255 ", [7, 7, 255].as_slice()),
-        (
-            b"schedule 2\n0*2 1*2 0*3 1\n".as_slice(),
-            [0, 0, 1, 1, 0, 0, 0, 1].as_slice(),
-        ),
-        (b"schedule 2".as_slice(), [].as_slice()),
-        (
-            b"schedule 2\r\n\r\n 02*007  255\r\n3*00000001 ".as_slice(),
-            [2, 2, 2, 2, 2, 2, 2, 255, 3].as_slice(),
-        ),
-    ];
-    for (text, cores) in &readable {
-        let read = read_schedule(rt.alloc(), text)?;
-        assert_eq!(rt; read.as_slice(), *cores);
-    }
-    let broken = [
-        (b"".as_slice(), 1),
-        (b"schedule 1 \n0".as_slice(), 1),
-        (b"schedule 1\r".as_slice(), 1),
-        (b"schedule 1\n0 x\n".as_slice(), 2),
-        (b"schedule 1\n0\n\n256".as_slice(), 4),
-        (b"schedule 1\n0001\n".as_slice(), 2),
-        (b"schedule 1\n1\t2\n".as_slice(), 2),
-        (b"schedule 1\n1\r".as_slice(), 2),
-        (b"schedule 1\n1,2\n".as_slice(), 2),
-        (b"schedule 1\n1*2\n".as_slice(), 2),
-        (b"schedule 3\n0\n".as_slice(), 1),
-        (b"schedule 2\n0*0\n".as_slice(), 2),
-        (b"schedule 2\n0\n256*1".as_slice(), 3),
-        (b"schedule 2\n0*16777217".as_slice(), 2),
-        (b"schedule 2\n0*000000001".as_slice(), 2),
-        (b"schedule 2\n1*".as_slice(), 2),
-        (b"schedule 2\n*1".as_slice(), 2),
-        (b"schedule 2\n1*2*3".as_slice(), 2),
-        (b"schedule 2\n1*+2".as_slice(), 2),
-        (b"schedule 2\n1 *2".as_slice(), 2),
-        (b"schedule 2\n0*16777216 x 0".as_slice(), 2),
-    ];
-    for (text, line) in &broken {
-        match read_schedule(rt.alloc(), text) {
-            Ok(_) => assert!(rt; false, "read, though line {line} breaks it"),
-            Err(fault) => {
-                assert!(rt; fault == ScheduleFault::BadSchedule(*line), "line {line}");
-                assert_eq!(rt; fault.code(), 52);
-            }
-        }
-    }
-    Ok(())
-}
-
-#[test]
-fn long_schedules(rt: HostRuntime) -> Result<(), ScheduleFault> {
-    let most = read_schedule(rt.alloc(), b"schedule 2\n0*16777215\n1\n\n")?;
-    assert_eq!(rt; most.len(), 16_777_216);
-    assert!(rt; most.last() == Some(&1));
-    let long = [
-        (b"schedule 2\n0*16777216 0\n".as_slice(), 2),
-        (b"schedule 2\n0*16777216\n\n 1\nx\n".as_slice(), 4),
-        (b"schedule 2\n0*16000000\n1*1000000\n".as_slice(), 3),
-    ];
-    for (text, line) in &long {
-        match read_schedule(rt.alloc(), text) {
-            Ok(_) => assert!(rt; false, "read, though the steps are too many at line {line}"),
-            Err(fault) => {
-                assert!(rt; fault == ScheduleFault::TooManySteps(*line), "line {line}");
-                assert_eq!(rt; fault.code(), 56);
-            }
-        }
-    }
-    Ok(())
-}
-
-#[test]
-fn steps_read(rt: HostRuntime) -> Result<(), ScheduleFault> {
-    let read = read_steps(rt.alloc(), b"0 2\n15")?;
-    assert_eq!(rt; read.as_slice(), [0, 2, 15].as_slice());
-    let none = read_steps(rt.alloc(), b"")?;
-    assert!(rt; none.is_empty());
-    assert!(rt; read_steps(rt.alloc(), b"0,1").is_err());
-    Ok(())
-}
-
-#[test]
-fn schedules_written(rt: HostRuntime) -> Result<(), WriteFault> {
-    let lists = [
-        ([].as_slice(), b"schedule 2\n".as_slice()),
-        (
-            [0, 0, 1, 1, 0, 0, 0, 1].as_slice(),
-            b"schedule 2\n0*2 1*2 0*3 1\n".as_slice(),
-        ),
-        ([200; 33].as_slice(), b"schedule 2\n200*33\n".as_slice()),
-        (
-            [
-                1, 2, 3, 4, 5, 6, 7, 8, 9, 10, 11, 12, 13, 14, 15, 16, 17, 17,
-            ]
-            .as_slice(),
-            b"schedule 2\n1 2 3 4 5 6 7 8 9 10 11 12 13 14 15 16\n17*2\n".as_slice(),
-        ),
-    ];
-    for (cores, text) in &lists {
-        let mut out = ToVec::new(Vec::new(rt.alloc()));
-        write_schedule(cores, &mut out)?;
-        assert_eq!(rt; out.bytes.as_slice(), *text);
-        match read_schedule(rt.alloc(), out.bytes.as_slice()) {
-            Ok(back) => assert_eq!(rt; back.as_slice(), *cores),
-            Err(fault) => assert!(rt; false, "{fault}"),
-        }
-    }
+fn texts_are_read(rt: HostRuntime) -> Result<(), ScheduleFault> {
+    let read = read_schedule(rt.alloc(), b"schedule 1\r\n\r\n 7  007\r\n255 ")?;
+    assert_eq!(rt; read.as_slice(), [7, 7, 255].as_slice());
+    let runs = read_schedule(rt.alloc(), b"schedule 2\r\n\r\n 02*007  255\r\n3*00000001 ")?;
+    assert_eq!(rt; runs.as_slice(), [2, 2, 2, 2, 2, 2, 2, 255, 3].as_slice());
+    let back = read_schedule(rt.alloc(), b"schedule 2\n200*33\n")?;
+    assert_eq!(rt; back.as_slice(), [200; 33].as_slice());
+    let steps = read_steps(rt.alloc(), b"0 2\n15")?;
+    assert_eq!(rt; steps.as_slice(), [0, 2, 15].as_slice());
     Ok(())
 }
 

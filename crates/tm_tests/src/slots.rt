@@ -1,46 +1,10 @@
-//! Two representations of the sets beside one another, and a transaction that stores over the end of a line.
+//! Two representations of the sets beside one another.
 
 ghost use Rattle.std.specs.Prelude.{◌≡◌, ◌<◌};
 
-use ia_image::load;
 use std::alloc::Global;
 use std::process::Abort;
-use tm_core::{Limits, Machine, Outcome};
 use tm_sets::{Directory, Kind, PlainSets, Sets};
-
-/// Lines 40h and 41h meet at 1040h.
-#[test]
-fn a_transaction_stores_over_the_end_of_a_line(rt: HostRuntime) {
-    // xbegin 106h; mov dword [103eh], 11223344h; mov eax, [103eh]; xend
-    let code = [
-        0xc7, 0xf8, 0, 0, 0, 0, 0xc7, 0x05, 0x3e, 0x10, 0, 0, 0x44, 0x33, 0x22, 0x11, 0xa1, 0x3e,
-        0x10, 0, 0, 0x0f, 0x01, 0xd5,
-    ];
-    let program = load(rt.alloc(), &code, 0x100, 24, 0x1_0000, &[0x100]).expect(&rt, "loads");
-    let limits = Limits {
-        read_lines: 2,
-        write_lines: 2,
-    };
-    let mut machine: Machine = Machine::new(rt.alloc(), &program, limits).expect(&rt, "makes");
-    let outcomes = machine.run(rt.alloc(), &[0, 0, 0]).expect(&rt, "runs");
-    assert_eq!(rt;
-        outcomes.as_slice(),
-        [Outcome::Begun, Outcome::Inside, Outcome::Inside].as_slice()
-    );
-    assert_eq!(rt; machine.regs(0).expect(&rt, "core").gpr[0], 0x1122_3344);
-    assert_eq!(rt; machine.view().get(0x103e), Some(&0));
-    assert_eq!(rt; machine.step(0), Ok(Outcome::Committed));
-    for address in 0x1000..0x1080 {
-        let want = match address {
-            0x103e => 0x44,
-            0x103f => 0x33,
-            0x1040 => 0x22,
-            0x1041 => 0x11,
-            _ => 0,
-        };
-        assert_eq!(rt; machine.view().get(address), Some(&want), "at {address:x}");
-    }
-}
 
 /// Both list the same lines of a core, and have the same room.
 fn same_lines<A: Sets, B: Sets>(
