@@ -1,61 +1,9 @@
-//! Each fault of the loader at its limit and one past it, and image text by example.
+//! A program that was loaded, and image text by example.
 
 use ia_image::{ImageFault, LoadFault, load, read_image, write_image};
 use ia_row::Row;
 use ia_text::{Out, ToVec};
-use std::alloc::Global;
 use std::test::Fail;
-
-const ENTRIES: [u32; 65] = [256; 65];
-
-fn outcome(
-    alloc: Global,
-    len: usize,
-    base: u32,
-    code_len: u32,
-    mem_size: u32,
-    entries: &[u32],
-) -> Option<LoadFault> {
-    let image = [0xf4; 16];
-    load(
-        alloc,
-        &image[..len.min(16)],
-        base,
-        code_len,
-        mem_size,
-        entries,
-    )
-    .err()
-}
-
-#[test]
-fn limits(rt: HostRuntime) -> Result<(), Fail> {
-    let most = 268_435_456;
-    let cases: [(usize, u32, u32, u32, usize, Option<LoadFault>); 16] = [
-        (1, 256, 1, 8192, 1, None),
-        (0, 256, 1, 8192, 0, Some(LoadFault::Empty)),
-        (1, 256, 1, 8191, 0, Some(LoadFault::BadCores)),
-        (1, 256, 1, 266_240, 64, None),
-        (1, 256, 1, 8191, 65, Some(LoadFault::BadCores)),
-        (1, 8192, 1, 8191, 1, Some(LoadFault::BadMemorySize)),
-        (1, 256, 1, 4096, 1, Some(LoadFault::BadMemorySize)),
-        (1, 256, 1, 262_144, 64, Some(LoadFault::BadMemorySize)),
-        (1, 256, 1, most, 1, None),
-        (1, 256, 1, most + 4096, 1, Some(LoadFault::BadMemorySize)),
-        (16, 8176, 17, 8192, 1, Some(LoadFault::CodeTooLong)),
-        (16, 8177, 17, 8192, 1, Some(LoadFault::TooLarge)),
-        (16, u32::MAX, 1, 8192, 1, Some(LoadFault::TooLarge)),
-        (16, 255, 16, 8192, 1, None),
-        (16, 257, 16, 8192, 1, Some(LoadFault::EntryOutsideCode)),
-        (16, 255, 1, 8192, 1, Some(LoadFault::EntryOutsideCode)),
-    ];
-    for (len, base, code_len, mem_size, cores, fault) in cases {
-        assert!(rt; cores <= 65);
-        let found = outcome(rt.alloc(), len, base, code_len, mem_size, &ENTRIES[..cores]);
-        assert_eq!(rt; found, fault);
-    }
-    Ok(())
-}
 
 #[test]
 fn a_program(rt: HostRuntime) -> Result<(), Fail> {

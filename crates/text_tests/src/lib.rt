@@ -1,11 +1,8 @@
-//! Tests of listings, their devices, images and executables, by the public calls, on values by hand.
+//! Tests of lines of listings, their devices and images, by the public calls, on values by hand: what no row of `doc_tests` shows.
 //!
-//! Stands on `ia_text`, `ia_image` and `ia_elf`, and has no function of its own. They stand here, and not in `ia_elf`, so that
-//! it is proved once.
+//! Stands on `ia_text` and `ia_image`, and has no function of its own.
 #![tactic(auto)]
 
-#[cfg(test)]
-mod executables;
 #[cfg(test)]
 mod images;
 #[cfg(test)]

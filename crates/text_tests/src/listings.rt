@@ -1,8 +1,6 @@
-//! Listings and instructions by example, and devices that fail.
+//! A line of a listing, and devices that fail.
 
-use ia_insn::{Insn, Op};
-use ia_text::{Out, ToVec, ToWriter, WriteFault, disassemble, write_insn, write_line};
-use std::alloc::Global;
+use ia_text::{Out, ToVec, ToWriter, WriteFault, disassemble, write_line};
 use std::io::{self, ErrorKind, Write};
 use std::test::Fail;
 
@@ -17,79 +15,6 @@ const LISTING: &[u8] = b"\
 00000111  0f01d5                    xend\n\
 00000114  f4                        hlt\n\
 00000115  f4                        hlt\n";
-
-/// Bytes in hex, and the instruction as it is printed at 100h.
-const INSTRUCTIONS: &str = "\
-8b448810 mov eax, dword [eax+ecx*4+0x10]\n\
-8b43fc mov eax, dword [ebx+0xfffffffc]\n\
-8b0d00100000 mov ecx, dword [0x1000]\n\
-8b0d00000000 mov ecx, dword [0x0]\n\
-8b044d00000000 mov eax, dword [ecx*2]\n\
-8b040d05000000 mov eax, dword [ecx*1+0x5]\n\
-8b4500 mov eax, dword [ebp]\n\
-8b0424 mov eax, dword [esp]\n\
-8a23 mov ah, byte [ebx]\n\
-c60380 mov byte [ebx], 0x80\n\
-8d448b08 lea eax, [ebx+ecx*4+0x8]\n\
-83c0ff add eax, 0xffffffff\n\
-80efff sub bh, 0xff\n\
-d1e0 shl eax, 0x1\n\
-c1f81f sar eax, 0x1f\n\
-d32b shr dword [ebx], cl\n\
-ebfe jmp short 0x100\n\
-e910000000 jmp 0x115\n\
-7405 je short 0x107\n\
-0f8500000000 jne 0x106\n\
-e8fbffffff call 0x100\n\
-e2fe loop 0x100\n\
-e300 jecxz 0x102\n\
-ffe0 jmp eax\n\
-ff13 call dword [ebx]\n\
-c20800 ret 0x8\n\
-c3 ret\n\
-0f94c0 sete al\n\
-0f4cc3 cmovl eax, ebx\n\
-0fb6c1 movzx eax, cl\n\
-0fbe03 movsx eax, byte [ebx]\n\
-0fba2b05 bts dword [ebx], 0x5\n\
-69c300010000 imul eax, ebx, 0x100\n\
-0fafc3 imul eax, ebx\n\
-f7fb idiv ebx\n\
-c6f8ff xabort 0xff\n\
-0f01d6 xtest\n\
-f00fb10b lock cmpxchg dword [ebx], ecx\n\
-870b xchg dword [ebx], ecx\n\
-6aff push 0xffffffff\n\
-5f pop edi\n\
-f6c301 test bl, 0x1\n\
-90 nop\n\
-f390 pause\n\
-cc int3\n\
-0f0b ud2\n\
-99 cdq\n\
-c9 leave\n";
-
-#[test]
-fn a_program(rt: HostRuntime) -> Result<(), Fail> {
-    let mut out = ToVec::new(Vec::new(rt.alloc()));
-    disassemble(PROGRAM, 0x100, &mut out)?;
-    assert_eq!(rt; out.bytes.as_slice(), LISTING);
-    assert_eq!(rt; out.failures(), 0);
-    Ok(())
-}
-
-#[test]
-fn refused_bytes(rt: HostRuntime) -> Result<(), Fail> {
-    let mut out = ToVec::new(Vec::new(rt.alloc()));
-    disassemble(b"\xf0\x89\x18\x0f\x05", 0xffff_ffff, &mut out)?;
-    let listing: &[u8] = b"\
-ffffffff  f0                        db 0xf0\n\
-00000000  8918                      mov dword [eax], ebx\n\
-00000002  0f                        db 0xf\n\
-00000003  05                        db 0x5\n";
-    assert_eq!(rt; out.bytes.as_slice(), listing);
-    Ok(())
-}
 
 #[test]
 fn a_line(rt: HostRuntime) -> Result<(), Fail> {
@@ -108,46 +33,6 @@ fn a_line(rt: HostRuntime) -> Result<(), Fail> {
 00000000  f081848bf0debc9a78563412  lock add dword [ebx+ecx*4+0x9abcdef0], 0x12345678\n\
 0000000c  f0                        db 0xf0\n";
     assert_eq!(rt; out.bytes.as_slice(), lines);
-    Ok(())
-}
-
-/// Whether a line at 100h shows all the bytes of a row, in hex, as its text.
-fn row_agrees(alloc: Global, row: &str) -> bool {
-    let Some((digits, text)) = row.split_once(' ') else {
-        return false;
-    };
-    match hex::decode(alloc, digits) {
-        Err(_) => false,
-        Ok(bytes) => is_shown(alloc, bytes.as_slice(), text),
-    }
-}
-
-/// Whether the line of these bytes at 100h shows all of them, and has this text in its last column.
-fn is_shown(alloc: Global, bytes: &[u8], text: &str) -> bool {
-    let mut out = ToVec::new(Vec::new(alloc));
-    let shown = write_line(bytes, 0x100, &mut out);
-    let line = out.bytes.as_slice();
-    shown.map(usize::from) == Ok(bytes.len())
-        && line.len() > 37
-        && &line[36..line.len() - 1] == text.as_bytes()
-}
-
-#[test]
-fn instructions(rt: HostRuntime) {
-    for row in INSTRUCTIONS.lines() {
-        assert!(rt; row_agrees(rt.alloc(), row), "{row}");
-    }
-}
-
-#[test]
-fn an_instruction(rt: HostRuntime) -> Result<(), Fail> {
-    let mut out = ToVec::new(Vec::new(rt.alloc()));
-    let insn = Insn {
-        lock: false,
-        op: Op::JmpShort(0xffff_fffe),
-    };
-    write_insn(&insn, 0x115, &mut out)?;
-    assert_eq!(rt; out.bytes.as_slice(), b"jmp short 0x115".as_slice());
     Ok(())
 }
 
