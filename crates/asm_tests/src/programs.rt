@@ -1,4 +1,4 @@
-//! Sources that several tests read, and what reading one refuses.
+//! Sources that several tests read.
 
 /// A transaction in front of its fallback.
 pub const WORKED: &[u8] = b"\
@@ -18,11 +18,3 @@ start: mov esi, 1000\n\
 section .data\n\
 mutex: dd 0\n       align 64\n\
 count: dd 0\n";
-
-/// The fault of a call that gives none where it succeeds.
-pub fn refusal<T: Drop, E>(answer: Result<T, E>) -> Option<E> {
-    match answer {
-        Err(fault) => Some(fault),
-        Ok(_) => None,
-    }
-}
