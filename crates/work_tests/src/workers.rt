@@ -456,18 +456,11 @@ fn refused_from<R: Threads + Wait + Abort + Sync>(
 }
 
 #[test]
-fn no_first_thread(rt: HostRuntime) -> Result<(), Fail> {
-    refused_from(&rt, rt.alloc(), 0)
-}
-
-#[test]
-fn no_second_thread(rt: HostRuntime) -> Result<(), Fail> {
-    refused_from(&rt, rt.alloc(), 1)
-}
-
-#[test]
-fn no_third_thread(rt: HostRuntime) -> Result<(), Fail> {
-    refused_from(&rt, rt.alloc(), 2)
+fn each_thread_refused(rt: HostRuntime) -> Result<(), Fail> {
+    for core in 0..3 {
+        refused_from(&rt, rt.alloc(), core)?;
+    }
+    Ok(())
 }
 
 // Counts what it is told, and keeps the greatest number.
@@ -523,24 +516,19 @@ fn three_steady_workers<R: Threads + Wait + Abort + Sync>(
     }
 }
 
+// No step a lock is one, and there may be more than there are.
 #[test]
-fn one_step_a_lock(rt: HostRuntime) -> Result<(), Fail> {
-    three_steady_workers(&rt, rt.alloc(), Burst::Fixed(1))
-}
-
-#[test]
-fn no_step_a_lock_is_one(rt: HostRuntime) -> Result<(), Fail> {
-    three_steady_workers(&rt, rt.alloc(), Burst::Fixed(0))
-}
-
-#[test]
-fn more_steps_a_lock_than_there_are(rt: HostRuntime) -> Result<(), Fail> {
-    three_steady_workers(&rt, rt.alloc(), Burst::Fixed(u32::MAX))
-}
-
-#[test]
-fn varying_steps_a_lock(rt: HostRuntime) -> Result<(), Fail> {
-    three_steady_workers(&rt, rt.alloc(), Burst::Varying)
+fn steps_a_lock(rt: HostRuntime) -> Result<(), Fail> {
+    let bursts = [
+        Burst::Fixed(1),
+        Burst::Fixed(0),
+        Burst::Fixed(u32::MAX),
+        Burst::Varying,
+    ];
+    for burst in bursts {
+        three_steady_workers(&rt, rt.alloc(), burst)?;
+    }
+    Ok(())
 }
 
 #[test]
@@ -593,18 +581,11 @@ fn two_watched_workers<R: Threads + Wait + Abort + Sync>(
 }
 
 #[test]
-fn a_watch_hears_of_single_steps(rt: HostRuntime) -> Result<(), Fail> {
-    two_watched_workers(&rt, rt.alloc(), Burst::Fixed(1))
-}
-
-#[test]
-fn a_watch_hears_of_varying_steps(rt: HostRuntime) -> Result<(), Fail> {
-    two_watched_workers(&rt, rt.alloc(), Burst::Varying)
-}
-
-#[test]
-fn a_watch_hears_of_one_long_burst_each(rt: HostRuntime) -> Result<(), Fail> {
-    two_watched_workers(&rt, rt.alloc(), Burst::Fixed(u32::MAX))
+fn a_watch_hears_of_steps(rt: HostRuntime) -> Result<(), Fail> {
+    for burst in [Burst::Fixed(1), Burst::Varying, Burst::Fixed(u32::MAX)] {
+        two_watched_workers(&rt, rt.alloc(), burst)?;
+    }
+    Ok(())
 }
 
 // It is the length of the whole history that is told, and not how many of the steps are new.
@@ -701,19 +682,23 @@ fn a_desk_opens(rt: HostRuntime) -> Result<(), Fail> {
 }
 
 #[test]
-fn without_memory(rt: HostRuntime) -> Result<(), Fail> {
-    let fault = WorkFault::NoMemory(board_of(rt.alloc(), &[0xf4], &[0x100], 1)?);
-    assert_eq!(rt; fault.code(), 61);
-    let text = format!(in rt.alloc(); "{fault} {fault:?}")?;
-    assert_eq!(rt; text.as_str(), "NoMemory NoMemory(..)");
-    Ok(())
-}
-
-#[test]
-fn without_a_thread(rt: HostRuntime) -> Result<(), Fail> {
-    let fault = WorkFault::SpawnRefused(3, board_of(rt.alloc(), &[0xf4], &[0x100], 1)?);
-    assert_eq!(rt; fault.code(), 60);
-    let text = format!(in rt.alloc(); "{fault} {fault:?}")?;
-    assert_eq!(rt; text.as_str(), "SpawnRefused SpawnRefused(3, ..)");
+fn faults_have_numbers(rt: HostRuntime) -> Result<(), Fail> {
+    let cases = [
+        (
+            WorkFault::NoMemory(board_of(rt.alloc(), &[0xf4], &[0x100], 1)?),
+            61,
+            "NoMemory NoMemory(..)",
+        ),
+        (
+            WorkFault::SpawnRefused(3, board_of(rt.alloc(), &[0xf4], &[0x100], 1)?),
+            60,
+            "SpawnRefused SpawnRefused(3, ..)",
+        ),
+    ];
+    for (fault, number, names) in cases {
+        assert_eq!(rt; fault.code(), number);
+        let text = format!(in rt.alloc(); "{fault} {fault:?}")?;
+        assert_eq!(rt; text.as_str(), names);
+    }
     Ok(())
 }
