@@ -9,7 +9,6 @@ use elide_setup::{Fault, Refusal};
 use ia_text::{Failed, ToVec};
 use std::alloc::Global;
 use std::process::Abort;
-use std::test::Fail;
 
 // Files of which none is there.
 #[derive(Clone, Copy, Debug)]
@@ -40,25 +39,18 @@ fn tells(rt: &impl Abort, alloc: Global, refusal: Refusal, text: &[u8]) {
 }
 
 #[test]
-fn a_thread_that_is_not_started(rt: HostRuntime) -> Result<(), Fail> {
-    let refusal = Refusal::Fault(Fault::SpawnRefused);
-    tells(
-        &rt,
-        rt.alloc(),
-        refusal,
-        b"the system starts no further thread\n",
-    );
-    Ok(())
-}
-
-#[test]
-fn a_number_that_is_left_out(rt: HostRuntime) -> Result<(), Fail> {
-    let refusal = Refusal::Usage("--budget");
-    tells(
-        &rt,
-        rt.alloc(),
-        refusal,
-        b"--budget is wanted, with a number\n",
-    );
-    Ok(())
+fn a_thread_that_is_not_started_and_a_number_that_is_left_out(rt: HostRuntime) {
+    let cases: [(Refusal, &[u8]); 2] = [
+        (
+            Refusal::Fault(Fault::SpawnRefused),
+            b"the system starts no further thread\n",
+        ),
+        (
+            Refusal::Usage("--budget"),
+            b"--budget is wanted, with a number\n",
+        ),
+    ];
+    for (refusal, text) in cases {
+        tells(&rt, rt.alloc(), refusal, text);
+    }
 }

@@ -35,49 +35,47 @@ fn agree(alloc: Global, board: &Board, other: &Board) -> Result<bool, Fail> {
     }
 }
 
-// Whether boards agree with their own history and with no other's, where one of them made some steps and one none.
-fn differ_after(alloc: Global, code: &[u8], steps: u32) -> Result<bool, Fail> {
+// Of two boards of this code, one after so many steps of its only core, and one with these entries before its first step: whether each
+// agrees with its own history, and with the other's only if it is to.
+fn is_so(
+    alloc: Global,
+    code: &[u8],
+    steps: u32,
+    entries: &[u32],
+    agrees: bool,
+) -> Result<bool, Fail> {
     let some = stepped(alloc, code, &[0x100], steps)?;
-    let none = stepped(alloc, code, &[0x100], 0)?;
+    let none = stepped(alloc, code, entries, 0)?;
     let own = agree(alloc, &some, &some)? && agree(alloc, &none, &none)?;
-    let other = agree(alloc, &some, &none)? || agree(alloc, &none, &some)?;
-    Ok(own && !other)
+    Ok(own && agree(alloc, &some, &none)? == agrees && agree(alloc, &none, &some)? == agrees)
 }
 
 #[test]
 fn what_differs_is_told(rt: HostRuntime) -> Result<(), Fail> {
-    let alloc = rt.alloc();
-    // MOV of 7 to the byte at 1000h, and a jump back: memory alone is another one.
-    let code = [0xc6, 0x05, 0, 0x10, 0, 0, 7, 0xeb, 0xf7];
-    assert!(rt; differ_after(alloc, &code, 2)?);
-    // INC EAX, and a jump back: EAX alone is another one.
-    assert!(rt; differ_after(alloc, &[0x40, 0xeb, 0xfd], 2)?);
-    // STC, and a jump back: the flags alone are others.
-    assert!(rt; differ_after(alloc, &[0xf9, 0xeb, 0xfd], 2)?);
-    // HLT: the stop alone is another one.
-    assert!(rt; differ_after(alloc, &[0xf4], 1)?);
-    Ok(())
-}
-
-// As many registers and stops, and a core more.
-#[test]
-fn another_count_of_cores_differs(rt: HostRuntime) -> Result<(), Fail> {
-    let alloc = rt.alloc();
-    let one = stepped(alloc, &[0xf4], &[0x100], 0)?;
-    let two = stepped(alloc, &[0xf4], &[0x100, 0x100], 0)?;
-    assert!(rt; !agree(alloc, &one, &two)?);
-    assert!(rt; !agree(alloc, &two, &one)?);
-    Ok(())
-}
-
-// XBEGIN and INC EAX: the registers of an open transaction are those before its XBEGIN.
-#[test]
-fn an_open_transaction_agrees(rt: HostRuntime) -> Result<(), Fail> {
-    let alloc = rt.alloc();
-    let code = [0xc7, 0xf8, 0, 0, 0, 0, 0x40];
-    let open = stepped(alloc, &code, &[0x100], 2)?;
-    let none = stepped(alloc, &code, &[0x100], 0)?;
-    assert!(rt; agree(alloc, &open, &open)?);
-    assert!(rt; agree(alloc, &open, &none)?);
+    let cases: [(&[u8], u32, &[u32], bool); 6] = [
+        // MOV of 7 to the byte at 1000h, and a jump back: memory alone is another one.
+        (
+            &[0xc6, 0x05, 0, 0x10, 0, 0, 7, 0xeb, 0xf7],
+            2,
+            &[0x100],
+            false,
+        ),
+        // INC EAX, and a jump back: EAX alone is another one.
+        (&[0x40, 0xeb, 0xfd], 2, &[0x100], false),
+        // STC, and a jump back: the flags alone are others.
+        (&[0xf9, 0xeb, 0xfd], 2, &[0x100], false),
+        // HLT: the stop alone is another one.
+        (&[0xf4], 1, &[0x100], false),
+        // As many registers and stops, and a core more.
+        (&[0xf4], 0, &[0x100, 0x100], false),
+        // XBEGIN and INC EAX: the registers of an open transaction are those before its XBEGIN.
+        (&[0xc7, 0xf8, 0, 0, 0, 0, 0x40], 2, &[0x100], true),
+    ];
+    for (code, steps, entries, agrees) in cases {
+        assert!(rt;
+            is_so(rt.alloc(), code, steps, entries, agrees)?,
+            "{code:?}"
+        );
+    }
     Ok(())
 }

@@ -7,7 +7,6 @@ use ia_insn::{Mem, is_encodable};
 use ia_regs::{Flags, Regs};
 use ia_word::Width;
 use std::alloc::Global;
-use std::process::Abort;
 
 // [ebx+ecx*4-2], which is 6 by the registers below, and [2000h].
 const SCALED: Mem = Mem {
@@ -100,29 +99,18 @@ fn row_agrees(alloc: Global, row: &str) -> bool {
     }
 }
 
-fn rows_agree(rt: &impl Abort, alloc: Global, table: &str) {
-    for row in table.lines() {
-        assert!(rt; row_agrees(alloc, row), "{row}");
-    }
-}
-
 #[test]
 fn addresses_modulo_32_bits(rt: HostRuntime) {
     assert_eq!(rt; address_of(&SCALED, &registers()), 6);
     assert_eq!(rt; address_of(&FIXED, &registers()), 0x2000);
 }
 
+// Operands that are read, the stack and jumps; and what is only written is not loaded.
 #[test]
-fn operands_that_are_read(rt: HostRuntime) {
-    rows_agree(&rt, rt.alloc(), READ);
-}
-
-#[test]
-fn the_stack_and_jumps(rt: HostRuntime) {
-    rows_agree(&rt, rt.alloc(), STACK_AND_JUMPS);
-}
-
-#[test]
-fn what_is_only_written_is_not_loaded(rt: HostRuntime) {
-    rows_agree(&rt, rt.alloc(), ONLY_WRITTEN);
+fn what_is_loaded(rt: HostRuntime) {
+    for table in [READ, STACK_AND_JUMPS, ONLY_WRITTEN] {
+        for row in table.lines() {
+            assert!(rt; row_agrees(rt.alloc(), row), "{row}");
+        }
+    }
 }
