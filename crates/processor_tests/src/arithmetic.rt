@@ -1,4 +1,4 @@
-//! Worked rows, and results and flags at the edges as a processor gives them (tests-data/arithmetic.c).
+//! Results and flags at the edges as a processor gives them (tests-data/arithmetic.c). Worked rows stand in `doc_tests`.
 
 mod products_table;
 mod shifts_table;
@@ -6,7 +6,7 @@ mod sums_table;
 
 use crate::numbers::Numbers;
 use bitflags::Flags as _;
-use ia_alu::{Divide, add, alu, bit, div, idiv, imul, imul_low, incdec, mul, neg, shift, sub};
+use ia_alu::{Divide, alu, bit, div, idiv, imul, imul_low, incdec, mul, neg, shift};
 use ia_regs::Flags;
 use ia_word::{AluOp, BitOp, IncDecOp, ShiftOp, Width};
 use std::alloc::AllocError;
@@ -213,64 +213,9 @@ fn products_and_quotients_are_the_processors(rt: HostRuntime) {
     assert!(rt; quotients_agree(true, IDIV));
 }
 
+// The flags before are those that no instructions leave together.
 #[test]
-fn sums_with_a_carry(rt: HostRuntime) {
-    assert_eq!(rt;
-        alu(AluOp::Adc, Width::D, 0x7fff_ffff, 0, flags(1)),
-        (0x8000_0000, flags(0x894))
-    );
-    assert_eq!(rt; add(Width::B, 0x7f, 0, true), (0x80, flags(0x890)));
-    assert_eq!(rt; sub(Width::D, 0, 0, true), (0xffff_ffff, flags(0x095)));
-    assert_eq!(rt; neg(0x8000_0000), (0x8000_0000, flags(0x885)));
-}
-
-#[test]
-fn a_step_keeps_the_carry(rt: HostRuntime) {
-    assert_eq!(rt;
-        incdec(IncDecOp::Inc, Width::D, 0xffff_ffff, flags(1)),
-        (0, flags(0x055))
-    );
-    assert_eq!(rt;
-        incdec(IncDecOp::Inc, Width::D, 0xffff_ffff, flags(0)),
-        (0, flags(0x054))
-    );
-}
-
-#[test]
-fn shifts_by_their_count_modulo_32(rt: HostRuntime) {
-    assert_eq!(rt;
-        shift(ShiftOp::Shl, 0x8000_0001, 1, flags(0)),
-        (2, flags(0x801))
-    );
-    assert_eq!(rt;
-        shift(ShiftOp::Shl, 0x8000_0001, 33, flags(0)),
-        (2, flags(0x801))
-    );
-    assert_eq!(rt;
-        shift(ShiftOp::Shl, 0x8000_0001, 32, flags(0x855)),
-        (0x8000_0001, flags(0x855))
-    );
-    assert_eq!(rt;
-        shift(ShiftOp::Ror, 1, 1, flags(0x044)),
-        (0x8000_0000, flags(0x845))
-    );
-    assert_eq!(rt;
-        shift(ShiftOp::Sar, 0x8000_0000, 31, flags(0)),
-        (0xffff_ffff, flags(0x084))
-    );
-    assert_eq!(rt;
-        bit(BitOp::Btr, 0xff, 35, flags(0x844)),
-        (0xf7, flags(0x845))
-    );
-}
-
-#[test]
-fn wide_products(rt: HostRuntime) {
-    assert_eq!(rt; mul(0x1_0000, 0x1_0000, flags(0)), (0, 1, flags(0x801)));
-    assert_eq!(rt;
-        imul(0x8000_0000, 0xffff_ffff, flags(0)),
-        (0x8000_0000, 0, flags(0x801))
-    );
+fn a_low_product(rt: HostRuntime) {
     assert_eq!(rt;
         imul_low(0xffff_fffd, 5, flags(0x8d5)),
         (0xffff_fff1, flags(0x0d4))
@@ -278,19 +223,8 @@ fn wide_products(rt: HostRuntime) {
 }
 
 #[test]
-fn quotients_toward_zero_and_faults(rt: HostRuntime) {
-    assert_eq!(rt;
-        idiv(0xffff_ffff, 0xffff_fff9, 2),
-        Ok((0xffff_fffd, 0xffff_ffff))
-    );
-    assert_eq!(rt; div(1, 0, 1), Err(Divide));
-    assert_eq!(rt; idiv(0xffff_ffff, 0x8000_0000, 0xffff_ffff), Err(Divide));
-    assert_eq!(rt; idiv(0x8000_0000, 0, 0xffff_ffff), Err(Divide));
-    assert_eq!(rt; Divide.code(), 4);
-}
-
-#[test]
 fn the_fault_has_its_name(rt: HostRuntime) -> Result<(), AllocError> {
+    assert_eq!(rt; Divide.code(), 4);
     let name = format!(in rt.alloc(); "{}", Divide)?;
     assert_eq!(rt; name.as_str(), "Divide");
     Ok(())
