@@ -1,5 +1,9 @@
 //! Each call of the sets once, worked out by hand.
 
+ghost use Rattle.std.specs.Prelude.{◌≡◌};
+
+use std::alloc::Global;
+use std::process::Abort;
 use tm_sets::{Directory, Full, Kind, NoMemory, PlainSets, Sets};
 
 #[test]
@@ -18,36 +22,6 @@ fn two_cores_on_one_line(rt: HostRuntime) {
     assert!(rt; sets.has(1, 0x40, Kind::Read));
     assert!(rt; !sets.has(1, 0x40, Kind::Write));
     assert!(rt; sets.visits() > 0);
-}
-
-#[test]
-fn the_last_of_64_cores(rt: HostRuntime) {
-    let mut sets = PlainSets::new(rt.alloc(), 64, 0x40_0000, 1, 1).expect(&rt, "memory");
-    assert!(rt; sets.add(63, 0x3f_ffff, Kind::Write).is_ok());
-    assert!(rt; sets.add(62, 0x3f_ffff, Kind::Read).is_ok());
-    assert_eq!(rt; sets.writers_on(0x3f_ffff, 0), 1 << 63);
-    assert_eq!(rt; sets.others_on(0x3f_ffff, 0), 3 << 62);
-}
-
-#[test]
-fn room_for_two_lines(rt: HostRuntime) {
-    let mut sets = PlainSets::new(rt.alloc(), 1, 0x400, 2, 1).expect(&rt, "memory");
-    assert!(rt; sets.add(0, 0x3ff, Kind::Read).is_ok());
-    assert!(rt; sets.add(0, 7, Kind::Read).is_ok());
-    assert_eq!(rt; sets.add(0, 8, Kind::Read), Err(Full));
-    assert!(rt; sets.add(0, 7, Kind::Read).is_ok());
-    assert_eq!(rt; sets.count(0, Kind::Read), 2);
-    assert_eq!(rt; sets.count(0, Kind::Write), 0);
-    let lines = sets
-        .listing(rt.alloc(), 0, Kind::Read)
-        .expect(&rt, "memory");
-    assert_eq!(rt; lines.as_slice(), [7, 0x3ff].as_slice());
-    sets.clear(0);
-    assert_eq!(rt; sets.count(0, Kind::Read), 0);
-    assert!(rt; sets.add(0, 8, Kind::Read).is_ok());
-    assert!(rt; sets.add(0, 9, Kind::Read).is_ok());
-    assert_eq!(rt; sets.add(0, 7, Kind::Read), Err(Full));
-    assert!(rt; sets.add(0, 9, Kind::Read).is_ok());
 }
 
 #[test]
@@ -74,17 +48,37 @@ fn a_directory_counts_its_visits(rt: HostRuntime) {
     assert!(rt; !sets.has(1, 0x40, Kind::Write));
 }
 
+// Of 64 cores the last has written the last line, and the one before has read it.
+fn last_of_64_cores<S: Sets>(rt: &impl Abort, sets: &mut S)
+    requires cores { (S.content sets.old).fixed.cores ≡ 64 }
+    requires lines { (S.content sets.old).fixed.line_count ≡ 4194304 }
+{
+    assert!(rt; sets.add(63, 0x3f_ffff, Kind::Write).is_ok());
+    assert!(rt; sets.add(62, 0x3f_ffff, Kind::Read).is_ok());
+    assert_eq!(rt; sets.writers_on(0x3f_ffff, 0), 1 << 63);
+    assert_eq!(rt; sets.others_on(0x3f_ffff, 0), 3 << 62);
+}
+
 #[test]
-fn a_directory_has_room_for_two_lines(rt: HostRuntime) {
-    let mut sets = Directory::new(rt.alloc(), 1, 0x400, 2, 1).expect(&rt, "memory");
+fn the_last_of_64_cores(rt: HostRuntime) {
+    let mut plain = PlainSets::new(rt.alloc(), 64, 0x40_0000, 1, 1).expect(&rt, "memory");
+    last_of_64_cores(&rt, &mut plain);
+    let mut directory = Directory::new(rt.alloc(), 64, 0x40_0000, 1, 1).expect(&rt, "memory");
+    last_of_64_cores(&rt, &mut directory);
+}
+
+// One core with room for two lines that it reads and one that it writes.
+fn two_lines<S: Sets>(rt: &impl Abort, alloc: Global, sets: &mut S)
+    requires cores { (S.content sets.old).fixed.cores ≡ 1 }
+    requires lines { (S.content sets.old).fixed.line_count ≡ 1024 }
+{
     assert!(rt; sets.add(0, 0x3ff, Kind::Read).is_ok());
     assert!(rt; sets.add(0, 7, Kind::Read).is_ok());
     assert_eq!(rt; sets.add(0, 8, Kind::Read), Err(Full));
     assert!(rt; sets.add(0, 7, Kind::Read).is_ok());
     assert_eq!(rt; sets.count(0, Kind::Read), 2);
-    let lines = sets
-        .listing(rt.alloc(), 0, Kind::Read)
-        .expect(&rt, "memory");
+    assert_eq!(rt; sets.count(0, Kind::Write), 0);
+    let lines = sets.listing(alloc, 0, Kind::Read).expect(rt, "memory");
     assert_eq!(rt; lines.as_slice(), [7, 0x3ff].as_slice());
     sets.clear(0);
     assert_eq!(rt; sets.count(0, Kind::Read), 0);
@@ -95,17 +89,18 @@ fn a_directory_has_room_for_two_lines(rt: HostRuntime) {
 }
 
 #[test]
-fn a_directory_for_64_cores(rt: HostRuntime) {
-    let mut sets = Directory::new(rt.alloc(), 64, 0x40_0000, 1, 1).expect(&rt, "memory");
-    assert!(rt; sets.add(63, 0x3f_ffff, Kind::Write).is_ok());
-    assert!(rt; sets.add(62, 0x3f_ffff, Kind::Read).is_ok());
-    assert_eq!(rt; sets.writers_on(0x3f_ffff, 0), 1 << 63);
-    assert_eq!(rt; sets.others_on(0x3f_ffff, 0), 3 << 62);
+fn room_for_two_lines(rt: HostRuntime) {
+    let mut plain = PlainSets::new(rt.alloc(), 1, 0x400, 2, 1).expect(&rt, "memory");
+    two_lines(&rt, rt.alloc(), &mut plain);
+    let mut directory = Directory::new(rt.alloc(), 1, 0x400, 2, 1).expect(&rt, "memory");
+    two_lines(&rt, rt.alloc(), &mut directory);
 }
 
-#[test]
-fn a_slot_for_each_written_line(rt: HostRuntime) {
-    let mut sets = Directory::new(rt.alloc(), 2, 0x400, 4, 4).expect(&rt, "memory");
+// Slots of the lines that a core has written, which is not each that it has.
+fn slots<S: Sets>(rt: &impl Abort, sets: &mut S)
+    requires cores { (S.content sets.old).fixed.cores ≡ 2 }
+    requires lines { (S.content sets.old).fixed.line_count ≡ 1024 }
+{
     assert!(rt; sets.add(0, 7, Kind::Read).is_ok());
     assert!(rt; sets.add(0, 8, Kind::Write).is_ok());
     assert!(rt; sets.add(0, 9, Kind::Write).is_ok());
@@ -119,14 +114,9 @@ fn a_slot_for_each_written_line(rt: HostRuntime) {
 }
 
 #[test]
-fn a_place_for_each_written_line(rt: HostRuntime) {
-    let mut sets = PlainSets::new(rt.alloc(), 2, 0x400, 4, 4).expect(&rt, "memory");
-    assert!(rt; sets.add(0, 8, Kind::Write).is_ok());
-    assert!(rt; sets.add(0, 9, Kind::Write).is_ok());
-    assert!(rt; sets.add(1, 8, Kind::Write).is_ok());
-    assert_eq!(rt; sets.slot(0, 7), None);
-    assert_eq!(rt; sets.slot(0, 9), Some(1));
-    sets.clear(0);
-    assert_eq!(rt; sets.slot(0, 8), None);
-    assert_eq!(rt; sets.slot(1, 8), Some(0));
+fn a_slot_for_each_written_line(rt: HostRuntime) {
+    let mut plain = PlainSets::new(rt.alloc(), 2, 0x400, 4, 4).expect(&rt, "memory");
+    slots(&rt, &mut plain);
+    let mut directory = Directory::new(rt.alloc(), 2, 0x400, 4, 4).expect(&rt, "memory");
+    slots(&rt, &mut directory);
 }

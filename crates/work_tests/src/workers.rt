@@ -683,14 +683,12 @@ fn a_desk_opens(rt: HostRuntime) -> Result<(), Fail> {
 
 #[test]
 fn faults_have_numbers(rt: HostRuntime) -> Result<(), Fail> {
+    let first = board_of(rt.alloc(), &[0xf4], &[0x100], 1)?;
+    let second = board_of(rt.alloc(), &[0xf4], &[0x100], 1)?;
     let cases = [
+        (WorkFault::NoMemory(first), 61, "NoMemory NoMemory(..)"),
         (
-            WorkFault::NoMemory(board_of(rt.alloc(), &[0xf4], &[0x100], 1)?),
-            61,
-            "NoMemory NoMemory(..)",
-        ),
-        (
-            WorkFault::SpawnRefused(3, board_of(rt.alloc(), &[0xf4], &[0x100], 1)?),
+            WorkFault::SpawnRefused(3, second),
             60,
             "SpawnRefused SpawnRefused(3, ..)",
         ),
