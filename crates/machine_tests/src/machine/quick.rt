@@ -81,14 +81,15 @@ fn asked(rt: &impl Abort, alloc: Global, code: &[u8]) -> Answered {
     }
 }
 
-/// Code in hex, and what each call answers at it, as it is printed. The code is test eax, eax; mov eax, [1000h]; mov [1000h], eax;
-/// inc dword [1000h]; inc dword [100h], into the code; mov eax, [2000h], past the memory's end, where whoever tells what it loads has
-/// asked before where that lies; hlt; xend; mul ebx.
+/// Code in hex, and what each call answers at it, as it is printed. The code is test eax, eax; mov eax, [1000h];
+/// mov [1000h], eax; inc dword [1000h]; inc dword [100h], into the code; mov eax, [2000h], past the memory's end, where whoever
+/// tells what it loads has asked before where that lies; hlt; xend; mul ebx.
 const ANSWERS: &str = "\
 85c0; Answered { ran: Whole, told: Whole(Touched { load: None, store: None }), load: None, store: false, \
 store_told: None, inside: true, whole: true, access: None, with_value: None }\n\
-a100100000; Answered { ran: Whole, told: Whole(Touched { load: Some(Access { addr: 4096, width: D }), store: None }), load: None, \
-store: false, store_told: None, inside: false, whole: true, access: Some(Some(Access { addr: 4096, width: D })), with_value: Some(None) }\n\
+a100100000; Answered { ran: Whole, told: Whole(Touched { load: Some(Access { addr: 4096, width: D }), store: None }), \
+load: None, store: false, store_told: None, inside: false, whole: true, \
+access: Some(Some(Access { addr: 4096, width: D })), with_value: Some(None) }\n\
 a300100000; Answered { ran: Whole, told: Whole(Touched { load: None, store: Some(Store { addr: 4096, width: D, value: 7 }) }), \
 load: None, store: false, store_told: None, inside: false, whole: true, access: Some(None), \
 with_value: Some(Some(Store { addr: 4096, width: D, value: 7 })) }\n\
