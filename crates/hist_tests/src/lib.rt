@@ -1,7 +1,8 @@
 //! Tests of boards and their beginnings, of the texts of histories, and of want of memory, by public calls alone.
 //!
-//! They are what no clause says: printed texts, what stands after a refusal, and each public call once. They stand here, and not
-//! in `tm_hist` and `tm_back`, so that each of those is proved once. Nothing is promised here.
+//! They are what neither a clause nor a row of `doc_tests` says: what stands after a refusal, texts with numbers that no command
+//! has, and public calls that none makes. They stand here, and not in `tm_hist` and `tm_back`, so that each of those is proved once.
+//! Nothing is promised here.
 #![tactic(auto)]
 
 #[cfg(test)]
