@@ -79,11 +79,11 @@ c7f800000000a300100000a3fc0f0000; 100; 1 1; 0 0 0\n";
 
 /// A run of the table.
 #[derive(Drop)]
-struct Run {
-    code: Vec<u8>,
-    entries: Vec<u32>,
-    limits: Limits,
-    steps: Vec<u8>,
+pub struct Run {
+    pub code: Vec<u8>,
+    pub entries: Vec<u32>,
+    pub limits: Limits,
+    pub steps: Vec<u8>,
 }
 
 fn entries_of(alloc: Global, words: &str) -> Option<Vec<u32>> {
@@ -110,7 +110,8 @@ fn limits_of(words: &str) -> Option<Limits> {
     })
 }
 
-fn run_of(alloc: Global, row: &str) -> Option<Run> {
+/// The run of a row.
+pub fn run_of(alloc: Global, row: &str) -> Option<Run> {
     let (digits, rest) = row.split_once("; ")?;
     let (entries, rest) = rest.split_once("; ")?;
     let (limits, steps) = rest.split_once("; ")?;
