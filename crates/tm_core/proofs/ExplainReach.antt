@@ -13,7 +13,7 @@ use Rattle.tm_model.specs.Setting.{Setting, outside_at}
 use Rattle.tm_model.specs.Shown.{View, view_between, view_inside, view_midway, view_of, view_of_body, view_outside}
 use Rattle.tm_model.specs.State.{Closed, Core, Halted, Midway, Opened, State}
 use Rattle.tm_core.specs.declared.cpu.Cpu.{Cpu}
-use Rattle.tm_core.specs.ExplainedViews.{Reached, reach_in_room, reach_inside, reach_outside, reach_shown, reach_told}
+use Rattle.tm_core.specs.ExplainedViews.{Reached, reach_inside, reach_outside, reach_shown, reach_told}
 use Rattle.tm_core.specs.Machine.{shown_by}
 use Rattle.tm_core.specs.Representation.{cpu_at, cpu_views, parts_setting}
 use Rattle.tm_core.specs.StepRefinement.{add_all, seen}

@@ -34,3 +34,4 @@ pub mod TouchLists
 pub mod AtOnce
 pub mod WholeSteps
 pub mod WholeMachine
+pub mod OnRegisters

@@ -3,6 +3,7 @@
 -- 16.2.1), with the outcome that is owed. What each of these words means stands in tm_model.
 use Rattle.std.specs.Prelude.{◌≡◌, ℕ, zero, suc, ◌<◌, List, [], ◌∷◌, ◌++◌, length, slice_index_or, Option, Some, None}
 use Rattle.tm_model.specs.IaImage.Program.{ProgramValue as Program}
+use Rattle.tm_rule.specs.declared.kinds.Stop.{Stop}
 use Rattle.tm_sets.specs.declared.interface.Kind.{Kind}
 use Rattle.tm_sets.specs.declared.interface.Kind.TheVariants.{Read, Write}
 use Rattle.tm_model.specs.Access.{Lines}
@@ -12,8 +13,8 @@ use Rattle.tm_model.specs.Setting.{Setting, setting_of}
 use Rattle.tm_model.specs.Shown.{View, ViewsStandFor, body_alone, view_outside, view_with_body}
 use Rattle.tm_model.specs.State.{State, opening_state}
 use Rattle.tm_model.specs.Steps.{run, step}
-use Rattle.tm_core.specs.Types.{AtStop, Begun, Committed, Condemned, CoreState, Inside, Mid, Open, Outcome, Regs}
-use Rattle.tm_core.specs.Types.{Running}
+use Rattle.tm_core.specs.Types.{AtStop, Begun, Committed, Condemned, CoreState, Inside, Mid, Open, Outcome, Plain}
+use Rattle.tm_core.specs.Types.{Regs, Running}
 use Rattle.tm_model.specs.Went.{StateWithBodies, opening_with_bodies, run_with_bodies}
 
 -- ---- what is shown
@@ -76,9 +77,25 @@ pub record IsRun (start now : ShownMachine) (state : State) (doomed : Doomed) (h
   pub same : SameMachine start now
   pub takes : TakesSteps start now state doomed history
 
--- ---- a whole transaction
+-- ---- several steps at once
 
--- an XBEGIN that opens a transaction, and so many instructions behind it
+-- from each state that the machine stands for it takes these steps, so that a run goes on with them; no core that has
+-- stopped goes on
+pub record TakesAll (before after : ShownMachine) (history : List (ℕ × Outcome)) : Type 0 where
+  pub same : SameMachine before after
+  pub takes : (state : State) (doomed : Doomed) → StandsFor before state doomed →
+      TakesSteps before after state doomed history
+  pub runs : (start : ShownMachine) (state : State) (doomed : Doomed) (earlier : List (ℕ × Outcome)) →
+      IsRun start before state doomed earlier → IsRun start after state doomed (earlier ++ history)
+  pub stops : (other : ℕ) (stop : Stop) → other < length before.views →
+      (view_at before other).mode ≡ AtStop stop → (view_at after other).mode ≡ AtStop stop
+
+-- so many instructions outside of transactions
+abbrev pub plain_steps : ℕ → ℕ → List (ℕ × Outcome)
+plain_steps number zero = []
+plain_steps number (suc count) = plain_steps number count ++ (number, Plain) ∷ []
+
+-- an XBEGIN that opens a transaction, and so many instructions behind it (SDM volume 1, 16.3.5)
 abbrev pub steps_inside : ℕ → ℕ → List (ℕ × Outcome)
 steps_inside number zero = (number, Begun) ∷ []
 steps_inside number (suc count) = steps_inside number count ++ (number, Inside) ∷ []

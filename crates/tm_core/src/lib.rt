@@ -14,7 +14,8 @@
 //!
 //! `Machine::transact` makes the steps of a whole transaction as one, where no other core steps between: its instructions
 //! run on registers alone, and its stores go to memory at its XEND. Its proof goes by the isolated body of `tm_model`, which
-//! is what it runs (`specs/AtOnce.antt`).
+//! is what it runs (`specs/AtOnce.antt`). `Machine::steps_on_registers` makes as many steps outside of transactions as touch
+//! no memory, which no other core sees.
 //!
 //! Stands on `tm_rule` (one instruction), `tm_status`, `tm_sets` (read and write sets), `tm_buffer` (a transaction's
 //! bytes) and `ia_image` (programs). Memory is asked for only where a machine is made and by the answers of `run` and
@@ -36,6 +37,7 @@ mod laws;
 mod limits;
 mod machine;
 pub mod memory;
+mod on_registers;
 mod opening;
 mod seen;
 mod start;

@@ -1,7 +1,7 @@
 //! A machine with the history of its steps.
 
 ghost use Rattle.std.specs.Prelude.{◌≡◌, ◌↔◌, ◌⊎◌, ◌<◌, ◌≤◌, ℕ, List, [], ◌∷◌, ◌++◌, Err, IfErr, IfOk, IsTrue, OnErr};
-ghost use Rattle.std.specs.Prelude.{false, length, true};
+ghost use Rattle.std.specs.Prelude.{◌-◌, false, length, min, true};
 ghost use Rattle.tm_core.specs.Machine.{bad_limits};
 ghost use Rattle.tm_hist.specs.Board.{AreSteps, IsFull, IsHistory, IsNew, IsStopped, SameBoard, bad_limit};
 ghost use Rattle.tm_hist.specs.BoardFaults.{board_code, step_code};
@@ -12,7 +12,7 @@ use crate::history::History;
 use crate::one_memory::serial;
 use crate::pair::Pair;
 use crate::replay::{Serial, SerialFault};
-use crate::whole::push_transaction;
+use crate::whole::{push_plain, push_transaction};
 use std::alloc::Global;
 use std::marker::Model;
 use thiserror::Error;
@@ -206,7 +206,8 @@ impl Board {
     {
         let mut made = 0;
         while made < most {
-            if self.is_stopped(core) {
+            made += self.go_on(core, most - made);
+            if made == most || self.is_stopped(core) {
                 return made;
             }
             match self.transact(core, most - made) {
@@ -221,6 +222,14 @@ impl Board {
         made
     }
 
+    // As many of so many steps as the history has room for.
+    #[inline(always)]
+    fn room(&self, most: u32) -> u32
+        ensures { result ≡ min most (self.now.limit - length self.now.history) }
+    {
+        (self.limit() - self.made()).min(u64::from(most)) as u32
+    }
+
     // The transaction at a core's XBEGIN as a whole, of at most so many steps and as many as the history has room for:
     // how many steps it was, 0 where there is none.
     #[inline(always)]
@@ -230,7 +239,7 @@ impl Board {
         ensures made { AreSteps self.old self.new core result }
         ensures none { result ≡ 0 → self.new ≡ self.old }
     {
-        let room = (self.limit() - self.made()).min(u64::from(most)) as u32;
+        let room = self.room(most);
         match self.machine.transact(core, room) {
             Some(inside) => {
                 push_transaction(&mut self.made, core, inside);
@@ -238,6 +247,21 @@ impl Board {
             }
             None => 0,
         }
+    }
+
+    // Up to so many instructions of a core that touch no memory, and as many as the history has room for: how many, 0
+    // where there is none.
+    #[inline(always)]
+    fn go_on(&mut self, core: u8, most: u32) -> u32
+        requires { core < length self.old.program.entries }
+        ensures most { result ≤ most }
+        ensures made { AreSteps self.old self.new core result }
+        ensures none { result ≡ 0 → self.new ≡ self.old }
+    {
+        let room = self.room(most);
+        let count = self.machine.steps_on_registers(core, room);
+        push_plain(&mut self.made, core, count);
+        count
     }
 
     /// The machine.

@@ -1,7 +1,7 @@
-//! The steps of a whole transaction, as a history keeps them.
+//! Steps that were made at once, as a history keeps them.
 
 ghost use Rattle.std.specs.Prelude.{◌≡◌, ◌≤◌, ◌+◌, ◌++◌, map, vec_capacity, vec_len};
-ghost use Rattle.tm_core.specs.Theorem.{transaction_of};
+ghost use Rattle.tm_core.specs.Theorem.{plain_steps, transaction_of};
 ghost use Rattle.tm_hist.specs.History.{pair_of};
 
 use crate::pair::Pair;
@@ -18,4 +18,15 @@ pub fn push_transaction(made: &mut Vec<Pair>, core: u8, inside: u32)
         made.push_reserved(Pair::new(core, Outcome::Inside));
     }
     made.push_reserved(Pair::new(core, Outcome::Committed));
+}
+
+/// Keeps so many instructions of a core outside of transactions.
+pub fn push_plain(made: &mut Vec<Pair>, core: u8, count: u32)
+    requires { vec_len made.old + count ≤ vec_capacity made.old }
+    ensures pairs { map pair_of made.new.items ≡ map pair_of made.old.items ++ plain_steps core count }
+    ensures capacity { vec_capacity made.new ≡ vec_capacity made.old }
+{
+    for _ in 0..count {
+        made.push_reserved(Pair::new(core, Outcome::Plain));
+    }
 }

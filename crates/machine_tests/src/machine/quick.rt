@@ -7,9 +7,12 @@ use ia_regs::{Flags, Regs};
 use std::alloc::Global;
 use std::process::Abort;
 use tm_quick::{
-    Loaded, Ran, Told, access_of, line_at, quick, quick_inside, quick_load, quick_store,
-    quick_store_told, quick_told, quick_whole, quick_with_value,
+    Loaded, Ran, Told, access_of, line_at, quick, quick_load, quick_store, quick_store_told,
+    quick_told, quick_untouched, quick_whole, quick_with_value,
 };
+
+/// The caller.
+struct Tests;
 
 /// What each call answers at one instruction.
 #[derive(Clone, Copy, Debug)]
@@ -59,7 +62,7 @@ fn asked(rt: &impl Abort, alloc: Global, code: &[u8]) -> Answered {
     regs = start;
     let told = quick_told(line, &mut regs, &mut memory, code, base);
     regs = start;
-    let inside = quick_inside(line, &mut regs);
+    let inside = quick_untouched::<Tests>(line, &mut regs);
     regs = start;
     let with_value = quick_with_value(line, 5, &mut regs, &memory, code, base);
     regs = start;

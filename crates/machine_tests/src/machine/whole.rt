@@ -1,4 +1,4 @@
-//! Whole transactions at once: where a core's steps stand one behind the other, what is left is what they leave one by one.
+//! Steps at once, where a core's stand one behind the other: what is left is what they leave one by one.
 
 ghost use Rattle.std.specs.Prelude.{◌<◌, length};
 
@@ -6,7 +6,7 @@ use super::both::{Run, run_of};
 use super::program;
 use std::alloc::Global;
 use std::process::Abort;
-use tm_core::{Kind, Machine};
+use tm_core::{Kind, Machine, Outcome};
 
 /// Runs in the form of those of `both`, each of which has one transaction that is made at once.
 const WHOLE: &str = "\
@@ -32,6 +32,14 @@ c7f800000000a100100000a100100000a100100000a100100000a100100000a100100000a1001000
 100; 512 512; 0 0 0 0 0 0 0 0 0 0 0\n\
 c7f800000000c7f8000000000f01d50f01d5; 100; 512 512; 0 0 0 0 0\n\
 c7f800000000c6f8ab; 100; 512 512; 0 0 0 0 0\n";
+
+/// Runs in which three instructions are made at once on registers: to the HLT, while another core is open, as far as the core's
+/// steps go, and up to a load.
+const ON_REGISTERS: &str = "\
+404349f4; 100; 512 512; 0 0 0 0\n\
+404349f4c7f800000000a1001000000f01d5; 100 104; 512 512; 1 1 0 0 0 0 1\n\
+404349f4f4; 100 104; 512 512; 0 0 0 1 0\n\
+89c3eb0049a100100000f4; 100; 512 512; 0 0 0 0 0\n";
 
 /// How many steps of one core stand one behind the other from this place on.
 fn in_a_row(steps: &[u8], place: usize) -> u32 {
@@ -63,42 +71,77 @@ fn alike(rt: &impl Abort, alloc: Global, one: &Machine, other: &Machine) {
     }
 }
 
-/// Makes the steps of a run one by one, and on another machine whole where that can be: how many transactions were made whole.
-fn wholes_in(rt: &impl Abort, alloc: Global, run: &Run) -> u32 {
+/// How much of a run was made at once.
+#[derive(Clone, Copy, PartialEq, Eq, Debug)]
+struct AtOnce {
+    transactions: u32,
+    on_registers: u32,
+}
+
+/// Makes as many steps of a core at once as can be, or else one: how many, and the first's outcome where it was one.
+fn go_on(machine: &mut Machine, core: u8, most: u32, made: &mut AtOnce) -> (u32, Option<Outcome>)
+    requires { core < length machine.old.views }
+{
+    if let Some(inside) = machine.transact(core, most) {
+        made.transactions = made.transactions.saturating_add(1);
+        return (inside.saturating_add(2), None);
+    }
+    match machine.steps_on_registers(core, most) {
+        0 => (1, machine.step(core).ok()),
+        steps => {
+            made.on_registers = made.on_registers.saturating_add(steps);
+            (steps, None)
+        }
+    }
+}
+
+/// Makes the steps of a run one by one, and on another machine at once where that can be: how much that was.
+fn made_at_once(rt: &impl Abort, alloc: Global, run: &Run) -> AtOnce {
     let program = program(rt, alloc, run.code.as_slice(), run.entries.as_slice());
     let mut single: Machine = Machine::new(alloc, &program, run.limits).expect(rt, "makes");
     let mut whole: Machine = Machine::new(alloc, &program, run.limits).expect(rt, "makes");
     let steps = run.steps.as_slice();
-    let mut wholes = 0u32;
-    let mut skip = 0u32;
+    let mut made = AtOnce {
+        transactions: 0,
+        on_registers: 0,
+    };
+    let mut ahead = 0u32;
     for place in 0..steps.len() {
         let core = steps[place];
         let outcome = single.step(core);
-        if skip > 0 {
-            skip -= 1;
-        } else if core < whole.cores() {
-            match whole.transact(core, in_a_row(steps, place)) {
-                Some(inside) => {
-                    wholes = wholes.saturating_add(1);
-                    skip = inside.saturating_add(1);
-                }
-                None => assert_eq!(rt; whole.step(core), outcome),
+        if ahead == 0 && core < whole.cores() {
+            let (steps, one) = go_on(&mut whole, core, in_a_row(steps, place), &mut made);
+            ahead = steps;
+            if one.is_some() {
+                assert_eq!(rt; one, outcome.ok());
             }
         }
-        if skip == 0 {
+        ahead = ahead.saturating_sub(1);
+        if ahead == 0 {
             alike(rt, alloc, &single, &whole);
         }
     }
-    assert_eq!(rt; skip, 0);
-    wholes
+    assert_eq!(rt; ahead, 0);
+    made
 }
 
 #[test]
-fn whole_transactions_are_their_steps(rt: HostRuntime) {
-    for (table, want) in [(WHOLE, 1), (PIECEMEAL, 0)] {
+fn steps_at_once_are_the_steps(rt: HostRuntime) {
+    for (table, transactions, on_registers) in [
+        (WHOLE, 1, 0),
+        (PIECEMEAL, 0, 0),
+        (ON_REGISTERS, 0, 3),
+    ] {
+        let want = AtOnce {
+            transactions,
+            on_registers,
+        };
         for row in table.lines() {
             match run_of(rt.alloc(), row) {
-                Some(run) => assert_eq!(&rt; wholes_in(&rt, rt.alloc(), &run), want, "{row}"),
+                Some(run) => {
+                    let made = made_at_once(&rt, rt.alloc(), &run);
+                    assert_eq!(&rt; made, want, "{row}");
+                }
                 None => assert!(&rt; false, "no run: {row}"),
             }
         }

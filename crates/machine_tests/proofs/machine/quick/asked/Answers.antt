@@ -1,6 +1,5 @@
 use Rattle.std.proofs.Common.{subst, sym}
 use Rattle.ia_row.specs.Lines.{AreLines}
-use Rattle.tm_quick.specs.Goes.{IsLineAt}
 use Rattle.machine_tests.proofs.machine.quick.asked.Goals as goal
 
 pub quick_load-load-requires : goal.quick_load-load-requires
@@ -27,5 +26,5 @@ quick_whole-whole-requires g c = c.in-Some.ensures.line c.code-code.result.now (
 pub access_of-access-requires : goal.access_of-access-requires
 access_of-access-requires g c = (c.in-Some.ensures.line c.code-code.result.now (subst (λ x. AreLines x c.lines.result.now) (sym c.code-code.ensures.code) c.lines.ensures.lines)).well
 
-pub quick_inside-inside-requires : goal.quick_inside-inside-requires
-quick_inside-inside-requires g c = (c.in-Some.ensures.line c.code-code.result.now (subst (λ x. AreLines x c.lines.result.now) (sym c.code-code.ensures.code) c.lines.ensures.lines)).well
+pub quick_untouched-inside-requires : goal.quick_untouched-inside-requires
+quick_untouched-inside-requires g c = (c.in-Some.ensures.line c.code-code.result.now (subst (λ x. AreLines x c.lines.result.now) (sym c.code-code.ensures.code) c.lines.ensures.lines)).well
