@@ -10,11 +10,12 @@ ghost use Rattle.tm_work.specs.Faults.{board_in, IsNoMemory};
 use crate::desk_state::DeskState;
 use crate::fault::WorkFault;
 use crate::opening::Opening;
+use crate::patient::PatientLock;
 use crate::progress::{Progress, Receipt};
 use crate::seat::{DeskIdentity, Seat};
 use std::alloc::Global;
 use std::collections::VecDeque;
-use std::sync::{Mutex, MutexGuard, Wait};
+use std::sync::{MutexGuard, Wait};
 use tm_hist::Board;
 use tm_ledger::Ledger;
 
@@ -22,7 +23,7 @@ use tm_ledger::Ledger;
 /// and `turns` wait.
 #[derive(Drop)]
 pub struct Desk<J: DeskIdentity> {
-    state: Mutex<DeskState<J>>,
+    state: PatientLock<DeskState<J>>,
 }
 
 impl<J: DeskIdentity> Desk<J> {
@@ -41,7 +42,7 @@ impl<J: DeskIdentity> Desk<J> {
         for core in 0..cores {
             seats.push_reserved(seat_of(&mut ledger, core));
         }
-        let state = Mutex::new(DeskState::new(board, ledger));
+        let state = PatientLock::new(DeskState::new(board, ledger), cores);
         Ok((Desk { state }, seats))
     }
 
@@ -69,7 +70,7 @@ impl<J: DeskIdentity> Desk<J> {
         ensures fewer { result < most → seat.new.progress.ended ≡ true }
         ensures all { result ≡ most → seat.new.progress.ended ≡ seat.old.progress.ended }
     {
-        self.state.lock(rt).turns(seat, most)
+        self.state.take(rt).turns(seat, most)
     }
 
     // The board, held: no turn begins before what is answered is dropped.

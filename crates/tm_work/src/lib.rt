@@ -16,6 +16,7 @@ mod gate;
 mod manner;
 mod meeting;
 mod opening;
+mod patient;
 mod progress;
 mod seat;
 mod watch;
