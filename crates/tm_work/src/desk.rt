@@ -19,6 +19,10 @@ use std::sync::{MutexGuard, Wait};
 use tm_hist::Board;
 use tm_ledger::Ledger;
 
+// So many steps of a seat wait for the lock itself, which goes from one thread to the next once they sleep for it: a short
+// program is run in turns.
+const FIRST_STEPS: u64 = 1 << 14;
+
 /// A board under a lock, for threads that have a seat each. Only `open` takes memory, and only `turn`
 /// and `turns` wait.
 #[derive(Drop)]
@@ -70,7 +74,16 @@ impl<J: DeskIdentity> Desk<J> {
         ensures fewer { result < most → seat.new.progress.ended ≡ true }
         ensures all { result ≡ most → seat.new.progress.ended ≡ seat.old.progress.ended }
     {
-        self.state.take(rt).turns(seat, most)
+        self.held_for(rt, seat).turns(seat, most)
+    }
+
+    // The board, held for a burst of this seat.
+    fn held_for<'a>(&'a self, rt: &'a impl Wait, seat: &Seat<J>) -> MutexGuard<'a, DeskState<J>> {
+        if seat.steps() < FIRST_STEPS {
+            self.state.lock(rt)
+        } else {
+            self.state.take(rt)
+        }
     }
 
     // The board, held: no turn begins before what is answered is dropped.
