@@ -19,15 +19,17 @@ use std::sync::{MutexGuard, Wait};
 use tm_hist::Board;
 use tm_ledger::Ledger;
 
-// So many steps of a seat wait for the lock itself, which goes from one thread to the next once they sleep for it: a short
+// So many steps of all seats wait for the lock itself, which goes from one thread to the next once they sleep for it: a short
 // program is run in turns.
-const FIRST_STEPS: u64 = 1 << 14;
+const FIRST_STEPS: u64 = 1 << 16;
 
 /// A board under a lock, for threads that have a seat each. Only `open` takes memory, and only `turn`
 /// and `turns` wait.
 #[derive(Drop)]
 pub struct Desk<J: DeskIdentity> {
     state: PatientLock<DeskState<J>>,
+    // How many of the first steps are each seat's.
+    first: u64,
 }
 
 impl<J: DeskIdentity> Desk<J> {
@@ -47,7 +49,8 @@ impl<J: DeskIdentity> Desk<J> {
             seats.push_reserved(seat_of(&mut ledger, core));
         }
         let state = PatientLock::new(DeskState::new(board, ledger), cores);
-        Ok((Desk { state }, seats))
+        let first = FIRST_STEPS / u64::from(cores.max(1));
+        Ok((Desk { state, first }, seats))
     }
 
     /// One step of the seat's core, which is one more pair of the board's history; or nothing, exactly where the core is
@@ -79,7 +82,7 @@ impl<J: DeskIdentity> Desk<J> {
 
     // The board, held for a burst of this seat.
     fn held_for<'a>(&'a self, rt: &'a impl Wait, seat: &Seat<J>) -> MutexGuard<'a, DeskState<J>> {
-        if seat.steps() < FIRST_STEPS {
+        if seat.steps() < self.first {
             self.state.lock(rt)
         } else {
             self.state.take(rt)
