@@ -3,8 +3,8 @@
 ghost use Rattle.std.specs.Prelude.{◌≡◌, ◌<◌, ◌≤◌, ◌*◌, ◌↔◌, ℕ, None, Err, true, length, IfOk};
 ghost use Rattle.std.specs.FinSet as set;
 ghost use Rattle.tm_rule.specs.IaDecode.Offsets.{AreDecoded};
-ghost use Rattle.tm_model.specs.IaImage.Program.{opening_memory as memory_of, code_of};
-ghost use Rattle.ia_row.specs.Lines.{AreLines};
+ghost use Rattle.tm_model.specs.IaImage.Program.{opening_memory as memory_of, code_of, decoded_once};
+ghost use Rattle.ia_row.specs.Lines.{AreLines, TellAll};
 ghost use Rattle.tm_sets.specs.declared.interface.Kind as AnyKind;
 ghost use Rattle.tm_model.specs.Setting.{program_setting};
 ghost use Rattle.tm_model.specs.State.{opening_state};
@@ -71,6 +71,8 @@ fn start_code(
     ensures code { IfOk result (λ parts. parts.0.items ≡ code_of program.now) }
     ensures rows { IfOk result (λ parts. AreDecoded (code_of program.now) parts.1.items) }
     ensures lines { IfOk result (λ parts. AreLines (code_of program.now) parts.2.items) }
+    ensures told { IfOk result (λ parts. TellAll (code_of program.now) parts.2.items) }
+    ensures count { IfOk result (λ parts. length parts.2.items ≡ decoded_once (code_of program.now)) }
 {
     let rows = Vec::from_slice(alloc, program.rows())?;
     let lines = Vec::from_slice(alloc, program.lines())?;
