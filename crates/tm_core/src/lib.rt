@@ -53,6 +53,7 @@ pub use fault::{MachineFault, NoSuchCore, RunFault};
 pub use laws::transactions_are_as_they_went;
 pub use limits::Limits;
 pub use machine::Machine;
+pub use opening::MachineMemory;
 pub use start::{opening_memory, start_regs};
 pub use tm_model::{AbortReason, CoreState, Counts, Hit, Outcome, Program, Reach, Stop};
 pub use tm_rule::Store;
