@@ -2,10 +2,12 @@
 
 ghost use Rattle.std.specs.Prelude.{◌≡◌, ◌↔◌, ◌⊎◌, ◌<◌, ◌≤◌, ℕ, List, [], ◌∷◌, ◌++◌, Err, IfErr, IfOk, IsTrue, OnErr};
 ghost use Rattle.std.specs.Prelude.{◌-◌, false, length, min, true};
+ghost use Rattle.tm_core.specs.AtOnce.{IsDoneOnRegisters};
 ghost use Rattle.tm_core.specs.Machine.{bad_limits};
 ghost use Rattle.tm_hist.specs.Board.{AreSteps, IsFull, IsHistory, IsNew, IsStopped, SameBoard, bad_limit};
 ghost use Rattle.tm_hist.specs.BoardFaults.{board_code, step_code};
 ghost use Rattle.tm_hist.specs.History.{pairs_of};
+ghost use Rattle.tm_hist.specs.Machine.{shown_state};
 ghost use Rattle.tm_hist.specs.Replay.{Replays};
 
 use crate::history::History;
@@ -250,13 +252,16 @@ impl Board {
     }
 
     // Up to so many instructions of a core that touch no memory, and as many as the history has room for: how many, 0
-    // where there is none.
+    // where there is none. Of a core outside of transactions they are fewer only where the next is none of them or the
+    // history is full.
     #[inline(always)]
     fn go_on(&mut self, core: u8, most: u32) -> u32
         requires { core < length self.old.program.entries }
         ensures most { result ≤ most }
         ensures made { AreSteps self.old self.new core result }
         ensures none { result ≡ 0 → self.new ≡ self.old }
+        ensures fewer { result < most → shown_state self.old.machine core ≡ CoreState.Running →
+            IsDoneOnRegisters self.new.machine core ⊎ IsFull self.new }
     {
         let room = self.room(most);
         let count = self.machine.steps_on_registers(core, room);
