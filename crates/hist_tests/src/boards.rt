@@ -111,13 +111,8 @@ fn limits_of_a_board(rt: HostRuntime) {
     assert_eq!(rt; most.limit(), 16_777_216);
     assert!(rt; most.history().is_empty());
     assert_eq!(rt;
-        (
-            BoardFault::BadLimit.code(),
-            BoardFault::BadLimits.code(),
-            BoardFault::NoMachine.code(),
-            BoardFault::NoMemory.code()
-        ),
-        (55, 40, 41, 51)
+        (BoardFault::BadLimit.code(), BoardFault::BadLimits.code()),
+        (55, 40)
     );
 }
 

@@ -39,7 +39,8 @@ fn machine(rt: &impl Abort, alloc: Global) -> Machine {
     match Machine::new(alloc, &program, LIMITS) {
         Ok(machine) => machine,
         Err(fault) => {
-            assert_eq!(rt; fault, MachineFault::NoMemory);
+            assert!(rt; matches!(fault, MachineFault::NoMemory(_)));
+            assert_eq!(rt; fault.code(), 41);
             Machine::new(alloc, &program, LIMITS).expect(rt, "is made when asked again")
         }
     }
@@ -50,7 +51,12 @@ fn board(rt: &impl Abort, alloc: Global) -> Board {
     match Board::new(alloc, &program, LIMITS, 100) {
         Ok(board) => board,
         Err(fault) => {
-            assert!(rt; matches!(fault, BoardFault::NoMachine | BoardFault::NoMemory));
+            assert!(rt;
+                matches!(
+                    (fault, fault.code()),
+                    (BoardFault::NoMachine(_), 41) | (BoardFault::NoMemory(_), 51)
+                )
+            );
             Board::new(alloc, &program, LIMITS, 100).expect(rt, "is made when asked again")
         }
     }

@@ -8,8 +8,8 @@ use Rattle.tm_hist.specs.declared.board.StepFault.TheVariants as step
 abbrev pub board_code : BoardFault → ℕ
 board_code board.BadLimit = 55
 board_code board.BadLimits = 40
-board_code board.NoMachine = 41
-board_code board.NoMemory = 51
+board_code (board.NoMachine memory) = 41
+board_code (board.NoMemory memory) = 51
 
 abbrev pub step_code : StepFault → ℕ
 step_code step.NoSuchCore = 42

@@ -11,6 +11,7 @@ ghost use Rattle.tm_hist.specs.Machine.{shown_state};
 ghost use Rattle.tm_hist.specs.Replay.{Replays};
 
 use crate::history::History;
+use crate::history_memory::HistoryMemory;
 use crate::one_memory::serial;
 use crate::pair::Pair;
 use crate::replay::{Serial, SerialFault};
@@ -18,7 +19,9 @@ use crate::whole::{push_plain, push_transaction};
 use std::alloc::Global;
 use std::marker::Model;
 use thiserror::Error;
-use tm_core::{CoreState, Limits, Machine, MachineFault, NoSuchCore, Outcome, Program};
+use tm_core::{
+    CoreState, Limits, Machine, MachineFault, MachineMemory, NoSuchCore, Outcome, Program,
+};
 
 /// Why no board was made.
 #[derive(Clone, Copy, PartialEq, Eq, Debug, Drop, Error)]
@@ -29,12 +32,12 @@ pub enum BoardFault {
     /// A limit on lines is not 1 to 4096.
     #[error("BadLimits")]
     BadLimits,
-    /// There is no memory for the machine.
+    /// There is no memory for the machine, as the machine says.
     #[error("NoMemory")]
-    NoMachine,
-    /// There is no memory for the history or the copy of the program.
+    NoMachine(MachineMemory),
+    /// There is a machine, and no memory for the history or the copy of the program.
     #[error("NoMemory")]
-    NoMemory,
+    NoMemory(HistoryMemory),
 }
 
 impl BoardFault {
@@ -45,8 +48,8 @@ impl BoardFault {
         match self {
             BoardFault::BadLimit => 55,
             BoardFault::BadLimits => 40,
-            BoardFault::NoMachine => 41,
-            BoardFault::NoMemory => 51,
+            BoardFault::NoMachine(_) => 41,
+            BoardFault::NoMemory(_) => 51,
         }
     }
 }
@@ -151,13 +154,13 @@ impl Board {
         let machine = match Machine::new(alloc, program, limits) {
             Ok(machine) => machine,
             Err(MachineFault::BadLimits) => return Err(BoardFault::BadLimits),
-            Err(MachineFault::NoMemory) => return Err(BoardFault::NoMachine),
+            Err(MachineFault::NoMemory(memory)) => return Err(BoardFault::NoMachine(memory)),
         };
         let Ok(made) = Vec::with_capacity(alloc, limit as usize) else {
-            return Err(BoardFault::NoMemory);
+            return Err(BoardFault::NoMemory(HistoryMemory::beside(&machine)));
         };
         let Ok(program) = program.copy(alloc) else {
-            return Err(BoardFault::NoMemory);
+            return Err(BoardFault::NoMemory(HistoryMemory::beside(&machine)));
         };
         Ok(Board {
             program,

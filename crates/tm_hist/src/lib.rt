@@ -12,6 +12,7 @@
 mod board;
 mod flat;
 mod history;
+mod history_memory;
 mod lines;
 mod one_memory;
 mod pair;
@@ -23,10 +24,11 @@ mod whole;
 
 pub use board::{Board, BoardFault, MOST_STEPS, StepFault};
 pub use history::History;
+pub use history_memory::HistoryMemory;
 pub use lines::{push_state, stop_text, write_core, write_dump, write_outcome, write_state};
 pub use one_memory::serial;
 pub use replay::{Serial, SerialFault};
 pub use tm_core::{
-    AbortReason, CoreState, Counts, Kind, Limits, Machine, MachineFault, Outcome, Reach, RunFault,
-    Stop, memory,
+    AbortReason, CoreState, Counts, Kind, Limits, Machine, MachineFault, MachineMemory, Outcome,
+    Reach, RunFault, Stop, memory,
 };

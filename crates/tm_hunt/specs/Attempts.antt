@@ -18,8 +18,8 @@ use Rattle.tm_hunt.specs.declared.trial.Trial.{Trial}
 abbrev pub IsBoardRefusal : Trial → BoardFault → Type 0
 IsBoardRefusal trial BadLimit = bad_limit trial.most ≡ true
 IsBoardRefusal trial BadLimits = bad_limits trial.limits ≡ true
-IsBoardRefusal trial NoMachine = ⊤
-IsBoardRefusal trial NoHistory = ⊤
+IsBoardRefusal trial (NoMachine memory) = ⊤
+IsBoardRefusal trial (NoHistory memory) = ⊤
 
 abbrev pub IsRefusal : Trial → HuntFault → Type 0
 IsRefusal trial (Board fault) = IsBoardRefusal trial fault

@@ -50,7 +50,7 @@ impl Place {
         let machine = match Machine::new(alloc, trial.program, trial.limits) {
             Ok(machine) => machine,
             Err(MachineFault::BadLimits) => return Err(SearchFault::BadLimits),
-            Err(MachineFault::NoMemory) => return Err(SearchFault::NoMemory),
+            Err(MachineFault::NoMemory(_)) => return Err(SearchFault::NoMemory),
         };
         let details = vec![in alloc; 0; usize::from(machine.cores())]?;
         Ok(Place { machine, details })
