@@ -1,12 +1,17 @@
 -- Lists of lines, and the sets that they make.
 use Rattle.std.proofs.Common.{◌≡◌, ℕ, zero, suc, ◌+◌, ◌<◌, ◌≤◌, Bool, true, false, cond, ◌||◌, List, [], ◌∷◌, ◌++◌, length, get_or, refl, sym, ap, ◌∙◌, ⊎_elim, arith}
 use Rattle.std.proofs.lemmas.Bool.{cases_eq, eq-eqb, ne_eqb}
+use Rattle.std.proofs.lemmas.List.{get_or_read}
 use Rattle.std.proofs.lemmas.List.Sorted.{list_any-IsPermutation, length_permutation}
 use Rattle.std.specs.List.Sorted.{IsPermutation, IsStrictlyIncreasing, IsNonDecreasing}
 use Rattle.std.specs.Ordering.{nat_cmp, eq_by_cmp}
 use Rattle.std.specs.Cmp.{nat_cmp_total, unsigned_tied}
 use Rattle.std.specs.FinSet as set
 use Rattle.tm_sets.specs.LineSet.{Lines, lines_of}
+
+-- a number that was read at an index is the one there
+pub read_at : (xs : List ℕ) {i k told : ℕ} → i < length xs → k ≡ i → told ≡ get_or xs k told → told ≡ get_or xs i 0
+read_at xs {i} {k} {told} below same read = get_or_read xs i told below (rw same at read) 0
 
 pub len_push : (s : Lines) (l : ℕ) → set.contains s l ≡ false → set.len (set.insert s l) ≡ set.len s + 1
 len_push s l new = set.len-insert nat_cmp_total s l ∙ ap (λ t. cond t (set.len s) (set.len s + 1)) new

@@ -49,10 +49,18 @@ sum_zeros (x ∷ xs) h =
     let d : x ≡ 0 = h 0 in
     omega arith
 
--- the row before any triple has come
-module _ (r : Rows) (row : (place : ℕ) → place < length r.entries → entry_at r.entries place ≡ freed no_entry place)
-    (core_heads : (i : ℕ) → get_or r.core_heads i 0 ≡ 0) (line_heads : (i : ℕ) → get_or r.line_heads i 0 ≡ 0)
-    (reads : (i : ℕ) → get_or r.reads i 0 ≡ 0) (writes : (i : ℕ) → get_or r.writes i 0 ≡ 0) (free : r.free ≡ length r.entries) where
+-- rows before any triple has come
+pub record IsFresh (r : Rows) : Type 0 where
+  pub row : (place : ℕ) → place < length r.entries → entry_at r.entries place ≡ freed no_entry place
+  pub core_heads : (i : ℕ) → get_or r.core_heads i 0 ≡ 0
+  pub line_heads : (i : ℕ) → get_or r.line_heads i 0 ≡ 0
+  pub reads : (i : ℕ) → get_or r.reads i 0 ≡ 0
+  pub writes : (i : ℕ) → get_or r.writes i 0 ≡ 0
+  pub free : r.free ≡ length r.entries
+
+module _ (r : Rows) (fresh : IsFresh r) where
+  open fresh use {row, core_heads, line_heads, reads, writes, free}
+
   none_held : (e : ℕ) → e < length r.entries → held r.entries e ≡ false
   none_held e b = ap (λ x. x.held) (row e b)
 

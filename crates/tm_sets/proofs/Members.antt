@@ -150,3 +150,8 @@ unfolding slot_among
 slot_nowhere [] core line h = refl
 slot_nowhere (e ∷ es) core line h =
     ap (λ s. cond s (Some e.slot) (slot_among es core line)) (h 0 (omega arith)) ∙ slot_nowhere es core line (λ i l. h (suc i) (omega arith))
+
+-- a line that isn't there has no slot
+pub slot_absent : (es : List Entry) (core line : ℕ) → lines.contains (lines_in es core Write) line ≡ false → slot_among es core line ≡ None
+slot_absent es core line f = slot_nowhere es core line (λ i b. fails (is_triple (entry_at es i) core Write line) (λ t.
+    never (lines.contains (lines_in es core Write) line) (present es i core Write line b t) f))

@@ -1,5 +1,5 @@
 -- The slots of a directory's entries.
-use Rattle.std.proofs.Common.{◌≡◌, ℕ, ◌<◌, true, false, length, Some, None, sym, ap, ◌∙◌, ⊎_elim, arith}
+use Rattle.std.proofs.Common.{◌≡◌, ℕ, ◌<◌, true, length, Some, sym, ap, ◌∙◌, ⊎_elim, arith}
 use Rattle.std.proofs.Math.Logic.{∥∥₁_elim}
 use Rattle.std.proofs.Props.{props}
 use Rattle.std.proofs.lemmas.Bool.{cases_eq}
@@ -10,18 +10,13 @@ use Rattle.tm_sets.specs.Content.{AreSlots}
 use Rattle.tm_sets.specs.Row.{entry_at, lines_in, slot_among}
 use Rattle.tm_sets.specs.Threaded.{Rows, IsThreaded, AreCounted, threaded_content}
 use Rattle.tm_sets.proofs.Adding.{alone, slot_place}
-use Rattle.tm_sets.proofs.Counting.{same_test, fails, never}
-use Rattle.tm_sets.proofs.Members.{is_triple, stands, present, place_of, slot_there, slot_nowhere}
+use Rattle.tm_sets.proofs.Counting.{same_test}
+use Rattle.tm_sets.proofs.Members.{is_triple, stands, present, place_of, slot_there}
 
 -- the slot of a place that stands for the line
 pub slot_is : (r : Rows) → AreCounted r → (core line p : ℕ) → p < length r.entries → is_triple (entry_at r.entries p) core Write line ≡ true
     → slot_among r.entries core line ≡ Some (entry_at r.entries p).slot
 slot_is r a core line p b t = slot_there r.entries p core line b t (alone r a core Write line p b t)
-
--- a line that isn't there has none
-pub slot_none : (r : Rows) (core line : ℕ) → lines.contains (lines_in r.entries core Write) line ≡ false → slot_among r.entries core line ≡ None
-slot_none r core line f = slot_nowhere r.entries core line (λ i b. fails (is_triple (entry_at r.entries i) core Write line) (λ t.
-    never (lines.contains (lines_in r.entries core Write) line) (present r.entries i core Write line b t) f))
 
 pub directory_slots : (r : Rows) → IsThreaded r → AreCounted r → AreSlots (threaded_content r)
 directory_slots r threaded a = record {

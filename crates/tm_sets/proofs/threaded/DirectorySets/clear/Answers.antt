@@ -1,7 +1,6 @@
-use Rattle.std.proofs.Common.{◌≡◌, ◌<◌, ℕ, None, cond, get_or, length, sym, ap, ◌∙◌, ⊎_elim, subst, arith}
+use Rattle.std.proofs.Common.{◌≡◌, ◌<◌, ℕ, None, cond, get_or, length, sym, ap, ◌∙◌, ⊎_elim, arith}
 use Rattle.std.proofs.Math.Path.{fun_ext}
 use Rattle.std.proofs.lemmas.Bool.{cases_eq, eq-eqb, ne_eqb}
-use Rattle.std.proofs.lemmas.List.{get_or_read}
 use Rattle.std.specs.FinSet as lines
 use Rattle.tm_sets.specs.Content.{Fixed, by_kind, without_core}
 use Rattle.tm_sets.specs.Row.{lines_in, slot_among}
@@ -9,13 +8,12 @@ use Rattle.tm_sets.specs.Threaded.{threaded_content}
 use Rattle.tm_sets.specs.DirectoryRows.{rows_of}
 use Rattle.tm_sets.proofs.Adding.{same_content}
 use Rattle.tm_sets.proofs.Clearing.{none_left, none_slotted}
+use Rattle.tm_sets.proofs.Lists.{read_at}
 use Rattle.tm_sets.proofs.threaded.DirectorySets.clear.Goals as goal
 
 same_fixed : (a a' b b' x x' y y' : ℕ) → a ≡ a' → b ≡ b' → x ≡ x' → y ≡ y'
     → (let f : Fixed = record { room = by_kind a b; cores = x; line_count = y } in let g : Fixed = record { room = by_kind a' b'; cores = x'; line_count = y' } in f ≡ g)
-same_fixed a a' b b' x x' y y' p q s t =
-    let F : ℕ → ℕ → ℕ → ℕ → Fixed = λ u v w z. record { room = by_kind u v; cores = w; line_count = z } in
-    ap (λ n. F n b x y) p ∙ ap (λ n. F a' n x y) q ∙ ap (λ n. F a' b' n y) s ∙ ap (λ n. F a' b' x' n) t
+same_fixed a a' b b' x x' y y' p q s t = λ i. record { room = by_kind (p i) (q i); cores = s i; line_count = t i }
 
 pub returns-clause-content : goal.returns-clause-content
 returns-clause-content c =
@@ -23,7 +21,7 @@ returns-clause-content c =
     let new = c.loop-self.self in
     let i = c.loop-self.invariant in
     let below : c.args.core < length new.core_heads.items = omega (arith, c.requires, i.cores) in
-    let head : get_or new.core_heads.items c.args.core 0 ≡ 0 = sym (get_or_read new.core_heads.items c.args.core c.index.result.now below (subst (λ k. c.index.result.now ≡ get_or new.core_heads.items k c.index.result.now) c.from.ensures c.index.ensures) 0) ∙ c.loop-self-test.false in
+    let head : get_or new.core_heads.items c.args.core 0 ≡ 0 = sym (read_at new.core_heads.items below c.from.ensures c.index.ensures) ∙ c.loop-self-test.false in
     same_content (threaded_content (rows_of new)) (without_core (threaded_content (rows_of old)) c.args.core)
     (λ other kind. ⊎_elim
     (λ (e : other ≡ c.args.core).

@@ -4,9 +4,9 @@ use Rattle.std.specs.Option.{is_some}
 use Rattle.tm_sets.specs.Row.{no_entry, entry_at}
 use Rattle.tm_sets.specs.declared.interface.Kind.TheVariants.{Write}
 use Rattle.tm_sets.specs.declared.row.Entry.{Entry}
-use Rattle.tm_sets.proofs.Members.{is_triple}
+use Rattle.tm_sets.proofs.Members.{is_triple, slot_absent}
 use Rattle.tm_sets.specs.DirectoryRows.{rows_of}
-use Rattle.tm_sets.proofs.Slotting.{slot_is, slot_none, directory_slots}
+use Rattle.tm_sets.proofs.Slotting.{slot_is, directory_slots}
 use Rattle.tm_sets.proofs.threaded.DirectorySets.slot.Goals as goal
 
 pub returns-in-Some-clause-all : goal.returns-in-Some-clause-all
@@ -24,4 +24,4 @@ returns-in-Some-clause-value c =
     ∙ sym (slot_is (rows_of c.args.self.now) c.args.self.now.counted c.args.core c.args.line c.in-Some.place below triple)
 
 pub returns-in-None-clause-value : goal.returns-in-None-clause-value
-returns-in-None-clause-value c = sym (slot_none (rows_of c.args.self.now) c.args.core c.args.line (sym c.find-place.ensures.found ∙ ap is_some c.in-None.is))
+returns-in-None-clause-value c = sym (slot_absent c.args.self.now.entries.items c.args.core c.args.line (sym c.find-place.ensures.found ∙ ap is_some c.in-None.is))
