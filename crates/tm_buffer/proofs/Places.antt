@@ -7,7 +7,7 @@ use Rattle.std.specs.List.{list_any}
 use Rattle.std.specs.Ordering.{nat_cmp, eq_by_cmp}
 use Rattle.std.specs.Cmp.{nat_cmp_total, unsigned_tied}
 use Rattle.std.specs.FinSet as set
-use Rattle.tm_buffer.specs.Buffer.{place_of, with_line, lines_of}
+use Rattle.tm_buffer.specs.Buffer.{BufferValue, place_of, with_line, lines_of}
 use Rattle.tm_buffer.specs.Slots.{AtItsPlace}
 
 pub place_none : (xs : List ℕ) (l : ℕ) → ((i : ℕ) → i < length xs → get_or xs i 0 ≡ l → ⊥) → place_of xs l ≡ None
@@ -126,5 +126,9 @@ none_of xs l h = elim (place_of xs l) as (λ o. is_some o ≡ false → o ≡ No
 pub with_new_line : (xs : List ℕ) (l : ℕ) → place_of xs l ≡ None → with_line xs l ≡ xs ++ l ∷ []
 with_new_line xs l none = ap (λ o. cond (is_some o) xs (xs ++ l ∷ [])) none
 
-pub below_room : (xs : List ℕ) (l k room : ℕ) → place_of xs l ≡ Some k → length xs ≤ room → k < room
-below_room xs l k room at within = omega (arith, (place_in xs l k at).below)
+-- a line has the same place in a buffer and in what this is seen as, and it is below the room
+pub place_seen : {b v : BufferValue} (line : ℕ) {p : Option ℕ} → b ≡ v → place_of v.order line ≡ p → place_of b.order line ≡ p
+place_seen line seen at = ap (λ x. place_of x.order line) seen ∙ at
+
+pub below_room : {b v : BufferValue} (line : ℕ) {k : ℕ} → b ≡ v → place_of v.order line ≡ Some k → length b.order ≤ b.room → k < b.room
+below_room {b} line {k} seen at within = omega (arith, within, (place_in b.order line k (place_seen line seen at)).below)

@@ -1,4 +1,4 @@
-use Rattle.std.proofs.Common.{◌≡◌, ◌<◌, ◌≤◌, ℕ, None, length, sym, ap, ◌∙◌, arith}
+use Rattle.std.proofs.Common.{◌≤◌, length, sym, ap, ◌∙◌, arith}
 use Rattle.tm_buffer.specs.Buffer.{place_of}
 use Rattle.tm_buffer.proofs.Holding.{one_free}
 use Rattle.tm_buffer.proofs.stored.Buffer.first_free.Goals as goal

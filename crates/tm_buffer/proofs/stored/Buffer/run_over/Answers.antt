@@ -3,7 +3,7 @@ use Rattle.std.specs.Option.{unwrap_or, option_and_then}
 use Rattle.std.specs.FinMap as bytes_map
 use Rattle.tm_buffer.specs.Buffer.{place_of, Bytes}
 use Rattle.tm_buffer.specs.Slots.{bytes_of, slot_byte}
-use Rattle.tm_buffer.proofs.Places.{below_room}
+use Rattle.tm_buffer.proofs.Places.{below_room, place_seen}
 use Rattle.tm_buffer.proofs.Entries.{get_bytes}
 use Rattle.tm_buffer.proofs.stored.Buffer.run_over.Goals as goal
 
@@ -20,9 +20,8 @@ abbrev joined : ℕ → Option ℕ → Option ℕ → Option ℕ → Option ℕ 
 joined under o0 o1 o2 o3 =
     unwrap_or o0 (under % 256) + unwrap_or o1 (under / 256 % 256) * 256 + unwrap_or o2 (under / 65536 % 256) * 65536 + unwrap_or o3 (under / 16777216 % 256) * 16777216
 
-joined_as : (under : ℕ) (o0 o1 o2 o3 p0 p1 p2 p3 : Option ℕ) → o0 ≡ p0 → o1 ≡ p1 → o2 ≡ p2 → o3 ≡ p3 → joined under p0 p1 p2 p3 ≡ joined under o0 o1 o2 o3
-joined_as under o0 o1 o2 o3 p0 p1 p2 p3 e0 e1 e2 e3 =
-    sym (ap (λ o. joined under o o1 o2 o3) e0 ∙ ap (λ o. joined under p0 o o2 o3) e1 ∙ ap (λ o. joined under p0 p1 o o3) e2 ∙ ap (λ o. joined under p0 p1 p2 o) e3)
+joined_as : (under : ℕ) {o0 o1 o2 o3 p0 p1 p2 p3 : Option ℕ} → o0 ≡ p0 → o1 ≡ p1 → o2 ≡ p2 → o3 ≡ p3 → joined under p0 p1 p2 p3 ≡ joined under o0 o1 o2 o3
+joined_as under e0 e1 e2 e3 = sym (λ i. joined under (e0 i) (e1 i) (e2 i) (e3 i))
 
 whole : (under : ℕ) → under < 2 ^ 32 → under ≡ joined under None None None None
 whole under fits = omega arith
@@ -47,9 +46,9 @@ returns-in_default c =
     let m : Bytes = c.args.self.now.bytes in
     let a : ℕ = c.args.address in
     let view : bytes_of c.self.inside.lines.items c.self.inside.masks.items c.self.inside.bytes.items ≡ c.args.self.now.bytes = ap (λ h. h.bytes) c.self.view_is in
-    let place : place_of c.self.inside.lines.items (c.args.address / 64) ≡ None = ap (λ h. place_of h.order (c.args.address / 64)) c.self.view_is ∙ sym c.requires.place ∙ c.in_default.is in
+    let place : place_of c.self.inside.lines.items (c.args.address / 64) ≡ None = place_seen (c.args.address / 64) c.self.view_is (sym c.requires.place ∙ c.in_default.is) in
     let on : OnLine c.args.address = on_line c.args.address c.requires.one in
-    whole c.args.under c.ranges.under.fits ∙ joined_as c.args.under _ _ _ _ None None None None
+    whole c.args.under c.ranges.under.fits ∙ joined_as c.args.under
     (at_place lines masks bytes m a a (a % 64) None view place refl refl)
     (at_place lines masks bytes m a (a + 1) (a % 64 + 1) None view place on.l1 on.o1)
     (at_place lines masks bytes m a (a + 1 + 1) (a % 64 + 2) None view place on.l2 on.o2)
@@ -57,13 +56,13 @@ returns-in_default c =
 
 pub run_in-requires-clause-place : goal.run_in-requires-clause-place
 run_in-requires-clause-place c =
-    let p : place_of c.self.inside.lines.items (c.args.address / 64) ≡ Some c.in-Some.at = ap (λ h. place_of h.order (c.args.address / 64)) c.self.view_is ∙ sym c.requires.place ∙ c.in-Some.is in
-    omega (arith, below_room _ _ _ _ p c.self.invariant.0.within, c.self.invariant.0.masks, ap length c.as_slice-masks.ensures.value)
+    let below = below_room (c.args.address / 64) c.self.view_is (sym c.requires.place ∙ c.in-Some.is) c.self.invariant.0.within in
+    omega (arith, below, c.self.invariant.0.masks, ap length c.as_slice-masks.ensures.value)
 
 pub run_in-requires-clause-fits : goal.run_in-requires-clause-fits
 run_in-requires-clause-fits c =
-    let p : place_of c.self.inside.lines.items (c.args.address / 64) ≡ Some c.in-Some.at = ap (λ h. place_of h.order (c.args.address / 64)) c.self.view_is ∙ sym c.requires.place ∙ c.in-Some.is in
-    omega (arith, below_room _ _ _ _ p c.self.invariant.0.within, c.self.invariant.3)
+    let below = below_room (c.args.address / 64) c.self.view_is (sym c.requires.place ∙ c.in-Some.is) c.self.invariant.0.within in
+    omega (arith, below, c.self.invariant.3)
 
 pub returns-in-Some-run_in : goal.returns-in-Some-run_in
 returns-in-Some-run_in c =
@@ -75,14 +74,14 @@ returns-in-Some-run_in c =
     let k : ℕ = c.in-Some.at in
     let run : List ℕ = c.in-Some-run_in.run' in
     let view : bytes_of c.self.inside.lines.items c.self.inside.masks.items c.self.inside.bytes.items ≡ c.args.self.now.bytes = ap (λ h. h.bytes) c.self.view_is in
-    let place : place_of c.self.inside.lines.items (c.args.address / 64) ≡ Some c.in-Some.at = ap (λ h. place_of h.order (c.args.address / 64)) c.self.view_is ∙ sym c.requires.place ∙ c.in-Some.is in
+    let place : place_of c.self.inside.lines.items (c.args.address / 64) ≡ Some c.in-Some.at = place_seen (c.args.address / 64) c.self.view_is (sym c.requires.place ∙ c.in-Some.is) in
     let on : OnLine c.args.address = on_line c.args.address c.requires.one in
     let byte : (j : ℕ) → j < 4 → slot_byte c.self.inside.masks.items c.self.inside.bytes.items (c.args.address % 64 + j) c.in-Some.at ≡ Some (get_or c.in-Some-run_in.run' j 0) = λ j small.
     ap (λ ms. slot_byte ms c.self.inside.bytes.items (c.args.address % 64 + j) c.in-Some.at) (sym c.as_slice-masks.ensures.value)
     ∙ ap (λ bs. slot_byte c.as_slice-masks.result.now bs (c.args.address % 64 + j) c.in-Some.at) (sym c.as_slice-bytes.ensures.value)
     ∙ c.in-Some-run_in.ensures j small in
     let first : a % 64 ≡ a % 64 + 0 = omega arith in
-    c.from_le.ensures ∙ joined_as c.args.under _ _ _ _ (Some (get_or run 0 0)) (Some (get_or run 1 0)) (Some (get_or run 2 0)) (Some (get_or run 3 0))
+    c.from_le.ensures ∙ joined_as c.args.under
     (at_place lines masks bytes m a a (a % 64 + 0) (Some k) view place refl first ∙ byte 0 (omega arith))
     (at_place lines masks bytes m a (a + 1) (a % 64 + 1) (Some k) view place on.l1 on.o1 ∙ byte 1 (omega arith))
     (at_place lines masks bytes m a (a + 1 + 1) (a % 64 + 2) (Some k) view place on.l2 on.o2 ∙ byte 2 (omega arith))
