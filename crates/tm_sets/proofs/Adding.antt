@@ -260,11 +260,15 @@ module _ (r : Rows) (core : ℕ) (kind : Kind) (line : ℕ) (is_new : IsNew r co
         (λ l t. add_slots c l (slot_present r counted c l t)))
 
 -- a line that is there changes nothing
-pub known_line : (content : Content) (core : ℕ) (kind : Kind) (line : ℕ) → lines.contains (content.lines core kind) line ≡ true → content ≡ with_line content core kind line content.slots
+pub known_line : (content : Content) (core : ℕ) (kind : Kind) (line : ℕ) → lines.contains (content.lines core kind) line ≡ true
+    → content ≡ with_line content core kind line content.slots
 known_line content core kind line there = same_content content (with_line content core kind line content.slots) (λ c k. ⊎_elim
     (λ (t : (eqb c core && same_kind k kind) ≡ true).
     let w = both (eqb c core) (same_kind k kind) t in
-    sym (ap (λ b. cond b (lines.insert (content.lines c k) line) (content.lines c k)) t ∙ kept (content.lines c k) line
-    (ap (λ x. lines.contains (content.lines x k) line) (equal c core w.0) ∙ ap (λ x. lines.contains (content.lines core x) line) (same_kinds k kind w.1) ∙ there)))
-    (λ (t : (eqb c core && same_kind k kind) ≡ false). sym (ap (λ b. cond b (lines.insert (content.lines c k) line) (content.lines c k)) t))
+    let c_is = equal c core w.0 in
+    let k_is = same_kinds k kind w.1 in
+    sym (ap (λ b. cond b (lines.insert (content.lines c k) line) (content.lines c k)) t
+    ∙ kept (content.lines c k) line ((λ i. lines.contains (content.lines (c_is i) (k_is i)) line) ∙ there)))
+    (λ (t : (eqb c core && same_kind k kind) ≡ false).
+    sym (ap (λ b. cond b (lines.insert (content.lines c k) line) (content.lines c k)) t))
     (tested (eqb c core && same_kind k kind))) (λ c. refl) refl

@@ -1,7 +1,22 @@
 -- What becomes of a threaded list when a place comes to it or leaves it.
-use Rattle.std.proofs.Common.{◌≡◌, ℕ, zero, suc, ◌+◌, ◌<◌, ◌≤◌, refl, sym, ap, ◌∙◌, ⊎_elim, ◌⊎◌, inl, inr, subst, arith}
+use Rattle.std.proofs.Common.{◌≡◌, ℕ, zero, suc, ◌+◌, ◌<◌, ◌≤◌, List, length, get_or, set, refl, sym, ap, ◌∙◌, ⊎_elim, ◌⊎◌, inl, inr, subst, arith}
 use Rattle.std.proofs.lemmas.Bool.{cases_eq}
+use Rattle.std.proofs.lemmas.List.{get_or-set_same, get_or-set_other}
 use Rattle.tm_sets.specs.Ranked.{IsRanked, GoesBack}
+
+-- a list with its links back
+pub record IsList (on : ℕ → Type 0) (head : ℕ) (after before rank : ℕ → ℕ) : Type 0 where
+  pub ranked : IsRanked on head after rank
+  pub back : GoesBack on head after before
+
+-- what holds of each list and its head, where one head is set
+pub heads_set : (P : ℕ → ℕ → Type 0) (heads : List ℕ) (its head : ℕ) → its < length heads → P its head
+    → ((v : ℕ) → (v ≡ its → ⊥) → P v (get_or heads v 0)) → (v : ℕ) → P v (get_or (set heads its head) v 0)
+heads_set P heads its head below here others v = ⊎_elim
+    (λ (s : v ≡ its).
+    subst (λ k. P k (get_or (set heads its head) k 0)) (sym s) (subst (P its) (sym (get_or-set_same heads its head 0 below)) here))
+    (λ (s : v ≡ its → ⊥). subst (P v) (sym (get_or-set_other heads its v head 0 s)) (others v s))
+    (cases_eq v its)
 
 -- none, or a place
 pub told : (t : ℕ) → (t ≡ 0) ⊎ ((h : ℕ) × (t ≡ h + 1))
@@ -9,8 +24,9 @@ told zero = inl refl
 told (suc h) = inr (h, omega arith)
 
 -- a list of which nothing changed
-module _ (on on' : ℕ → Type 0) (after after' rank rank' : ℕ → ℕ) (to : (e : ℕ) → on' e → on e) (from : (e : ℕ) → on e → on' e) (after_same : (e : ℕ) → on' e → after' e ≡ after e) (rank_same : (e : ℕ) → on' e → rank' e ≡ rank e) where
-  pub kept : (head : ℕ) → IsRanked on head after rank → IsRanked on' head after' rank'
+module _ (on on' : ℕ → Type 0) (after after' rank rank' : ℕ → ℕ) (to : (e : ℕ) → on' e → on e) (from : (e : ℕ) → on e → on' e)
+    (after_same : (e : ℕ) → on' e → after' e ≡ after e) (rank_same : (e : ℕ) → on' e → rank' e ≡ rank e) where
+  kept : (head : ℕ) → IsRanked on head after rank → IsRanked on' head after' rank'
   kept head l = record {
     head_on = λ h i. from h (l.head_on h i);
     some = λ e o i. l.some e (to e o) i;
@@ -29,7 +45,8 @@ module _ (on on' : ℕ → Type 0) (after after' rank rank' : ℕ → ℕ) (to :
     apart = λ e f o p i. l.apart e f (to e o) (to f p) (sym (rank_same e o) ∙ i ∙ rank_same f p);
   }
 
-  pub kept_back : (head : ℕ) (before before' : ℕ → ℕ) → ((e : ℕ) → on' e → before' e ≡ before e) → IsRanked on head after rank → GoesBack on head after before → GoesBack on' head after' before'
+  kept_back : (head : ℕ) (before before' : ℕ → ℕ) → ((e : ℕ) → on' e → before' e ≡ before e)
+      → IsRanked on head after rank → GoesBack on head after before → GoesBack on' head after' before'
   kept_back head before before' before_same l b = record {
     first = λ h i. before_same h (from h (l.head_on h i)) ∙ b.first h i;
     back = λ e f o i. let j = sym (after_same e o) ∙ i in before_same f (from f (l.after_on e f (to e o) j)) ∙ b.back e f (to e o) j;
@@ -37,6 +54,11 @@ module _ (on on' : ℕ → Type 0) (after after' rank rank' : ℕ → ℕ) (to :
     before_on = λ e f o i. from f (b.before_on e f (to e o) (sym (before_same e o) ∙ i));
     itself = λ e f o i. let j = sym (before_same e o) ∙ i in after_same f (from f (b.before_on e f (to e o) j)) ∙ b.itself e f (to e o) j;
   }
+
+  pub kept_list : {head : ℕ} {before before' : ℕ → ℕ} → ((e : ℕ) → on' e → before' e ≡ before e)
+      → IsList on head after before rank → IsList on' head after' before' rank'
+  kept_list {head} {before} {before'} before_same l =
+      record { ranked = kept head l.ranked; back = kept_back head before before' before_same l.ranked l.back }
 
 -- a list with a new place at its head, of the highest rank
 module _ (on on' : ℕ → Type 0) (head n : ℕ) (after after' rank rank' : ℕ → ℕ)
@@ -48,7 +70,10 @@ module _ (on on' : ℕ → Type 0) (head n : ℕ) (after after' rank rank' : ℕ
     head_on = λ h i. let e : h ≡ n = omega arith in subst' h e;
     some = λ e o i. omega arith;
     first = λ e h o i. let q : h ≡ n = omega arith in let r : rank' h ≡ rank' n = ap rank' q in
-        ⊎_elim (λ (s : e ≡ n). let t : rank' e ≡ rank' n = ap rank' s in omega arith) (λ (s : on e). let t = rank_same e s in let u = highest e s in omega arith) (is e o);
+        ⊎_elim
+        (λ (s : e ≡ n). let t : rank' e ≡ rank' n = ap rank' s in omega arith)
+        (λ (s : on e). omega (arith, rank_same e s, highest e s))
+        (is e o);
     after_on = λ e f o i. from f (after_old e f o i);
     falls = λ e f o i.
         let p : on f = after_old e f o i in let b = rank_same f p in
@@ -65,8 +90,13 @@ module _ (on on' : ℕ → Type 0) (head n : ℕ) (after after' rank rank' : ℕ
     next = λ e f g o p less i.
         let q : on f = lower e f o p less in let b = rank_same f q in
         ⊎_elim
-        (λ (s : e ≡ n). let j : head ≡ g + 1 = sym after_new ∙ sym (ap after' s) ∙ i in let d = rank_same g (l.head_on g j) in let c = l.first f g q j in omega arith)
-        (λ (s : on e). let a = rank_same e s in let j = sym (after_same e s) ∙ i in let d = rank_same g (l.after_on e g s j) in let c = l.next e f g s q (omega arith) j in omega arith)
+        (λ (s : e ≡ n).
+        let j : head ≡ g + 1 = sym after_new ∙ sym (ap after' s) ∙ i in
+        omega (arith, b, rank_same g (l.head_on g j), l.first f g q j))
+        (λ (s : on e).
+        let a = rank_same e s in
+        let j = sym (after_same e s) ∙ i in
+        omega (arith, a, b, rank_same g (l.after_on e g s j), l.next e f g s q (omega arith) j))
         (is e o);
     apart = λ e f o p i. ⊎_elim
         (λ (s : e ≡ n). ⊎_elim
@@ -98,7 +128,8 @@ module _ (on on' : ℕ → Type 0) (head n : ℕ) (after after' rank rank' : ℕ
           (λ (t : on f). t)
           (is f p)
 
-  pub pushed_back : (before before' : ℕ → ℕ) → before' n ≡ 0 → ((e : ℕ) → on e → head ≡ e + 1 → before' e ≡ n + 1) → ((e : ℕ) → on e → (head ≡ e + 1 → ⊥) → before' e ≡ before e)
+  pushed_back : (before before' : ℕ → ℕ) → before' n ≡ 0 → ((e : ℕ) → on e → head ≡ e + 1 → before' e ≡ n + 1)
+      → ((e : ℕ) → on e → (head ≡ e + 1 → ⊥) → before' e ≡ before e)
       → IsRanked on head after rank → GoesBack on head after before → GoesBack on' (n + 1) after' before'
   pushed_back before before' none at_old others l b = record {
     first = λ h i. let e : h ≡ n = omega arith in ap before' e ∙ none;
@@ -129,6 +160,11 @@ module _ (on on' : ℕ → Type 0) (head n : ℕ) (after after' rank rank' : ℕ
         (cases_eq head (e + 1)))
         (is e o);
   }
+
+  pub pushed_list : {before before' : ℕ → ℕ} → before' n ≡ 0 → ((e : ℕ) → on e → head ≡ e + 1 → before' e ≡ n + 1)
+      → ((e : ℕ) → on e → (head ≡ e + 1 → ⊥) → before' e ≡ before e) → IsList on head after before rank → IsList on' (n + 1) after' before' rank'
+  pushed_list {before} {before'} none at_old others l =
+      record { ranked = pushed l.ranked; back = pushed_back before before' none at_old others l.ranked l.back }
 
 -- a list that has lost a place, and links to and fro over it
 module _ (on on' : ℕ → Type 0) (head n : ℕ) (after after' before before' rank rank' : ℕ → ℕ)
@@ -182,7 +218,10 @@ module _ (on on' : ℕ → Type 0) (head n : ℕ) (after after' before before' r
     after_on = λ e f o i. let s = step e f o i in from f s.0.0 s.0.1;
     falls = λ e f o i. let s = step e f o i in let a = rank_same e o in let b = rank_same f (from f s.0.0 s.0.1) in let c = s.1 in omega arith;
     goes_on = λ e f o p less i. let a = rank_same e o in let b = rank_same f p in ends e f o p (omega arith) i;
-    next = λ e f g o p less i. let s = step e g o i in let a = rank_same e o in let b = rank_same f p in let d = rank_same g (from g s.0.0 s.0.1) in let c = s.2 f p (omega arith) in omega arith;
+    next = λ e f g o p less i.
+        let s = step e g o i in
+        let a = rank_same e o in let b = rank_same f p in
+        omega (arith, a, b, rank_same g (from g s.0.0 s.0.1), s.2 f p (omega arith));
     apart = λ e f o p i. l.apart e f (to e o) (to f p) (sym (rank_same e o) ∙ i ∙ rank_same f p);
   }
     where
@@ -202,7 +241,7 @@ module _ (on on' : ℕ → Type 0) (head n : ℕ) (after after' before before' r
           ((l.head_on h j, λ q. s (j ∙ ap (λ k. k + 1) q)), λ e o. l.first e h (to e o) j))
           (cases_eq head (n + 1))
 
-  pub lost_back : (head' : ℕ) → (head ≡ n + 1 → head' ≡ after n) → ((head ≡ n + 1 → ⊥) → head' ≡ head)
+  lost_back : (head' : ℕ) → (head ≡ n + 1 → head' ≡ after n) → ((head ≡ n + 1 → ⊥) → head' ≡ head)
       → ((e : ℕ) → on' e → after n ≡ e + 1 → before' e ≡ before n) → ((e : ℕ) → on' e → (after n ≡ e + 1 → ⊥) → before' e ≡ before e)
       → GoesBack on head after before → GoesBack on' head' after' before'
   lost_back head' moved stays around before_same b = record {
@@ -251,3 +290,9 @@ module _ (on on' : ℕ → Type 0) (head n : ℕ) (after after' before before' r
           let p : on' f = from f (b.before_on e f (to e o) j) (λ q. k (ap after (sym q) ∙ a)) in
           (p, after_same f p (λ s. other e o (omega arith)) ∙ a))
           (cases_eq (after n) (e + 1))
+
+  pub lost_list : {head' : ℕ} → (head ≡ n + 1 → head' ≡ after n) → ((head ≡ n + 1 → ⊥) → head' ≡ head)
+      → ((e : ℕ) → on' e → after n ≡ e + 1 → before' e ≡ before n) → ((e : ℕ) → on' e → (after n ≡ e + 1 → ⊥) → before' e ≡ before e)
+      → GoesBack on head after before → IsList on' head' after' before' rank'
+  lost_list {head'} moved stays around before_same b =
+      record { ranked = lost head' moved stays; back = lost_back head' moved stays around before_same b }

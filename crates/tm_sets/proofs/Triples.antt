@@ -1,5 +1,5 @@
 -- The entries on a line's list are the triples that have the line.
-use Rattle.std.proofs.Common.{◌≡◌, ℕ, zero, suc, ◌+◌, ◌*◌, ◌≤◌, Bool, true, false, cond, eqb, ◌&&◌, List, length, refl, sym, ap, ◌∙◌, arith}
+use Rattle.std.proofs.Common.{◌≡◌, ℕ, zero, suc, ◌+◌, ◌*◌, ◌≤◌, Bool, true, false, cond, eqb, ◌&&◌, List, length, min, refl, sym, ap, ◌∙◌, arith}
 use Rattle.std.proofs.lemmas.Bool.{eq-eqb}
 use Rattle.std.specs.FinSet as lines
 use Rattle.tm_sets.specs.declared.interface.Kind.{Kind}
@@ -68,3 +68,12 @@ few_triples r line =
     let x = count_le (λ core. lines.contains (lines_in r.entries core Read) line) (length r.core_heads) in
     let y = count_le (λ core. lines.contains (lines_in r.entries core Write) line) (length r.core_heads) in
     omega arith
+
+-- what is counted where the entries of a line were visited, and where some of them were
+pub counted_exact : (r : Rows) → AreCounted r → (line before : ℕ) {visited after : ℕ} → visited ≡ entries_on r.entries line
+    → after ≡ min (before + visited) 18446744073709551615 → after ≡ min (before + triples_on (threaded_content r) line) 18446744073709551615
+counted_exact r counted line before all is = is ∙ ap (λ n. min (before + n) 18446744073709551615) (all ∙ entries_are_triples r counted line)
+
+pub counted_few : (r : Rows) → AreCounted r → (line before : ℕ) {visited after : ℕ} → visited ≤ entries_on r.entries line
+    → after ≡ min (before + visited) 18446744073709551615 → after ≤ before + 2 * length r.core_heads
+counted_few r counted line before some is = omega (arith, some, is, entries_are_triples r counted line, few_triples r line)

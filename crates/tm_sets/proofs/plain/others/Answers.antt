@@ -1,10 +1,10 @@
-use Rattle.std.proofs.Common.{◌≡◌, ◌<◌, ◌^◌, ◌+◌, ◌&&◌, ◌||◌, not, nat_eq, ℕ, Bool, sym, ap, ◌∙◌, arith, subst}
-use Rattle.tm_sets.specs.Content.{bit}
+use Rattle.std.proofs.Common.{◌≡◌, ◌<◌, ◌^◌, ◌+◌, ◌&&◌, ◌||◌, not, nat_eq, ℕ, Bool, sym, ap, ◌∙◌, arith}
+use Rattle.tm_sets.specs.Content.{IsMaskOf}
 use Rattle.std.proofs.lemmas.List.{get_or_read}
 use Rattle.std.specs.FinSet as set
 use Rattle.tm_sets.specs.LineSet.{no_line_set, lines_in_set}
 use Rattle.tm_sets.specs.Plain.{is_other, line_set_at}
-use Rattle.tm_sets.proofs.Masks.{bits_set, bits_unset, mask_below, mask_set_below}
+use Rattle.tm_sets.proofs.Masks.{mask_more, mask_same}
 use Rattle.tm_sets.proofs.plain.others.Goals as goal
 use Rattle.tm_sets.proofs.plain.others.Goals.{then-is_other, else-is_other}
 
@@ -20,14 +20,8 @@ loop-other-preserved c =
     c.is_other.ensures.value
     ∙ ap (λ row. not (nat_eq k c.args.core) && (set.contains (lines_in_set row) c.args.line || set.contains (lines_in_set c.index-writes-other.result) c.args.line)) reads
     ∙ ap (λ row. not (nat_eq k c.args.core) && (set.contains (lines_in_set (line_set_at c.args.reads.now k)) c.args.line || set.contains (lines_in_set row) c.args.line)) writes in
-    record {
-      mask = elim c.if-is_other.branch [
-        | then-is_other w ↦ λ k below. ap (λ m. bit m k) w.others-is ∙ bits_set c.loop-other.others c.loop-other.other wanted few i.mask (sym value ∙ w.if-is_other.true) k below
-        | else-is_other w ↦ λ k below. ap (λ m. bit m k) w.others-is ∙ bits_unset c.loop-other.others c.loop-other.other wanted i.below i.mask (sym value ∙ w.if-is_other.false) k below
-      ];
-      below = elim c.if-is_other.branch [
-        | then-is_other w ↦ subst (λ m. m < 2 ^ (c.loop-other.other + 1)) (sym w.others-is) (mask_set_below c.loop-other.others c.loop-other.other few i.below)
-        | else-is_other w ↦ subst (λ m. m < 2 ^ (c.loop-other.other + 1)) (sym w.others-is) (mask_below c.loop-other.others c.loop-other.other i.below)
-      ];
-      visits = omega (arith, c.is_other.ensures.visits, i.visits);
-    }
+    let now : IsMaskOf c.if-is_other.others (k + 1) wanted × (c.if-is_other.others < 2 ^ (k + 1)) = elim c.if-is_other.branch [
+      | then-is_other w ↦ mask_more c.loop-other.others k wanted few i.mask i.below (sym value ∙ w.if-is_other.true) _ w.others-is
+      | else-is_other w ↦ mask_same c.loop-other.others k wanted i.mask i.below (sym value ∙ w.if-is_other.false) _ w.others-is
+    ] in
+    record { mask = now.0; below = now.1; visits = omega (arith, c.is_other.ensures.visits, i.visits) }

@@ -1,10 +1,10 @@
-use Rattle.std.proofs.Common.{◌≡◌, ◌<◌, ◌^◌, ◌+◌, ◌&&◌, not, nat_eq, ℕ, Bool, sym, ap, ◌∙◌, arith, subst}
-use Rattle.tm_sets.specs.Content.{bit}
+use Rattle.std.proofs.Common.{◌≡◌, ◌<◌, ◌^◌, ◌+◌, ◌&&◌, not, nat_eq, ℕ, Bool, sym, ap, ◌∙◌, arith}
+use Rattle.tm_sets.specs.Content.{IsMaskOf}
 use Rattle.std.proofs.lemmas.List.{get_or_read}
 use Rattle.std.specs.FinSet as set
 use Rattle.tm_sets.specs.LineSet.{no_line_set, lines_in_set}
 use Rattle.tm_sets.specs.Plain.{is_writer, line_set_at}
-use Rattle.tm_sets.proofs.Masks.{bits_set, bits_unset, mask_below, mask_set_below}
+use Rattle.tm_sets.proofs.Masks.{mask_more, mask_same}
 use Rattle.tm_sets.proofs.plain.writers.Goals as goal
 use Rattle.tm_sets.proofs.plain.writers.Goals.{then-is_writer, else-is_writer}
 
@@ -18,14 +18,8 @@ loop-other-preserved c =
     let value : c.is_writer.result ≡ wanted k =
     c.is_writer.ensures.value
     ∙ ap (λ lines. not (nat_eq k c.args.core) && set.contains (lines_in_set lines) c.args.line) writes in
-    record {
-      mask = elim c.if-is_writer.branch [
-        | then-is_writer w ↦ λ k below. ap (λ m. bit m k) w.writers-is ∙ bits_set c.loop-other.writers c.loop-other.other wanted few i.mask (sym value ∙ w.if-is_writer.true) k below
-        | else-is_writer w ↦ λ k below. ap (λ m. bit m k) w.writers-is ∙ bits_unset c.loop-other.writers c.loop-other.other wanted i.below i.mask (sym value ∙ w.if-is_writer.false) k below
-      ];
-      below = elim c.if-is_writer.branch [
-        | then-is_writer w ↦ subst (λ m. m < 2 ^ (c.loop-other.other + 1)) (sym w.writers-is) (mask_set_below c.loop-other.writers c.loop-other.other few i.below)
-        | else-is_writer w ↦ subst (λ m. m < 2 ^ (c.loop-other.other + 1)) (sym w.writers-is) (mask_below c.loop-other.writers c.loop-other.other i.below)
-      ];
-      visits = omega (arith, c.is_writer.ensures.visits, i.visits);
-    }
+    let now : IsMaskOf c.if-is_writer.writers (k + 1) wanted × (c.if-is_writer.writers < 2 ^ (k + 1)) = elim c.if-is_writer.branch [
+      | then-is_writer w ↦ mask_more c.loop-other.writers k wanted few i.mask i.below (sym value ∙ w.if-is_writer.true) _ w.writers-is
+      | else-is_writer w ↦ mask_same c.loop-other.writers k wanted i.mask i.below (sym value ∙ w.if-is_writer.false) _ w.writers-is
+    ] in
+    record { mask = now.0; below = now.1; visits = omega (arith, c.is_writer.ensures.visits, i.visits) }

@@ -75,7 +75,8 @@ index-entry-requires c =
 
 pub unhook-requires-clause-place : goal.unhook-requires-clause-place
 unhook-requires-clause-place c =
-    omega (arith, (its_place _ _ _ (first_is c.args.self.now c.requires.core c.requires.some c.from.ensures c.index-at.ensures).is).0, ap length c.deref_mut.ensures.value)
+    let first = first_is c.args.self.now c.requires.core c.requires.some c.from.ensures c.index-at.ensures in
+    omega (arith, (its_place _ _ _ first.is).0, ap length c.deref_mut.ensures.value)
 
 pub unhook-requires-clause-core : goal.unhook-requires-clause-core
 unhook-requires-clause-core c =

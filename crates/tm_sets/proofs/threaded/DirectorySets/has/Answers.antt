@@ -1,7 +1,7 @@
-use Rattle.std.proofs.Common.{◌≡◌, ◌+◌, ℕ, Bool, true, not, min, Option, Some, None, IsTrue, IfNone, ap, ◌∙◌, subst, arith}
+use Rattle.std.proofs.Common.{◌≡◌, ℕ, Bool, true, not, Option, Some, None, IsTrue, IfNone, subst, arith}
 use Rattle.std.specs.Option.{is_some}
 use Rattle.tm_sets.specs.DirectoryRows.{rows_of}
-use Rattle.tm_sets.proofs.Triples.{entries_are_triples, few_triples}
+use Rattle.tm_sets.proofs.Triples.{counted_exact, counted_few, entries_are_triples}
 use Rattle.tm_sets.proofs.threaded.DirectorySets.has.Goals as goal
 
 where_none : {P : Type 0} (o : Option ℕ) (b : Bool) → b ≡ is_some o → IsTrue (not b) → IfNone o P → P
@@ -14,12 +14,8 @@ returns-clause-most c =
     omega (arith, c.find-place.ensures.visited, c.saturating_add-self.ensures)
 
 pub returns-clause-all : goal.returns-clause-all
-returns-clause-all c = λ no.
-    let told = entries_are_triples (rows_of c.args.self.now) c.args.self.now.counted c.args.line in
-    c.saturating_add-self.ensures ∙ ap (λ n. min (c.args.self.now.visits + n) 18446744073709551615) (where_none c.find-place.result.0 c.is_some.result c.is_some.ensures no c.find-place.ensures.none ∙ told)
+returns-clause-all c absent = counted_exact (rows_of c.args.self.now) c.args.self.now.counted c.args.line _
+    (where_none c.find-place.result.0 c.is_some.result c.is_some.ensures absent c.find-place.ensures.none) c.saturating_add-self.ensures
 
 pub returns-clause-few : goal.returns-clause-few
-returns-clause-few c =
-    let told = entries_are_triples (rows_of c.args.self.now) c.args.self.now.counted c.args.line in
-    let few = few_triples (rows_of c.args.self.now) c.args.line in
-    omega (arith, c.find-place.ensures.visited, c.saturating_add-self.ensures)
+returns-clause-few c = counted_few (rows_of c.args.self.now) c.args.self.now.counted c.args.line _ c.find-place.ensures.visited c.saturating_add-self.ensures
