@@ -1,5 +1,5 @@
 -- A bounded set of lines as its callers see it.
-use Rattle.std.specs.Prelude.{ℕ, List, [], ◌∷◌, ◌+◌, refl, Option, Some, None, nat_eq, option_map, if◌then◌else◌}
+use Rattle.std.specs.Prelude.{ℕ, List, [], refl, Option, nat_eq, position}
 use Rattle.std.specs.Ordering.{nat_cmp}
 use Rattle.std.specs.Coded.{Coded, code_by, coded×, coded_ℕ, coded_list}
 use Rattle.std.specs.FinSet as set
@@ -13,8 +13,7 @@ lines_of xs = set.from_list xs
 
 -- where a line stands in a list of lines
 abbrev pub place_of : List ℕ → ℕ → Option ℕ
-place_of [] line = None
-place_of (x ∷ xs) line = if nat_eq x line then Some 0 else option_map (λ k. k + 1) (place_of xs line)
+place_of lines line = position (λ x. nat_eq x line) lines
 
 -- the lines in the order in which they came, and how many there is room for
 pub record BoundedLines : Type 0 where
