@@ -13,7 +13,7 @@ use Rattle.std.specs.FinSet as lines
 use Rattle.tm_sets.specs.declared.interface.Kind.{Kind}
 use Rattle.tm_sets.specs.declared.interface.Kind.TheVariants.{Read, Write}
 use Rattle.tm_sets.specs.declared.row.Entry.{Entry}
-use Rattle.tm_sets.specs.Content.{Content, Fixed, by_kind, same_kind, with_line}
+use Rattle.tm_sets.specs.Content.{Content, by_kind, same_kind, with_line}
 use Rattle.tm_sets.specs.Count.{count_below}
 use Rattle.tm_sets.specs.Row.{entry_at, lines_in, slot_among, hooked}
 use Rattle.tm_sets.specs.Threaded.{Rows, rows, held, IsFree, after_on_core, IsThreaded, AreCounted, AreSized, more, if_read, if_written, threaded_content}
@@ -235,7 +235,7 @@ module _ (r : Rows) (core : ℕ) (kind : Kind) (line : ℕ) (is_new : IsNew r co
         (join_lines r (hooked r.entries n (new_entry r core kind line)) n core kind line
         (get_or r.core_heads core 0) (get_or r.line_heads line 0) its_joined new)
         (λ c. refl)
-        (ap (λ (m : ℕ). let f : Fixed = record { room = by_kind r.read_lines r.write_lines; cores = m; line_count = r.line_count } in f) cores_len)
+        (λ i. record { room = by_kind r.read_lines r.write_lines; cores = cores_len i; line_count = r.line_count })
 
     pub add_slots : (c l : ℕ) → IsSome (slot_among r.entries c l)
         → slot_among (hooked r.entries n (new_entry r core kind line)) c l ≡ slot_among r.entries c l

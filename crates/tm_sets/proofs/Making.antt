@@ -10,10 +10,10 @@ use Rattle.std.specs.Ordering.{nat_cmp}
 use Rattle.std.specs.FinSet as lines
 use Rattle.tm_sets.specs.declared.interface.Kind.{Kind}
 use Rattle.tm_sets.specs.declared.interface.Kind.TheVariants.{Read, Write}
-use Rattle.tm_sets.specs.Content.{Content, empty_content, by_kind}
+use Rattle.tm_sets.specs.Content.{empty_content, by_kind}
 use Rattle.tm_sets.specs.Ranked.{IsRanked, GoesBack}
 use Rattle.tm_sets.specs.Row.{entry_at, lines_in, slot_among, freed, no_entry}
-use Rattle.tm_sets.specs.Threaded.{Rows, held, OnLine, OnCore, after_on_line, before_on_line, after_on_core, before_on_core, IsThreaded, AreCounted, threaded_content}
+use Rattle.tm_sets.specs.Threaded.{Rows, held, after_on_core, IsThreaded, AreCounted, threaded_content}
 use Rattle.tm_sets.proofs.Adding.{same_content}
 use Rattle.tm_sets.proofs.Contents.{not_held}
 use Rattle.tm_sets.proofs.Counting.{never, count_none}
@@ -76,10 +76,10 @@ module _ (r : Rows) (fresh : IsFresh r) where
     length r.entries + 1,
     record {
       below_top = λ e. omega arith;
-      lines = λ line b. nothing_on (OnLine r.entries line) (get_or r.line_heads line 0) (after_on_line r.entries) (λ e. min e (length r.entries)) (line_heads line) (λ e o. never (held r.entries e) o.1 (none_held e o.0));
-      lines_back = λ line b. nothing_back (OnLine r.entries line) (get_or r.line_heads line 0) (after_on_line r.entries) (before_on_line r.entries) (line_heads line) (λ e o. never (held r.entries e) o.1 (none_held e o.0));
-      cores = λ core b. nothing_on (OnCore r.entries core) (get_or r.core_heads core 0) (after_on_core r.entries) (λ e. min e (length r.entries)) (core_heads core) (λ e o. never (held r.entries e) o.1 (none_held e o.0));
-      cores_back = λ core b. nothing_back (OnCore r.entries core) (get_or r.core_heads core 0) (after_on_core r.entries) (before_on_core r.entries) (core_heads core) (λ e o. never (held r.entries e) o.1 (none_held e o.0));
+      lines = λ line b. nothing_on _ _ _ _ (line_heads line) (λ e o. never (held r.entries e) o.1 (none_held e o.0));
+      lines_back = λ line b. nothing_back _ _ _ _ (line_heads line) (λ e o. never (held r.entries e) o.1 (none_held e o.0));
+      cores = λ core b. nothing_on _ _ _ _ (core_heads core) (λ e o. never (held r.entries e) o.1 (none_held e o.0));
+      cores_back = λ core b. nothing_back _ _ _ _ (core_heads core) (λ e o. never (held r.entries e) o.1 (none_held e o.0));
       free = record {
         head_on = λ h i. let b : h < length r.entries = omega arith in (b, none_held h b);
         some = λ e o i. let b = o.0 in omega arith;
@@ -107,7 +107,7 @@ module _ (r : Rows) (fresh : IsFresh r) where
     writes = λ core. writes core ∙ sym (ap lines.len (nothing_in core Write) ∙ lines.len-empty nat_cmp);
     read_room = λ core. let z = reads core in omega arith;
     write_room = λ core. let z = writes core in omega arith;
-    all = let a = sum_zeros r.reads reads in let b = sum_zeros r.writes writes in let d = count_none (held r.entries) (length r.entries) none_held in omega arith;
+    all = omega (arith, sum_zeros r.reads reads, sum_zeros r.writes writes, count_none (held r.entries) (length r.entries) none_held);
     slot = λ core e o k. never (held r.entries e) o.1 (none_held e o.0);
   }
 
@@ -115,7 +115,8 @@ module _ (r : Rows) (fresh : IsFresh r) where
   no_slots core = fun_ext (λ q. slot_nowhere r.entries core q (λ i b. not_held (entry_at r.entries i) (none_held i b) core Write q))
 
   pub fresh_content : (cores : ℕ) → length r.core_heads ≡ cores → threaded_content r ≡ empty_content cores r.line_count r.read_lines r.write_lines
-  fresh_content cores l = same_content _ _ nothing_in no_slots (ap (λ (m : ℕ). let f : Rattle.tm_sets.specs.Content.Fixed = record { room = by_kind r.read_lines r.write_lines; cores = m; line_count = r.line_count } in f) l)
+  fresh_content cores l = same_content _ _ nothing_in no_slots
+      (λ i. record { room = by_kind r.read_lines r.write_lines; cores = l i; line_count = r.line_count })
 
 -- a list that is made of zeros
 pub all_zero : (xs : List ℕ) (n : ℕ) → xs ≡ replicate n 0 → (i : ℕ) → get_or xs i 0 ≡ 0

@@ -14,7 +14,8 @@ loop-other-preserved c =
     let few : c.loop-other.other < 64 = omega arith in
     let wanted : ℕ → Bool = is_writer c.args.writes.now c.args.line c.args.core in
     let k : ℕ = c.loop-other.other in
-    let writes : c.index-writes-other.result ≡ line_set_at c.args.writes.now k = get_or_read c.args.writes.now k c.index-writes-other.result c.loop-other-test.true c.index-writes-other.is no_line_set in
+    let writes : c.index-writes-other.result ≡ line_set_at c.args.writes.now k =
+    get_or_read c.args.writes.now k c.index-writes-other.result c.loop-other-test.true c.index-writes-other.is no_line_set in
     let value : c.is_writer.result ≡ wanted k =
     c.is_writer.ensures.value
     ∙ ap (λ lines. not (nat_eq k c.args.core) && set.contains (lines_in_set lines) c.args.line) writes in

@@ -11,9 +11,10 @@ use Rattle.tm_sets.proofs.Clearing.{none_left, none_slotted}
 use Rattle.tm_sets.proofs.Lists.{read_at}
 use Rattle.tm_sets.proofs.threaded.DirectorySets.clear.Goals as goal
 
-same_fixed : (a a' b b' x x' y y' : ℕ) → a ≡ a' → b ≡ b' → x ≡ x' → y ≡ y'
-    → (let f : Fixed = record { room = by_kind a b; cores = x; line_count = y } in let g : Fixed = record { room = by_kind a' b'; cores = x'; line_count = y' } in f ≡ g)
-same_fixed a a' b b' x x' y y' p q s t = λ i. record { room = by_kind (p i) (q i); cores = s i; line_count = t i }
+same_fixed : {a a' b b' x x' y y' : ℕ} → a ≡ a' → b ≡ b' → x ≡ x' → y ≡ y'
+    → (let f : Fixed = record { room = by_kind a b; cores = x; line_count = y } in
+    let g : Fixed = record { room = by_kind a' b'; cores = x'; line_count = y' } in f ≡ g)
+same_fixed p q s t = λ i. record { room = by_kind (p i) (q i); cores = s i; line_count = t i }
 
 pub returns-clause-content : goal.returns-clause-content
 returns-clause-content c =
@@ -21,7 +22,8 @@ returns-clause-content c =
     let new = c.loop-self.self in
     let i = c.loop-self.invariant in
     let below : c.args.core < length new.core_heads.items = omega (arith, c.requires, i.cores) in
-    let head : get_or new.core_heads.items c.args.core 0 ≡ 0 = sym (read_at new.core_heads.items below c.from.ensures c.index.ensures) ∙ c.loop-self-test.false in
+    let head : get_or new.core_heads.items c.args.core 0 ≡ 0 =
+    sym (read_at new.core_heads.items below c.from.ensures c.index.ensures) ∙ c.loop-self-test.false in
     same_content (threaded_content (rows_of new)) (without_core (threaded_content (rows_of old)) c.args.core)
     (λ other kind. ⊎_elim
     (λ (e : other ≡ c.args.core).
@@ -37,4 +39,4 @@ returns-clause-content c =
     (λ (e : other ≡ c.args.core → ⊥).
     fun_ext (λ line. i.slots other line e) ∙ sym (ap (λ t. cond t (λ _. None) (slot_among old.entries.items other)) (ne_eqb other c.args.core e)))
     (cases_eq other c.args.core))
-    (same_fixed new.read_lines old.read_lines new.write_lines old.write_lines (length new.core_heads.items) (length old.core_heads.items) new.line_count old.line_count i.read_lines i.write_lines i.cores i.line_count)
+    (same_fixed i.read_lines i.write_lines i.cores i.line_count)
