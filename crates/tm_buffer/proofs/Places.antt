@@ -73,7 +73,8 @@ pub at_place_push : (xs : List ℕ) (l : ℕ) → place_of xs l ≡ None → AtI
 at_place_push xs l new h k below =
     ⊎_elim (λ (e : k ≡ length xs).
     let same : get_or (xs ++ l ∷ []) k 0 ≡ l = get_or_push xs l 0 k (sym e) in
-    ap (place_of (xs ++ l ∷ [])) same ∙ place_push xs l l ∙ ap (or_at (eqb l l) (length xs)) new ∙ ap (λ t. cond t (Some (length xs)) None) (eq-eqb l l refl) ∙ ap Some (sym e))
+    ap (place_of (xs ++ l ∷ [])) same ∙ place_push xs l l ∙ ap (or_at (eqb l l) (length xs)) new
+    ∙ ap (λ t. cond t (Some (length xs)) None) (eq-eqb l l refl) ∙ ap Some (sym e))
     (λ (e : k ≡ length xs → ⊥).
     let b : k < length xs = omega (arith, length_of xs l) in
     let same : get_or (xs ++ l ∷ []) k 0 ≡ get_or xs k 0 = get_or_append_left xs (l ∷ []) 0 k b in
@@ -95,7 +96,8 @@ len_lines (x ∷ xs) h =
     apart : (k : ℕ) → k < length xs → get_or xs k 0 ≡ x → ⊥
     apart k b e =
         let place : place_of (x ∷ xs) (get_or xs k 0) ≡ Some (suc k) = h (suc k) (omega arith) in
-        let first : place_of (x ∷ xs) (get_or xs k 0) ≡ Some 0 = ap (λ t. cond t (Some 0) (option_map (λ j. j + 1) (place_of xs (get_or xs k 0)))) (eq-eqb x (get_or xs k 0) (sym e)) in
+        let first : place_of (x ∷ xs) (get_or xs k 0) ≡ Some 0 =
+        ap (λ t. cond t (Some 0) (option_map (λ j. j + 1) (place_of xs (get_or xs k 0)))) (eq-eqb x (get_or xs k 0) (sym e)) in
         zero_suc k (let s : Some 0 ≡ Some (suc k) = sym first ∙ place in cc)
       where
         zero_suc : (n : ℕ) → 0 ≡ suc n → ⊥
@@ -109,13 +111,13 @@ len_lines (x ∷ xs) h =
 
     tail : (k : ℕ) → k < length xs → place_of xs (get_or xs k 0) ≡ Some k
     tail k b =
-        let place : place_of (x ∷ xs) (get_or xs k 0) ≡ Some (suc k) = h (suc k) (omega arith) in
-        elim (place_of xs (get_or xs k 0)) as (λ o. place_of xs (get_or xs k 0) ≡ o → o ≡ Some k) [
-          | None ↦ λ is. absurd (not_none (suc k) (sym (ap (λ t. cond t (Some 0) (option_map (λ j. j + 1) (place_of xs (get_or xs k 0)))) (ne_eqb x (get_or xs k 0) (λ e. apart k b (sym e))) ∙ ap (option_map (λ j. j + 1)) is) ∙ place))
-          | Some n ↦ λ is.
-              let s : Some (n + 1) ≡ Some (suc k) = sym (ap (λ t. cond t (Some 0) (option_map (λ j. j + 1) (place_of xs (get_or xs k 0)))) (ne_eqb x (get_or xs k 0) (λ e. apart k b (sym e))) ∙ ap (option_map (λ j. j + 1)) is) ∙ place in
-              let same : n + 1 ≡ suc k = cc in ap Some (let e : n ≡ k = omega arith in e)
-        ] refl
+        let behind : option_map (λ j. j + 1) (place_of xs (get_or xs k 0)) ≡ Some (suc k) =
+        sym (ap (λ t. cond t (Some 0) (option_map (λ j. j + 1) (place_of xs (get_or xs k 0)))) (ne_eqb x (get_or xs k 0) (λ e. apart k b (sym e))))
+        ∙ h (suc k) (omega arith) in
+        elim (place_of xs (get_or xs k 0)) as (λ o. option_map (λ j. j + 1) o ≡ Some (suc k) → o ≡ Some k) [
+          | None ↦ λ e. absurd (not_none (suc k) e)
+          | Some n ↦ λ e. let same : n + 1 ≡ suc k = cc in ap Some (let z : n ≡ k = omega arith in z)
+        ] behind
 
 pub none_of : (xs : List ℕ) (l : ℕ) → is_some (place_of xs l) ≡ false → place_of xs l ≡ None
 none_of xs l h = elim (place_of xs l) as (λ o. is_some o ≡ false → o ≡ None) [ None ↦ λ _. refl | Some k ↦ λ e. absurd (true_false e) ] h

@@ -17,8 +17,9 @@ seen lines masks bytes m a under p view at =
 
 pub returns-in_default : goal.returns-in_default
 returns-in_default c =
-    let p : place_of c.self.inside.lines.items (c.args.address / 64) ≡ None = place_seen (c.args.address / 64) c.self.view_is (sym c.requires ∙ c.in_default.is) in
-    seen c.self.inside.lines.items c.self.inside.masks.items c.self.inside.bytes.items c.args.self.now.bytes c.args.address c.args.under None (ap (λ h. h.bytes) c.self.view_is) p
+    let p = place_seen (c.args.address / 64) c.self.view_is (sym c.requires ∙ c.in_default.is) in
+    seen c.self.inside.lines.items c.self.inside.masks.items c.self.inside.bytes.items c.args.self.now.bytes c.args.address c.args.under None
+    (ap (λ h. h.bytes) c.self.view_is) p
 
 pub byte_in-requires-clause-place : goal.byte_in-requires-clause-place
 byte_in-requires-clause-place c =
@@ -37,8 +38,10 @@ byte_in-requires-clause-fits c =
 
 pub returns : goal.returns
 returns c =
-    let p : place_of c.self.inside.lines.items (c.args.address / 64) ≡ Some c.in-Some.place = place_seen (c.args.address / 64) c.self.view_is (sym c.requires ∙ c.in-Some.is) in
+    let p = place_seen (c.args.address / 64) c.self.view_is (sym c.requires ∙ c.in-Some.is) in
     c.unwrap_or.ensures
-    ∙ ap (λ o. unwrap_or o c.args.under) (c.byte_in.ensures ∙ ap (λ m. slot_byte m c.as_slice-bytes.result.now (c.args.address % 64) c.in-Some.place) c.as_slice-masks.ensures.value
+    ∙ ap (λ o. unwrap_or o c.args.under) (c.byte_in.ensures
+    ∙ ap (λ m. slot_byte m c.as_slice-bytes.result.now (c.args.address % 64) c.in-Some.place) c.as_slice-masks.ensures.value
     ∙ ap (λ b. slot_byte c.self.inside.masks.items b (c.args.address % 64) c.in-Some.place) c.as_slice-bytes.ensures.value)
-    ∙ seen c.self.inside.lines.items c.self.inside.masks.items c.self.inside.bytes.items c.args.self.now.bytes c.args.address c.args.under (Some c.in-Some.place) (ap (λ h. h.bytes) c.self.view_is) p
+    ∙ seen c.self.inside.lines.items c.self.inside.masks.items c.self.inside.bytes.items c.args.self.now.bytes c.args.address c.args.under
+    (Some c.in-Some.place) (ap (λ h. h.bytes) c.self.view_is) p

@@ -1,7 +1,6 @@
-use Rattle.std.proofs.Common.{◌≡◌, ◌+◌, ◌-◌, ℕ, List, length, true, sym, ap, ◌∙◌, arith}
+use Rattle.std.proofs.Common.{◌≡◌, ◌+◌, ◌-◌, length, true, sym, ap, ◌∙◌, arith}
 use Rattle.std.proofs.lemmas.Bool.{lt-ltb, le-ltb}
 use Rattle.ia_word.specs.Line.{line, last_line, lines}
-use Rattle.ia_word.specs.declared.width.Width.{Width}
 use Rattle.tm_buffer.specs.Buffer.{holds, with_line, with_lines, lines_of}
 use Rattle.tm_buffer.proofs.Orders.{two_lines, lines_two, holds_own, holds_still}
 use Rattle.tm_buffer.proofs.stored.Buffer.reserve.Goals as goal

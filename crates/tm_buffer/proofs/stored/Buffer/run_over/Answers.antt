@@ -8,8 +8,8 @@ use Rattle.tm_buffer.proofs.Entries.{get_bytes}
 use Rattle.tm_buffer.proofs.stored.Buffer.run_over.Goals as goal
 
 -- what the map has at an address of a line whose place is known
-at_place : (lines masks bytes : List ℕ) (m : Bytes) (a q j : ℕ) (p : Option ℕ) → bytes_of lines masks bytes ≡ m → place_of lines (a / 64) ≡ p → q / 64 ≡ a / 64 → q % 64 ≡ j
-    → bytes_map.get m q ≡ option_and_then (slot_byte masks bytes j) p
+at_place : (lines masks bytes : List ℕ) (m : Bytes) (a q j : ℕ) (p : Option ℕ) → bytes_of lines masks bytes ≡ m → place_of lines (a / 64) ≡ p
+    → q / 64 ≡ a / 64 → q % 64 ≡ j → bytes_map.get m q ≡ option_and_then (slot_byte masks bytes j) p
 at_place lines masks bytes m a q j p view place line offset =
     ap (λ b. bytes_map.get b q) (sym view) ∙ get_bytes lines masks bytes q
     ∙ ap (λ l. option_and_then (slot_byte masks bytes (q % 64)) (place_of lines l)) line
@@ -18,7 +18,8 @@ at_place lines masks bytes m a q j p view place line offset =
 
 abbrev joined : ℕ → Option ℕ → Option ℕ → Option ℕ → Option ℕ → ℕ
 joined under o0 o1 o2 o3 =
-    unwrap_or o0 (under % 256) + unwrap_or o1 (under / 256 % 256) * 256 + unwrap_or o2 (under / 65536 % 256) * 65536 + unwrap_or o3 (under / 16777216 % 256) * 16777216
+    unwrap_or o0 (under % 256) + unwrap_or o1 (under / 256 % 256) * 256
+    + unwrap_or o2 (under / 65536 % 256) * 65536 + unwrap_or o3 (under / 16777216 % 256) * 16777216
 
 joined_as : (under : ℕ) {o0 o1 o2 o3 p0 p1 p2 p3 : Option ℕ} → o0 ≡ p0 → o1 ≡ p1 → o2 ≡ p2 → o3 ≡ p3 → joined under p0 p1 p2 p3 ≡ joined under o0 o1 o2 o3
 joined_as under e0 e1 e2 e3 = sym (λ i. joined under (e0 i) (e1 i) (e2 i) (e3 i))
@@ -45,8 +46,8 @@ returns-in_default c =
     let bytes : List ℕ = c.self.inside.bytes.items in
     let m : Bytes = c.args.self.now.bytes in
     let a : ℕ = c.args.address in
-    let view : bytes_of c.self.inside.lines.items c.self.inside.masks.items c.self.inside.bytes.items ≡ c.args.self.now.bytes = ap (λ h. h.bytes) c.self.view_is in
-    let place : place_of c.self.inside.lines.items (c.args.address / 64) ≡ None = place_seen (c.args.address / 64) c.self.view_is (sym c.requires.place ∙ c.in_default.is) in
+    let view : bytes_of lines masks bytes ≡ m = ap (λ h. h.bytes) c.self.view_is in
+    let place : place_of lines (a / 64) ≡ None = place_seen (c.args.address / 64) c.self.view_is (sym c.requires.place ∙ c.in_default.is) in
     let on : OnLine c.args.address = on_line c.args.address c.requires.one in
     whole c.args.under c.ranges.under.fits ∙ joined_as c.args.under
     (at_place lines masks bytes m a a (a % 64) None view place refl refl)
@@ -73,13 +74,11 @@ returns-in-Some-run_in c =
     let a : ℕ = c.args.address in
     let k : ℕ = c.in-Some.at in
     let run : List ℕ = c.in-Some-run_in.run' in
-    let view : bytes_of c.self.inside.lines.items c.self.inside.masks.items c.self.inside.bytes.items ≡ c.args.self.now.bytes = ap (λ h. h.bytes) c.self.view_is in
-    let place : place_of c.self.inside.lines.items (c.args.address / 64) ≡ Some c.in-Some.at = place_seen (c.args.address / 64) c.self.view_is (sym c.requires.place ∙ c.in-Some.is) in
+    let view : bytes_of lines masks bytes ≡ m = ap (λ h. h.bytes) c.self.view_is in
+    let place : place_of lines (a / 64) ≡ Some k = place_seen (c.args.address / 64) c.self.view_is (sym c.requires.place ∙ c.in-Some.is) in
     let on : OnLine c.args.address = on_line c.args.address c.requires.one in
-    let byte : (j : ℕ) → j < 4 → slot_byte c.self.inside.masks.items c.self.inside.bytes.items (c.args.address % 64 + j) c.in-Some.at ≡ Some (get_or c.in-Some-run_in.run' j 0) = λ j small.
-    ap (λ ms. slot_byte ms c.self.inside.bytes.items (c.args.address % 64 + j) c.in-Some.at) (sym c.as_slice-masks.ensures.value)
-    ∙ ap (λ bs. slot_byte c.as_slice-masks.result.now bs (c.args.address % 64 + j) c.in-Some.at) (sym c.as_slice-bytes.ensures.value)
-    ∙ c.in-Some-run_in.ensures j small in
+    let byte : (j : ℕ) → j < 4 → slot_byte masks bytes (a % 64 + j) k ≡ Some (get_or run j 0) = λ j small.
+    (λ i. slot_byte (sym c.as_slice-masks.ensures.value i) (sym c.as_slice-bytes.ensures.value i) (a % 64 + j) k) ∙ c.in-Some-run_in.ensures j small in
     let first : a % 64 ≡ a % 64 + 0 = omega arith in
     c.from_le.ensures ∙ joined_as c.args.under
     (at_place lines masks bytes m a a (a % 64 + 0) (Some k) view place refl first ∙ byte 0 (omega arith))

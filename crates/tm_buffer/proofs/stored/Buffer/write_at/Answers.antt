@@ -1,4 +1,5 @@
 use Rattle.std.proofs.Common.{◌≡◌, ◌+◌, ◌*◌, ◌/◌, ◌%◌, ℕ, List, length, get_or, vec_len, ap, ◌∙◌, arith, rules}
+use Rattle.std.proofs.Math.ListN.{set}
 use Rattle.std.proofs.lemmas.List.{get_or_read}
 use Rattle.std.specs.FinMap as bytes_map
 use Rattle.tm_buffer.specs.Slots.{bytes_of}
@@ -36,6 +37,6 @@ returns-clause-bytes c =
     let p = place_seen (c.args.address / 64) c.self.view_is c.requires in
     let below = below_room (c.args.address / 64) c.self.view_is c.requires c.self.invariant.0.within in
     let read : c.index.result.now ≡ get_or masks k 0 = get_or_read masks k c.index.result.now (omega (arith, c.self.invariant.0.masks)) c.index.ensures 0 in
-    ap (λ m. bytes_of lines (Rattle.std.proofs.Math.ListN.set masks k (marked m (c.args.address % 64))) (Rattle.std.proofs.Math.ListN.set bytes (k * 64 + c.args.address % 64) c.args.byte)) read
+    ap (λ m. bytes_of lines (set masks k (marked m (c.args.address % 64))) (set bytes (k * 64 + c.args.address % 64) c.args.byte)) read
     ∙ bytes_written lines masks bytes c.args.address c.args.byte k p (omega (arith, c.self.invariant.0.masks)) (omega (arith, c.self.invariant.0.bytes))
     ∙ ap (λ h. bytes_map.insert h.bytes c.args.address c.args.byte) c.self.view_is

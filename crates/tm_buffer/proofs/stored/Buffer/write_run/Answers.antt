@@ -69,7 +69,8 @@ returns-clause-bytes c =
     let p = place_seen (c.args.address / 64) c.self.view_is c.requires.place in
     let below = below_room (c.args.address / 64) c.self.view_is c.requires.place c.self.invariant.0.within in
     let read : c.index.result.now ≡ get_or masks k 0 = get_or_read masks k c.index.result.now (omega (arith, c.self.invariant.0.masks)) c.index.ensures 0 in
-    ap (λ m. bytes_of lines (set masks k (bit_or m (15 * 2 ^ (c.args.address % 64) % 2 ^ 64))) (set (set (set (set bytes (s + 3) b3) (s + 2) b2) (s + 1) b1) s b0)) read
+    ap (λ m. bytes_of lines (set masks k (bit_or m (15 * 2 ^ (c.args.address % 64) % 2 ^ 64)))
+    (set (set (set (set bytes (s + 3) b3) (s + 2) b2) (s + 1) b1) s b0)) read
     ∙ run_written lines masks bytes c.args.address k s b0 b1 b2 b3 (omega (arith, c.self.invariant.0.masks)) p c.requires.one refl
     (omega (arith, c.self.invariant.0.bytes, c.requires.one))
     ∙ next _ c.args.self.now.bytes b0 b1 b2 b3 c.args.address (ap (λ h. h.bytes) c.self.view_is)
