@@ -15,8 +15,10 @@ mod item;
 mod name;
 mod naming;
 mod symbol;
+mod walk;
 
 pub use expression::{ScopedAtom, ScopedExpression, ScopedTerm};
 pub use item::{Entry, Field, Item, Section, Template};
 pub use name::{Name, Scope};
 pub use symbol::{Definition, Symbol};
+pub use walk::Walk;
