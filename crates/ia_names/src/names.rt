@@ -12,6 +12,8 @@ use indexmap::IndexSet;
 pub struct Names<'a> {
     // The parts of the names: the name of number 0 has no letters, and that of number n + 1 ends with the n-th of these.
     pub(crate) nodes: IndexSet<Node<'a>>,
+    // How many parts there may be.
+    pub(crate) most: usize,
     // The number of the label's name.
     pub(crate) number: usize,
     /// The last label that is not local.

@@ -8,7 +8,7 @@ use indexmap::IndexSet;
 use std::alloc::{AllocError, Global};
 
 impl<'a> Names<'a> {
-    ghost use Rattle.std.specs.Prelude.{◌≡◌, [], IfOk, OnOk};
+    ghost use Rattle.std.specs.Prelude.{◌≡◌, [], length, IfOk};
     ghost use Rattle.ia_item.specs.Names.{whole_name};
     ghost use Rattle.ia_names.specs.Locals.{whole_of};
     ghost use Rattle.ia_names.specs.Namings.{IsNamed, Grows};
@@ -20,9 +20,35 @@ impl<'a> Names<'a> {
     {
         Names {
             nodes: IndexSet::new(alloc),
+            most: usize::MAX,
             number: 0,
             scope: Scope::new(b""),
         }
+    }
+
+    /// How many parts of names there are.
+    pub fn count(&self) -> usize
+        ensures { result ≡ length self.now.nodes.keys }
+    {
+        self.nodes.len()
+    }
+
+    /// Refuses new parts of names, as if no memory was left, where there are this many.
+    pub fn limit(&mut self, most: usize)
+        ensures scope { self.new.scope ≡ self.old.scope }
+        ensures grows { Grows self.old self.new }
+    {
+        self.most = most;
+    }
+
+    /// Goes back before the first label. What has a number keeps it.
+    #[tactic(auto, using(crate::proofs::Trees::length_wholes, crate::proofs::Trees::first_whole))]
+    pub fn leave(&mut self)
+        ensures scope { self.new.scope.text.now ≡ [] }
+        ensures grows { Grows self.old self.new }
+    {
+        self.number = 0;
+        self.scope = Scope::new(b"");
     }
 
     /// The symbol of a name behind the label.
@@ -32,7 +58,7 @@ impl<'a> Names<'a> {
         ensures named { IfOk result (λ s. IsNamed self.new s (whole_of self.old.scope.text.now own.now)) }
     {
         let from = if is_local(own) { self.number } else { 0 };
-        let number = descend(&mut self.nodes, from, own)?;
+        let number = descend(&mut self.nodes, self.most, from, own)?;
         Ok(Symbol { number })
     }
 

@@ -8,9 +8,10 @@ use crate::node::Node;
 use indexmap::IndexSet;
 use std::alloc::AllocError;
 
-/// The number of a part behind the name of a number.
+/// The number of a part behind the name of a number. A part that is new is refused where there are `most`.
 fn child<'a>(
     nodes: &mut IndexSet<Node<'a>>,
+    most: usize,
     parent: usize,
     part: &'a [u8],
 ) -> Result<usize, AllocError>
@@ -23,15 +24,20 @@ fn child<'a>(
     ensures named { IfOk result (λ n. get_or (wholes nodes.new.keys) n []
         ≡ get_or (wholes nodes.old.keys) parent [] ++ part.now) }
 {
-    let (index, _) = nodes.insert_full(Node { parent, part })?;
+    let node = Node { parent, part };
+    if nodes.len() >= most && !nodes.contains(&node) {
+        return Err(AllocError);
+    }
+    let (index, _) = nodes.insert_full(node)?;
     // There are more nodes than the index says, so that one more than it is no overflow.
     let _count = nodes.len();
     Ok(index + 1)
 }
 
-/// The number of a name that goes on behind the name of a number.
+/// The number of a name that goes on behind the name of a number, where no more than `most` parts are needed.
 pub fn descend<'a>(
     nodes: &mut IndexSet<Node<'a>>,
+    most: usize,
     from: usize,
     name: &'a [u8],
 ) -> Result<usize, AllocError>
@@ -49,7 +55,7 @@ pub fn descend<'a>(
     while place < name.len() {
         let rest = &name[place..];
         let long = part_length(rest);
-        number = child(nodes, number, &rest[..long])?;
+        number = child(nodes, most, number, &rest[..long])?;
         place += long;
     }
     Ok(number)
