@@ -9,6 +9,9 @@ pub mod Names
 pub mod FormsFit
 pub mod SourceFits
 pub mod Named
+pub mod Kept
 mod Sums
 mod OperandLists
 pub mod ReadLines
+pub mod Fronts
+pub mod Rests

@@ -292,6 +292,34 @@ each_too r [] h k d l = absurd (omega arith)
 each_too r (x ∷ xs) h zero d l = item_too r x.item h.0
 each_too r (x ∷ xs) h (suc k) d l = each_too r xs h.1 k d (omega arith)
 
+sum_from : (naming : Naming) (s : ScopedExpression) → FitsExpression s → FitsTerms (expression_content naming s)
+sum_from naming s h = let l : length (map (scoped_term_content naming) s.terms.items) ≡ length s.terms.items = length-map s.terms.items (scoped_term_content naming) in (omega (arith, l, h.0), omega (arith, l, h.1))
+
+any_from : (naming : Naming) (s : Option ScopedExpression) → FitsAnyExpression s → FitsAnyTerms (option_map (expression_content naming) s)
+any_from naming None h = tt
+any_from naming (Some s) h = sum_from naming s h
+
+item_from : (r : Reading) (i : Item) → FitsItem i → FitsContent (item_content r i)
+item_from r (item.Label name) h = tt
+item_from r (item.Equ name s) h = sum_from r.naming s h
+item_from r (item.Code t) h = (h.0, any_from r.naming t.number h.1, any_from r.naming t.displacement h.2)
+item_from r (item.Byte s) h = sum_from r.naming s h
+item_from r (item.Text b) h = tt
+item_from r (item.Numbers b) h = tt
+item_from r (item.Long s) h = sum_from r.naming s h
+item_from r (item.Reserve s) h = sum_from r.naming s h
+item_from r (item.Align n) h = h
+item_from r (item.Org n) h = tt
+
+each_from : (r : Reading) (xs : List Entry) → AllFit xs → EachFits (map (entry_content r) xs)
+each_from r [] h = tt
+each_from r (x ∷ xs) h = (item_from r x.item (h 0 x (omega arith)), each_from r xs (λ k d l. h (suc k) d (omega (arith, l))))
+
+-- entries that a line adds can be placed
+pub line_fit : (r : Reading) (s new : SourceContent) (line : List ℕ) (xs ys : List Entry) → line_onto s line ≡ Ok new → s.entries ≡ map (entry_content r) xs → new.entries ≡ map (entry_content r) ys → AllFit xs
+    → AllFit ys
+line_fit r s new line xs ys e old more h = each_too r ys (subst EachFits more (line_fits s line (subst EachFits (sym old) (each_from r xs h)) new e))
+
 -- entries that are those of a source can be placed
 pub all_fit : (r : Reading) (source : List ℕ) (xs : List Entry) → entries_of source ≡ Ok (map (entry_content r) xs) → AllFit xs
 all_fit r source xs e = each_too r xs (lines_fit first_content (lines_of source) tt (map (entry_content r) xs) e)

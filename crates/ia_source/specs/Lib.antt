@@ -8,4 +8,5 @@ pub mod Heads
 pub mod Symbols
 pub mod Statements
 pub mod Source
+pub mod Rests
 pub mod Fits

@@ -7,7 +7,7 @@ use Rattle.indexmap.specs.IndexSet.{IndexSet}
 use Rattle.ia_item.specs.declared.item.Entry.{Entry}
 use Rattle.ia_item.specs.declared.symbol.Symbol.{Symbol}
 use Rattle.ia_names.specs.declared.names.Names.{Names}
-use Rattle.ia_names.specs.Namings.{Naming, IsOneToOne}
+use Rattle.ia_names.specs.Namings.{Naming, IsNaming, IsOneToOne}
 use Rattle.ia_lex.specs.Tokens.{Lexeme, tokens_of}
 use Rattle.ia_lex.specs.Lines.{lines_of}
 use Rattle.ia_source.specs.declared.directive.Directive.TheVariants as directive
@@ -106,6 +106,10 @@ source_content r state names symbols es = record {
   names = names_content r.naming symbols;
   entries = map (entry_content r) es;
 }
+
+-- the lines of the source ask for these entries, by any naming that has these names
+abbrev pub ReadsAs : List ℕ → Names → List Entry → Type 0
+ReadsAs source names es = (r : Reading) → IsNaming r.naming names → entries_of source ≡ Ok (map (entry_content r) es)
 
 -- the lines of the source ask for these entries: by the letters of their definitions, and by the names of their symbols,
 -- no two of which are the same

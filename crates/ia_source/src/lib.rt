@@ -4,6 +4,8 @@
 //!
 //! Promised by `entries`: exactly the entries that the lines of the source ask for, in their order, each of which can
 //! be placed; or the first line that is wrong and the first thing that is wrong with it; or that no memory was left.
+//! By `Reader`, the same a part of the source at a time, as often as wanted, to what goes over entries (`ia_item::Walk`); what
+//! a reader takes is bounded by the source's length.
 //! A memory operand reads as the sum of its addends, in whichever order they stand. By `is_label`, which first words of lines
 //! are labels.
 //!
@@ -11,6 +13,7 @@
 //! gives.
 #![tactic(auto)]
 
+mod budget;
 mod comma;
 mod directive;
 mod expression;
@@ -18,8 +21,12 @@ mod fault;
 mod head;
 mod keyword;
 mod laws;
+mod line;
+mod list;
 mod memory;
 mod operand;
+mod reader;
+mod rest;
 mod source;
 mod state;
 mod statement;
@@ -29,4 +36,5 @@ mod values;
 pub use fault::{SourceFault, Why};
 pub use head::is_label;
 pub use laws::places_are_sums;
+pub use reader::Reader;
 pub use source::entries;

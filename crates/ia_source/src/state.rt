@@ -24,6 +24,8 @@ pub struct SourceState {
     pub based: bool,
     /// Whether anything was placed above.
     pub placed: bool,
+    /// How many names `equ` defines above; from usize::MAX on it stays.
+    pub equs: usize,
 }
 
 /// The state at the first line.
@@ -35,6 +37,7 @@ pub fn start() -> SourceState
         section: Section::Text,
         based: false,
         placed: false,
+        equs: 0,
     }
 }
 
@@ -105,6 +108,7 @@ fn with_section(state: SourceState, section: Option<Section>) -> SourceState
         section: section.unwrap_or(state.section),
         based: state.based,
         placed: state.placed,
+        equs: state.equs,
     }
 }
 
@@ -116,6 +120,19 @@ fn with_flags(state: SourceState, based: bool, placed: bool) -> SourceState
         section: state.section,
         based: state.based || based,
         placed: state.placed || placed,
+        equs: state.equs,
+    }
+}
+
+fn with_equ(state: SourceState) -> SourceState
+    ensures { (scope : List ℕ) → state_content scope result ≡ state_content scope state }
+{
+    SourceState {
+        line: state.line,
+        section: state.section,
+        based: state.based,
+        placed: state.placed,
+        equs: state.equs.saturating_add(1),
     }
 }
 
@@ -132,6 +149,7 @@ fn behind_statement(state: SourceState, statement: Statement, tokens: &[Token]) 
         Statement::Directive(Directive::Resb) => with_flags(state, false, true),
         Statement::Directive(Directive::Align) => with_flags(state, false, true),
         Statement::Code(_, _) => with_flags(state, false, true),
+        Statement::Directive(Directive::Equ) => with_equ(state),
         _ => state,
     }
 }
@@ -147,5 +165,6 @@ pub fn behind(state: SourceState, statement: Statement, tokens: &[Token]) -> Sou
         section: state.section,
         based: state.based,
         placed: state.placed,
+        equs: state.equs,
     }
 }

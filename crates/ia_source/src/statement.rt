@@ -15,6 +15,7 @@ use crate::directive::Directive;
 use crate::expression::{expression_in, some_expression};
 use crate::fault::{SourceFault, Why};
 use crate::head::Statement;
+use crate::list::EntryList;
 use crate::operand::{Operands, read_operands};
 use crate::state::{SourceState, named_section, only_number};
 use crate::sum::whole_expression;
@@ -243,14 +244,14 @@ fn is_symbol(tokens: &[Token]) -> bool
 /// Adds an entry of an item, if there is one.
 #[tactic(auto, using(crate::proofs::AddedEntries::one_more))]
 pub fn push_some<'a>(
-    entries: &mut Vec<Entry<'a>>,
+    entries: &mut EntryList<'a>,
     state: SourceState,
     item: Option<Item<'a>>,
 ) -> Result<(), SourceFault>
     ensures { (r : Reading) (scope : List ℕ) → MatchResult result
-        (λ _. add_some (map (entry_content r) entries.old.items) (state_content scope state)
-        (option_map (item_content r) item.entry) ≡ Some (map (entry_content r) entries.new.items))
-        (IsBad (add_some (map (entry_content r) entries.old.items) (state_content scope state)
+        (λ _. add_some (map (entry_content r) entries.old.list.items) (state_content scope state)
+        (option_map (item_content r) item.entry) ≡ Some (map (entry_content r) entries.new.list.items))
+        (IsBad (add_some (map (entry_content r) entries.old.list.items) (state_content scope state)
         (option_map (item_content r) item.entry)) state.line) }
 {
     match item {
@@ -288,7 +289,7 @@ fn push_directive<'a>(
     alloc: Global,
     operands: &mut Operands<'a>,
     names: &mut Names<'a>,
-    entries: &mut Vec<Entry<'a>>,
+    entries: &mut EntryList<'a>,
     state: SourceState,
     label: Option<Definition<'a>>,
     directive: Directive,
@@ -297,10 +298,10 @@ fn push_directive<'a>(
     ensures scope { names.new.scope ≡ names.old.scope }
     ensures grows { Grows names.old names.new }
     ensures entries { (r : Reading) → IsNaming r.naming names.new → MatchResult result
-        (λ _. directive_onto (map (entry_content r) entries.old.items)
+        (λ _. directive_onto (map (entry_content r) entries.old.list.items)
         (state_content names.old.scope.text.now state) (option_map (definition_name r) label.entry) directive
-        (map lexeme_of tokens.now) ≡ Some (map (entry_content r) entries.new.items))
-        (IsBad (directive_onto (map (entry_content r) entries.old.items)
+        (map lexeme_of tokens.now) ≡ Some (map (entry_content r) entries.new.list.items))
+        (IsBad (directive_onto (map (entry_content r) entries.old.list.items)
         (state_content names.old.scope.text.now state) (option_map (definition_name r) label.entry) directive
         (map lexeme_of tokens.now)) state.line) }
 {
@@ -344,7 +345,7 @@ pub fn push_statement<'a>(
     alloc: Global,
     operands: &mut Operands<'a>,
     names: &mut Names<'a>,
-    entries: &mut Vec<Entry<'a>>,
+    entries: &mut EntryList<'a>,
     state: SourceState,
     label: Option<Definition<'a>>,
     statement: Statement,
@@ -353,10 +354,10 @@ pub fn push_statement<'a>(
     ensures scope { names.new.scope ≡ names.old.scope }
     ensures grows { Grows names.old names.new }
     ensures entries { (r : Reading) → IsNaming r.naming names.new → MatchResult result
-        (λ _. statement_onto (map (entry_content r) entries.old.items)
+        (λ _. statement_onto (map (entry_content r) entries.old.list.items)
         (state_content names.old.scope.text.now state) (option_map (definition_name r) label.entry) statement
-        (map lexeme_of tokens.now) ≡ Some (map (entry_content r) entries.new.items))
-        (IsBad (statement_onto (map (entry_content r) entries.old.items)
+        (map lexeme_of tokens.now) ≡ Some (map (entry_content r) entries.new.list.items))
+        (IsBad (statement_onto (map (entry_content r) entries.old.list.items)
         (state_content names.old.scope.text.now state) (option_map (definition_name r) label.entry) statement
         (map lexeme_of tokens.now)) state.line) }
 {

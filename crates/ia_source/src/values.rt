@@ -11,6 +11,7 @@ ghost use Rattle.ia_source.specs.Statements.{values_onto, state_content, IsBad};
 
 use crate::comma::comma_index;
 use crate::fault::SourceFault;
+use crate::list::EntryList;
 use crate::state::SourceState;
 use crate::statement::{push_some, read_value};
 use ia_item::{Entry, Item};
@@ -61,12 +62,12 @@ fn copy(alloc: Global, bytes: &[u8]) -> Result<Vec<u8>, AllocError>
 /// Adds the entry of the numbers so far, if there are any.
 fn push_run<'a>(
     alloc: Global,
-    entries: &mut Vec<Entry<'a>>,
+    entries: &mut EntryList<'a>,
     run: &mut Vec<u8>,
     state: SourceState,
 ) -> Result<(), AllocError>
-    ensures entries { OnOk result ((r : Reading) (scope : List ℕ) → map (entry_content r) entries.new.items
-        ≡ with_run (map (entry_content r) entries.old.items) (state_content scope state) run.old.items) }
+    ensures entries { OnOk result ((r : Reading) (scope : List ℕ) → map (entry_content r) entries.new.list.items
+        ≡ with_run (map (entry_content r) entries.old.list.items) (state_content scope state) run.old.items) }
     ensures run { OnOk result (run.new.items ≡ []) }
 {
     if run.is_empty() {
@@ -87,7 +88,7 @@ fn push_value<'a>(
     alloc: Global,
     terms: &mut Expression<'a>,
     names: &mut Names<'a>,
-    entries: &mut Vec<Entry<'a>>,
+    entries: &mut EntryList<'a>,
     run: &mut Vec<u8>,
     state: SourceState,
     long: bool,
@@ -97,10 +98,10 @@ fn push_value<'a>(
     ensures grows { Grows names.old names.new }
     ensures value { (r : Reading) → IsNaming r.naming names.new → MatchResult result
         (λ _. value_onto long (state_content names.old.scope.text.now state)
-        (values_content r entries.old.items run.old.items) (map lexeme_of tokens.now)
-        ≡ Some (values_content r entries.new.items run.new.items))
+        (values_content r entries.old.list.items run.old.items) (map lexeme_of tokens.now)
+        ≡ Some (values_content r entries.new.list.items run.new.items))
         (IsBad (value_onto long (state_content names.old.scope.text.now state)
-        (values_content r entries.old.items run.old.items) (map lexeme_of tokens.now)) state.line) }
+        (values_content r entries.old.list.items run.old.items) (map lexeme_of tokens.now)) state.line) }
 {
     match plain_number(long, tokens) {
         Some(number) => {
@@ -120,7 +121,7 @@ pub fn push_values<'a>(
     alloc: Global,
     terms: &mut Expression<'a>,
     names: &mut Names<'a>,
-    entries: &mut Vec<Entry<'a>>,
+    entries: &mut EntryList<'a>,
     state: SourceState,
     long: bool,
     tokens: &[Token<'a>],
@@ -129,10 +130,10 @@ pub fn push_values<'a>(
     ensures grows { Grows names.old names.new }
     ensures values { (r : Reading) → IsNaming r.naming names.new → MatchResult result
         (λ _. values_onto long (state_content names.old.scope.text.now state)
-        (no_value (map (entry_content r) entries.old.items)) (between_commas (map lexeme_of tokens.now))
-        ≡ Some (map (entry_content r) entries.new.items))
+        (no_value (map (entry_content r) entries.old.list.items)) (between_commas (map lexeme_of tokens.now))
+        ≡ Some (map (entry_content r) entries.new.list.items))
         (IsBad (values_onto long (state_content names.old.scope.text.now state)
-        (no_value (map (entry_content r) entries.old.items)) (between_commas (map lexeme_of tokens.now))) state.line) }
+        (no_value (map (entry_content r) entries.old.list.items)) (between_commas (map lexeme_of tokens.now))) state.line) }
 {
     let mut run = Vec::new(alloc);
     let mut place = 0;

@@ -5,7 +5,7 @@ use Rattle.ia_names.proofs.Namings.{naming_is}
 use Rattle.ia_source.specs.Symbols.{whole_of}
 use Rattle.ia_source.specs.Source.{is_twice, label_name, names_content}
 use Rattle.ia_source.proofs.Names.{was_among}
-use Rattle.ia_source.proofs.source.define.Goals as goal
+use Rattle.ia_source.proofs.line.define.Goals as goal
 
 pub returns-then-is_new-clause-new : goal.returns-then-is_new-clause-new
 returns-then-is_new-clause-new c naming h =

@@ -21,3 +21,6 @@ returns-in-Directive-Align c scope = let e = c.with_flags-in-Directive-Align.ens
 
 pub returns-in-Code : goal.returns-in-Code
 returns-in-Code c scope = let e = c.with_flags-in-Code.ensures scope in search (rules, e)
+
+pub returns-in-Directive-Equ : goal.returns-in-Directive-Equ
+returns-in-Directive-Equ c scope = let e = c.with_equ.ensures scope in search (rules, e)

@@ -12,11 +12,11 @@ returns-in_ok-item-in-None-clause-value c r h =
     let at = state_content scope c.args.state in
     let long = c.args.long in
     let ts = map lexeme_of c.args.tokens.now in
-    let v : Values = values_content r c.args.entries.now.items c.args.run.now.items in
+    let v : Values = values_content r c.args.entries.now.list.items c.args.run.now.items in
     let item = option_map (item_content r) c.in_ok-item-in-None.item in
-    let mid = map (entry_content r) c.push_run.new.entries.items in
+    let mid = map (entry_content r) c.push_run.new.entries.list.items in
     let plain : plain_number long ts ≡ None = sym c.plain_number.ensures.number ∙ c.in-None.is in
-    told_too c.push_some.result (add_some mid at item) (value_onto long at v ts) (map (entry_content r) c.push_some.new.entries.items) c.push_run.new.run.items c.args.state.line
+    told_too c.push_some.result (add_some mid at item) (value_onto long at v ts) (map (entry_content r) c.push_some.new.entries.list.items) c.push_run.new.run.items c.args.state.line
     (ap (λ (n : Option ℕ). by_number n long v (with_entries (add_some (with_run v.entries at v.run) at (value_item long scope ts)))) plain
     ∙ ap (λ (es : List EntryContent). with_entries (add_some es at (value_item long scope ts))) (sym (c.in_ok-push_run-in-None.ensures.entries r scope))
     ∙ ap (λ (i : Option ItemContent). with_entries (add_some mid at i)) (sym (c.in_ok-item-in-None.ensures.item r h)))

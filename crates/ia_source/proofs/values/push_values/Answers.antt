@@ -15,10 +15,10 @@ returns-in-Err-clause-values c r h =
     let at = state_content c.args.names.now.scope.text.now c.args.state in
     let here = state_content c.loop-place.names.scope.text.now c.args.state in
     let same : here ≡ at = ap (λ (s : Scope). state_content s.text.now c.args.state) c.loop-place.invariant.scope in
-    let v = values_content r c.loop-place.entries.items c.loop-place.run.items in
+    let v = values_content r c.loop-place.entries.list.items c.loop-place.run.items in
     let before = naming_less r.naming c.loop-place.names c.push_value.new.names c.push_value.ensures.grows h in
     let piece = map lexeme_of (take c.comma_index-end.result (take (length c.args.tokens.now - c.loop-place.place) (drop c.loop-place.place c.args.tokens.now))) in
-    bad_too (value_onto c.args.long here v piece) (values_onto c.args.long at (no_value (map (entry_content r) c.args.entries.now.items)) (between_commas (map lexeme_of c.args.tokens.now)))
+    bad_too (value_onto c.args.long here v piece) (values_onto c.args.long at (no_value (map (entry_content r) c.args.entries.now.list.items)) (between_commas (map lexeme_of c.args.tokens.now)))
     c.args.state.line c.in-Err.fault
     (λ e. sym (c.loop-place.invariant.read r before) ∙ value_unread c.args.long at v piece _ _ step (sym (ap (λ (a : StateContent). value_onto c.args.long a v piece) same) ∙ e))
     (c.in-Err.ensures.value r h)
@@ -37,8 +37,8 @@ loop-place-preserved c =
       scope = c.push_value.ensures.scope ∙ c.loop-place.invariant.scope;
       grows = grows_more c.args.names.now c.loop-place.names c.push_value.new.names c.loop-place.invariant.grows c.push_value.ensures.grows;
       read = λ r h.
-          value_read c.args.long at (values_content r c.loop-place.entries.items c.loop-place.run.items)
-          (values_content r c.push_value.new.entries.items c.push_value.new.run.items) piece _ _ step
-          (sym (ap (λ (a : StateContent). value_onto c.args.long a (values_content r c.loop-place.entries.items c.loop-place.run.items) piece) same) ∙ c.in-Ok.ensures.value r h)
+          value_read c.args.long at (values_content r c.loop-place.entries.list.items c.loop-place.run.items)
+          (values_content r c.push_value.new.entries.list.items c.push_value.new.run.items) piece _ _ step
+          (sym (ap (λ (a : StateContent). value_onto c.args.long a (values_content r c.loop-place.entries.list.items c.loop-place.run.items) piece) same) ∙ c.in-Ok.ensures.value r h)
           ∙ c.loop-place.invariant.read r (naming_less r.naming c.loop-place.names c.push_value.new.names c.push_value.ensures.grows h);
     }
