@@ -5,8 +5,8 @@ ghost use Rattle.ia_layout.specs.Contents.{IsBounded};
 
 use crate::label::Label;
 use ia_elf::{Elf, ElfFault, is_elf, read_elf};
-use ia_item::{Entry, Item};
-use ia_layout::{Layout, PlacedEntry, base_of, entry_count, tail_base, text_end};
+use ia_item::{Entry, Item, Walk};
+use ia_layout::{FirstOrg, NoTaker, PlacedEntry, Placer, Taker, tail_base};
 use ia_source::{SourceFault, entries};
 use indexmap::IndexMap;
 use std::alloc::{AllocError, Global};
@@ -72,17 +72,19 @@ impl Places {
     fn of_entries(alloc: Global, entries: &[Entry<'_>]) -> Result<Places, AllocError>
         requires { AllFit entries.now }
     {
-        // So few entries that sums of their sizes are exact.
-        let _count = entry_count(entries);
-        let base = base_of(entries);
-        let tail = tail_base(text_end(alloc, base, entries)?);
-        let mut places = Places::none(alloc);
-        let mut walk = Layout::new(alloc, u128::from(base), tail);
-        for entry in entries {
-            let spot = walk.place(entry)?;
-            places.add(alloc, &spot)?;
-        }
-        Ok(places)
+        let mut first = FirstOrg::new();
+        first.go_over(entries)?;
+        let base = first.base();
+        let mut code = Placer::new(alloc, base, 0, NoTaker);
+        code.go_over(entries)?;
+        let tail = tail_base(code.walk.end()?);
+        let taker = PlaceTaker {
+            alloc,
+            places: Places::none(alloc),
+        };
+        let mut placer = Placer::new(alloc, base, tail, taker);
+        placer.go_over(entries)?;
+        Ok(placer.taker.places)
     }
 
     // Takes in what stands at a place, unless it lies past all memory.
@@ -130,6 +132,26 @@ impl Places {
     /// The address behind the last byte of the image.
     pub fn end(&self) -> u32 {
         self.end
+    }
+}
+
+// Takes the places of what a source asks for.
+#[derive(Drop)]
+struct PlaceTaker {
+    alloc: Global,
+    places: Places,
+}
+
+impl<'a> Taker<'a> for PlaceTaker {
+    // No more is said of the places than that they are taken.
+    ghost Taken = { λ _ _ _. Unit {0} };
+
+    ghost stays = { λ _. tt };
+
+    ghost goes_on = { λ _ _ _ _ _ _ _. tt };
+
+    fn take(&mut self, spot: &PlacedEntry<'a, '_>) -> Result<(), AllocError> {
+        self.places.add(self.alloc, spot)
     }
 }
 

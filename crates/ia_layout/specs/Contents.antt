@@ -1,9 +1,15 @@
 -- What the code's values stand for.
-use Rattle.std.specs.Prelude.{ℕ, ◌+◌, ◌-◌, ◌≤◌, ◌^◌, Option, Some, None, pos, negsuc, ◌≤ℤ◌}
+use Rattle.std.specs.Prelude.{ℕ, List, flat_map, ℤ, ◌+◌, ◌-◌, ◌≤◌, ◌^◌, Option, Some, None, pos, negsuc, ◌≤ℤ◌}
+use Rattle.indexmap.specs.IndexMap.{insert_all}
+use Rattle.ia_item.specs.declared.item.Entry.{Entry}
+use Rattle.ia_item.specs.declared.symbol.Symbol.{Symbol}
+use Rattle.ia_item.specs.Names.{same_symbol}
 use Rattle.ia_item.specs.Fits.{FitsEntry}
+use Rattle.ia_resolve.specs.declared.symbols.Table.{Table}
+use Rattle.ia_layout.specs.declared.base.FirstOrg.{FirstOrg}
 use Rattle.ia_layout.specs.declared.layout.PlacedEntry.{PlacedEntry}
 use Rattle.ia_layout.specs.declared.layout.Layout.{Layout}
-use Rattle.ia_layout.specs.Placement.{EntryPlace, LayoutState}
+use Rattle.ia_layout.specs.Placement.{EntryPlace, LayoutState, base_of, definition}
 
 abbrev pub entry_place : PlacedEntry → EntryPlace
 entry_place s = record {
@@ -27,3 +33,11 @@ IsBounded s = (s.at + s.size ≤ 2 ^ 126) × FitsEntry s.entry.now × (negsuc (2
 abbrev pub or_base : Option ℕ → ℕ → ℕ
 or_base None other = other
 or_base (Some base) other = base
+
+-- the base that is set so far or by these entries, or 100h
+abbrev pub base_with : FirstOrg → List Entry → ℕ
+base_with first es = or_base first.found (base_of es)
+
+-- the symbols so far, and those of the places behind
+abbrev pub symbols_with : Table → List EntryPlace → List (Symbol × ℤ)
+symbols_with table ps = insert_all same_symbol table.values.entries (flat_map definition ps)

@@ -1,3 +1,4 @@
 pub mod Placement
 pub mod Contents
 pub mod Placements
+pub mod Parts

@@ -1,10 +1,10 @@
 //! Where items go: a walk over a source that keeps the next address of each section.
 
-ghost use Rattle.std.specs.Prelude.{◌≡◌, ◌≤◌, ◌<◌, ◌+◌, ◌-◌, ◌^◌, ℕ, ℤ, pos, negsuc, ◌≤ℤ◌, IfOk, OnOk, length};
+ghost use Rattle.std.specs.Prelude.{◌≡◌, ◌≤◌, ◌<◌, ◌+◌, ◌-◌, ◌^◌, ℕ, ℤ, pos, negsuc, ◌≤ℤ◌, IfOk, OnOk, false, length};
 ghost use Rattle.ia_item.specs.Fits.{Fits, FitsItem, FitsEntry};
 ghost use Rattle.ia_resolve.specs.Items.{code_bytes};
 ghost use Rattle.ia_layout.specs.Placement.{nowhere, critical_value, critical_fault, gap, size_of, at_in, place_at};
-ghost use Rattle.ia_layout.specs.Placement.{above_next, text_next, tail_next, next, start};
+ghost use Rattle.ia_layout.specs.Placement.{above_next, text_next, tail_next, next, start, tail_base};
 ghost use Rattle.ia_layout.specs.Contents.{entry_place, layout_state, IsBounded};
 
 use ia_encode::encode_with;
@@ -127,6 +127,15 @@ fn define_equ(above: &mut Table, value: i64, item: &Item) -> Result<(), AllocErr
     }
 }
 
+/// Where the data begins.
+pub fn tail_base(text_end: u128) -> u128
+    requires { text_end ≤ 2 ^ 123 }
+    ensures value { result ≡ tail_base text_end }
+    ensures near { result ≤ 2 ^ 124 }
+{
+    text_end + u128::from(gap(64, text_end))
+}
+
 impl Layout {
     /// A walk that puts the code and the data there.
     pub fn new(alloc: Global, base: u128, tail: u128) -> Layout
@@ -138,6 +147,26 @@ impl Layout {
             },
             text: base,
             tail,
+        }
+    }
+
+    /// Whether an address is above 2^100.
+    pub(crate) fn is_far(&self) -> bool
+        ensures text { result ≡ false → self.now.text ≤ 2 ^ 100 }
+        ensures tail { result ≡ false → self.now.tail ≤ 2 ^ 100 }
+    {
+        self.text > 1 << 100 || self.tail > 1 << 100
+    }
+
+    /// Where the code ends. [`AllocError`] where that is above 2^100: no machine holds such an image.
+    pub fn end(&self) -> Result<u128, AllocError>
+        ensures end { IfOk result (λ end. end ≡ self.now.text) }
+        ensures near { IfOk result (λ end. end ≤ 2 ^ 123) }
+    {
+        if self.is_far() {
+            Err(AllocError)
+        } else {
+            Ok(self.text)
         }
     }
 
