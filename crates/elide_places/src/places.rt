@@ -1,13 +1,12 @@
 //! The places of a program's text.
 
-ghost use Rattle.ia_item.specs.Fits.{AllFit};
 ghost use Rattle.ia_layout.specs.Contents.{IsBounded};
 
 use crate::label::Label;
 use ia_elf::{Elf, ElfFault, is_elf, read_elf};
-use ia_item::{Entry, Item, Walk};
+use ia_item::Item;
 use ia_layout::{FirstOrg, NoTaker, PlacedEntry, Placer, Taker, tail_base};
-use ia_source::{SourceFault, entries};
+use ia_source::{Reader, SourceFault};
 use indexmap::IndexMap;
 use std::alloc::{AllocError, Global};
 
@@ -46,8 +45,8 @@ impl Places {
         if text.starts_with(b"image 1 ") {
             return Ok(Places::none(alloc));
         }
-        match entries(alloc, text) {
-            Ok(found) => Places::of_entries(alloc, found.as_slice()),
+        match Places::of_source(alloc, text) {
+            Ok(places) => Ok(places),
             Err(SourceFault::NoMemory) => Err(AllocError),
             Err(SourceFault::Line { .. }) => Ok(Places::none(alloc)),
         }
@@ -69,21 +68,20 @@ impl Places {
     }
 
     // The places of what a source asks for.
-    fn of_entries(alloc: Global, entries: &[Entry<'_>]) -> Result<Places, AllocError>
-        requires { AllFit entries.now }
-    {
+    fn of_source(alloc: Global, source: &[u8]) -> Result<Places, SourceFault> {
+        let mut reader = Reader::new(alloc, source);
         let mut first = FirstOrg::new();
-        first.go_over(entries)?;
+        reader.go_over(&mut first)?;
         let base = first.base();
         let mut code = Placer::new(alloc, base, 0, NoTaker);
-        code.go_over(entries)?;
+        reader.go_over(&mut code)?;
         let tail = tail_base(code.walk.end()?);
         let taker = PlaceTaker {
             alloc,
             places: Places::none(alloc),
         };
         let mut placer = Placer::new(alloc, base, tail, taker);
-        placer.go_over(entries)?;
+        reader.go_over(&mut placer)?;
         Ok(placer.taker.places)
     }
 
