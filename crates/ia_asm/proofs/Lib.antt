@@ -3,9 +3,12 @@ pub mod ListingLines
 pub mod Ends
 pub mod Placements
 pub mod SymbolValues
+pub mod Readings
 pub mod ProgramLayouts
+pub mod Outputs
 pub mod Refusals
 pub mod SameSums
 pub mod SameItems
 pub mod SamePlaces
+pub mod SameGiven
 pub mod OneImage

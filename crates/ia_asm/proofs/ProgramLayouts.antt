@@ -1,100 +1,106 @@
--- What a layout of entries gives.
-use Rattle.std.proofs.Common.{◌≡◌, ℕ, ◌+◌, ◌≤◌, ◌^◌, ◌++◌, Some, ◌∙◌, ap, length, map, arith, List, []}
-use Rattle.std.specs.Prelude.{option_map, ℤ, flat_map}
-use Rattle.indexmap.specs.IndexMap.{insert_all}
-use Rattle.ia_item.specs.Names.{same_name}
-use Rattle.ia_item.specs.declared.name.Name.{Name}
+-- Where the entries of a source go.
+use Rattle.std.proofs.Common.{◌≡◌, ℕ, ◌≤◌, ◌^◌, ◌+◌, Some, None, List, [], refl, sym, ◌∙◌, ap, subst, arith}
+use Rattle.std.proofs.Math.Path.{fun_ext}
+use Rattle.std.specs.Prelude.{option_map, ℤ}
 use Rattle.ia_item.specs.declared.symbol.Symbol.{Symbol}
 use Rattle.ia_item.specs.declared.item.Entry.{Entry}
-use Rattle.ia_item.specs.declared.item.Section.{Section}
+use Rattle.ia_item.specs.Expressions.{Env}
+use Rattle.ia_names.specs.declared.names.Names.{Names}
+use Rattle.ia_names.specs.Namings.{Naming, IsOneToOne, Grows}
+use Rattle.ia_names.proofs.Namings.{grows_more}
 use Rattle.ia_resolve.specs.declared.place_fault.PlaceFault.{PlaceFault}
 use Rattle.ia_resolve.specs.declared.place_fault.PlaceFault.TheVariants as fault
 use Rattle.ia_resolve.specs.Symbols.{known}
-use Rattle.ia_layout.specs.Placement.{LayoutState, start, after, base_of, text_end, tail_base, places, all_places, symbols, values, section_bytes, code_and_data, gap, first_fault}
-use Rattle.ia_asm.specs.declared.assembly.ProgramLayout.{ProgramLayout}
-use Rattle.ia_asm.specs.declared.assembly.ProgramImage.{ProgramImage}
+use Rattle.ia_layout.specs.Placement.{start, after, base_of, text_end, tail_base, places, all_places, symbols, values, first_fault}
+use Rattle.ia_asm.specs.declared.program_layout.ProgramLayout.{ProgramLayout}
 use Rattle.ia_asm.specs.Faults.{at_line}
-use Rattle.ia_asm.specs.ListingText.{listing_text}
-use Rattle.ia_asm.specs.Assemblies.{definition, named, symbol_modulo, code_of, tail_of, fault_of, TellsFault, IsImage}
-use Rattle.ia_asm.specs.ProgramLayouts.{IsLayout}
-use Rattle.ia_asm.proofs.SymbolValues.{all_modulo}
+use Rattle.ia_asm.specs.Assemblies.{fault_of, TellsFault}
+use Rattle.ia_asm.specs.Assembles.{RefusedAs}
+use Rattle.ia_asm.specs.ProgramLayouts.{ForEntries, OfEntries, ArePlaced, IsLayout, IsLaidOut}
+use Rattle.ia_asm.proofs.SameGiven.{same_given}
 use Rattle.ia_asm.proofs.Ends.{code_fits, code_near}
-use Rattle.ia_asm.proofs.Placements.{is_placement}
-use Rattle.ia_item.specs.Fits.{AllFit}
+use Rattle.ia_asm.proofs.Readings.{asks_for, of_entries, of_more}
+use Rattle.ia_asm.proofs.Refusals.{placing_refused}
+use Rattle.ia_asm.proofs.SamePlaces.{SameState, SamePlaces, SameContents, same_after, same_base, same_places, same_symbols}
 
--- where the entries go, of which each step speaks
-pub record Steps (es : List Entry) (base end tail : ℕ) (table : List (Symbol × ℤ)) : Type 0 where
-  pub begins : base ≡ base_of es
-  pub ends : end ≡ text_end es
-  pub tails : tail ≡ tail_base (text_end es)
-  pub all : places (start base tail) es ≡ all_places es
-  pub known_as : table ≡ symbols (all_places es)
+-- ---- what one reading gives is what each gives
 
-pub steps : (es : List Entry) (base end tail : ℕ) (table : List (Symbol × ℤ)) → base ≡ base_of es → end ≡ (after (start base 0) es).text → tail ≡ tail_base end
-    → table ≡ symbols (places (start base tail) es) → Steps es base end tail table
-steps es base end tail table b e t k =
-    let ends : end ≡ text_end es = e ∙ ap (λ x. (after (start x 0) es).text) b in
-    let tails : tail ≡ tail_base (text_end es) = t ∙ ap tail_base ends in
-    let all : places (start base tail) es ≡ all_places es = ap (λ x. places (start x tail) es) b ∙ ap (λ x. places (start (base_of es) x) es) tails in
-    record { begins = b; ends = ends; tails = tails; all = all; known_as = k ∙ ap symbols all }
+same_start : (m : Naming) (base tail : ℕ) → SameState m m (start base tail) (start base tail)
+same_start m base tail = record { above = λ s t st. refl; text = refl; tail = refl }
 
--- ---- what is made of the places, from nothing on
+same_all : (m : Naming) → IsOneToOne m → (base tail : ℕ) (es fs : List Entry) → SameContents m m es fs → SamePlaces m m (places (start base tail) es) (places (start base tail) fs)
+same_all m one base tail es fs same = same_places m m one one (start base tail) (start base tail) (same_start m base tail) es fs same
 
--- the first fault
-pub fault_is : (es : List Entry) (base end tail : ℕ) (table : List (Symbol × ℤ)) → Steps es base end tail table → first_fault (known table) base (places (start base tail) es) ≡ fault_of es
-fault_is es base end tail table t =
-    ap (first_fault (known table) base) t.all
-    ∙ ap (λ x. first_fault (known x) base (all_places es)) t.known_as ∙ ap (λ x. first_fault (values (all_places es)) x (all_places es)) t.begins
+pub base_found : (source : List ℕ) (names : Names) (base : ℕ) → ForEntries source names (λ es. base ≡ base_of es) → OfEntries source names (λ es. base ≡ base_of es)
+base_found source names base = of_entries source names (λ es. base ≡ base_of es) (λ es. base ≡ base_of es)
+    (λ m one es fs same e. e ∙ same_base m m one one es fs same)
 
--- a section's bytes
-pub bytes_are : (part : Section) (es : List Entry) (base end tail : ℕ) (table : List (Symbol × ℤ)) (s : LayoutState) (before now : List ℕ) → Steps es base end tail table → s ≡ start base tail → before ≡ []
-    → now ≡ before ++ section_bytes part (known table) (places s es) → now ≡ section_bytes part (values (all_places es)) (all_places es)
-bytes_are part es base end tail table s before now t is none e =
-    e ∙ ap (λ b. b ++ section_bytes part (known table) (places s es)) none
-    ∙ ap (λ x. section_bytes part (known table) (places x es)) is
-    ∙ ap (section_bytes part (known table)) t.all
-    ∙ ap (λ x. section_bytes part (known x) (all_places es)) t.known_as
+pub end_found : (source : List ℕ) (names : Names) (base end : ℕ) → ForEntries source names (λ es. end ≡ (after (start base 0) es).text) → OfEntries source names (λ es. end ≡ (after (start base 0) es).text)
+end_found source names base end = of_entries source names (λ es. end ≡ (after (start base 0) es).text) (λ es. end ≡ (after (start base 0) es).text)
+    (λ m one es fs same e. e ∙ (same_after m m one one (start base 0) (start base 0) (same_start m base 0) es fs same).text)
 
--- the symbols modulo 2^32
-pub symbols_are : (es : List Entry) (base end tail : ℕ) (table : List (Symbol × ℤ)) (s : LayoutState) (before now : List (Name × ℕ)) → Steps es base end tail table → s ≡ start base tail → before ≡ []
-    → now ≡ insert_all same_name before (map symbol_modulo (flat_map definition (places s es))) → now ≡ map symbol_modulo (named (all_places es))
-symbols_are es base end tail table s before now t is none e =
-    e ∙ ap (λ b. insert_all same_name b (map symbol_modulo (flat_map definition (places s es)))) none
-    ∙ ap (λ x. insert_all same_name [] (map symbol_modulo (flat_map definition (places x es)))) is
-    ∙ ap (λ x. insert_all same_name [] (map symbol_modulo (flat_map definition x))) t.all
-    ∙ all_modulo [] (flat_map definition (all_places es))
+pub table_found : (source : List ℕ) (names : Names) (base tail : ℕ) (table : List (Symbol × ℤ)) → ForEntries source names (λ es. table ≡ symbols (places (start base tail) es))
+    → OfEntries source names (λ es. known table ≡ values (places (start base tail) es))
+table_found source names base tail table = of_entries source names (λ es. table ≡ symbols (places (start base tail) es)) (λ es. known table ≡ values (places (start base tail) es))
+    (λ m one es fs same e. ap known e ∙ fun_ext (λ s. same_symbols m m [] [] (places (start base tail) es) (places (start base tail) fs) (λ s t st. refl) (same_all m one base tail es fs same) s s refl))
 
-pub found : (es : List Entry) (f : PlaceFault) (line : ℕ) → fault_of es ≡ Some (f, line) → TellsFault es (at_line f line)
+-- ---- all of it
+
+placed : (es : List Entry) (l : ProgramLayout) → l.base ≡ base_of es → l.end ≡ (after (start l.base 0) es).text → l.tail ≡ tail_base l.end
+    → known l.table.values.entries ≡ values (places (start l.base l.tail) es) → ArePlaced es l
+placed es l b e t k =
+    let ends : l.end ≡ text_end es = e ∙ ap (λ x. (after (start x 0) es).text) b in
+    let tails : l.tail ≡ tail_base (text_end es) = t ∙ ap tail_base ends in
+    record {
+      begins = b;
+      ends = ends;
+      tail = tails;
+      known_as = k ∙ ap (λ x. values (places (start x l.tail) es)) b ∙ ap (λ x. values (places (start (base_of es) x) es)) tails;
+    }
+
+-- the walks read the same source, and its names grow
+pub all_found : (source s1 s2 : List ℕ) (n1 n2 names : Names) (l : ProgramLayout) → s1 ≡ source → s2 ≡ s1 → Grows n1 n2 → Grows n2 names
+    → OfEntries source n1 (λ es. l.base ≡ base_of es) → OfEntries s1 n2 (λ es. l.end ≡ (after (start l.base 0) es).text) → l.tail ≡ tail_base l.end
+    → OfEntries s2 names (λ es. known l.table.values.entries ≡ values (places (start l.base l.tail) es)) → OfEntries source names (λ es. ArePlaced es l)
+all_found source s1 s2 n1 n2 names l one two g1 g2 b e t k m is es r =
+    placed es l
+    (of_more source n1 names (λ es. l.base ≡ base_of es) (grows_more n1 n2 names g1 g2) b m is es r)
+    (of_more source n2 names E g2 (subst (λ s. OfEntries s n2 E) one e) m is es r)
+    t (subst (λ s. OfEntries s names K) (two ∙ one) k m is es r)
+  where
+    E : List Entry → Type 0
+    E es = l.end ≡ (after (start l.base 0) es).text
+
+    K : List Entry → Type 0
+    K es = known l.table.values.entries ≡ values (places (start l.base l.tail) es)
+
+found : (es : List Entry) (f : PlaceFault) (line : ℕ) → fault_of es ≡ Some (f, line) → TellsFault es (at_line f line)
 found es fault.UnknownSymbol line e = ap (option_map (λ t. at_line t.0 t.1)) e
 found es fault.Range line e = ap (option_map (λ t. at_line t.0 t.1)) e
 found es fault.ShortJumpTooFar line e = ap (option_map (λ t. at_line t.0 t.1)) e
 
+-- a line that has a fault is told
+pub told_line : (source : List ℕ) (names : Names) (f : PlaceFault) (line : ℕ) → ForEntries source names (λ es. Some (f, line) ≡ fault_of es) → RefusedAs source (at_line f line)
+told_line source names f line (es, reads, fits, e) = placing_refused source es (asks_for source names es reads) (at_line f line) (found es f line (sym e))
+
+-- no line has one
+pub laid_out : (source : List ℕ) (old names : Names) (l : ProgramLayout) → Grows old names → OfEntries source old (λ es. ArePlaced es l) → ForEntries source names (λ es. None ≡ fault_of es) → IsLaidOut source names l
+laid_out source old names l grows are none m is es r =
+    let faultless = of_entries source names (λ es. None ≡ fault_of es) (λ es. fault_of es ≡ None) (λ n one es fs same e. sym (e ∙ (same_given n n one one es fs same).fault)) none in
+    (faultless m is es r, of_more source old names (λ es. ArePlaced es l) grows are m is es r)
+
 -- ---- of a layout
 
+pub all_laid : (es : List Entry) (l : ProgramLayout) → ArePlaced es l → places (start l.base l.tail) es ≡ all_places es
+all_laid es l s = ap (λ x. places (start x l.tail) es) s.begins ∙ ap (λ x. places (start (base_of es) x) es) s.tail
+
+pub fault_is : (es : List Entry) (l : ProgramLayout) → ArePlaced es l → first_fault (known l.table.values.entries) l.base (places (start l.base l.tail) es) ≡ fault_of es
+fault_is es l s =
+    ap (first_fault (known l.table.values.entries) l.base) (all_laid es l s)
+    ∙ ap (λ (e : Env). first_fault e l.base (all_places es)) s.known_as ∙ ap (λ x. first_fault (values (all_places es)) x (all_places es)) s.begins
+
 pub begins_before_end : (es : List Entry) (l : ProgramLayout) → IsLayout es l → l.base ≤ l.end
-begins_before_end es l s = omega (arith, code_fits es, s.begins, s.ends)
+begins_before_end es l s = omega (arith, code_fits es, s.1.begins, s.1.ends)
 
 pub ends_near : (es : List Entry) (l : ProgramLayout) → IsLayout es l → l.end ≤ l.base + 2 ^ 28
-ends_near es l s = omega (arith, code_near es s.faultless, s.begins, s.ends)
-
-pub listing_is : (es : List Entry) (l : ProgramLayout) → IsLayout es l → listing_text (known l.table.values.entries) (places (start l.base l.tail) es) ≡ listing_text (values (all_places es)) (all_places es)
-listing_is es l s = ap (λ x. listing_text (known x) (places (start l.base l.tail) es)) s.known_as ∙ ap (λ x. listing_text (values (all_places es)) (places (start x l.tail) es)) s.begins
-    ∙ ap (λ x. listing_text (values (all_places es)) (places (start (base_of es) x) es)) s.tail
-
-pub image_is : (es : List Entry) (l : ProgramLayout) (p : ProgramImage) → AllFit es → IsLayout es l → p.base ≡ l.base → p.image.items ≡ code_and_data l.output.code.items (gap 64 l.end) l.output.tail.items
-    → l.base + p.code_len ≡ l.end → p.symbols.entries ≡ l.output.symbols.entries → IsImage es p
-image_is es l p fits s base image code_len names =
-    let begins : p.base ≡ base_of es = base ∙ s.begins in
-    let whole : p.image.items ≡ code_and_data (code_of es) (gap 64 (text_end es)) (tail_of es) =
-    image ∙ ap (λ x. code_and_data x (gap 64 l.end) l.output.tail.items) s.code ∙ ap (code_and_data (code_of es) (gap 64 l.end)) s.tailed
-    ∙ ap (λ x. code_and_data (code_of es) (gap 64 x) (tail_of es)) s.ends in
-    let long : p.code_len ≡ length (code_of es) = omega (arith, code_len, code_fits es, s.begins, s.ends) in
-    record {
-      faultless = s.faultless;
-      base = begins;
-      image = whole;
-      code_len = long;
-      end = code_fits es;
-      placement = is_placement es p.base p.code_len p.image.items fits begins whole long;
-      symbols = names ∙ s.written;
-    }
+ends_near es l s = omega (arith, code_near es s.0, s.1.begins, s.1.ends)

@@ -1,6 +1,5 @@
 -- From what reading and placing tell to what assembling tells.
-use Rattle.std.proofs.Common.{ℕ, List, Ok, Err, refl, inl, inr}
-use Rattle.std.specs.Prelude.{Result}
+use Rattle.std.proofs.Common.{ℕ, List, refl, inl, inr}
 use Rattle.ia_item.specs.declared.item.Entry.{Entry}
 use Rattle.ia_source.specs.declared.fault.SourceFault.{SourceFault}
 use Rattle.ia_source.specs.declared.fault.SourceFault.TheVariants as source
@@ -8,10 +7,9 @@ use Rattle.ia_source.specs.declared.fault.Why.TheVariants as why
 use Rattle.ia_source.specs.Source.{AsksFor, entries_of, Tells as SourceTells}
 use Rattle.ia_asm.specs.declared.fault.AsmFault.{AsmFault}
 use Rattle.ia_asm.specs.declared.fault.AsmFault.TheVariants as asm
-use Rattle.ia_asm.specs.declared.assembly.Unit.{Unit as Assembly}
-use Rattle.ia_asm.specs.declared.assembly.ProgramImage.{ProgramImage}
-use Rattle.ia_asm.specs.Assemblies.{PlacesAll, PlacesImage, TellsFault}
-use Rattle.ia_asm.specs.Assembles.{asm_fault, RefusedAs, Assembles, AssemblesImage}
+use Rattle.ia_asm.specs.Assemblies.{TellsFault}
+use Rattle.ia_asm.specs.Assembles.{RefusedAs}
+use Rattle.ia_asm.specs.Faults.{asm_fault}
 
 pub reading_refused : (text : List ℕ) (f : SourceFault) → SourceTells (entries_of text) f → RefusedAs text (asm_fault f)
 reading_refused text (source.Line line why.BadToken) e = inl (line, why.BadToken, e, refl)
@@ -29,11 +27,3 @@ placing_refused text es a (asm.SymbolTwice l) t = inr (es, a, t)
 placing_refused text es a (asm.Range l) t = inr (es, a, t)
 placing_refused text es a (asm.NotInSubset l) t = inr (es, a, t)
 placing_refused text es a (asm.ShortJumpTooFar l) t = inr (es, a, t)
-
-pub placing_told : (text : List ℕ) (es : List Entry) → AsksFor text es → (r : Result Assembly AsmFault) → PlacesAll es r → Assembles text r
-placing_told text es a (Ok u) t = (es, a, t)
-placing_told text es a (Err f) t = placing_refused text es a f t
-
-pub image_placing_told : (text : List ℕ) (es : List Entry) → AsksFor text es → (r : Result ProgramImage AsmFault) → PlacesImage es r → AssemblesImage text r
-image_placing_told text es a (Ok p) t = (es, a, t)
-image_placing_told text es a (Err f) t = placing_refused text es a f t

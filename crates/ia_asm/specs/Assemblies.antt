@@ -1,5 +1,5 @@
 -- What assembling gives.
-use Rattle.std.specs.Prelude.{◌≡◌, ℕ, ◌+◌, ◌-◌, ◌%◌, ◌^◌, Option, Some, None, Result, Ok, Err, List, [], ◌∷◌, ℤ, pos, negsuc}
+use Rattle.std.specs.Prelude.{◌≡◌, ℕ, ◌+◌, ◌-◌, ◌%◌, ◌^◌, Option, Some, None, List, [], ◌∷◌, ℤ, pos, negsuc}
 use Rattle.std.specs.Prelude.{length, map, flat_map, option_map}
 use Rattle.std.specs.Str.{bytes_eq}
 use Rattle.std.specs.Map.{lookup}
@@ -15,6 +15,7 @@ use Rattle.ia_asm.specs.declared.fault.AsmFault.TheVariants.{NoMemory}
 use Rattle.ia_resolve.specs.declared.place_fault.PlaceFault.{PlaceFault}
 use Rattle.ia_asm.specs.declared.assembly.Unit.{Unit as Assembly}
 use Rattle.ia_asm.specs.declared.assembly.ProgramImage.{ProgramImage}
+use Rattle.ia_asm.specs.declared.assembly.CodeImage.{CodeImage}
 use Rattle.ia_asm.specs.Faults.{at_line}
 use Rattle.ia_asm.specs.ListingText.{listing_text}
 use Rattle.ia_layout.specs.Placement.{base_of, text_end, all_places, symbols, values, section_bytes, gap, code_and_data}
@@ -55,38 +56,37 @@ tail_of es = section_bytes InData (values (all_places es)) (all_places es)
 abbrev pub fault_of : List Entry → Option (PlaceFault × ℕ)
 fault_of es = first_fault (values (all_places es)) (base_of es) (all_places es)
 
--- the image, the symbols and the listing fit the entries, none of which has a fault
-pub record IsAssembly (es : List Entry) (u : Assembly) : Type 0 where
+-- each symbol with its value modulo 2^32
+abbrev pub symbols_of : List Entry → List (Name × ℕ)
+symbols_of es = map symbol_modulo (named (all_places es))
+
+abbrev pub listing_of : List Entry → List ℕ
+listing_of es = listing_text (values (all_places es)) (all_places es)
+
+-- none of the entries has a fault, and these bytes at this address, so many of them code, are theirs
+pub record IsCodeOf (es : List Entry) (bytes : List ℕ) (at count : ℕ) : Type 0 where
   pub faultless : fault_of es ≡ None
-  pub base : u.base ≡ base_of es
-  pub image : u.image.items ≡ code_and_data (code_of es) (gap 64 (text_end es)) (tail_of es)
-  pub code_len : u.code_len ≡ length (code_of es)
+  pub base : at ≡ base_of es
+  pub image : bytes ≡ code_and_data (code_of es) (gap 64 (text_end es)) (tail_of es)
+  pub code_len : count ≡ length (code_of es)
   -- the code ends where its items do, so that the data stands at its addresses
   pub end : base_of es + length (code_of es) ≡ text_end es
-  pub placement : IsPlacement es u.base u.code_len u.image.items (symbols (all_places es))
-  pub symbols : u.symbols.entries ≡ map symbol_modulo (named (all_places es))
-  pub listing : u.listing.items ≡ listing_text (values (all_places es)) (all_places es)
+  pub placement : IsPlacement es at count bytes (symbols (all_places es))
 
--- the same of an image without a listing
-pub record IsImage (es : List Entry) (p : ProgramImage) : Type 0 where
-  pub faultless : fault_of es ≡ None
-  pub base : p.base ≡ base_of es
-  pub image : p.image.items ≡ code_and_data (code_of es) (gap 64 (text_end es)) (tail_of es)
-  pub code_len : p.code_len ≡ length (code_of es)
-  pub end : base_of es + length (code_of es) ≡ text_end es
-  pub placement : IsPlacement es p.base p.code_len p.image.items (symbols (all_places es))
-  pub symbols : p.symbols.entries ≡ map symbol_modulo (named (all_places es))
+-- the image fits the entries
+abbrev pub IsCode : List Entry → CodeImage → Type 0
+IsCode es c = IsCodeOf es c.image.items c.base c.code_len
+
+-- and the symbols
+abbrev pub IsImage : List Entry → ProgramImage → Type 0
+IsImage es p = IsCodeOf es p.image.items p.base p.code_len × (p.symbols.entries ≡ symbols_of es)
+
+-- and the listing
+abbrev pub IsAssembly : List Entry → Assembly → Type 0
+IsAssembly es u = IsCodeOf es u.image.items u.base u.code_len × (u.symbols.entries ≡ symbols_of es)
+    × (u.listing.items ≡ listing_of es)
 
 -- memory was refused, or this is the first line of the entries that has a fault, and its first fault
 abbrev pub TellsFault : List Entry → AsmFault → Type 0
 TellsFault es NoMemory = Unit {0}
 TellsFault es f = option_map (λ t. at_line t.0 t.1) (fault_of es) ≡ Some f
-
--- the entries are placed, or this is the first line that has a fault
-abbrev pub PlacesAll : List Entry → Result Assembly AsmFault → Type 0
-PlacesAll es (Ok u) = IsAssembly es u
-PlacesAll es (Err f) = TellsFault es f
-
-abbrev pub PlacesImage : List Entry → Result ProgramImage AsmFault → Type 0
-PlacesImage es (Ok p) = IsImage es p
-PlacesImage es (Err f) = TellsFault es f

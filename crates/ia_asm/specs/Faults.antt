@@ -3,6 +3,10 @@ use Rattle.std.specs.Prelude.{ℕ, ◌==◌, if◌then◌else◌, Option, Some, 
 use Rattle.ia_item.specs.Expressions.{Env}
 use Rattle.ia_resolve.specs.PlaceFaults.{first_of}
 use Rattle.ia_layout.specs.Placement.{EntryPlace, fault_on, first_fault}
+use Rattle.ia_source.specs.declared.fault.SourceFault.{SourceFault}
+use Rattle.ia_source.specs.declared.fault.SourceFault.TheVariants as source
+use Rattle.ia_source.specs.declared.fault.Why.{Why}
+use Rattle.ia_source.specs.declared.fault.Why.TheVariants as why
 use Rattle.ia_asm.specs.declared.fault.AsmFault.{AsmFault}
 use Rattle.ia_asm.specs.declared.fault.AsmFault.TheVariants as asm
 use Rattle.ia_resolve.specs.declared.place_fault.PlaceFault.{PlaceFault}
@@ -27,6 +31,17 @@ fault_line (asm.Range l) = Some l
 fault_line (asm.NotInSubset l) = Some l
 fault_line (asm.ShortJumpTooFar l) = Some l
 fault_line asm.NoMemory = None
+
+-- what is wrong with a line, as it is told
+abbrev pub line_fault : ℕ → Why → AsmFault
+line_fault line why.BadToken = asm.BadToken line
+line_fault line why.NotInSubset = asm.NotInSubset line
+line_fault line why.SymbolTwice = asm.SymbolTwice line
+line_fault line why.BadOperand = asm.BadOperand line
+
+abbrev pub asm_fault : SourceFault → AsmFault
+asm_fault (source.Line line why) = line_fault line why
+asm_fault source.NoMemory = asm.NoMemory
 
 abbrev pub at_line : PlaceFault → ℕ → AsmFault
 at_line UnknownSymbol l = asm.UnknownSymbol l

@@ -1,6 +1,7 @@
 -- What a listing in the making stands for.
 use Rattle.std.specs.Prelude.{ℕ, Option, Some, None, List, [], ◌++◌}
 use Rattle.ia_item.specs.Expressions.{Env}
+use Rattle.ia_resolve.specs.Symbols.{known}
 use Rattle.ia_asm.specs.declared.listing.ListingRow.{ListingRow}
 use Rattle.ia_asm.specs.declared.listing.Lister.{Lister}
 use Rattle.ia_layout.specs.Placement.{EntryPlace}
@@ -20,5 +21,5 @@ pending env None bytes ps = lines_from env None ps
 pending env (Some r) bytes ps = bytes_lines r.at (bytes ++ rest_of_line env r.line ps) ++ lines_from env (Some r.line) ps
 
 -- the lines so far, and those of the places behind
-abbrev pub listing_with : Env → Lister → List EntryPlace → List ℕ
-listing_with env l ps = l.out.bytes.items ++ pending env l.row l.bytes.items ps
+abbrev pub listing_with : Lister → List EntryPlace → List ℕ
+listing_with l ps = l.out.bytes.items ++ pending (known l.symbols.now.values.entries) l.row l.bytes.items ps

@@ -1,24 +1,40 @@
--- Entries at their addresses, and what they give.
-use Rattle.std.specs.Prelude.{◌≡◌, ◌≤◌, ◌^◌, None, Result, Ok, Err, List, map}
+-- Where the entries of a source go, however often it is read.
+use Rattle.std.specs.Prelude.{◌≡◌, ℕ, false, None, Ok, List, map}
 use Rattle.ia_item.specs.declared.item.Entry.{Entry}
-use Rattle.ia_layout.specs.Placement.{base_of, text_end, tail_base, all_places, symbols}
-use Rattle.ia_asm.specs.declared.fault.AsmFault.{AsmFault}
-use Rattle.ia_asm.specs.declared.assembly.ProgramLayout.{ProgramLayout}
-use Rattle.ia_asm.specs.Assemblies.{named, symbol_modulo, code_of, tail_of, fault_of, TellsFault}
+use Rattle.ia_item.specs.Fits.{AllFit}
+use Rattle.ia_names.specs.declared.names.Names.{Names}
+use Rattle.ia_names.specs.Namings.{Naming, IsNaming}
+use Rattle.ia_source.specs.Contents.{entry_content}
+use Rattle.ia_source.specs.Source.{AsksFor, ReadsAs, entries_of}
+use Rattle.ia_resolve.specs.Symbols.{known}
+use Rattle.ia_layout.specs.Placement.{base_of, text_end, tail_base, all_places, values}
+use Rattle.ia_asm.specs.declared.program_layout.ProgramLayout.{ProgramLayout}
+use Rattle.ia_asm.specs.Assemblies.{fault_of}
 
--- none of the entries has a fault, and this is where they go, and their bytes and symbols
-pub record IsLayout (es : List Entry) (l : ProgramLayout) : Type 0 where
-  pub faultless : fault_of es ≡ None
+-- a reading gave entries of which this holds
+abbrev pub ForEntries : List ℕ → Names → (List Entry → Type 0) → Type 0
+ForEntries source names P = (es : List Entry) × ReadsAs source names es × AllFit es × P es
+
+-- this holds of the entries of each reading that has these names
+abbrev pub OfEntries : List ℕ → Names → (List Entry → Type 0) → Type 0
+OfEntries source names P = (naming : Naming) → IsNaming naming names → (es : List Entry)
+    → entries_of source ≡ Ok (map (entry_content (record { naming = naming; written = false })) es) → P es
+
+-- this is where the entries go, and the values of their symbols
+pub record ArePlaced (es : List Entry) (l : ProgramLayout) : Type 0 where
   pub begins : l.base ≡ base_of es
   pub ends : l.end ≡ text_end es
   pub tail : l.tail ≡ tail_base (text_end es)
-  pub near : l.tail ≤ 2 ^ 124
-  pub known_as : l.table.values.entries ≡ symbols (all_places es)
-  pub code : l.output.code.items ≡ code_of es
-  pub tailed : l.output.tail.items ≡ tail_of es
-  pub written : l.output.symbols.entries ≡ map symbol_modulo (named (all_places es))
+  pub known_as : known l.table.values.entries ≡ values (all_places es)
 
--- the entries are laid out, or this is the first line that has a fault
-abbrev pub LaysOut : List Entry → Result ProgramLayout AsmFault → Type 0
-LaysOut es (Ok l) = IsLayout es l
-LaysOut es (Err f) = TellsFault es f
+-- and none of them has a fault
+abbrev pub IsLayout : List Entry → ProgramLayout → Type 0
+IsLayout es l = (fault_of es ≡ None) × ArePlaced es l
+
+-- so are the entries of each reading that has these names
+abbrev pub IsLaidOut : List ℕ → Names → ProgramLayout → Type 0
+IsLaidOut source names l = OfEntries source names (λ es. IsLayout es l)
+
+-- the lines ask for entries that are laid out so, and of which this holds
+abbrev pub HasLaidOut : List ℕ → ProgramLayout → (List Entry → Type 0) → Type 0
+HasLaidOut source l P = (es : List Entry) × AsksFor source es × AllFit es × IsLayout es l × P es

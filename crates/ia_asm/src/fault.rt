@@ -1,10 +1,11 @@
 //! Why a source is refused, and the faults' numbers.
 
 ghost use Rattle.std.specs.Prelude.{◌≡◌};
-ghost use Rattle.ia_asm.specs.Faults.{at_line, fault_number, fault_line};
+ghost use Rattle.ia_asm.specs.Faults.{asm_fault, at_line, fault_number, fault_line};
 ghost use Rattle.ia_asm.specs.declared.fault.AsmFault.TheVariants.{NoMemory};
 
 use ia_resolve::PlaceFault;
+use ia_source::{SourceFault, Why};
 use std::alloc::{AllocError, AllocFailed};
 use thiserror::Error;
 
@@ -84,6 +85,22 @@ impl<T: Drop> From<AllocFailed<T>> for AsmFault {
 
     fn from(_error: AllocFailed<T>) -> Self {
         AsmFault::NoMemory
+    }
+}
+
+impl From<SourceFault> for AsmFault {
+    ghost from_gives = { λ f e. e ≡ asm_fault f };
+
+    fn from(fault: SourceFault) -> Self {
+        match fault {
+            SourceFault::Line { line, why } => match why {
+                Why::BadToken => AsmFault::BadToken(line),
+                Why::NotInSubset => AsmFault::NotInSubset(line),
+                Why::SymbolTwice => AsmFault::SymbolTwice(line),
+                Why::BadOperand => AsmFault::BadOperand(line),
+            },
+            SourceFault::NoMemory => AsmFault::NoMemory,
+        }
     }
 }
 

@@ -1,16 +1,17 @@
 //! The faults of items, and which of them is told.
 
-ghost use Rattle.std.specs.Prelude.{◌≡◌, ◌≤◌, ◌<◌, ◌^◌, length, IfOk};
-ghost use Rattle.ia_item.specs.Fits.{AllFit};
+ghost use Rattle.std.specs.Prelude.{◌≡◌, refl, List};
 ghost use Rattle.ia_resolve.specs.Symbols.{known};
-ghost use Rattle.ia_layout.specs.Placement.{end_fault, org_fault, item_fault, place_fault, first_fault, places, start};
+ghost use Rattle.ia_layout.specs.Placement.{EntryPlace, end_fault, org_fault, item_fault, place_fault, first_fault};
 ghost use Rattle.ia_layout.specs.Contents.{entry_place, IsBounded};
+ghost use Rattle.ia_layout.specs.Parts.{Keeps, keeps_both};
 ghost use Rattle.ia_asm.specs.Faults.{with_next};
+ghost use Rattle.ia_asm.specs.Takers.{faults_with};
 
-use ia_item::{Entry, Field, Item};
-use ia_layout::{Layout, PlacedEntry};
+use ia_item::{Field, Item};
+use ia_layout::{PlacedEntry, Taker};
 use ia_resolve::{PlaceFault, Table, first_of, resolve_field, resolve_template};
-use std::alloc::{AllocError, Global};
+use std::alloc::AllocError;
 
 /// Whether an item ends more than 2^28 bytes from the base, or past 2^32.
 fn end_fault(base: u32, end: u128) -> Option<PlaceFault>
@@ -90,26 +91,41 @@ fn with_next(
     }
 }
 
-/// The first line that has a fault, and its first fault, where the code goes to the base and the data there.
-pub fn first_fault(
-    alloc: Global,
-    symbols: &Table,
-    base: u32,
-    tail: u128,
-    entries: &[Entry],
-) -> Result<Option<(PlaceFault, u32)>, AllocError>
-    requires fits { AllFit entries.now }
-    requires few { length entries.now < 2 ^ 58 }
-    requires near { tail ≤ 2 ^ 124 }
-    ensures { IfOk result (λ found. found
-        ≡ first_fault (known symbols.now.values.entries) base (places (start base tail) entries.now)) }
-{
-    let mut walk = Layout::new(alloc, u128::from(base), tail);
-    let mut found = None;
-    for entry in entries {
-        let spot = walk.place(entry)?;
-        let fault = place_fault(symbols, base, &spot);
-        found = with_next(found, fault, entry.line);
+/// Takes places, and keeps the first line that has a fault, and its first fault.
+#[derive(Drop)]
+pub struct FaultSearch<'t> {
+    /// The values of the symbols.
+    pub symbols: &'t Table,
+    /// The address of the code.
+    pub base: u32,
+    /// The fault and the line, if one is found so far.
+    pub found: Option<(PlaceFault, u32)>,
+}
+
+impl<'t> FaultSearch<'t> {
+    /// No fault yet.
+    pub fn new(symbols: &'t Table, base: u32) -> FaultSearch<'t>
+        ensures { (ps : List EntryPlace) → faults_with result ps
+            ≡ first_fault (known symbols.now.values.entries) base ps }
+    {
+        FaultSearch {
+            symbols,
+            base,
+            found: None,
+        }
     }
-    Ok(found)
+}
+
+impl<'a, 't> Taker<'a> for FaultSearch<'t> {
+    ghost Taken = { Keeps faults_with };
+
+    ghost stays = { λ t more. refl };
+
+    ghost goes_on = { keeps_both faults_with };
+
+    fn take(&mut self, spot: &PlacedEntry<'a, '_>) -> Result<(), AllocError> {
+        let fault = place_fault(self.symbols, self.base, spot);
+        self.found = with_next(self.found, fault, spot.entry.line);
+        Ok(())
+    }
 }

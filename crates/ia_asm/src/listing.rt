@@ -1,16 +1,16 @@
 //! The listing.
 
-ghost use Rattle.std.specs.Prelude.{◌≡◌, ◌+◌, ◌*◌, ◌≤◌, ◌<◌, ◌%◌, ◌^◌, ◌++◌, ◌∷◌, [], false, IsTrue, List, length, IfOk, OnOk};
-ghost use Rattle.ia_item.specs.Fits.{AllFit};
+ghost use Rattle.std.specs.Prelude.{◌≡◌, ◌+◌, ◌*◌, ◌<◌, ◌%◌, ◌^◌, ◌++◌, ◌∷◌, [], false, refl, IsTrue, List, length, IfOk, OnOk};
 ghost use Rattle.ia_text.specs.Listing.{listing_line};
 ghost use Rattle.ia_resolve.specs.Symbols.{known};
-ghost use Rattle.ia_layout.specs.Placement.{EntryPlace, places, start};
+ghost use Rattle.ia_layout.specs.Placement.{EntryPlace};
 ghost use Rattle.ia_asm.specs.ListingText.{bytes_line, bytes_lines, is_datum, own_line, goes_on, listing_text};
 ghost use Rattle.ia_layout.specs.Contents.{entry_place, IsBounded};
+ghost use Rattle.ia_layout.specs.Parts.{Keeps, keeps_both};
 ghost use Rattle.ia_asm.specs.Lister.{row_text, row_line, listing_with};
 
-use ia_item::{Entry, Item};
-use ia_layout::{Layout, PlacedEntry, push_bytes, push_item};
+use ia_item::Item;
+use ia_layout::{PlacedEntry, Taker, push_bytes, push_item};
 use ia_resolve::Table;
 use ia_text::page::{Page, push, push_bytes as push_hex_bytes, push_eight};
 use ia_text::{ToVec, write_line};
@@ -25,7 +25,9 @@ pub struct ListingRow {
 
 /// A listing in the making: the lines so far, and a line of `db` or `dd` that may go on, with its bytes so far.
 #[derive(Drop)]
-pub struct Lister {
+pub struct Lister<'t> {
+    /// The values of the symbols.
+    pub symbols: &'t Table,
     pub out: ToVec,
     pub row: Option<ListingRow>,
     pub bytes: Vec<u8>,
@@ -101,13 +103,28 @@ fn goes_on(row: Option<ListingRow>, spot: &PlacedEntry) -> bool
     }
 }
 
-impl Lister {
+impl<'t> Lister<'t> {
+    /// No lines yet.
+    pub fn new(alloc: Global, symbols: &'t Table) -> Lister<'t>
+        ensures symbols { result.symbols.now ≡ symbols.now }
+        ensures empty { (ps : List EntryPlace) → listing_with result ps
+            ≡ listing_text (known symbols.now.values.entries) ps }
+    {
+        Lister {
+            symbols,
+            out: ToVec::new(Vec::new(alloc)),
+            row: None,
+            bytes: Vec::new(alloc),
+        }
+    }
+
     /// Writes the row before, if there is one.
     fn finish(&mut self) -> Result<(), AllocError>
         ensures out { OnOk result (self.new.out.bytes.items
             ≡ self.old.out.bytes.items ++ row_text self.old.row self.old.bytes.items) }
         ensures bytes { OnOk result (self.new.bytes.items ≡ []) }
         ensures row { OnOk result (self.new.row ≡ self.old.row) }
+        ensures symbols { OnOk result (self.new.symbols ≡ self.old.symbols) }
     {
         if let Some(row) = self.row {
             write_bytes(&mut self.out.bytes, row.at, self.bytes.as_slice())?;
@@ -118,25 +135,26 @@ impl Lister {
 
     /// Writes the lines of an item that stands alone.
     #[tactic(auto, unfolding(crate::specs::ListingText::own_line))]
-    fn write_own(&mut self, symbols: &Table, spot: &PlacedEntry) -> Result<(), AllocError>
+    fn write_own(&mut self, spot: &PlacedEntry) -> Result<(), AllocError>
         requires good { IsBounded spot.now }
         requires empty { self.old.bytes.items ≡ [] }
         ensures line { OnOk result (self.new.out.bytes.items
-            ≡ self.old.out.bytes.items ++ own_line (known symbols.now.values.entries) (entry_place spot.now)
+            ≡ self.old.out.bytes.items ++ own_line (known self.old.symbols.now.values.entries) (entry_place spot.now)
             (entry_place spot.now).entry.item) }
         ensures row { OnOk result (self.new.row ≡ self.old.row) }
+        ensures symbols { OnOk result (self.new.symbols ≡ self.old.symbols) }
     {
         match &spot.entry.item {
             Item::Code(_) => {
-                push_item(&mut self.bytes, symbols, spot)?;
+                push_item(&mut self.bytes, self.symbols, spot)?;
                 write_insn(&mut self.out, spot.at, self.bytes.as_slice())
             }
             Item::Reserve(_) => {
-                push_item(&mut self.bytes, symbols, spot)?;
+                push_item(&mut self.bytes, self.symbols, spot)?;
                 write_bytes(&mut self.out.bytes, spot.at, self.bytes.as_slice())
             }
             Item::Align(_) => {
-                push_item(&mut self.bytes, symbols, spot)?;
+                push_item(&mut self.bytes, self.symbols, spot)?;
                 write_bytes(&mut self.out.bytes, spot.at, self.bytes.as_slice())
             }
             _ => Ok(()),
@@ -144,97 +162,60 @@ impl Lister {
     }
 
     /// Takes in a part of a row.
-    fn list_datum(&mut self, symbols: &Table, spot: &PlacedEntry) -> Result<(), AllocError>
+    fn list_datum(&mut self, spot: &PlacedEntry) -> Result<(), AllocError>
         requires good { IsBounded spot.now }
         requires datum { IsTrue (is_datum spot.now.entry.now.item) }
         ensures { OnOk result ((more : List EntryPlace)
-            → listing_with (known symbols.now.values.entries) self.new more
-            ≡ listing_with (known symbols.now.values.entries) self.old (entry_place spot.now ∷ more)) }
+            → listing_with self.new more ≡ listing_with self.old (entry_place spot.now ∷ more)) }
     {
         if goes_on(self.row, spot) {
-            push_item(&mut self.bytes, symbols, spot)
+            push_item(&mut self.bytes, self.symbols, spot)
         } else {
             self.finish()?;
             self.row = Some(ListingRow {
                 line: spot.entry.line,
                 at: spot.at,
             });
-            push_item(&mut self.bytes, symbols, spot)
+            push_item(&mut self.bytes, self.symbols, spot)
         }
     }
 
     /// Takes in an item that stands alone.
-    fn list_own(&mut self, symbols: &Table, spot: &PlacedEntry) -> Result<(), AllocError>
+    fn list_own(&mut self, spot: &PlacedEntry) -> Result<(), AllocError>
         requires good { IsBounded spot.now }
         requires own { is_datum spot.now.entry.now.item ≡ false }
         ensures { OnOk result ((more : List EntryPlace)
-            → listing_with (known symbols.now.values.entries) self.new more
-            ≡ listing_with (known symbols.now.values.entries) self.old (entry_place spot.now ∷ more)) }
+            → listing_with self.new more ≡ listing_with self.old (entry_place spot.now ∷ more)) }
     {
         self.finish()?;
         self.row = None;
-        self.write_own(symbols, spot)?;
+        self.write_own(spot)?;
         self.bytes.clear();
         Ok(())
     }
 
-    /// Takes in the next item.
-    fn list(&mut self, symbols: &Table, spot: &PlacedEntry) -> Result<(), AllocError>
-        requires { IsBounded spot.now }
-        ensures { OnOk result ((more : List EntryPlace)
-            → listing_with (known symbols.now.values.entries) self.new more
-            ≡ listing_with (known symbols.now.values.entries) self.old (entry_place spot.now ∷ more)) }
+    /// The listing of the places that were taken.
+    pub fn listing(self) -> Result<Vec<u8>, AllocError>
+        ensures { IfOk result (λ v. v.items ≡ listing_with self.entry []) }
     {
+        let mut lister = self;
+        lister.finish()?;
+        Ok(lister.out.bytes)
+    }
+}
+
+impl<'a, 't> Taker<'a> for Lister<'t> {
+    ghost Taken = { Keeps listing_with };
+
+    ghost stays = { λ t more. refl };
+
+    ghost goes_on = { keeps_both listing_with };
+
+    fn take(&mut self, spot: &PlacedEntry<'a, '_>) -> Result<(), AllocError> {
         if is_datum(&spot.entry.item) {
-            self.list_datum(symbols, spot)
+            self.list_datum(spot)
         } else {
-            self.list_own(symbols, spot)
+            self.list_own(spot)
         }
     }
-}
-
-/// The lines of all items.
-fn list_all(
-    alloc: Global,
-    symbols: &Table,
-    base: u32,
-    tail: u128,
-    entries: &[Entry],
-) -> Result<Lister, AllocError>
-    requires fits { AllFit entries.now }
-    requires few { length entries.now < 2 ^ 58 }
-    requires near { tail ≤ 2 ^ 124 }
-    ensures { IfOk result (λ l. listing_with (known symbols.now.values.entries) l []
-        ≡ listing_text (known symbols.now.values.entries) (places (start base tail) entries.now)) }
-{
-    let mut lister = Lister {
-        out: ToVec::new(Vec::new(alloc)),
-        row: None,
-        bytes: Vec::new(alloc),
-    };
-    let mut walk = Layout::new(alloc, u128::from(base), tail);
-    for entry in entries {
-        let spot = walk.place(entry)?;
-        lister.list(symbols, &spot)?;
-    }
-    Ok(lister)
-}
-
-/// The listing: a line for each instruction, and the lines of each line of `db` or `dd`, each `resb` and each `align`.
-pub fn listing(
-    alloc: Global,
-    symbols: &Table,
-    base: u32,
-    tail: u128,
-    entries: &[Entry],
-) -> Result<Vec<u8>, AllocError>
-    requires fits { AllFit entries.now }
-    requires few { length entries.now < 2 ^ 58 }
-    requires near { tail ≤ 2 ^ 124 }
-    ensures { IfOk result (λ v. v.items
-        ≡ listing_text (known symbols.now.values.entries) (places (start base tail) entries.now)) }
-{
-    let mut lister = list_all(alloc, symbols, base, tail, entries)?;
-    lister.finish()?;
-    Ok(lister.out.bytes)
 }

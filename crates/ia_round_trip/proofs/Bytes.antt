@@ -225,9 +225,9 @@ source_placed i at e h es asks =
 
 image_gives : (at : ℕ) (i : Insn) (es : List Entry) (u : Assembly) → Places es at i → IsAssembly es u → Gives at (insn_bytes i) (Ok u)
 image_gives at i es u (base, code, tail, none) a = (
-  a.base ∙ base,
-  a.image ∙ ap (code_and_data (code_of es) (gap 64 (text_end es))) tail ∙ code,
-  a.code_len ∙ ap length code,
+  a.0.base ∙ base,
+  a.0.image ∙ ap (code_and_data (code_of es) (gap 64 (text_end es))) tail ∙ code,
+  a.0.code_len ∙ ap length code,
 )
 
 refused_never : (i : Insn) (at : ℕ) → IsTrue (is_encodable i) → at + length (insn_bytes i) ≤ 2 ^ 32 → (f : AsmFault) → Refused (source_at i at) f → ⊥

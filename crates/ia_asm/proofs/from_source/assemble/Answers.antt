@@ -1,13 +1,20 @@
-use Rattle.std.proofs.Common.{Err, sym, subst}
-use Rattle.ia_asm.specs.declared.fault.AsmFault.{AsmFault}
-use Rattle.ia_asm.specs.Assemblies.{PlacesAll}
-use Rattle.ia_asm.specs.Assembles.{Assembles}
-use Rattle.ia_asm.proofs.Refusals.{reading_refused, placing_told}
+use Rattle.std.proofs.Common.{◌∙◌, subst}
+use Rattle.ia_source.specs.Source.{AsksFor}
+use Rattle.ia_asm.proofs.Outputs.{image_is}
+use Rattle.ia_asm.proofs.ProgramLayouts.{begins_before_end, ends_near}
 use Rattle.ia_asm.proofs.from_source.assemble.Goals as goal
 
-pub returns-in-Ok : goal.returns-in-Ok
-returns-in-Ok c = placing_told c.args.source.now c.in-Ok.found.items c.in-Ok.ensures.exact c.place_all.result
-    (subst (λ es. PlacesAll es c.place_all.result) c.as_slice.ensures.value c.place_all.ensures)
+pub image_of-requires-clause-begins : goal.image_of-requires-clause-begins
+image_of-requires-clause-begins c = let (es, asks, fits, laid, (bytes, names, lines)) = c.in_ok-taken.ensures in begins_before_end es c.in_ok-layout.layout laid
 
-pub returns-in-Err : goal.returns-in-Err
-returns-in-Err c = subst (λ (f : AsmFault). Assembles c.args.source.now (Err f)) (sym c.asm_fault.ensures) (reading_refused c.args.source.now c.in-Err.fault c.in-Err.ensures.exact)
+pub image_of-requires-clause-short : goal.image_of-requires-clause-short
+image_of-requires-clause-short c = let (es, asks, fits, laid, (bytes, names, lines)) = c.in_ok-taken.ensures in ends_near es c.in_ok-layout.layout laid
+
+pub returns : goal.returns
+returns c =
+    let (es, asks, fits, laid, (bytes, names, lines)) = c.in_ok-taken.ensures in
+    let e = c.in_ok-image.ensures in
+    let code = c.in_ok-taken.taken.first.first in
+    let image = c.in_ok-image.image in
+    let is = image_is es c.in_ok-layout.layout code.code.items code.tail.items image.image.items image.base image.code_len fits laid bytes.0 bytes.1 e.base e.image e.code_len in
+    (es, subst (λ s. AsksFor s es) (c.in_ok-layout.ensures.source ∙ c.new-reader.ensures) asks, (is, names, c.in_ok-listing.ensures ∙ lines))

@@ -1,13 +1,20 @@
-use Rattle.std.proofs.Common.{Err, sym, subst}
-use Rattle.ia_asm.specs.declared.fault.AsmFault.{AsmFault}
-use Rattle.ia_asm.specs.Assemblies.{PlacesImage}
-use Rattle.ia_asm.specs.Assembles.{AssemblesImage}
-use Rattle.ia_asm.proofs.Refusals.{reading_refused, image_placing_told}
+use Rattle.std.proofs.Common.{◌∙◌, subst}
+use Rattle.ia_source.specs.Source.{AsksFor}
+use Rattle.ia_asm.proofs.Outputs.{image_is}
+use Rattle.ia_asm.proofs.ProgramLayouts.{begins_before_end, ends_near}
 use Rattle.ia_asm.proofs.from_source.assemble_image.Goals as goal
 
-pub returns-in-Ok : goal.returns-in-Ok
-returns-in-Ok c = image_placing_told c.args.source.now c.in-Ok.found.items c.in-Ok.ensures.exact c.place_image.result
-    (subst (λ es. PlacesImage es c.place_image.result) c.as_slice.ensures.value c.place_image.ensures)
+pub image_of-requires-clause-begins : goal.image_of-requires-clause-begins
+image_of-requires-clause-begins c = let (es, asks, fits, laid, (bytes, names)) = c.in_ok-taken.ensures in begins_before_end es c.in_ok-layout.layout laid
 
-pub returns-in-Err : goal.returns-in-Err
-returns-in-Err c = subst (λ (f : AsmFault). AssemblesImage c.args.source.now (Err f)) (sym c.asm_fault.ensures) (reading_refused c.args.source.now c.in-Err.fault c.in-Err.ensures.exact)
+pub image_of-requires-clause-short : goal.image_of-requires-clause-short
+image_of-requires-clause-short c = let (es, asks, fits, laid, (bytes, names)) = c.in_ok-taken.ensures in ends_near es c.in_ok-layout.layout laid
+
+pub returns : goal.returns
+returns c =
+    let (es, asks, fits, laid, (bytes, names)) = c.in_ok-taken.ensures in
+    let e = c.in_ok-image.ensures in
+    let code = c.in_ok-taken.taken.first in
+    let image = c.in_ok-image.image in
+    let is = image_is es c.in_ok-layout.layout code.code.items code.tail.items image.image.items image.base image.code_len fits laid bytes.0 bytes.1 e.base e.image e.code_len in
+    (es, subst (λ s. AsksFor s es) (c.in_ok-layout.ensures.source ∙ c.new-reader.ensures) asks, (is, names))
