@@ -2,7 +2,7 @@
 
 use elide_args::AsmOptions;
 use elide_program::{Paths, ProgramFault, ProgramRefusal, read_source};
-use ia_asm::{assemble, assemble_image};
+use ia_asm::{assemble_code, assemble_listing};
 use ia_image::write_image;
 use ia_text::{Failed, Out, WriteFault};
 use std::alloc::Global;
@@ -24,25 +24,18 @@ pub fn asm<P: Paths, O: Out>(
 
 // Prints the listing of a source.
 fn list<O: Out>(alloc: Global, text: &[u8], out: &mut O) -> Result<(), ProgramRefusal> {
-    match assemble(alloc, text) {
-        Ok(unit) => out
-            .put(unit.listing.as_slice())
-            .map_err(failed)
-            .map_err(refused),
+    match assemble_listing(alloc, text) {
+        Ok(listing) => out.put(listing.as_slice()).map_err(failed).map_err(refused),
         Err(fault) => Err(ProgramRefusal::Fault(ProgramFault::Assemble(fault))),
     }
 }
 
-// Prints the image text of a source, for which no listing is made.
+// Prints the image text of a source, for which no symbols and no listing are kept.
 fn write<O: Out>(alloc: Global, text: &[u8], out: &mut O) -> Result<(), ProgramRefusal> {
-    match assemble_image(alloc, text) {
-        Ok(program) => write_image(
-            program.image.as_slice(),
-            program.base,
-            program.code_len,
-            out,
-        )
-        .map_err(refused),
+    match assemble_code(alloc, text) {
+        Ok(code) => write_image(code.image.as_slice(), code.base, code.code_len, out).map_err(
+            refused,
+        ),
         Err(fault) => Err(ProgramRefusal::Fault(ProgramFault::Assemble(fault))),
     }
 }
