@@ -3,7 +3,6 @@
 use Rattle.std.specs.Prelude.{◌≡◌, ℕ, Bool, false, List, [], ◌++◌, Option, if◌then◌else◌}
 use Rattle.std.specs.Io.KnownBytes.{Appends}
 use Rattle.std.specs.List.{flat_map}
-use Rattle.ia_text.specs.Writing.{Device, Wrote}
 use Rattle.elide_args.specs.declared.subcommand.RunOptions.{RunOptions}
 use Rattle.elide_setup.specs.Runs.{IsRunOf}
 use Rattle.elide_setup.specs.Schedules.{AreAsked, cores_of}
@@ -14,6 +13,8 @@ use Rattle.elide_setup.specs.TmHist.Lines.{outcome_line}
 use Rattle.elide_setup.specs.TmModel.Outcome.{Outcome}
 use Rattle.elide_setup.specs.declared.machine.Setup.{Setup}
 use Rattle.elide_setup.specs.declared.shown.ShownMemory.{ShownMemory}
+use Rattle.elide_run.specs.Halting.{asked_ending, asked_lines}
+use Rattle.elide_run.specs.declared.halting.Ending.{Ending}
 
 -- the lines of outcomes
 abbrev pub outcome_lines : List (ℕ × Outcome) → List ℕ
@@ -26,36 +27,29 @@ trace_text traces steps = if traces then outcome_lines steps else []
 -- the machine is that of the options and of what FILE's content is read as, run by the rules along their schedule, and the lines of
 -- its steps were written; those that tell why transactions aborted are any
 pub record IsRunAsAsked (content : List ℕ → Option (List ℕ)) (options : RunOptions) (setup : Setup) (machine : Machine)
-    (before after : Device) : Type 0 where
+    (before after : Option (List ℕ)) : Type 0 where
   pub asked : IsAsked (content options.machine.file.now) options.machine setup
   pub history : List (ℕ × Outcome)
   pub steps : AreAsked content options.schedule (cores_of history)
   pub ran : IsRunOf setup.program setup.limits history machine
   pub lines : List ℕ
   pub traced : options.explains ≡ false → lines ≡ trace_text options.traces history
-  pub wrote : Wrote before after lines
+  pub wrote : Appends before after lines
 
--- the state and what is asked for of memory was written, and below it the lines of cores that have not stopped, where they are
--- asked for
-pub record IsTold (options : RunOptions) (setup : Setup) (machine : Machine) (before after : Option (List ℕ)) : Type 0 where
+-- the state and what is asked for of memory was written, and below it, where it is expected that all cores stop, the lines of those
+-- that have not, of which the ending tells, too
+pub record IsTold (options : RunOptions) (setup : Setup) (machine : Machine) (ending : Ending)
+    (before after : Option (List ℕ)) : Type 0 where
   pub memory : ShownMemory
   pub shown : IsShownOf machine.memory setup.parts options.machine.shows.items memory
-  pub ending : List ℕ
-  pub unasked : options.expects_halt ≡ false → ending ≡ []
-  pub wrote : Appends before after (shown_text machine memory ++ ending)
+  pub came_to : ending ≡ asked_ending options.expects_halt machine
+  pub wrote : Appends before after (shown_text machine memory ++ asked_lines options.expects_halt machine)
 
--- both, one behind the other, on a device whose bytes are known
-pub record IsPrinted (content : List ℕ → Option (List ℕ)) (options : RunOptions) (before after : Option (List ℕ)) : Type 0 where
+-- both of one machine, the one behind the other
+pub record IsPrinted (content : List ℕ → Option (List ℕ)) (options : RunOptions) (ending : Ending)
+    (before after : Option (List ℕ)) : Type 0 where
   pub setup : Setup
-  pub asked : IsAsked (content options.machine.file.now) options.machine setup
-  pub history : List (ℕ × Outcome)
-  pub steps : AreAsked content options.schedule (cores_of history)
   pub machine : Machine
-  pub ran : IsRunOf setup.program setup.limits history machine
-  pub lines : List ℕ
-  pub traced : options.explains ≡ false → lines ≡ trace_text options.traces history
-  pub memory : ShownMemory
-  pub shown : IsShownOf machine.memory setup.parts options.machine.shows.items memory
-  pub ending : List ℕ
-  pub unasked : options.expects_halt ≡ false → ending ≡ []
-  pub wrote : Appends before after (lines ++ (shown_text machine memory ++ ending))
+  pub between : Option (List ℕ)
+  pub ran : IsRunAsAsked content options setup machine before between
+  pub told : IsTold options setup machine ending between after

@@ -27,7 +27,7 @@ pub fn run_explained<P: Paths, O: Out + Drop, G: Progress>(
 ) -> Result<(Setup, Machine, Gathered<O>), Refusal>
     requires { options.now.explains ≡ true }
     ensures { IfOk result (λ r. IsRunAsAsked (P.content paths.old) options.now r.0 r.1
-        (⟦<Gathered<O> as Out>⟧.device page) (⟦<Gathered<O> as Out>⟧.device r.2)) }
+        (⟦<Gathered<O> as Out>⟧.device page).contents (⟦<Gathered<O> as Out>⟧.device r.2).contents) }
 {
     let path = record_path(options.record, options.machine.file, paths)?;
     let (setup, course, places) = scheduled_places(

@@ -1,12 +1,15 @@
 //! Cores that have not stopped at the end.
 
-ghost use Rattle.std.specs.Prelude.{ℕ, IfOk, List};
-ghost use Rattle.ia_text.specs.Writing.{Wrote};
+ghost use Rattle.std.specs.Prelude.{◌≡◌, ◌++◌, ◌<◌, IfOk, length};
+ghost use Rattle.arrayvec.specs.ArrayVec.{array_vec_len};
+ghost use Rattle.ia_text.specs.Writing.{Wrote, Writes};
+ghost use Rattle.elide_setup.specs.TmCore.Theorem.{view_at};
+ghost use Rattle.elide_run.specs.Halting.{halt_ending, halt_lines, is_stopped, running_line};
 
-use arrayvec::ArrayString;
 use elide_why::{CoreState, Machine, Refusal};
+use ia_text::page::{push, push_eight};
+use ia_text::text_line::{TextLine, push_number};
 use ia_text::{Out, WriteFault};
-use std::fmt::Write;
 
 /// What a run came to.
 #[derive(Clone, Copy, PartialEq, Eq, Debug)]
@@ -17,32 +20,50 @@ pub enum Ending {
     RunsOn,
 }
 
-// A line that tells of a core. It has some 40 bytes.
-type Line = ArrayString<64>;
-
 /// Prints a line for each core that has not stopped, with the address at which it is.
 pub fn ending_of<O: Out>(machine: &Machine, out: &mut O) -> Result<Ending, Refusal>
-    ensures { IfOk result (λ _. (text : List ℕ) × Wrote (O.device out.old) (O.device out.new) text) }
+    ensures { IfOk result (λ ending. (ending ≡ halt_ending machine.now)
+        × Wrote (O.device out.old) (O.device out.new) (halt_lines machine.now)) }
 {
     let mut ending = Ending::AsAsked;
     for core in 0..machine.cores() {
-        if let Ok(CoreState::Stopped(_)) = machine.state(core) {
-            continue;
-        }
-        if let Ok(regs) = machine.regs(core) {
+        if !has_stopped(machine, core) {
+            write_running(machine, core, out)?;
             ending = Ending::RunsOn;
-            put_line(core, regs.eip, out)?;
         }
     }
     Ok(ending)
 }
 
-fn put_line<O: Out>(core: u8, eip: u32, out: &mut O) -> Result<(), WriteFault>
-    ensures { IfOk result (λ _. (text : List ℕ) × Wrote (O.device out.old) (O.device out.new) text) }
+// Whether a core that the machine has stopped.
+fn has_stopped(machine: &Machine, core: u8) -> bool
+    requires { core < length machine.now.views }
+    ensures { result ≡ is_stopped machine.now core }
 {
-    let mut line = Line::new();
-    // There is room for the line.
-    let _ = writeln!(line, "core {core} has not stopped: eip={eip:08x}");
-    out.put(line.as_str().as_bytes())?;
+    matches!(machine.state(core), Ok(CoreState::Stopped(_)))
+}
+
+// Writes the line of a core that the machine has, and that has not stopped.
+fn write_running<O: Out>(machine: &Machine, core: u8, out: &mut O) -> Result<(), WriteFault>
+    requires { core < length machine.now.views }
+    ensures { Writes (O.device out.old) (O.device out.new)
+        (running_line core (view_at machine.now core).regs.eip) result }
+{
+    let mut row = TextLine::new();
+    let regs = machine.regs(core).unwrap();
+    push_running(&mut row, core, regs.eip);
+    out.put(row.as_slice())?;
     Ok(())
+}
+
+#[tactic(auto, unfolding(crate::specs::Halting::running_line))]
+fn push_running(row: &mut TextLine, core: u8, eip: u32)
+    requires { array_vec_len row.old ≡ 0 }
+    ensures { row.new.items ≡ row.old.items ++ running_line core eip }
+{
+    push(row, b"core ");
+    push_number(row, core);
+    push(row, b" has not stopped: eip=");
+    push_eight(row, eip);
+    push(row, b"\n");
 }

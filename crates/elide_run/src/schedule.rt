@@ -20,8 +20,8 @@ use ia_text::Out;
 use std::alloc::Global;
 
 /// Runs a schedule of core steps, and prints the outcomes where they are asked for, the reasons of the aborts where these
-/// are, the state, and what is asked for of memory; and where it is expected that all cores stop, those that did not. Gives the
-/// device back.
+/// are, the state, and what is asked for of memory; and where it is expected that all cores stop, those that did not. Answers whether
+/// there is one then, and gives the device back.
 pub fn run<P: Paths, O: Out + Drop, G: Progress>(
     alloc: Global,
     options: &RunOptions<'_>,
@@ -29,7 +29,7 @@ pub fn run<P: Paths, O: Out + Drop, G: Progress>(
     out: O,
     progress: &mut G,
 ) -> Result<(Ending, O), Refusal>
-    ensures { IfOk result (λ r. IsPrinted (P.content paths.old) options.now
+    ensures { IfOk result (λ r. IsPrinted (P.content paths.old) options.now r.0
         (O.device out).contents (O.device r.1).contents) }
 {
     let page = Gathered::new(out);
@@ -54,7 +54,7 @@ fn run_plainly<P: Paths, O: Out + Drop, G: Progress>(
 ) -> Result<(Setup, Machine, Gathered<O>), Refusal>
     requires { options.now.explains ≡ false }
     ensures { IfOk result (λ r. IsRunAsAsked (P.content paths.old) options.now r.0 r.1
-        (⟦<Gathered<O> as Out>⟧.device page) (⟦<Gathered<O> as Out>⟧.device r.2)) }
+        (⟦<Gathered<O> as Out>⟧.device page).contents (⟦<Gathered<O> as Out>⟧.device r.2).contents) }
 {
     let path = record_path(options.record, options.machine.file, paths)?;
     let (setup, course) = scheduled(alloc, &options.machine, &options.schedule, paths)?;
@@ -111,14 +111,14 @@ impl<O: Out> StepMaker for Tracing<O> {
     }
 }
 
-// Prints the state and what is asked for of memory, and the cores that have not stopped where they are asked for.
+// Prints the state and what is asked for of memory, and the cores that have not stopped where all are expected to.
 fn tell<O: Out + Drop>(
     machine: &Machine,
     setup: &Setup,
     options: &RunOptions<'_>,
     page: Gathered<O>,
 ) -> Result<(Ending, O), Refusal>
-    ensures { IfOk result (λ r. IsTold options.now setup.now machine.now
+    ensures { IfOk result (λ r. IsTold options.now setup.now machine.now r.0
         (⟦<Gathered<O> as Out>⟧.device page).contents (O.device r.1).contents) }
 {
     let mut page = page;

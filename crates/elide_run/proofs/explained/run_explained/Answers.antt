@@ -14,5 +14,5 @@ returns g c =
       ran = made.2;
       lines = made.3;
       traced = λ e. cc;
-      wrote = made.4;
+      wrote = made.4.bytes;
     }

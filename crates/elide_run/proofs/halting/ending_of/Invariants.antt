@@ -1,7 +1,6 @@
-use Rattle.std.proofs.Common.{ℕ, List}
-use Rattle.ia_text.specs.Writing.{Wrote}
+use Rattle.elide_run.proofs.Running.{HaveTold}
 use Rattle.elide_run.proofs.halting.ending_of.Given as goal
 
--- some text was written
+-- the cores so far were told
 abbrev pub invariant-loop-core : goal.invariant-loop-core
-invariant-loop-core g l = (text : List ℕ) × Wrote (g.O.Out.device l.initial.out) (g.O.Out.device l.out) text
+invariant-loop-core g l = HaveTold l.machine l.core l.ending (g.O.Out.device l.initial.out) (g.O.Out.device l.out)

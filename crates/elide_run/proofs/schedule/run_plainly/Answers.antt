@@ -15,5 +15,5 @@ returns g c =
       ran = made.2;
       lines = trace_text c.args.options.now.traces made.0;
       traced = λ _. refl;
-      wrote = made.3;
+      wrote = made.3.bytes;
     }
