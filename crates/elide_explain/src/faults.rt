@@ -70,7 +70,8 @@ const SOURCE: &str = "\
     To do: leave `short` away; in place of LOOP write `dec ecx` and `jnz`, in place of JECXZ `test ecx, ecx` and `jz`.
     Example: jmp short far, where far stands 200 bytes on
 17 NoMemory
-    The assembler found no memory.
+    The assembler found no memory, or the source would take more than 12 times its
+    bytes and 64 MiB: a line of very many symbols, or names of very many parts.
     To do: give the process more, or make the source smaller.
     Example: ulimit -v 20000; elide asm large.asm
 ";
