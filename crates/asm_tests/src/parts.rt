@@ -39,11 +39,11 @@ fn one_thing_alone(rt: HostRuntime) {
     }
 }
 
-/// A label, 200000 lines of `nop`, a jump back to the label, and three bytes of data.
+/// A label, 360000 lines of `nop`, a jump back to the label, and three bytes of data.
 fn long_source(alloc: Global) -> Result<Vec<u8>, AllocError> {
     let mut source = Vec::new(alloc);
     source.extend_from_slice(b"first:\n")?;
-    for _ in 0..200_000 {
+    for _ in 0..360_000 {
         source.extend_from_slice(b"nop\n")?;
     }
     source.extend_from_slice(b"jmp first\nsection .data\nlast: db 1, 2, 3\n")?;
@@ -57,17 +57,17 @@ fn a_source_of_many_entries(rt: HostRuntime) {
     // The data stands at the next multiple of 64, as an address.
     assert_eq!(rt;
         (unit.base, unit.code_len, unit.image.as_slice().len()),
-        (0x100, 200_005, 200_067)
+        (0x100, 360_005, 360_067)
     );
     assert!(rt; unit.image.as_slice().starts_with(&[0x90, 0x90]));
     assert!(rt; unit.image.as_slice().ends_with(&[0, 1, 2, 3]));
-    // The jump goes 200005 bytes back.
+    // The jump goes 360005 bytes back.
     assert!(rt;
-        unit.image.as_slice().get(199_999..200_005) == Some(&[0x90, 0xe9, 0xbb, 0xf2, 0xfc, 0xff])
+        unit.image.as_slice().get(359_999..360_005) == Some(&[0x90, 0xe9, 0xbb, 0x81, 0xfa, 0xff])
     );
     assert_eq!(rt;
         (unit.address(b"first"), unit.address(b"last")),
-        (Some(0x100), Some(200_320))
+        (Some(0x100), Some(360_320))
     );
     let code = assemble_code(rt.alloc(), source.as_slice()).expect(&rt, "is assembled");
     assert!(rt; code.image.as_slice() == unit.image.as_slice());

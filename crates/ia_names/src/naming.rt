@@ -35,6 +35,7 @@ impl<'a> Names<'a> {
 
     /// Refuses new parts of names, as if no memory was left, where there are this many.
     pub fn limit(&mut self, most: usize)
+        ensures most { self.new.most ≡ most }
         ensures scope { self.new.scope ≡ self.old.scope }
         ensures grows { Grows self.old self.new }
     {

@@ -18,8 +18,8 @@ const FOR_A_BYTE: usize = 10;
 /// What reading may take for any source, in bytes.
 const FOR_ANY: usize = 60 << 20;
 
-/// A token in the list of its line, in bytes.
-const TOKEN: usize = 24;
+/// A token, in bytes: 24 in the list of its line, and 4 for a number's own bytes, which stand twice until they are an entry.
+const TOKEN: usize = 28;
 
 /// A part of a name, in bytes: 44 among the parts, 29 among the symbols that are defined, and up to 70 in the largest table
 /// that the assembler makes of symbols at a time.
@@ -31,8 +31,8 @@ const EQU: usize = 52;
 /// Lines up to this length count as if each byte were a token.
 const SHORT: usize = 4096;
 
-/// How many entries make a part.
-const PART: usize = 200_000;
+/// What the entries of a part take, in bytes, before those of its last line.
+const PART: usize = 40 << 20;
 
 /// What reading a source may take.
 #[derive(Clone, Copy)]
@@ -112,13 +112,13 @@ impl Budget {
 }
 
 impl Extent {
-    /// Whether so many entries are as many as are read at a time.
-    pub fn is_full(self, entries: usize) -> bool
+    /// Whether entries that take so many bytes are all that is read at a time.
+    pub fn is_full(self, taken: usize) -> bool
         ensures { self ≡ Whole → result ≡ false }
     {
         match self {
             Extent::Whole => false,
-            Extent::Part(_) => entries >= PART,
+            Extent::Part(_) => taken >= PART,
         }
     }
 

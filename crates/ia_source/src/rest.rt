@@ -125,7 +125,7 @@ impl<'a> Rest<'a> {
                 Ok(()) => {}
                 Err(fault) => return Err(fault),
             }
-            if extent.is_full(entries.list.len()) {
+            if extent.is_full(entries.taken) {
                 return Ok(entries.list);
             }
         }
