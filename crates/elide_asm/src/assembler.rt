@@ -1,10 +1,14 @@
 //! `elide asm`.
 
+ghost use Rattle.std.specs.Prelude.{MatchResult};
+ghost use Rattle.ia_asm.specs.Assembles.{GivesListing};
+ghost use Rattle.elide_asm.specs.Printed.{IsImageText, Prints, PrintsAssembly, RefusesAssembly, RefusesSource};
+
 use elide_args::AsmOptions;
 use elide_program::{Paths, ProgramFault, ProgramRefusal, read_source};
 use ia_asm::{assemble_code, assemble_listing};
 use ia_image::write_image;
-use ia_text::{Failed, Out, WriteFault};
+use ia_text::{Out, WriteFault};
 use std::alloc::Global;
 
 /// Prints the image text of a source, or its listing.
@@ -13,7 +17,13 @@ pub fn asm<P: Paths, O: Out>(
     options: &AsmOptions<'_>,
     paths: &mut P,
     out: &mut O,
-) -> Result<(), ProgramRefusal> {
+) -> Result<(), ProgramRefusal>
+    ensures { MatchResult result
+        (λ _. PrintsAssembly (P.content paths.old options.now.file.now) options.now.lists
+        (O.device out.old) (O.device out.new))
+        (RefusesAssembly (P.content paths.old options.now.file.now) options.now.lists
+        (O.device out.old) (O.device out.new)) }
+{
     let text = read_source(options.file, paths)?;
     if options.lists {
         list(alloc, text.as_slice(), out)
@@ -23,27 +33,31 @@ pub fn asm<P: Paths, O: Out>(
 }
 
 // Prints the listing of a source.
-fn list<O: Out>(alloc: Global, text: &[u8], out: &mut O) -> Result<(), ProgramRefusal> {
+fn list<O: Out>(alloc: Global, text: &[u8], out: &mut O) -> Result<(), ProgramRefusal>
+    ensures { MatchResult result
+        (λ _. Prints (GivesListing text.now) (O.device out.old) (O.device out.new))
+        (RefusesSource text.now (GivesListing text.now) (O.device out.old) (O.device out.new)) }
+{
     match assemble_listing(alloc, text) {
-        Ok(listing) => out.put(listing.as_slice()).map_err(failed).map_err(refused),
+        Ok(listing) => match out.put(listing.as_slice()) {
+            Ok(()) => Ok(()),
+            Err(_) => Err(ProgramRefusal::Fault(ProgramFault::Write(WriteFault::Write))),
+        },
         Err(fault) => Err(ProgramRefusal::Fault(ProgramFault::Assemble(fault))),
     }
 }
 
 // Prints the image text of a source, for which no symbols and no listing are kept.
-fn write<O: Out>(alloc: Global, text: &[u8], out: &mut O) -> Result<(), ProgramRefusal> {
+fn write<O: Out>(alloc: Global, text: &[u8], out: &mut O) -> Result<(), ProgramRefusal>
+    ensures { MatchResult result
+        (λ _. Prints (IsImageText text.now) (O.device out.old) (O.device out.new))
+        (RefusesSource text.now (IsImageText text.now) (O.device out.old) (O.device out.new)) }
+{
     match assemble_code(alloc, text) {
-        Ok(code) => write_image(code.image.as_slice(), code.base, code.code_len, out).map_err(
-            refused,
-        ),
+        Ok(code) => match write_image(code.image.as_slice(), code.base, code.code_len, out) {
+            Ok(()) => Ok(()),
+            Err(fault) => Err(ProgramRefusal::Fault(ProgramFault::Write(fault))),
+        },
         Err(fault) => Err(ProgramRefusal::Fault(ProgramFault::Assemble(fault))),
     }
-}
-
-fn failed(_failed: Failed) -> WriteFault {
-    WriteFault::Write
-}
-
-fn refused(fault: WriteFault) -> ProgramRefusal {
-    ProgramRefusal::Fault(ProgramFault::Write(fault))
 }
