@@ -16,7 +16,7 @@ abbrev pub Refused : List ℕ → AsmFault → Type 0
 Refused text f = ((line : ℕ) × (y : Why) × (entries_of text ≡ Err (line, y)) × (f ≡ line_fault line y))
     ⊎ ((es : List Entry) × AsksFor text es × (option_map (λ t. at_line t.0 t.1) (fault_of es) ≡ Some f))
 
--- memory was refused, or this is why the source is
+-- memory was refused, or the source would take more than it may, or this is why it is refused
 abbrev pub RefusedAs : List ℕ → AsmFault → Type 0
 RefusedAs text asm.NoMemory = Unit {0}
 RefusedAs text f = Refused text f

@@ -33,7 +33,7 @@ pub enum AsmFault {
     /// The distance of a short jump, LOOP or JECXZ is not from -128 to 127.
     #[error("ShortJumpTooFar")]
     ShortJumpTooFar(u32),
-    /// Memory was refused.
+    /// Memory was refused, or reading the source would take more than it may (docs/FORMATS.md, "Source").
     #[error("NoMemory")]
     NoMemory,
 }

@@ -96,7 +96,8 @@ fn take_everything<'t, 'a: 't>(
 
 /// Assembles a source, as docs/FORMATS.md says under "Source". If any line has 10 `BadToken`, 15 `NotInSubset`, 13
 /// `SymbolTwice` or 11 `BadOperand`, the first such line is told with the first of these; else the first line with 12
-/// `UnknownSymbol`, 14 `Range` or 16 `ShortJumpTooFar`. 17 `NoMemory` comes without a line.
+/// `UnknownSymbol`, 14 `Range` or 16 `ShortJumpTooFar`. 17 `NoMemory`, where memory was
+/// refused or the source would take more than it may, comes without a line.
 pub fn assemble<'a>(alloc: Global, source: &'a [u8]) -> Result<Unit<'a>, AsmFault>
     ensures { Assembles source.now result }
 {

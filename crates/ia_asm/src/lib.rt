@@ -4,9 +4,9 @@
 //!
 //! Promised by `assemble`: the lines of the source ask for entries, and image, base, code length, symbols and listing
 //! are theirs; or the source is refused for the first line that is at fault, and the first thing that is wrong with it;
-//! or memory was refused. `assemble_image` promises the same without the listing, which it does not make, and
-//! `assemble_code` and `assemble_listing` the image and the listing alone. By `source_gives_one_image`, that a source has one
-//! image.
+//! or memory was refused, or the source would take more than it may. `assemble_image` promises the same without the listing,
+//! which it does not make, and `assemble_code` and `assemble_listing` the image and the listing alone. By
+//! `source_gives_one_image`, that a source has one image.
 //!
 //! The entries of the source are gone over, some of them at a time, for the base, for the end of the code, for the symbols,
 //! for faults, and then for all that is given.

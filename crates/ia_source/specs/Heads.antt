@@ -20,7 +20,7 @@ pub record Head : Type 0 where
   pub statement : Statement
   pub rest : List Lexeme
 
--- a first word that names no instruction, directive, prefix or register is a label
+-- a first word that names no instruction, directive, prefix, register or size is a label
 abbrev pub is_label : List ℕ → Bool
 is_label w = not (is_some (keyword_of w)) && not (is_some (register_of w))
 
@@ -36,6 +36,7 @@ statement_behind_lock None ts = None
 statement_behind_lock (Some keyword.Lock) ts = None
 statement_behind_lock (Some (keyword.Mnemonic m)) ts = Some (Code true m, ts)
 statement_behind_lock (Some (keyword.Directive d)) ts = Some (Unfit, ts)
+statement_behind_lock (Some keyword.Reserved) ts = None
 
 abbrev pub behind_lock : List Lexeme → Option (Statement × List Lexeme)
 behind_lock [] = Some (Unfit, [])
@@ -47,6 +48,7 @@ by_keyword None ts = None
 by_keyword (Some keyword.Lock) ts = behind_lock ts
 by_keyword (Some (keyword.Mnemonic m)) ts = Some (Code false m, ts)
 by_keyword (Some (keyword.Directive d)) ts = Some (Directive d, ts)
+by_keyword (Some keyword.Reserved) ts = None
 
 -- what a line without a label asks for
 abbrev pub statement_at : List Lexeme → Option (Statement × List Lexeme)

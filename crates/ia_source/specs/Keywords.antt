@@ -1,5 +1,5 @@
 -- The words that may stand where an instruction's name does: the names of instructions, LOCK, and directives (NASM
--- manual, chapter 7, "Assembler Directives"), in any case.
+-- manual, chapter 7, "Assembler Directives"), in any case; and those that NASM keeps for itself, which no label has.
 use Rattle.std.specs.Prelude.{ℕ, Option, Some, None, option_map, List, [], ◌∷◌, codes, take, drop, length, nat_lt}
 use Rattle.std.specs.Prelude.{if◌then◌else◌}
 use Rattle.ia_word.specs.declared.condition.Condition.{Condition}
@@ -11,7 +11,7 @@ use Rattle.ia_insn.specs.Operations.{condition_name}
 use Rattle.ia_lex.specs.Words.{is_word, find_word}
 use Rattle.ia_source.specs.declared.directive.Directive.TheVariants as directive
 use Rattle.ia_source.specs.declared.directive.Keyword.{Keyword}
-use Rattle.ia_source.specs.declared.directive.Keyword.TheVariants.{Mnemonic as Name, Lock, Directive}
+use Rattle.ia_source.specs.declared.directive.Keyword.TheVariants.{Mnemonic as Name, Lock, Directive, Reserved}
 
 abbrev pub or_else : {A : Type 0} → Option A → Option A → Option A
 or_else None b = b
@@ -53,8 +53,28 @@ orders =
     ∷ (codes "resb", Directive directive.Resb) ∷ (codes "align", Directive directive.Align)
     ∷ (codes "equ", Directive directive.Equ) ∷ []
 
+-- prefixes that no instruction has here, and TIMES (NASM manual, "Layout of a NASM Source Line")
+abbrev pub prefixes : List (List ℕ × Keyword)
+prefixes =
+    (codes "rep", Reserved) ∷ (codes "repe", Reserved) ∷ (codes "repz", Reserved) ∷ (codes "repne", Reserved)
+    ∷ (codes "repnz", Reserved) ∷ (codes "xacquire", Reserved) ∷ (codes "xrelease", Reserved) ∷ (codes "bnd", Reserved)
+    ∷ (codes "nobnd", Reserved) ∷ (codes "a16", Reserved) ∷ (codes "a32", Reserved) ∷ (codes "o16", Reserved)
+    ∷ (codes "o32", Reserved) ∷ (codes "wait", Reserved) ∷ (codes "times", Reserved) ∷ []
+
+-- segment registers, which are prefixes, too, registers of 16 bits, and sizes
+abbrev pub registers_and_sizes : List (List ℕ × Keyword)
+registers_and_sizes =
+    (codes "es", Reserved) ∷ (codes "cs", Reserved) ∷ (codes "ss", Reserved) ∷ (codes "ds", Reserved)
+    ∷ (codes "fs", Reserved) ∷ (codes "gs", Reserved) ∷ (codes "ax", Reserved) ∷ (codes "cx", Reserved)
+    ∷ (codes "dx", Reserved) ∷ (codes "bx", Reserved) ∷ (codes "sp", Reserved) ∷ (codes "bp", Reserved)
+    ∷ (codes "si", Reserved) ∷ (codes "di", Reserved) ∷ (codes "byte", Reserved) ∷ (codes "word", Reserved)
+    ∷ (codes "dword", Reserved) ∷ (codes "qword", Reserved) ∷ []
+
+unfoldable pub reserved_of : List ℕ → Option Keyword
+reserved_of w = or_else (find_word prefixes w) (find_word registers_and_sizes w)
+
 unfoldable pub order_of : List ℕ → Option Keyword
-order_of w = find_word orders w
+order_of w = or_else (find_word orders w) (reserved_of w)
 
 -- what a word is where an instruction's name may stand
 unfoldable pub keyword_of : List ℕ → Option Keyword

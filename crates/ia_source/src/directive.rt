@@ -34,4 +34,6 @@ pub enum Keyword {
     Lock,
     /// What is asked of the assembler.
     Directive(Directive),
+    /// A word of NASM's that has no use here, and that no label may have for a name.
+    Reserved,
 }

@@ -70,6 +70,7 @@ fn behind_lock<'a, 'b>(tokens: &'b [Token<'a>]) -> Option<(Statement, &'b [Token
             Some(Keyword::Lock) => None,
             Some(Keyword::Mnemonic(mnemonic)) => Some((Statement::Code(true, mnemonic), rest)),
             Some(Keyword::Directive(_)) => Some((Statement::Unfit, rest)),
+            Some(Keyword::Reserved) => None,
         },
         Some(_) => None,
     }
@@ -87,6 +88,7 @@ fn by_keyword<'a, 'b>(
         Some(Keyword::Lock) => behind_lock(rest),
         Some(Keyword::Mnemonic(mnemonic)) => Some((Statement::Code(false, mnemonic), rest)),
         Some(Keyword::Directive(directive)) => Some((Statement::Directive(directive), rest)),
+        Some(Keyword::Reserved) => None,
     }
 }
 
@@ -118,7 +120,7 @@ fn with_label<'a, 'b>(
     }
 }
 
-/// Whether a word that stands first on a line is a label: it names no instruction, directive, prefix or register.
+/// Whether a word that stands first on a line is a label: it names no instruction, directive, prefix, register or size.
 pub fn is_label(word: &[u8]) -> bool
     ensures { result ≡ is_label word.now }
 {

@@ -4,7 +4,7 @@ ghost use Rattle.std.specs.Prelude.{◌≡◌};
 ghost use Rattle.ia_insn.specs.Mnemonics.{stem};
 ghost use Rattle.ia_insn.specs.Operations.{condition_name};
 ghost use Rattle.ia_source.specs.Keywords.{find_named, condition_of, condition_behind, conditional, unconditional};
-ghost use Rattle.ia_source.specs.Keywords.{mnemonic_named, order_of, keyword_of};
+ghost use Rattle.ia_source.specs.Keywords.{mnemonic_named, order_of, reserved_of, keyword_of};
 
 use crate::directive::{Directive, Keyword};
 use ia_insn::{Mnemonic, condition_name, conditions, other_conditions};
@@ -22,6 +22,47 @@ static ORDERS: [(&str, Keyword); 10] = [
     ("resb", Keyword::Directive(Directive::Resb)),
     ("align", Keyword::Directive(Directive::Align)),
     ("equ", Keyword::Directive(Directive::Equ)),
+];
+
+// Prefixes that no instruction has here, and TIMES.
+static PREFIXES: [(&str, Keyword); 15] = [
+    ("rep", Keyword::Reserved),
+    ("repe", Keyword::Reserved),
+    ("repz", Keyword::Reserved),
+    ("repne", Keyword::Reserved),
+    ("repnz", Keyword::Reserved),
+    ("xacquire", Keyword::Reserved),
+    ("xrelease", Keyword::Reserved),
+    ("bnd", Keyword::Reserved),
+    ("nobnd", Keyword::Reserved),
+    ("a16", Keyword::Reserved),
+    ("a32", Keyword::Reserved),
+    ("o16", Keyword::Reserved),
+    ("o32", Keyword::Reserved),
+    ("wait", Keyword::Reserved),
+    ("times", Keyword::Reserved),
+];
+
+// Segment registers, registers of 16 bits, and sizes.
+static REGISTERS_AND_SIZES: [(&str, Keyword); 18] = [
+    ("es", Keyword::Reserved),
+    ("cs", Keyword::Reserved),
+    ("ss", Keyword::Reserved),
+    ("ds", Keyword::Reserved),
+    ("fs", Keyword::Reserved),
+    ("gs", Keyword::Reserved),
+    ("ax", Keyword::Reserved),
+    ("cx", Keyword::Reserved),
+    ("dx", Keyword::Reserved),
+    ("bx", Keyword::Reserved),
+    ("sp", Keyword::Reserved),
+    ("bp", Keyword::Reserved),
+    ("si", Keyword::Reserved),
+    ("di", Keyword::Reserved),
+    ("byte", Keyword::Reserved),
+    ("word", Keyword::Reserved),
+    ("dword", Keyword::Reserved),
+    ("qword", Keyword::Reserved),
 ];
 
 /// The condition among these whose printed name a word is.
@@ -118,11 +159,25 @@ fn mnemonic(word: &[u8]) -> Option<Mnemonic>
     find_word(Mnemonic::other_names(), word)
 }
 
+/// What a word is that NASM keeps for itself.
+#[tactic(auto, unfolding(crate::specs::Keywords::reserved_of))]
+fn reserved(word: &[u8]) -> Option<Keyword>
+    ensures { result ≡ reserved_of word.now }
+{
+    match find_word(&PREFIXES, word) {
+        Some(found) => Some(found),
+        None => find_word(&REGISTERS_AND_SIZES, word),
+    }
+}
+
 #[tactic(auto, unfolding(crate::specs::Keywords::order_of))]
 fn order(word: &[u8]) -> Option<Keyword>
     ensures { result ≡ order_of word.now }
 {
-    find_word(&ORDERS, word)
+    match find_word(&ORDERS, word) {
+        Some(found) => Some(found),
+        None => reserved(word),
+    }
 }
 
 /// What a word is where an instruction's name may stand.
