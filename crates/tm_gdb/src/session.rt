@@ -36,7 +36,7 @@ pub struct Session {
     // Whether packets are acknowledged.
     acknowledges: bool,
     // The last answer, which gdb may ask to hear once more.
-    last: Bytes,
+    last: Option<Bytes>,
 }
 
 // Writes bytes.
@@ -107,7 +107,7 @@ impl Session {
             target: Target::new(board, plan),
             reader: Reader::new(),
             acknowledges: true,
-            last: Bytes::new(),
+            last: None,
         }
     }
 
@@ -135,7 +135,7 @@ impl Session {
             Err(_) => return Err(Interruption::NoMemory),
         }
         let written = put_reply(command, &row, out);
-        self.last = row;
+        self.last = Some(row);
         written
     }
 
@@ -202,13 +202,16 @@ impl Session {
         }
     }
 
-    // Writes the last answer once more.
+    // Writes the last answer once more, if there was one.
     fn resend<O: Out>(&self, out: &mut O) -> Result<bool, Interruption>
         ensures kept { OnOk result ((O.device out.new).failures ≡ (O.device out.old).failures) }
         ensures err { IfErr result (λ fault. fault ≡ Interruption.Write) }
         ensures rose { OnErr result (Rose (O.device out.old).failures (O.device out.new).failures) }
     {
-        match put_packet(&self.last, out) {
+        let Some(last) = &self.last else {
+            return Ok(true);
+        };
+        match put_packet(last, out) {
             Ok(()) => Ok(true),
             Err(fault) => Err(fault),
         }
