@@ -39,7 +39,7 @@ pub const SOURCE: OptionText = OptionText {
 pub const FILE: OptionText = OptionText {
     name: "FILE",
     form: Form::Word,
-    help: "A program: image text, whose first line is `image 1 BASE CODE`, or else an assembler source",
+    help: "A program: image text, whose first line is `image 1 BASE CODE`, an ELF executable, or else an assembler source",
 };
 
 pub const FAULT: OptionText = OptionText {
@@ -75,7 +75,7 @@ pub const MEM: OptionText = OptionText {
 pub const ENTRY: OptionText = OptionText {
     name: "entry",
     form: Form::Value("AT[,AT..]"),
-    help: "Where the cores begin: an address or a source's symbol, one for all or one a core [default: the base]",
+    help: "Where the cores begin: an address or a symbol, one for all or one a core [default: the base, of an executable its entry]",
 };
 
 pub const READS: OptionText = OptionText {
@@ -94,6 +94,12 @@ pub const DUMP: OptionText = OptionText {
     name: "dump",
     form: Form::Several("AT:BYTES"),
     help: "Prints this part of memory after the cores; AT is a sum of symbols and numbers, as `table+8`",
+};
+
+pub const DUMP_READ: OptionText = OptionText {
+    name: "dump",
+    form: Form::Several("AT:BYTES"),
+    help: "A part of memory that is wanted to be there; the command `mem` prints memory",
 };
 
 pub const SHOW_VALUE: OptionText = OptionText {

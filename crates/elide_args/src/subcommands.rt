@@ -1,10 +1,10 @@
 //! The subcommands, as data.
 
 use crate::options::{
-    BUDGET, BURST, CHECK, COLOR, CORE, CORES, COUNTS, COUNTS_JSON, DUMP, ENTRY, EXPECT_HALT, FAULT,
-    FILE, FROM, IN_TURN, JOBS, JSON, LABELS, LIMIT, LIST, MEM, METHOD, OptionText, RANDOM, READS,
-    RECORD, RECORD_FIRST, RUNS, SCHEDULE, SEED, SHOW, SHOW_VALUE, SOURCE, STATES, STEPS, STOP, TO,
-    TRACE, WHY, WRITES,
+    BUDGET, BURST, CHECK, COLOR, CORE, CORES, COUNTS, COUNTS_JSON, DUMP, DUMP_READ, ENTRY,
+    EXPECT_HALT, FAULT, FILE, FROM, IN_TURN, JOBS, JSON, LABELS, LIMIT, LIST, MEM, METHOD,
+    OptionText, RANDOM, READS, RECORD, RECORD_FIRST, RUNS, SCHEDULE, SEED, SHOW, SHOW_VALUE,
+    SOURCE, STATES, STEPS, STOP, TO, TRACE, WHY, WRITES,
 };
 
 /// A subcommand.
@@ -103,7 +103,7 @@ const DEBUG: SubcommandText = SubcommandText {
     about: "Answers commands that are read from standard input, of which `help` prints a list; goes along a schedule, and back",
     example: "Example: elide debug examples/conflict.img --cores 2 --random 7",
     options: &[
-        FILE, CORES, MEM, ENTRY, READS, WRITES, DUMP, STEPS, SCHEDULE, IN_TURN, RANDOM, LIMIT,
+        FILE, CORES, MEM, ENTRY, READS, WRITES, DUMP_READ, STEPS, SCHEDULE, IN_TURN, RANDOM, LIMIT,
         COLOR,
     ],
 };
