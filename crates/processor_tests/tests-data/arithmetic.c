@@ -1,16 +1,16 @@
 /*
  * Runs instructions on operands at the edges on the processor that it is started on, and prints the results as the Rust
- * constants of src/tests/sums_table.rt, shifts_table.rt and products_table.rt:
+ * constants of src/arithmetic/sums_table.rt, shifts_table.rt and products_table.rt:
  *
  *     gcc -O1 -mno-red-zone -o arithmetic arithmetic.c
- *     ./processor sums > ../src/tests/sums_table.rt
- *     ./processor shifts > ../src/tests/shifts_table.rt
- *     ./processor products > ../src/tests/products_table.rt
+ *     ./arithmetic sums > ../src/arithmetic/sums_table.rt
+ *     ./arithmetic shifts > ../src/arithmetic/shifts_table.rt
+ *     ./arithmetic products > ../src/arithmetic/products_table.rt
  *
  * Each instruction runs twice on each operand: with the six flags clear, and with all of them set. A flag that the manual
  * (SDM volume 2) leaves undefined after an instruction is printed as it was before, which is what this machine does with
  * it: `defined` below has the flags that the manual defines or keeps. The processor has them otherwise: AND, OR, XOR and
- * shifts clear AF, MUL and IMUL write AF, ZF, SF and PF, and shifts and rotations by more than 1 write OF.
+ * shifts clear AF, MUL and IMUL write AF, ZF and PF, MUL writes SF, and shifts, and rotations by CL, by more than 1 write OF.
  */
 #include <setjmp.h>
 #include <signal.h>
@@ -204,14 +204,14 @@ static void bits(const char *doc, const char *name, insn run)
     printf("\";\n\n");
 }
 
-static void products(const char *doc, const char *name, insn run)
+static void products(const char *doc, const char *name, insn run, uint32_t defined)
 {
     head(doc, name);
     for (int i = 0; i < 8; i++)
         for (int j = 0; j < 8; j++)
             for (int k = 0; k < 2; k++) {
                 struct after r = run(wide_edges[i], wide_edges[j], flags_before[k]);
-                put(r.value), put(r.high), put(kept(r.flags, flags_before[k], CF | OF));
+                put(r.value), put(r.high), put(kept(r.flags, flags_before[k], defined));
             }
     printf("\";\n\n");
 }
@@ -278,9 +278,9 @@ int main(int count, char **words)
         bits("BTC.", "BTC", btc_d);
     } else {
         about("Results and flags of MUL, IMUL, DIV and IDIV");
-        products("MUL.", "MUL", mul_d);
-        products("IMUL with one operand.", "IMUL", imul_d);
-        pairs("IMUL with two operands.", "IMUL_LOW", imul_low, wide_edges, 8, CF | OF);
+        products("MUL.", "MUL", mul_d, CF | OF);
+        products("IMUL with one operand.", "IMUL", imul_d, CF | SF | OF);
+        pairs("IMUL with two operands.", "IMUL_LOW", imul_low, wide_edges, 8, CF | SF | OF);
         quotients("DIV: whether there is #DE, quotient and remainder.", "DIV", div_d);
         quotients("IDIV: whether there is #DE, quotient and remainder.", "IDIV", idiv_d);
     }
