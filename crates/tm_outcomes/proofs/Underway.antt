@@ -3,7 +3,7 @@ use Rattle.std.proofs.Common.{◌≡◌, inl, inr, ℕ, ◌+◌, ◌<◌, ◌≤
 use Rattle.std.specs.Prelude.{All}
 use Rattle.std.proofs.lemmas.Bool.{cases_lt}
 use Rattle.tm_outcomes.specs.Nodes.{IsExplored, IsFollowed, IsShown, IsTree}
-use Rattle.tm_outcomes.specs.Outcomes.{AreTold, IsTold}
+use Rattle.tm_outcomes.specs.Outcomes.{AreDistinct, AreTold, IsTold}
 use Rattle.tm_outcomes.specs.Searching.{HaveDone, IsFollowedIn, IsUnderway, core_count}
 use Rattle.tm_outcomes.specs.declared.nodes.Node.{Node}
 use Rattle.tm_outcomes.specs.declared.searching.Searching.{Searching}
@@ -12,10 +12,10 @@ use Rattle.tm_outcomes.specs.declared.trial.Trial.{Trial}
 use Rattle.tm_outcomes.proofs.Follows.{explored_grown, followed_grown, shown_grown}
 
 pub begins : (trial : Trial) (most index : ℕ) (old new : Searching) → old.nodes.items ≡ new.nodes.items → index < length old.nodes.items →
-    All (IsTold trial) new.outcomes.items → ((values : List ℕ) → AreTold old.outcomes.items values → AreTold new.outcomes.items values) →
+    All (IsTold trial) new.outcomes.items → (AreDistinct old.outcomes.items → AreDistinct new.outcomes.items) → ((values : List ℕ) → AreTold old.outcomes.items values → AreTold new.outcomes.items values) →
     ((schedules : List (List ℕ)) → IsTree (core_count trial) old.nodes.items schedules → IsShown trial schedules new.outcomes.items index) →
     HaveDone trial most old index → IsUnderway trial most new index 0
-begins trial most index old new nodes within told kept shown done =
+begins trial most index old new nodes within told once kept shown done =
     let before = done.1 in
     record {
       schedules = done.0;
@@ -26,6 +26,7 @@ begins trial most index old new nodes within told kept shown done =
           shown = λ other below now leads ended. kept _ (before.explored.shown other below now leads ended);
         };
         told = told;
+        once = once before.once;
         few = subst (λ (ns : List Node). length ns ≤ most) nodes before.few;
       };
       within = subst (λ (ns : List Node). index < length ns) nodes within;
@@ -51,6 +52,7 @@ goes_on trial most index core old new outcomes followed before =
             (subst (λ (all : List Told). IsExplored trial (schedules ++ more) all index) outcomes
             (explored_grown trial schedules more old.outcomes.items index (omega arith) before.searching.explored));
         told = subst (λ (all : List Told). All (IsTold trial) all) outcomes before.searching.told;
+        once = subst (λ (all : List Told). AreDistinct all) outcomes before.searching.once;
         few = followed.0;
       };
       within = (let now = step.has_grown.tree.counted in let long = ap (λ (g : List (List ℕ)). length g) grown in let sum = length-append schedules more in omega arith);
@@ -79,6 +81,7 @@ ends trial most index core search all before = (
       ];
     };
     told = before.searching.told;
+    once = before.searching.once;
     few = before.searching.few;
   },
 )

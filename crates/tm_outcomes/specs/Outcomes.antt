@@ -62,10 +62,16 @@ abbrev pub AreTold : List Told → List ℕ → Type 0
 AreTold [] values = ⊥
 AreTold (told ∷ all) values = (told.values.items ≡ values) ⊎ AreTold all values
 
--- No outcome is told that is not one; and where the search was not cut, whatever the schedule and its length, its
+-- no two have the same values
+abbrev pub AreDistinct : List Told → Type 0
+AreDistinct [] = ⊤
+AreDistinct (told ∷ all) = ¬ AreTold all told.values.items × AreDistinct all
+
+-- No outcome is told that is not one, and none twice; and where the search was not cut, whatever the schedule and its length, its
 -- outcome is told. It is cut at the limit on states alone.
 pub record IsSearch (trial : Trial) (most : ℕ) (search : Search) : Type 0 where
   pub told : All (IsTold trial) search.outcomes.items
+  pub once : AreDistinct search.outcomes.items
   pub whole : search.is_cut ≡ false → (schedule values : List ℕ) → IsOutcome trial schedule values →
       AreTold search.outcomes.items values
   pub limit : search.is_cut ≡ true → search.states ≡ most

@@ -1,7 +1,7 @@
 -- A search while it goes on.
 use Rattle.std.specs.Prelude.{ℕ, ◌<◌, ◌≤◌, List, All, length}
 use Rattle.tm_outcomes.specs.Nodes.{HasGrown, IsExplored, IsFollowed, IsShown, IsTree}
-use Rattle.tm_outcomes.specs.Outcomes.{IsTold}
+use Rattle.tm_outcomes.specs.Outcomes.{AreDistinct, IsTold}
 use Rattle.tm_outcomes.specs.declared.nodes.Node.{Node}
 use Rattle.tm_outcomes.specs.declared.searching.Searching.{Searching}
 use Rattle.tm_outcomes.specs.declared.trial.Trial.{Trial}
@@ -14,6 +14,7 @@ pub record IsSearching (trial : Trial) (most : ℕ) (search : Searching) (schedu
   pub tree : IsTree (core_count trial) search.nodes.items schedules
   pub explored : IsExplored trial schedules search.outcomes.items done
   pub told : All (IsTold trial) search.outcomes.items
+  pub once : AreDistinct search.outcomes.items
   pub few : length search.nodes.items ≤ most
 
 -- a node's step by this core is followed in a tree that has grown from another

@@ -2,8 +2,9 @@
 //!
 //! A [`Trial`] is a program, and what is shown of it where each core has stopped. [`outcomes`] searches the states that
 //! its schedules lead to, breadth first, and goes on from each but once. Promised: each outcome that is told is that of
-//! the schedule beside it, run from the program's opening state; and where the search is not cut at its limit on states,
-//! no schedule of any length has another. The words for it stand in `specs/Schedules.antt` and `specs/Outcomes.antt`,
+//! the schedule beside it, run from the program's opening state, and none is told twice; and where the search is not cut
+//! at its limit on states, no schedule of any length has another. How many states show an outcome, and how many there are,
+//! is compared by `doc_tests`. The words for it stand in `specs/Schedules.antt` and `specs/Outcomes.antt`,
 //! over the machine's definitions in `tm_model` alone.
 //!
 //! Two states count as one where memory and what is shown of each core are the same: the machine's steps are a function

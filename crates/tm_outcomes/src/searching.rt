@@ -2,7 +2,7 @@
 
 ghost use Rattle.std.specs.Prelude.{◌≡◌, ◌<◌, ◌≤◌, ◌+◌, ◌++◌, ◌∷◌, ◌^◌, [], ℕ, All, IfErr, IfOk, List, true, false, length};
 ghost use Rattle.tm_outcomes.specs.Nodes.{HasGrown, HaveSchedules, IsFollowed, IsShown, IsTree};
-ghost use Rattle.tm_outcomes.specs.Outcomes.{AreThere, AreTold, IsRefusal, IsSearch, IsTold};
+ghost use Rattle.tm_outcomes.specs.Outcomes.{AreDistinct, AreThere, AreTold, IsRefusal, IsSearch, IsTold};
 ghost use Rattle.tm_outcomes.specs.Searching.{HaveDone, IsFollowedIn, IsUnderway};
 
 use crate::fault::SearchFault;
@@ -125,6 +125,7 @@ impl Searching {
         ensures told { IfOk result (λ _. All (IsTold trial.now) self.new.outcomes.items) }
         ensures kept { IfOk result (λ _. (values : List ℕ) → AreTold self.old.outcomes.items values →
             AreTold self.new.outcomes.items values) }
+        ensures once { IfOk result (λ _. AreDistinct self.old.outcomes.items → AreDistinct self.new.outcomes.items) }
         ensures shown { IfOk result (λ _. (schedules : List (List ℕ)) →
             IsTree (length trial.now.program.now.entries) self.old.nodes.items schedules →
             IsShown trial.now schedules self.new.outcomes.items index) }
@@ -154,7 +155,8 @@ impl Searching {
         ensures goes_on { IfOk result (λ progress. progress ≡ Progress.GoesOn →
             HaveDone trial.now most self.new (index + 1)) }
         ensures cut { IfOk result (λ progress. progress ≡ Progress.IsCut →
-            (length self.new.nodes.items ≡ most) × All (IsTold trial.now) self.new.outcomes.items) }
+            (length self.new.nodes.items ≡ most) × All (IsTold trial.now) self.new.outcomes.items
+            × AreDistinct self.new.outcomes.items) }
         ensures err { IfErr result (IsRefusal trial.now) }
     {
         self.show(alloc, trial, index)?;

@@ -1,7 +1,7 @@
 //! The outcomes that were found.
 
-ghost use Rattle.std.specs.Prelude.{◌≡◌, ◌<◌, ℕ, All, IfOk, IfSome, List, length, slice_index_or};
-ghost use Rattle.tm_outcomes.specs.Outcomes.{AreTold, IsOutcome, IsTold};
+ghost use Rattle.std.specs.Prelude.{◌≡◌, ◌<◌, ℕ, All, IfNone, IfOk, IfSome, List, length, slice_index_or};
+ghost use Rattle.tm_outcomes.specs.Outcomes.{AreDistinct, AreTold, IsOutcome, IsTold};
 
 use crate::trial::Trial;
 use std::alloc::AllocError;
@@ -21,6 +21,7 @@ pub struct Told {
 fn index_of(table: &[Told], values: &[u32]) -> Option<usize>
     ensures within { IfSome result (λ index. index < length table.now) }
     ensures told { IfSome result (λ index. AreTold table.now values.now) }
+    ensures none { IfNone result (¬ AreTold table.now values.now) }
 {
     for index in 0..table.len() {
         if table[index].values.as_slice() == values {
@@ -42,6 +43,7 @@ pub fn take_up(
     ensures told { IfOk result (λ _. All (IsTold trial.now) table.new.items) }
     ensures here { IfOk result (λ _. AreTold table.new.items values.items) }
     ensures kept { IfOk result (λ _. (other : List ℕ) → AreTold table.old.items other → AreTold table.new.items other) }
+    ensures once { IfOk result (λ _. AreDistinct table.old.items → AreDistinct table.new.items) }
 {
     if let Some(index) = index_of(table.as_slice(), values.as_slice()) {
         let ends = table[index].ends;

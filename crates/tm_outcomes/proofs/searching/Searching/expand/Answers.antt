@@ -5,7 +5,7 @@ use Rattle.tm_outcomes.proofs.searching.Searching.expand.Goals as goal
 pub loop-core-init : goal.loop-core-init
 loop-core-init c =
     begins c.args.trial.now c.args.most c.args.index c.args.self.now c.show.new.self (sym (ap (λ v. v.items) c.in_ok-show.ensures.nodes)) c.requires.within
-    c.in_ok-show.ensures.told c.in_ok-show.ensures.kept c.in_ok-show.ensures.shown c.requires.done
+    c.in_ok-show.ensures.told c.in_ok-show.ensures.once c.in_ok-show.ensures.kept c.in_ok-show.ensures.shown c.requires.done
 
 pub loop-core-preserved : goal.loop-core-preserved
 loop-core-preserved c =

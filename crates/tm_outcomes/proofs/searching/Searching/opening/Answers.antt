@@ -2,7 +2,7 @@ use Rattle.std.proofs.Common.{◌≡◌, ◌≤◌, List, None, [], ◌∷◌, �
 use Rattle.std.specs.Prelude.{All}
 use Rattle.std.proofs.lemmas.List.Elements.{All-nil}
 use Rattle.tm_outcomes.specs.Nodes.{IsTree}
-use Rattle.tm_outcomes.specs.Outcomes.{IsTold}
+use Rattle.tm_outcomes.specs.Outcomes.{AreDistinct, IsTold}
 use Rattle.tm_outcomes.specs.Searching.{core_count}
 use Rattle.tm_outcomes.specs.declared.nodes.Node.{Node}
 use Rattle.tm_outcomes.specs.declared.table.Told.{Told}
@@ -20,6 +20,7 @@ returns-clause-ok c =
         tree = subst (λ (ns : List Node). IsTree (core_count trial) ns ([] ∷ [])) (sym nodes) (first_tree (core_count trial) node);
         explored = record { followed = λ index below. absurd (omega arith); shown = λ index below. absurd (omega arith) };
         told = subst (λ (os : List Told). All (IsTold trial) os) (sym none) (All-nil (IsTold trial));
+        once = subst (λ (os : List Told). AreDistinct os) (sym none) tt;
         few = subst (λ (ns : List Node). length ns ≤ 1) (sym nodes) (omega arith);
       },
     )
