@@ -65,13 +65,13 @@ pub fn sought(end: Result<Hunted, Refusal>) -> Result<Answer, Refusal>
     }
 }
 
-/// What a search over all schedules came to.
-pub fn searched(end: Result<Searched, Refusal>) -> Result<Answer, Refusal>
-    ensures { IsAnswered searched_answer end result }
+/// What a search over all schedules came to, which gives its device back.
+pub fn searched<O: Drop>(end: Result<(Searched, O), Refusal>) -> Result<Answer, Refusal>
+    ensures { IsAnswered (λ searched. searched_answer searched.0) end result }
 {
     match end? {
-        Searched::Whole => Ok(Answer::Done),
-        Searched::Cut => Ok(Answer::Fails),
+        (Searched::Whole, _) => Ok(Answer::Done),
+        (Searched::Cut, _) => Ok(Answer::Fails),
     }
 }
 

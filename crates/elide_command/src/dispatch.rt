@@ -264,7 +264,9 @@ fn obey<R: Threads + Wait + Sync + AllocGlobal, P: Paths, I: In, O: Out, G: Prog
         Subcommand::Stats(options) => done(stats(alloc, options, paths, out, progress)),
         Subcommand::Run(options) => ran(run(alloc, options, paths, Lent::new(out), progress)),
         Subcommand::Hunt(options) => sought(hunt(rt, options, paths, out, progress)),
-        Subcommand::Outcomes(options) => searched(outcomes(alloc, options, paths, out)),
+        Subcommand::Outcomes(options) => {
+            searched(outcomes(alloc, options, paths, Lent::new(out)))
+        }
         Subcommand::Replay(options) => {
             replayed(replay(alloc, options, paths, Lent::new(out), progress))
         }

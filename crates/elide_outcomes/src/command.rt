@@ -1,15 +1,22 @@
 //! The command.
 
-ghost use Rattle.std.specs.Prelude.{IfOk, length, ◌≤◌};
-ghost use Rattle.tm_outcomes.specs.Outcomes.{IsSearch};
+ghost use Rattle.std.specs.Prelude.{◌≡◌, ◌≤◌, IfOk, OnOk};
+ghost use Rattle.std.specs.Option.{option_copied};
+ghost use Rattle.elide_program.specs.ProgramFile.{IsFile};
+ghost use Rattle.elide_program.specs.declared.file.ProgramFile.{ProgramFile};
+ghost use Rattle.elide_setup.specs.Setup.{IsSetup};
+ghost use Rattle.elide_setup.specs.declared.machine.Setup.{Setup};
+ghost use Rattle.tm_outcomes.specs.Outcomes.{AreThere, IsSearch};
+ghost use Rattle.tm_outcomes.specs.declared.trial.Trial.{Trial};
+ghost use Rattle.elide_outcomes.specs.Printed.{IsLimit, IsPrinted, IsTold, IsTrialOf, answer_of};
 
 use crate::items::items_of;
-use crate::report::tell;
+use crate::report::{sort, tell};
 use elide_args::OutcomesOptions;
 use elide_program::{Paths, ProgramFile, Settings, number_of, read_file};
-use elide_setup::{Fault, Gathered, Lent, MachineFault, Refusal, RunFault, Setup};
+use elide_setup::{Fault, Gathered, MachineFault, Refusal, RunFault, Setup};
 use ia_text::Out;
-use std::alloc::{AllocError, Global};
+use std::alloc::Global;
 use tm_outcomes::{Search, SearchFault, Trial, outcomes as searched};
 
 /// The most states by default: at 32 bytes a state some 50 million bytes.
@@ -24,32 +31,63 @@ pub enum Answer {
     Cut,
 }
 
-/// Searches all schedules of a program, and prints each outcome in the order of its values.
-pub fn outcomes<P: Paths, O: Out>(
+impl Answer {
+    // That of a search which was cut, or was not.
+    fn of(is_cut: bool) -> Answer
+        ensures { result ≡ answer_of is_cut }
+    {
+        if is_cut { Answer::Cut } else { Answer::Whole }
+    }
+}
+
+/// Searches all schedules of a program, and prints each outcome in the order of its values. Gives the device back.
+pub fn outcomes<P: Paths, O: Out + Drop>(
+    alloc: Global,
+    options: &OutcomesOptions<'_>,
+    paths: &mut P,
+    out: O,
+) -> Result<(Answer, O), Refusal>
+    ensures { IfOk result (λ r. IsPrinted (P.content paths.old) options.now r.0
+        (O.device out).contents (O.device r.1).contents) }
+{
+    let mut page = Gathered::new(out);
+    let answer = outcomes_of_options(alloc, options, paths, &mut page)?;
+    let out = page.finish()?;
+    Ok((answer, out))
+}
+
+// The same on a device that is lent.
+fn outcomes_of_options<P: Paths, O: Out>(
     alloc: Global,
     options: &OutcomesOptions<'_>,
     paths: &mut P,
     out: &mut O,
-) -> Result<Answer, Refusal> {
+) -> Result<Answer, Refusal>
+    ensures { IfOk result (λ answer. IsPrinted (P.content paths.old) options.now answer
+        (O.device out.old).contents (O.device out.new).contents) }
+{
     let settings = Settings::read(&options.machine)?;
     let most = limit_of(options.limit)?;
     let text = read_file(options.machine.file, paths)?;
-    outcomes_of_text(alloc, options, &settings, most, text.as_slice(), out)
+    outcomes_of_text(alloc, options.show, &settings, most, text.as_slice(), out)
 }
 
 // The same of a program's text. What is made in one of these functions is lent to the next, so that each has little to drop.
 fn outcomes_of_text<O: Out>(
     alloc: Global,
-    options: &OutcomesOptions<'_>,
+    show: Option<&str>,
     settings: &Settings<'_>,
     most: u32,
     text: &[u8],
     out: &mut O,
 ) -> Result<Answer, Refusal>
     requires { 1 ≤ most }
+    ensures { IfOk result (λ answer. (file : ProgramFile) × IsFile text.now file × (trial : Trial)
+        × (setup : Setup) × IsSetup file settings.now setup × IsTrialOf file setup (option_copied show.entry) trial
+        × IsTold trial most answer (O.device out.old).contents (O.device out.new).contents) }
 {
     let file = ProgramFile::read(alloc, text)?;
-    let told = outcomes_of_file(alloc, options, settings, most, &file, out);
+    let told = outcomes_of_file(alloc, show, settings, most, &file, out);
     drop(file);
     told
 }
@@ -57,15 +95,18 @@ fn outcomes_of_text<O: Out>(
 // The same of a program's file that was read.
 fn outcomes_of_file<O: Out>(
     alloc: Global,
-    options: &OutcomesOptions<'_>,
+    show: Option<&str>,
     settings: &Settings<'_>,
     most: u32,
     file: &ProgramFile<'_>,
     out: &mut O,
 ) -> Result<Answer, Refusal>
     requires { 1 ≤ most }
+    ensures { IfOk result (λ answer. (trial : Trial) × (setup : Setup) × IsSetup file.now settings.now setup
+        × IsTrialOf file.now setup (option_copied show.entry) trial
+        × IsTold trial most answer (O.device out.old).contents (O.device out.new).contents) }
 {
-    let items = items_of(alloc, options.show, file)?;
+    let items = items_of(alloc, show, file)?;
     let setup = Setup::of_file(alloc, settings, file)?;
     let trial = Trial {
         program: &setup.program,
@@ -83,31 +124,17 @@ fn outcomes_of_trial<O: Out>(
     out: &mut O,
 ) -> Result<Answer, Refusal>
     requires { 1 ≤ most }
+    ensures { IfOk result (λ answer. IsTold trial.now most answer (O.device out.old).contents (O.device out.new).contents) }
 {
-    let search = search(alloc, trial, most)?;
-    let told = tell_in_order(alloc, &search, out);
-    let answer = if search.is_cut {
-        Answer::Cut
-    } else {
-        Answer::Whole
-    };
-    drop(search);
-    told?;
-    Ok(answer)
-}
-
-// Prints the outcomes in the order of their values.
-fn tell_in_order<O: Out>(alloc: Global, search: &Search, out: &mut O) -> Result<(), Refusal> {
-    let order = order_of(alloc, search)?;
-    let mut page = Gathered::new(Lent::new(out));
-    tell(search, order.as_slice(), &mut page)?;
-    page.finish()?;
-    Ok(())
+    let mut search = search(alloc, trial, most)?;
+    sort(&mut search.outcomes);
+    tell(&search, out)?;
+    Ok(Answer::of(search.is_cut))
 }
 
 // The most states, 1 or more.
 fn limit_of(text: Option<&str>) -> Result<u32, Refusal>
-    ensures { IfOk result (λ most. 1 ≤ most) }
+    ensures { IfOk result (IsLimit (option_copied text.entry)) }
 {
     if text.is_none() {
         return Ok(USUAL_LIMIT);
@@ -121,7 +148,8 @@ fn limit_of(text: Option<&str>) -> Result<u32, Refusal>
 // Searches, where what is to be shown is there.
 fn search(alloc: Global, trial: &Trial<'_>, most: u32) -> Result<Search, Refusal>
     requires { 1 ≤ most }
-    ensures { IfOk result (IsSearch trial.now most) }
+    ensures there { OnOk result (AreThere trial.now) }
+    ensures found { IfOk result (IsSearch trial.now most) }
 {
     if !trial.has_all() {
         return Err(Refusal::Fault(Fault::OutOfRange));
@@ -132,35 +160,5 @@ fn search(alloc: Global, trial: &Trial<'_>, most: u32) -> Result<Search, Refusal
             Err(Refusal::Fault(Fault::Machine(MachineFault::BadLimits)))
         }
         Err(SearchFault::NoMemory) => Err(Refusal::Fault(Fault::Run(RunFault::NoMemory))),
-    }
-}
-
-// The outcomes in the order of their values.
-fn order_of(alloc: Global, search: &Search) -> Result<Vec<usize>, AllocError> {
-    let mut order = Vec::with_capacity(alloc, search.outcomes.len())?;
-    for index in 0..search.outcomes.len() {
-        let at = place_of(search, order.as_slice(), index);
-        order.insert(at, index)?;
-    }
-    Ok(order)
-}
-
-// Where an outcome goes among those that are in order: behind the last with lower values.
-fn place_of(search: &Search, order: &[usize], index: usize) -> usize
-    ensures { result ≤ length order.now }
-{
-    for at in 0..order.len() {
-        if is_below(search, index, order[at]) {
-            return at;
-        }
-    }
-    order.len()
-}
-
-// Whether the values of an outcome come before those of another.
-fn is_below(search: &Search, left: usize, right: usize) -> bool {
-    match (search.outcomes.get(left), search.outcomes.get(right)) {
-        (Some(left), Some(right)) => left.values.as_slice() < right.values.as_slice(),
-        _ => false,
     }
 }

@@ -1,5 +1,12 @@
 //! What an outcome shows, as the option says it.
 
+ghost use Rattle.std.specs.Prelude.{◌≡◌, ◌++◌, ◌∷◌, [], IfOk, IfSome, OnOk, Some};
+ghost use Rattle.std.specs.Option.{option_copied};
+ghost use Rattle.ia_lex.specs.Words.{register_of};
+ghost use Rattle.ia_word.specs.declared.width.Width.TheVariants.{D};
+ghost use Rattle.elide_program.specs.Settings.{word32};
+ghost use Rattle.elide_outcomes.specs.Items.{AreItems, IsItem, SaysItems};
+
 use elide_program::{ProgramFile, number_of, sum_of};
 use elide_setup::Refusal;
 use ia_lex::register_of;
@@ -12,32 +19,59 @@ pub fn items_of(
     alloc: Global,
     text: Option<&str>,
     file: &ProgramFile<'_>,
-) -> Result<Vec<Item>, Refusal> {
-    let mut items = Vec::new(alloc);
-    for word in text.unwrap_or("").split_whitespace() {
-        let Some(item) = item_of(word, file) else {
-            return Err(Refusal::Usage("--show"));
-        };
-        items.push(item).map_err(|_| AllocError)?;
-    }
+) -> Result<Vec<Item>, Refusal>
+    ensures { IfOk result (λ items. AreItems file.now (option_copied text.entry) items.items) }
+{
+    let Some(text) = text else {
+        return Err(Refusal::Usage("--show"));
+    };
+    let items = items_in(alloc, text, file)?;
     if items.is_empty() {
         return Err(Refusal::Usage("--show"));
     }
     Ok(items)
 }
 
-fn item_of(word: &str, file: &ProgramFile<'_>) -> Option<Item> {
+// The items that the words of a text say.
+fn items_in(alloc: Global, text: &str, file: &ProgramFile<'_>) -> Result<Vec<Item>, Refusal>
+    ensures { IfOk result (λ items. SaysItems file.now text.now items.items) }
+{
+    let mut items = Vec::new(alloc);
+    for word in text.split_whitespace() {
+        let Some(item) = item_of(word, file) else {
+            return Err(Refusal::Usage("--show"));
+        };
+        add(&mut items, item)?;
+    }
+    Ok(items)
+}
+
+// Adds one at the end.
+fn add(items: &mut Vec<Item>, item: Item) -> Result<(), AllocError>
+    ensures { OnOk result (items.new.items ≡ items.old.items ++ item ∷ []) }
+{
+    items.push(item).map_err(|_| AllocError)
+}
+
+fn item_of(word: &str, file: &ProgramFile<'_>) -> Option<Item>
+    ensures { IfSome result (IsItem file.now word.now) }
+{
     match word.split_once('@') {
-        Some((register, core)) => register_item(register, core),
+        Some((name, number)) => {
+            let (core, register) = register_in(name, number)?;
+            Some(Item::Register(core, register))
+        }
         None => Some(Item::Memory(sum_of(word, file)?)),
     }
 }
 
-// A register of 32 bits of a core.
-fn register_item(register: &str, core: &str) -> Option<Item> {
-    let core = number_of(Some(core), "--show").ok()?;
-    match register_of(register.as_bytes()) {
-        Some((Width::D, number)) => Some(Item::Register(u8::try_from(core).ok()?, number)),
+// The core of this number, and the register of 32 bits of this name.
+fn register_in(name: &str, number: &str) -> Option<(u8, u8)>
+    ensures { IfSome result (λ r. (register_of name.now ≡ Some (D, r.1)) × (word32 number.now ≡ Some r.0)) }
+{
+    let core = number_of(Some(number), "--show").ok()?;
+    match register_of(name.as_bytes()) {
+        Some((Width::D, register)) => Some((u8::try_from(core).ok()?, register)),
         _ => None,
     }
 }

@@ -1,58 +1,144 @@
 //! What is printed of a search.
 
-use arrayvec::ArrayString;
+ghost use Rattle.std.specs.Prelude.{◌≡◌, ◌≤◌, ◌++◌, OnOk, length};
+ghost use Rattle.std.specs.List.{flat_map};
+ghost use Rattle.arrayvec.specs.ArrayVec.{array_vec_len};
+ghost use Rattle.ia_text.specs.Writing.{Wrote, Writes};
+ghost use Rattle.elide_outcomes.specs.Lines.{AreInOrder, count_line, counts_text, cut_text, ends_text, outcome_line, outcome_lines};
+ghost use Rattle.elide_outcomes.specs.Lines.{step_text, item_text};
+
+use ia_text::page::{push, push_eight};
+use ia_text::text_line::{TextLine, push_number};
 use ia_text::{Out, WriteFault};
-use std::fmt::Write;
+use itoa::Buffer;
 use tm_outcomes::{Search, Told};
 
-// A line of numbers.
-type Line = ArrayString<128>;
-
-/// Prints the outcomes, a line each, and then how many there are.
-pub fn tell<O: Out>(search: &Search, order: &[usize], out: &mut O) -> Result<(), WriteFault> {
-    for index in order {
-        if let Some(told) = search.outcomes.get(*index) {
-            tell_one(told, out)?;
-        }
-    }
-    let mut line = Line::new();
-    // There is room for the line, as for those below.
-    let _ = write!(
-        line,
-        "{} outcomes in {} states",
-        search.outcomes.len(),
-        search.states
-    );
-    put(out, line.as_str())?;
-    put(
-        out,
-        if search.is_cut {
-            ": cut at the limit, there may be more\n"
-        } else {
-            "\n"
-        },
-    )
+/// Puts outcomes in the order of their values.
+pub fn sort(outcomes: &mut Vec<Told>)
+    ensures { AreInOrder outcomes.old.items outcomes.new.items }
+{
+    outcomes.sort_unstable_by(|left, right| left.values.cmp(&right.values));
 }
 
-fn put<O: Out>(out: &mut O, text: &str) -> Result<(), WriteFault> {
-    out.put(text.as_bytes())?;
+/// Prints the outcomes of a search, a line each, and then how many there are.
+pub fn tell<O: Out>(search: &Search, out: &mut O) -> Result<(), WriteFault>
+    ensures { OnOk result (Wrote (O.device out.old) (O.device out.new) (outcome_lines search.now.outcomes.items
+        ++ count_line (length search.now.outcomes.items) search.now.states search.now.is_cut)) }
+{
+    let outcomes = search.outcomes.as_slice();
+    tell_outcomes(outcomes, out)?;
+    tell_counts(outcomes.len(), search.states, search.is_cut, out)?;
+    Ok(())
+}
+
+// The line of each outcome.
+fn tell_outcomes<O: Out>(outcomes: &[Told], out: &mut O) -> Result<(), WriteFault>
+    ensures { OnOk result (Wrote (O.device out.old) (O.device out.new) (outcome_lines outcomes.now)) }
+{
+    for told in outcomes {
+        tell_outcome(told, out)?;
+    }
     Ok(())
 }
 
 // The values, how many states show them, and the steps of a schedule.
-fn tell_one<O: Out>(told: &Told, out: &mut O) -> Result<(), WriteFault> {
-    for value in told.values.as_slice() {
-        let mut line = Line::new();
-        let _ = write!(line, "{value:08x} ");
-        put(out, line.as_str())?;
+fn tell_outcome<O: Out>(told: &Told, out: &mut O) -> Result<(), WriteFault>
+    ensures { OnOk result (Wrote (O.device out.old) (O.device out.new) (outcome_line told.now)) }
+{
+    tell_values(told.values.as_slice(), out)?;
+    tell_ends(told.ends, out)?;
+    tell_steps(told.schedule.as_slice(), out)?;
+    out.put(b"\n")?;
+    Ok(())
+}
+
+fn tell_values<O: Out>(values: &[u32], out: &mut O) -> Result<(), WriteFault>
+    ensures { OnOk result (Wrote (O.device out.old) (O.device out.new) (flat_map item_text values.now)) }
+{
+    for value in values {
+        tell_value(*value, out)?;
     }
-    let mut line = Line::new();
-    let _ = write!(line, " {} ", told.ends);
-    put(out, line.as_str())?;
-    for core in told.schedule.as_slice() {
-        let mut line = Line::new();
-        let _ = write!(line, " {core}");
-        put(out, line.as_str())?;
+    Ok(())
+}
+
+fn tell_value<O: Out>(value: u32, out: &mut O) -> Result<(), WriteFault>
+    ensures { Writes (O.device out.old) (O.device out.new) (item_text value) result }
+{
+    let mut row = TextLine::new();
+    push_eight(&mut row, value);
+    push(&mut row, b" ");
+    out.put(row.as_slice())?;
+    Ok(())
+}
+
+fn tell_ends<O: Out>(ends: u32, out: &mut O) -> Result<(), WriteFault>
+    ensures { Writes (O.device out.old) (O.device out.new) (ends_text ends) result }
+{
+    let mut digits = Buffer::new();
+    let mut row = TextLine::new();
+    push(&mut row, b" ");
+    push(&mut row, digits.format(ends).as_bytes());
+    push(&mut row, b" ");
+    out.put(row.as_slice())?;
+    Ok(())
+}
+
+fn tell_steps<O: Out>(cores: &[u8], out: &mut O) -> Result<(), WriteFault>
+    ensures { OnOk result (Wrote (O.device out.old) (O.device out.new) (flat_map step_text cores.now)) }
+{
+    for core in cores {
+        tell_step(*core, out)?;
     }
-    put(out, "\n")
+    Ok(())
+}
+
+fn tell_step<O: Out>(core: u8, out: &mut O) -> Result<(), WriteFault>
+    ensures { Writes (O.device out.old) (O.device out.new) (step_text core) result }
+{
+    let mut row = TextLine::new();
+    push(&mut row, b" ");
+    push_number(&mut row, core);
+    out.put(row.as_slice())?;
+    Ok(())
+}
+
+// The last line.
+fn tell_counts<O: Out>(
+    outcomes: usize,
+    states: u32,
+    is_cut: bool,
+    out: &mut O,
+) -> Result<(), WriteFault>
+    ensures { Writes (O.device out.old) (O.device out.new) (count_line outcomes states is_cut) result }
+{
+    let mut row = TextLine::new();
+    push_counts(&mut row, outcomes, states);
+    push(&mut row, cut_words(is_cut));
+    push(&mut row, b"\n");
+    out.put(row.as_slice())?;
+    Ok(())
+}
+
+// Adds the counts, in at most 100 bytes.
+fn push_counts(row: &mut TextLine, outcomes: usize, states: u32)
+    requires { array_vec_len row.old ≡ 0 }
+    ensures text { row.new.items ≡ row.old.items ++ counts_text outcomes states }
+    ensures len { array_vec_len row.new ≤ 100 }
+{
+    let mut digits = Buffer::new();
+    push(row, digits.format(outcomes).as_bytes());
+    push(row, b" outcomes in ");
+    push(row, digits.format(states).as_bytes());
+    push(row, b" states");
+}
+
+// What is said behind the counts where the search was cut.
+fn cut_words(is_cut: bool) -> &'static [u8]
+    ensures { result.now ≡ cut_text is_cut }
+{
+    if is_cut {
+        b": cut at the limit, there may be more"
+    } else {
+        b""
+    }
 }

@@ -1,0 +1,3 @@
+mod Printed
+mod Trials
+mod Words

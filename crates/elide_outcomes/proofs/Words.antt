@@ -1,0 +1,29 @@
+-- One word more of `--show`.
+use Rattle.std.proofs.Common.{◌≡◌, ℕ, ◌<◌, List, [], ◌∷◌, ◌++◌, length, append_assoc, append-nil, subst, sym}
+use Rattle.std.specs.Char.{is_not_whitespace, is_whitespace}
+use Rattle.std.specs.Str.{EmptyOrStartsWithPassing, NoCharPasses}
+use Rattle.elide_program.specs.declared.file.ProgramFile.{ProgramFile}
+use Rattle.tm_outcomes.specs.declared.trial.Item.{Item}
+use Rattle.elide_outcomes.specs.Items.{BeginsWithWord, IsItem, SaysItems}
+
+-- what `split_whitespace` says of a word, as the record
+pub word_of_step : (text word rest : List ℕ) →
+    (gap : List ℕ) × (text ≡ gap ++ (word ++ rest)) × (0 < length word) × NoCharPasses is_not_whitespace gap
+    × NoCharPasses is_whitespace word × ((more : List ℕ) × EmptyOrStartsWithPassing is_whitespace rest more) →
+    BeginsWithWord text word rest
+word_of_step text word rest step = record { gap = step.0; whole = step.1; some = step.2; gap_is_blank = step.3; word_has_none = step.4; rest_is_apart = step.5 }
+
+-- these items are said, and behind them what the rest says
+abbrev pub GoesOn : ProgramFile → List ℕ → List ℕ → List Item → Type 0
+GoesOn file text rest items = (others : List Item) → SaysItems file rest others → SaysItems file text (items ++ others)
+
+pub goes_on : (file : ProgramFile) (text rest next word : List ℕ) (items items' : List Item) (item : Item) →
+    GoesOn file text rest items → BeginsWithWord rest word next → IsItem file word item → items' ≡ items ++ item ∷ [] → GoesOn file text next items'
+goes_on file text rest next word items items' item before begins is same others says =
+    let Says : List Item → Type 0 = λ all. SaysItems file text all in
+    let said : Says (items ++ (item ∷ others)) = before (item ∷ others) (word, next, begins, is, says) in
+    subst (λ (all : List Item). Says (all ++ others)) (sym same) (subst Says (sym (append_assoc items (item ∷ []) others)) said)
+
+-- no word is left
+pub all_said : (file : ProgramFile) (text rest : List ℕ) (items : List Item) → GoesOn file text rest items → SaysItems file rest [] → SaysItems file text items
+all_said file text rest items before none = subst (λ (all : List Item). SaysItems file text all) (append-nil items) (before [] none)

@@ -1,0 +1,10 @@
+use Rattle.std.proofs.Common.{take}
+use Rattle.std.specs.List.{flat_map}
+use Rattle.ia_text.specs.Writing.{Wrote}
+use Rattle.elide_outcomes.specs.Lines.{step_text}
+use Rattle.elide_outcomes.proofs.report.tell_steps.Given as goal
+
+-- the steps so far were told
+abbrev pub invariant-loop-core : goal.invariant-loop-core
+invariant-loop-core g l =
+    Wrote (g.O.Out.device l.initial.out) (g.O.Out.device l.out) (flat_map step_text (take l.core-index l.cores))

@@ -1,0 +1,63 @@
+-- What an outcome shows, as the words of `--show` say it (docs/FORMATS.md, "Outcomes").
+use Rattle.std.specs.Prelude.{◌≡◌, ℕ, ◌<◌, ◌==◌, Bool, List, [], ◌∷◌, ◌++◌, length, Option, Some}
+use Rattle.std.specs.Char.{is_not_whitespace, is_whitespace}
+use Rattle.std.specs.List.{after_first, before_first, position_or_len}
+use Rattle.std.specs.Str.{EmptyOrStartsWithPassing, NoCharPasses}
+use Rattle.ia_lex.specs.Words.{register_of}
+use Rattle.ia_word.specs.declared.width.Width.TheVariants.{D}
+use Rattle.elide_program.specs.Settings.{word32}
+use Rattle.elide_program.specs.Sums.{IsSum}
+use Rattle.elide_program.specs.declared.file.ProgramFile.{ProgramFile}
+use Rattle.tm_outcomes.specs.declared.trial.Item.{Item}
+use Rattle.tm_outcomes.specs.declared.trial.Item.TheVariants.{Register, Memory}
+
+-- ---- a word
+
+-- `@`
+abbrev pub is_at : ℕ → Bool
+is_at byte = byte == 64
+
+-- where the first stands, or the end
+abbrev pub at_place : List ℕ → ℕ
+at_place word = position_or_len is_at word
+
+-- the name of a register of 32 bits, and behind the first `@` the number of a core
+pub record IsRegister (word : List ℕ) (core register : ℕ) : Type 0 where
+  pub has_at : at_place word < length word
+  pub name : register_of (before_first is_at word) ≡ Some (D, register)
+  pub number : word32 (after_first is_at word) ≡ Some core
+
+-- or, without an `@`, a sum that says the address of a doubleword
+pub record IsAddress (file : ProgramFile) (word : List ℕ) (address : ℕ) : Type 0 where
+  pub has_none : at_place word ≡ length word
+  pub sum : IsSum file word (Some address)
+
+abbrev pub IsItem : ProgramFile → List ℕ → Item → Type 0
+IsItem file word (Register core register) = IsRegister word core register
+IsItem file word (Memory address) = IsAddress file word address
+
+-- ---- words with white space between
+
+-- a text is white space, a word, and a rest, which is empty or begins with white space
+pub record BeginsWithWord (text word rest : List ℕ) : Type 0 where
+  pub gap : List ℕ
+  pub whole : text ≡ gap ++ (word ++ rest)
+  pub some : 0 < length word
+  pub gap_is_blank : NoCharPasses is_not_whitespace gap
+  pub word_has_none : NoCharPasses is_whitespace word
+  pub rest_is_apart : (more : List ℕ) × EmptyOrStartsWithPassing is_whitespace rest more
+
+-- each word of the text says an item, in their order
+abbrev pub SaysItems : ProgramFile → List ℕ → List Item → Type 0
+SaysItems file text [] = NoCharPasses is_not_whitespace text
+SaysItems file text (item ∷ items) =
+    (word : List ℕ) × (rest : List ℕ) × BeginsWithWord text word rest × IsItem file word item × SaysItems file rest items
+
+-- ---- the option
+
+-- it is given, and says one item at least
+pub record AreItems (file : ProgramFile) (option : Option (List ℕ)) (items : List Item) : Type 0 where
+  pub text : List ℕ
+  pub given : option ≡ Some text
+  pub said : SaysItems file text items
+  pub some : 0 < length items

@@ -1,0 +1,58 @@
+-- What `elide outcomes` prints (docs/FORMATS.md, "Outcomes"): the lines of what a search over all schedules of FILE's program found,
+-- and how much that is.
+use Rattle.std.specs.Prelude.{◌≡◌, ℕ, ◌≤◌, ◌++◌, Bool, List, length, Option, Some, if◌then◌else◌}
+use Rattle.std.specs.Io.KnownBytes.{Appends}
+use Rattle.std.specs.Option.{option_copied}
+use Rattle.elide_args.specs.declared.subcommand.OutcomesOptions.{OutcomesOptions}
+use Rattle.elide_program.specs.Settings.{number_or}
+use Rattle.elide_program.specs.declared.file.ProgramFile.{ProgramFile}
+use Rattle.elide_setup.specs.Setup.{IsAsked}
+use Rattle.elide_setup.specs.declared.machine.Setup.{Setup}
+use Rattle.tm_outcomes.specs.Outcomes.{AreThere, IsSearch}
+use Rattle.tm_outcomes.specs.declared.searching.Search.{Search}
+use Rattle.tm_outcomes.specs.declared.table.Told.{Told}
+use Rattle.tm_outcomes.specs.declared.trial.Trial.{Trial}
+use Rattle.elide_outcomes.specs.Items.{AreItems}
+use Rattle.elide_outcomes.specs.Lines.{AreInOrder, count_line, outcome_lines}
+use Rattle.elide_outcomes.specs.declared.command.Answer.{Answer}
+use Rattle.elide_outcomes.specs.declared.command.Answer.TheVariants.{Cut, Whole}
+
+-- ---- what is searched
+
+-- the machine is the one that a file was made into, and what is shown of it is what `--show` says, by the file's symbols
+pub record IsTrialOf (file : ProgramFile) (setup : Setup) (show : Option (List ℕ)) (trial : Trial) : Type 0 where
+  pub program : trial.program.now ≡ setup.program
+  pub limits : trial.limits ≡ setup.limits
+  pub items : AreItems file show trial.items.now
+
+-- the most states: a million by default, and 1 or more
+pub record IsLimit (option : Option (List ℕ)) (most : ℕ) : Type 0 where
+  pub said : number_or 1000000 option ≡ Some most
+  pub some : 1 ≤ most
+
+-- ---- what is told of it
+
+abbrev pub answer_of : Bool → Answer
+answer_of is_cut = if is_cut then Cut else Whole
+
+-- what is shown is there, a line for each outcome that a search found and the line of counts were written, and the answer is `Cut`
+-- just where its limit ended it
+pub record IsTold (trial : Trial) (most : ℕ) (answer : Answer) (before after : Option (List ℕ)) : Type 0 where
+  pub there : AreThere trial
+  pub search : Search
+  pub searched : IsSearch trial most search
+  pub came_to : answer ≡ answer_of search.is_cut
+  pub told : List Told
+  pub order : AreInOrder search.outcomes.items told
+  pub wrote : Appends before after (outcome_lines told ++ count_line (length told) search.states search.is_cut)
+
+-- of the machine of the options and of the program that FILE's content is read as, up to the limit of the options
+pub record IsPrinted (content : List ℕ → Option (List ℕ)) (options : OutcomesOptions) (answer : Answer)
+    (before after : Option (List ℕ)) : Type 0 where
+  pub setup : Setup
+  pub asked : IsAsked (content options.machine.file.now) options.machine setup
+  pub trial : Trial
+  pub shows : IsTrialOf asked.file setup (option_copied options.show) trial
+  pub most : ℕ
+  pub limit : IsLimit (option_copied options.limit) most
+  pub told : IsTold trial most answer before after
