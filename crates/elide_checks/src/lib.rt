@@ -1,9 +1,11 @@
 //! What is asked of a search for a bad schedule: its checks, and which runs it makes.
 //!
-//! Promises no more than safety; which options are misuse is compared by `doc_tests`. Stands on `elide_setup`, and on `tm_check`,
-//! whose checks it makes.
+//! Promised: the checks are those that the options say, in their order (`specs/Checks.antt`), and the runs those of `--runs`
+//! (`specs/Runs.antt`). Which options are misuse, the method and the limit on steps are compared by `doc_tests`. Stands on
+//! `elide_setup`, and on `tm_check`, whose checks it makes.
 #![tactic(auto)]
 
+mod cut;
 mod demands;
 mod orders;
 

@@ -1,5 +1,11 @@
 //! What is asked of a search.
 
+ghost use Rattle.std.specs.Prelude.{◌≡◌, ◌≤◌, IfOk, Some};
+ghost use Rattle.std.specs.Option.{option_copied};
+ghost use Rattle.elide_setup.specs.ElideProgram.Settings.{number_said};
+ghost use Rattle.elide_checks.specs.Runs.{AreRuns};
+
+use crate::cut::cut;
 use elide_args::HuntOptions;
 use elide_setup::{Refusal, limit_of, number_of};
 use std::thread::{Threads, available_parallelism};
@@ -27,7 +33,10 @@ pub struct Orders {
 
 impl Orders {
     /// Reads the options in the order in which their misuse is told.
-    pub fn read<R: Threads>(rt: &R, options: &HuntOptions<'_>) -> Result<Orders, Refusal> {
+    pub fn read<R: Threads>(rt: &R, options: &HuntOptions<'_>) -> Result<Orders, Refusal>
+        ensures runs { IfOk result (λ orders. AreRuns (option_copied options.now.runs) orders.first orders.end) }
+        ensures seed { IfOk result (λ orders. number_said (option_copied options.now.seed) ≡ Some orders.seed) }
+    {
         let (first, end) = runs_of(options.runs)?;
         let seed = number_of(options.seed, "--seed")?;
         let method = method_of(options.method)?;
@@ -45,11 +54,13 @@ impl Orders {
 }
 
 // A count of runs, or the numbers from the first one up to the end.
-fn runs_of(text: Option<&str>) -> Result<(u32, u32), Refusal> {
+fn runs_of(text: Option<&str>) -> Result<(u32, u32), Refusal>
+    ensures { IfOk result (λ runs. AreRuns (option_copied text.entry) runs.0 runs.1) }
+{
     let Some(text) = text else {
         return Err(Refusal::Usage("--runs"));
     };
-    match text.split_once("..") {
+    match cut(text, "..") {
         None => Ok((0, number_of(Some(text), "--runs")?)),
         Some((first, end)) => {
             let first = number_of(Some(first), "--runs")?;
