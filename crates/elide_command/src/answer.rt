@@ -55,13 +55,13 @@ pub fn ran<O: Drop>(end: Result<(Ending, O), Refusal>) -> Result<Answer, Refusal
     }
 }
 
-/// What a search for a failing run came to.
-pub fn sought(end: Result<Hunted, Refusal>) -> Result<Answer, Refusal>
-    ensures { IsAnswered sought_answer end result }
+/// What a search for a failing run came to, which gives its device back.
+pub fn sought<O: Drop>(end: Result<(Hunted, O), Refusal>) -> Result<Answer, Refusal>
+    ensures { IsAnswered (λ sought. sought_answer sought.0) end result }
 {
     match end? {
-        Hunted::NoneFailed => Ok(Answer::Done),
-        Hunted::Failed => Ok(Answer::Fails),
+        (Hunted::NoneFailed, _) => Ok(Answer::Done),
+        (Hunted::Failed, _) => Ok(Answer::Fails),
     }
 }
 

@@ -263,7 +263,7 @@ fn obey<R: Threads + Wait + Sync + AllocGlobal, P: Paths, I: In, O: Out, G: Prog
         Subcommand::Draw(options) => done(draw(alloc, options, paths, out, progress)),
         Subcommand::Stats(options) => done(stats(alloc, options, paths, out, progress)),
         Subcommand::Run(options) => ran(run(alloc, options, paths, Lent::new(out), progress)),
-        Subcommand::Hunt(options) => sought(hunt(rt, options, paths, out, progress)),
+        Subcommand::Hunt(options) => { sought(hunt(rt, options, paths, Lent::new(out), progress)) }
         Subcommand::Outcomes(options) => {
             searched(outcomes(alloc, options, paths, Lent::new(out)))
         }

@@ -1,19 +1,30 @@
 //! The command.
 
-ghost use Rattle.std.specs.Prelude.{IfOk, IfSome};
-ghost use Rattle.tm_hunt.specs.Attempts.{IsFailure};
+ghost use Rattle.std.specs.Prelude.{◌≡◌, ◌≤◌, IfOk};
+ghost use Rattle.std.specs.Io.KnownBytes.{Appends};
+ghost use Rattle.elide_args.specs.declared.hunt_options.HuntOptions.{HuntOptions};
+ghost use Rattle.elide_checks.specs.Demands.{AreDemands};
+ghost use Rattle.elide_setup.specs.ElideProgram.ProgramFile.{IsFile};
+ghost use Rattle.elide_setup.specs.ElideProgram.ProgramFileType.{ProgramFile};
+ghost use Rattle.elide_setup.specs.Setup.{IsSetup};
+ghost use Rattle.elide_setup.specs.declared.machine.Setup.{Setup};
+ghost use Rattle.tm_hunt.specs.Attempts.{IsFailure, IsSearch};
+ghost use Rattle.tm_hunt.specs.Cost.{cost_of};
+ghost use Rattle.tm_hunt.specs.declared.trial.Trial.{Trial};
+ghost use Rattle.elide_hunt.specs.Printed.{IsHunted, IsPrinted, IsTold, IsTrialOf, failure_text, none_line};
 
-use crate::report::{Counts, tell_failure, tell_none};
-use crate::searching::{fault_of, searched};
+use crate::fault::fault_of;
+use crate::report::{Counts, counts_of, tell_failure, tell_none};
+use crate::searching::searched;
 use elide_args::HuntOptions;
 use elide_checks::{
-    Demands, Gathered, Lent, Orders, Paths, ProgramFile, Progress, Refusal, Settings, Setup,
-    read_file, record, record_path,
+    Demands, Gathered, Orders, Paths, ProgramFile, Progress, Refusal, Settings, Setup, read_file,
+    record, record_path,
 };
 use ia_text::Out;
 use std::alloc::Global;
 use std::thread::Threads;
-use tm_hunt::{Failure, Found, Search, Trial, shorten, switches, usual_length};
+use tm_hunt::{Failure, Found, Search, Trial, shorten, usual_length};
 use tm_pick::Plan;
 
 /// What a search came to.
@@ -26,48 +37,75 @@ pub enum Answer {
 }
 
 /// Makes runs by chance until one fails, shortens its schedule, writes it where that is asked for, and prints what came
-/// about.
-pub fn hunt<R: Threads + Sync + AllocGlobal, P: Paths, O: Out, G: Progress>(
+/// about. Answers whether a run failed, and gives the device back.
+pub fn hunt<R: Threads + Sync + AllocGlobal, P: Paths, O: Out + Drop, G: Progress>(
     rt: &R,
     options: &HuntOptions<'_>,
     paths: &mut P,
-    out: &mut O,
+    out: O,
     progress: &mut G,
-) -> Result<Answer, Refusal> {
+) -> Result<(Answer, O), Refusal>
+    ensures { IfOk result (λ r. IsPrinted (P.content paths.old) options.now r.0
+        (O.device out).contents (O.device r.1).contents) }
+{
     let settings = Settings::read(&options.machine)?;
     let orders = Orders::read(rt, options)?;
     let path = record_path(options.record, options.machine.file, paths)?;
     let text = read_file(options.machine.file, paths)?;
     let made = hunted(rt, options, &settings, &orders, text.as_slice(), progress);
+    drop(text);
     progress.end();
     let (search, before) = made?;
-    let Search { found, ended, cut } = search;
-    match found {
+    if let Some(found) = &search.found {
+        record(path, found.failure.cores.as_slice(), paths)?;
+    }
+    tell(options, &search, before, out)
+}
+
+// Prints what a search came to.
+fn tell<O: Out + Drop>(
+    options: &HuntOptions<'_>,
+    search: &Search,
+    before: Counts,
+    out: O,
+) -> Result<(Answer, O), Refusal>
+    ensures { IfOk result (λ r. IsTold options.now before search.now r.0
+        (O.device out).contents (O.device r.1).contents) }
+{
+    match &search.found {
         Some(found) => {
-            record(path, found.failure.cores.as_slice(), paths)?;
-            one_failed(options, &found, before, out)
+            let out = put_failure(options, found, before, out)?;
+            Ok((Answer::Failed, out))
         }
-        None => none_failed(ended, cut, out),
+        None => {
+            let out = put_none(search.ended, search.cut, out)?;
+            Ok((Answer::NoneFailed, out))
+        }
     }
 }
 
-fn one_failed<O: Out>(
+fn put_failure<O: Out + Drop>(
     options: &HuntOptions<'_>,
     found: &Found,
     before: Counts,
-    out: &mut O,
-) -> Result<Answer, Refusal> {
-    let mut page = Gathered::new(Lent::new(out));
-    tell_failure(options, found.run, &found.failure, before, &mut page)?;
-    page.finish()?;
-    Ok(Answer::Failed)
+    out: O,
+) -> Result<O, Refusal>
+    ensures { IfOk result (λ given. Appends (O.device out).contents (O.device given).contents
+        (failure_text options.now before found.now)) }
+{
+    let mut page = Gathered::new(out);
+    tell_failure(options, found, before, &mut page)?;
+    let out = page.finish()?;
+    Ok(out)
 }
 
-fn none_failed<O: Out>(ended: u32, cut: u32, out: &mut O) -> Result<Answer, Refusal> {
-    let mut page = Gathered::new(Lent::new(out));
+fn put_none<O: Out + Drop>(ended: u32, cut: u32, out: O) -> Result<O, Refusal>
+    ensures { IfOk result (λ given. Appends (O.device out).contents (O.device given).contents (none_line ended cut)) }
+{
+    let mut page = Gathered::new(out);
     tell_none(ended, cut, &mut page)?;
-    page.finish()?;
-    Ok(Answer::NoneFailed)
+    let out = page.finish()?;
+    Ok(out)
 }
 
 // Searches the program of a file, and shortens the schedule that is found; with how long that was before.
@@ -78,7 +116,11 @@ fn hunted<R: Threads + Sync + AllocGlobal, G: Progress>(
     orders: &Orders,
     text: &[u8],
     progress: &mut G,
-) -> Result<(Search, Counts), Refusal> {
+) -> Result<(Search, Counts), Refusal>
+    ensures { IfOk result (λ made. (file : ProgramFile) × (setup : Setup) × (trial : Trial) × IsFile text.now file
+        × IsSetup file settings.now setup × IsTrialOf file options.now setup trial
+        × IsHunted trial orders.now.first orders.now.end made.1 made.0) }
+{
     let alloc = rt.alloc();
     let file = ProgramFile::read(alloc, text)?;
     let demands = Demands::read(alloc, options, &file)?;
@@ -97,7 +139,11 @@ fn hunted_in<R: Threads + Sync + AllocGlobal, G: Progress>(
     setup: &Setup,
     orders: &Orders,
     progress: &mut G,
-) -> Result<(Search, Counts), Refusal> {
+) -> Result<(Search, Counts), Refusal>
+    ensures { (file : ProgramFile) (options : HuntOptions) → AreDemands file options demands.now.demands.items →
+        IfOk result (λ made. (trial : Trial) × IsTrialOf file options setup.now trial
+        × IsHunted trial orders.now.first orders.now.end made.1 made.0) }
+{
     let checks = demands.checks(rt.alloc(), setup.program.mem_size())?;
     let trial = Trial {
         program: &setup.program,
@@ -117,18 +163,14 @@ fn shortest<R: Threads + Sync + AllocGlobal, G: Progress>(
     orders: &Orders,
     progress: &mut G,
 ) -> Result<(Search, Counts), Refusal>
-    ensures { IfOk result (λ made. IfSome made.0.found (λ found. IsFailure trial.now found.failure)) }
+    ensures { IfOk result (λ made. IsHunted trial.now orders.now.first orders.now.end made.1 made.0) }
 {
     let Search { found, ended, cut } = tried(rt, trial, orders, progress)?;
     let Some(Found { run, mut failure }) = found else {
-        let none = Counts {
-            steps: 0,
-            switches: 0,
-        };
         let found = None;
-        return Ok((Search { found, ended, cut }, none));
+        return Ok((Search { found, ended, cut }, counts_of(&[])));
     };
-    let before = counts_of(&failure);
+    let before = counts_of(failure.cores.as_slice());
     shortened(rt.alloc(), trial, &mut failure)?;
     let found = Some(Found { run, failure });
     Ok((Search { found, ended, cut }, before))
@@ -141,7 +183,7 @@ fn tried<R: Threads + Sync + AllocGlobal, G: Progress>(
     orders: &Orders,
     progress: &mut G,
 ) -> Result<Search, Refusal>
-    ensures { IfOk result (λ search. IfSome search.found (λ found. IsFailure trial.now found.failure)) }
+    ensures { IfOk result (IsSearch trial.now orders.now.first orders.now.end) }
 {
     let length = match usual_length(rt.alloc(), trial) {
         Ok(length) => length,
@@ -158,19 +200,12 @@ fn tried<R: Threads + Sync + AllocGlobal, G: Progress>(
 // Shortens a schedule.
 fn shortened(alloc: Global, trial: &Trial<'_>, failure: &mut Failure) -> Result<(), Refusal>
     requires { IsFailure trial.now failure.old }
-    ensures { IsFailure trial.now failure.new }
+    ensures fails { IsFailure trial.now failure.new }
+    ensures same { failure.new.check ≡ failure.old.check }
+    ensures simpler { cost_of failure.new.cores.items ≤ cost_of failure.old.cores.items }
 {
     match shorten(alloc, trial, failure) {
         Ok(()) => Ok(()),
         Err(fault) => Err(Refusal::Fault(fault_of(fault))),
-    }
-}
-
-// How long a schedule is.
-fn counts_of(failure: &Failure) -> Counts {
-    let cores = failure.cores.as_slice();
-    Counts {
-        steps: cores.len(),
-        switches: switches(cores),
     }
 }

@@ -1,11 +1,19 @@
 //! `elide hunt`.
 //!
-//! Promises no more than safety: that a schedule which is found fails its check is proved of `tm_hunt`, and what is
-//! printed is compared by `doc_tests`. Stands on `elide_checks` for what is asked, and on `tm_hunt`.
+//! Promised: what is printed, where the device tells its bytes, and whether a run failed, is what a search over the runs that `--runs`
+//! says came to, of a machine of the options and of FILE's program, against the checks of the options (`specs/Printed.antt`): that all
+//! of these runs were made and none fails, with how many there are; or the number of the first that failed, behind runs that do not,
+//! the option of the check that it violates, how long its schedule was and is, and the command that replays a schedule which violates
+//! that check. How the passed runs are told apart, that they are those that the method draws, the limit on steps, and what is recorded,
+//! are compared by `doc_tests`. Stands on `elide_checks` for what is asked, and on `tm_hunt`.
 #![tactic(auto)]
 
+mod block;
 mod command;
+mod fault;
+mod replay;
 mod report;
 mod searching;
+mod shell;
 
 pub use command::{Answer, hunt};

@@ -1,13 +1,19 @@
 //! What is printed of a search.
 
-use arrayvec::ArrayString;
-use elide_args::{HuntOptions, MachineOptions};
-use ia_text::{Out, WriteFault};
-use std::fmt::Write;
-use tm_hunt::{Failure, switches};
+ghost use Rattle.std.specs.Prelude.{◌≡◌, ◌+◌, ◌≤◌, ◌++◌, OnOk};
+ghost use Rattle.std.specs.Fmt.{decimal};
+ghost use Rattle.arrayvec.specs.ArrayVec.{array_vec_len};
+ghost use Rattle.ia_text.specs.Writing.{Wrote};
+ghost use Rattle.elide_hunt.specs.Printed.{check_text, counts_line, counts_of, counts_text};
+ghost use Rattle.elide_hunt.specs.Printed.{failure_text, none_line, run_front};
 
-/// The most steps of a schedule that is printed in the command that replays it.
-const MOST_SHOWN: usize = 1000;
+use crate::replay::put_command;
+use arrayvec::ArrayVec;
+use elide_args::HuntOptions;
+use ia_text::page::push;
+use ia_text::{Failed, Out};
+use itoa::Buffer;
+use tm_hunt::{Found, switches};
 
 /// How long a schedule is.
 #[derive(Clone, Copy)]
@@ -18,153 +24,137 @@ pub struct Counts {
     pub switches: usize,
 }
 
+/// How long this one is.
+pub fn counts_of(cores: &[u8]) -> Counts
+    ensures { result ≡ counts_of cores.now }
+{
+    Counts {
+        steps: cores.len(),
+        switches: switches(cores),
+    }
+}
+
 // A line of numbers.
-type Line = ArrayString<128>;
+type Line = ArrayVec<u8, 256>;
 
 /// Tells that no run failed, how many ended and how many reached the limit.
-pub fn tell_none<O: Out>(ended: u32, cut: u32, out: &mut O) -> Result<(), WriteFault> {
-    let runs = u64::from(ended) + u64::from(cut);
+pub fn tell_none<O: Out>(ended: u32, cut: u32, out: &mut O) -> Result<(), Failed>
+    ensures { OnOk result (Wrote (O.device out.old) (O.device out.new) (none_line ended cut)) }
+{
     let mut line = Line::new();
-    // There is room for the line, as for those below.
-    let _ = writeln!(
-        line,
-        "no failure in {runs} runs: {ended} ended, {cut} reached the limit"
-    );
-    put(out, line.as_str())
+    push_none(&mut line, ended, cut);
+    out.put(line.as_slice())
+}
+
+#[tactic(auto, unfolding(crate::specs::Printed::none_line))]
+fn push_none(line: &mut Line, ended: u32, cut: u32)
+    requires { array_vec_len line.old ≡ 0 }
+    ensures { line.new.items ≡ line.old.items ++ none_line ended cut }
+{
+    push(line, b"no failure in ");
+    push_decimal(line, u64::from(ended) + u64::from(cut));
+    push(line, b" runs: ");
+    push_decimal(line, u64::from(ended));
+    push(line, b" ended, ");
+    push_decimal(line, u64::from(cut));
+    push(line, b" reached the limit\n");
+}
+
+// Adds a number in decimal digits.
+fn push_decimal(line: &mut Line, number: u64)
+    requires { array_vec_len line.old + 20 ≤ 256 }
+    ensures text { line.new.items ≡ line.old.items ++ decimal number }
+    ensures len { array_vec_len line.new ≤ array_vec_len line.old + 20 }
+{
+    push(line, Buffer::new().format(number).as_bytes());
 }
 
 /// Tells the run that failed, what it failed, how long its schedule was and is, and the command that replays it.
 pub fn tell_failure<O: Out>(
     options: &HuntOptions<'_>,
-    run: u32,
-    failure: &Failure,
+    found: &Found,
     before: Counts,
     out: &mut O,
-) -> Result<(), WriteFault> {
-    let mut line = Line::new();
-    let _ = write!(line, "run {run} fails ");
-    put(out, line.as_str())?;
-    put_check(options, failure.check, out)?;
-    let cores = failure.cores.as_slice();
-    let mut line = Line::new();
-    let _ = writeln!(
-        line,
-        "\nsteps {}, switches {}; shortened to steps {}, switches {}",
-        before.steps,
-        before.switches,
-        cores.len(),
-        switches(cores)
-    );
-    put(out, line.as_str())?;
+) -> Result<(), Failed>
+    ensures { OnOk result (Wrote (O.device out.old) (O.device out.new) (failure_text options.now before found.now)) }
+{
+    let cores = found.failure.cores.as_slice();
+    put_run(found.run, out)?;
+    put_check(options, found.failure.check, out)?;
+    put_counts(before, counts_of(cores), out)?;
     put_command(options, cores, out)
 }
 
-fn put<O: Out>(out: &mut O, text: &str) -> Result<(), WriteFault> {
-    out.put(text.as_bytes())?;
-    Ok(())
+fn put_run<O: Out>(run: u32, out: &mut O) -> Result<(), Failed>
+    ensures { OnOk result (Wrote (O.device out.old) (O.device out.new) (run_front run)) }
+{
+    let mut line = Line::new();
+    push_run(&mut line, run);
+    out.put(line.as_slice())
 }
 
-// A word of a command, as a POSIX shell reads it.
-fn put_word<O: Out>(out: &mut O, word: &str) -> Result<(), WriteFault> {
-    if !word.is_empty() && word.as_bytes().iter().all(is_plain) {
-        return put(out, word);
-    }
-    put(out, "'")?;
-    for byte in word.as_bytes() {
-        put_quoted(out, *byte)?;
-    }
-    put(out, "'")
+#[tactic(auto, unfolding(crate::specs::Printed::run_front))]
+fn push_run(line: &mut Line, run: u32)
+    requires { array_vec_len line.old ≡ 0 }
+    ensures { line.new.items ≡ line.old.items ++ run_front run }
+{
+    push(line, b"run ");
+    push_decimal(line, u64::from(run));
+    push(line, b" fails ");
 }
 
-// A byte between single quotes, of which a quote has to stand outside.
-fn put_quoted<O: Out>(out: &mut O, byte: u8) -> Result<(), WriteFault> {
-    if byte == b'\'' {
-        return put(out, "'\\''");
-    }
-    out.put(&[byte])?;
-    Ok(())
+// Tells how long a schedule was, and how long it is.
+fn put_counts<O: Out>(before: Counts, after: Counts, out: &mut O) -> Result<(), Failed>
+    ensures { OnOk result (Wrote (O.device out.old) (O.device out.new) (counts_line before after)) }
+{
+    let mut line = Line::new();
+    push_change(&mut line, before, after);
+    out.put(line.as_slice())
 }
 
-// Whether a byte stands for itself in a shell's word.
-fn is_plain(byte: &u8) -> bool {
-    byte.is_ascii_alphanumeric() || b"_./,:=@%+-".contains(byte)
+#[tactic(auto, unfolding(crate::specs::Printed::counts_line))]
+fn push_change(line: &mut Line, before: Counts, after: Counts)
+    requires { array_vec_len line.old ≡ 0 }
+    ensures { line.new.items ≡ line.old.items ++ counts_line before after }
+{
+    push(line, b"\n");
+    push_counts(line, before);
+    push(line, b"; shortened to ");
+    push_counts(line, after);
+    push(line, b"\n");
 }
 
-// The option that says the check with this index.
-fn put_check<O: Out>(
-    options: &HuntOptions<'_>,
-    check: usize,
-    out: &mut O,
-) -> Result<(), WriteFault> {
+#[tactic(auto, unfolding(crate::specs::Printed::counts_text))]
+fn push_counts(line: &mut Line, counts: Counts)
+    requires { array_vec_len line.old ≤ 128 }
+    ensures text { line.new.items ≡ line.old.items ++ counts_text counts }
+    ensures len { array_vec_len line.new ≤ array_vec_len line.old + 60 }
+{
+    push(line, b"steps ");
+    push_decimal(line, counts.steps as u64);
+    push(line, b", switches ");
+    push_decimal(line, counts.switches as u64);
+}
+
+// Writes the option that says the check with this index.
+fn put_check<O: Out>(options: &HuntOptions<'_>, check: usize, out: &mut O) -> Result<(), Failed>
+    ensures { OnOk result (Wrote (O.device out.old) (O.device out.new) (check_text options.now check)) }
+{
     if let Some(text) = options.checks.get(check) {
-        put(out, "--check ")?;
-        return put(out, text);
+        return put_both(b"--check ", text, out);
     }
-    if let Some(text) = options
+    match options
         .stops
         .get(check.saturating_sub(options.checks.len()))
     {
-        put(out, "--stop ")?;
-        return put(out, text);
-    }
-    put(out, "--expect-halt")
-}
-
-// The command that replays a schedule.
-fn put_command<O: Out>(
-    options: &HuntOptions<'_>,
-    cores: &[u8],
-    out: &mut O,
-) -> Result<(), WriteFault> {
-    put(out, "elide replay ")?;
-    put_word(out, options.machine.file)?;
-    put_machine(&options.machine, out)?;
-    if let Some(path) = options.record {
-        put(out, " --schedule ")?;
-        put_word(out, path)?;
-    } else if cores.len() > MOST_SHOWN {
-        put(
-            out,
-            " --schedule PATH, with the schedule that --record PATH writes",
-        )?;
-    } else {
-        put_steps(cores, out)?;
-    }
-    put(out, "\n")
-}
-
-// The options of the machine that are not those by default.
-fn put_machine<O: Out>(machine: &MachineOptions<'_>, out: &mut O) -> Result<(), WriteFault> {
-    put_option(" --cores ", machine.cores, "1", out)?;
-    put_option(" --mem ", machine.memory, "65536", out)?;
-    put_option(" --entry ", machine.entry, "", out)?;
-    put_option(" --reads ", machine.reads, "512", out)?;
-    put_option(" --writes ", machine.writes, "512", out)
-}
-
-fn put_option<O: Out>(
-    name: &str,
-    value: Option<&str>,
-    usual: &str,
-    out: &mut O,
-) -> Result<(), WriteFault> {
-    match value {
-        Some(value) if value != usual => {
-            put(out, name)?;
-            put_word(out, value)
-        }
-        _ => Ok(()),
+        Some(text) => put_both(b"--stop ", text, out),
+        None => out.put(b"--expect-halt"),
     }
 }
 
-fn put_steps<O: Out>(cores: &[u8], out: &mut O) -> Result<(), WriteFault> {
-    put(out, " --steps \"")?;
-    let mut between = "";
-    for core in cores {
-        let mut line = Line::new();
-        let _ = write!(line, "{between}{core}");
-        put(out, line.as_str())?;
-        between = " ";
-    }
-    put(out, "\"")
+fn put_both<O: Out>(name: &[u8], text: &str, out: &mut O) -> Result<(), Failed>
+    ensures { OnOk result (Wrote (O.device out.old) (O.device out.new) (name.now ++ text.now)) }
+{
+    out.put(name)?;
+    out.put(text.as_bytes())
 }

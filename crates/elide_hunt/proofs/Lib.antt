@@ -1,0 +1,3 @@
+mod Hunted
+mod Shares
+mod Texts

@@ -1,0 +1,41 @@
+use Rattle.std.proofs.Common.{ℕ, List, Option, subst}
+use Rattle.std.proofs.lemmas.Result.{IfOk-weaker}
+use Rattle.elide_setup.specs.ElideProgram.Files.{Gives, most_bytes}
+use Rattle.elide_setup.specs.ElideProgram.ProgramFile.{IsFile}
+use Rattle.elide_hunt.specs.Printed.{IsPrinted, IsTold}
+use Rattle.elide_hunt.specs.declared.command.Answer.{Answer}
+use Rattle.elide_hunt.proofs.command.hunt.Goals as goal
+
+pub returns : goal.returns
+returns g c =
+    let content : List ℕ → Option (List ℕ) = g.P.Paths.content c.args.paths.now in
+    let options = c.args.options.now in
+    let bytes : List ℕ = c.in_ok-text.text.items in
+    let given : Gives (content options.machine.file.now) most_bytes bytes =
+    subst (λ (known : Option (List ℕ)). Gives known most_bytes bytes) (c.record_path.ensures.kept options.machine.file.now) c.in_ok-text.ensures.given in
+    let one = c.in_ok-search.search in
+    let before = c.in_ok-search.before in
+    let made = c.in_ok-search.ensures in
+    IfOk-weaker c.tell.result
+    (λ (r : Answer × g.row.O.Denot). IsTold options before one r.0 (g.O.Out.device c.args.out).contents (g.O.Out.device r.1).contents)
+    (λ (r : Answer × g.row.O.Denot). IsPrinted content options r.0 (g.O.Out.device c.args.out).contents (g.O.Out.device r.1).contents)
+    (λ r told. record {
+      setup = made.1;
+      asked = record {
+        file = made.0;
+        read = record { text = bytes; given = given; read = subst (λ (text : List ℕ). IsFile text made.0) c.as_slice.ensures.value made.3 };
+        settings = c.in_ok-settings.settings;
+        said = c.in_ok-settings.ensures;
+        made = made.4;
+      };
+      trial = made.2;
+      made = made.5;
+      first = c.in_ok-orders.orders.first;
+      end = c.in_ok-orders.orders.end;
+      runs = c.in_ok-orders.ensures.runs;
+      counts = before;
+      search = one;
+      hunted = made.6;
+      told = told;
+    })
+    c.tell.ensures

@@ -1,0 +1,9 @@
+use Rattle.std.proofs.Common.{append_assoc}
+use Rattle.elide_hunt.specs.Printed.{counts_line}
+use Rattle.elide_hunt.proofs.report.push_change.Goals as goal
+
+pub returns : goal.returns
+unfolding counts_line
+returns c =
+    rw (c.push-3.ensures.text, c.push_counts-2.ensures.text, c.push-2.ensures.text, c.push_counts.ensures.text, c.push.ensures.text)
+    (simp append_assoc)

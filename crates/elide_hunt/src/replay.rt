@@ -1,0 +1,118 @@
+//! The command that replays a schedule.
+
+ghost use Rattle.std.specs.Prelude.{◌≡◌, ◌≤◌, ◌++◌, ◌∷◌, OnOk, length};
+ghost use Rattle.std.specs.List.{flat_map};
+ghost use Rattle.ia_text.specs.Writing.{Wrote};
+ghost use Rattle.ia_text.specs.TextLine.{number_text};
+ghost use Rattle.elide_hunt.specs.Printed.{machine_text, option_text, replay_line, schedule_text};
+ghost use Rattle.elide_hunt.specs.Printed.{steps_option, steps_text};
+
+use crate::shell::put_word;
+use elide_args::{HuntOptions, MachineOptions};
+use ia_text::page::push;
+use ia_text::text_line::{TextLine, push_number};
+use ia_text::{Failed, Out};
+
+/// The most steps of a schedule that is printed in the command that replays it.
+const MOST_SHOWN: usize = 1000;
+
+/// Writes the command that replays a schedule.
+pub fn put_command<O: Out>(
+    options: &HuntOptions<'_>,
+    cores: &[u8],
+    out: &mut O,
+) -> Result<(), Failed>
+    ensures { OnOk result (Wrote (O.device out.old) (O.device out.new) (replay_line options.now cores.now)) }
+{
+    out.put(b"elide replay ")?;
+    put_word(options.machine.file, out)?;
+    put_machine(&options.machine, out)?;
+    put_schedule(options.record, cores, out)?;
+    out.put(b"\n")
+}
+
+// Writes the options of the machine that are not those by default.
+fn put_machine<O: Out>(machine: &MachineOptions<'_>, out: &mut O) -> Result<(), Failed>
+    ensures { OnOk result (Wrote (O.device out.old) (O.device out.new) (machine_text machine.now)) }
+{
+    put_option(" --cores ", machine.cores, "1", out)?;
+    put_option(" --mem ", machine.memory, "65536", out)?;
+    put_option(" --entry ", machine.entry, "", out)?;
+    put_option(" --reads ", machine.reads, "512", out)?;
+    put_option(" --writes ", machine.writes, "512", out)
+}
+
+// Writes an option where its value is given, and not the usual one.
+fn put_option<O: Out>(
+    name: &str,
+    value: Option<&str>,
+    usual: &str,
+    out: &mut O,
+) -> Result<(), Failed>
+    ensures { OnOk result (Wrote (O.device out.old) (O.device out.new) (option_text name.now usual.now value.entry)) }
+{
+    match value {
+        Some(value) if value != usual => {
+            out.put(name.as_bytes())?;
+            put_word(value, out)
+        }
+        _ => Ok(()),
+    }
+}
+
+// Writes the option that says the schedule: its file, where it was recorded.
+fn put_schedule<O: Out>(path: Option<&str>, cores: &[u8], out: &mut O) -> Result<(), Failed>
+    ensures { OnOk result (Wrote (O.device out.old) (O.device out.new) (schedule_text path.entry cores.now)) }
+{
+    match path {
+        Some(path) => {
+            out.put(b" --schedule ")?;
+            put_word(path, out)
+        }
+        None => put_steps(cores, out),
+    }
+}
+
+// The same of a schedule that was not.
+fn put_steps<O: Out>(cores: &[u8], out: &mut O) -> Result<(), Failed>
+    ensures { OnOk result (Wrote (O.device out.old) (O.device out.new) (steps_option cores.now)) }
+{
+    if cores.len() > MOST_SHOWN {
+        return out.put(b" --schedule PATH, with the schedule that --record PATH writes");
+    }
+    out.put(b" --steps \"")?;
+    put_cores(cores, out)?;
+    out.put(b"\"")
+}
+
+// Writes the numbers of the cores, with spaces between.
+fn put_cores<O: Out>(cores: &[u8], out: &mut O) -> Result<(), Failed>
+    ensures { OnOk result (Wrote (O.device out.old) (O.device out.new) (steps_text cores.now)) }
+{
+    let Some((first, rest)) = cores.split_first() else {
+        return Ok(());
+    };
+    put_core(b"", *first, out)?;
+    put_more(rest, out)
+}
+
+// The same behind another one.
+fn put_more<O: Out>(cores: &[u8], out: &mut O) -> Result<(), Failed>
+    ensures { OnOk result (Wrote (O.device out.old) (O.device out.new)
+        (flat_map (λ core. 32 ∷ number_text core) cores.now)) }
+{
+    for core in cores {
+        put_core(b" ", *core, out)?;
+    }
+    Ok(())
+}
+
+fn put_core<O: Out>(between: &[u8], core: u8, out: &mut O) -> Result<(), Failed>
+    requires { length between.now ≤ 1 }
+    ensures { OnOk result (Wrote (O.device out.old) (O.device out.new) (between.now ++ number_text core)) }
+{
+    let mut row = TextLine::new();
+    push(&mut row, between);
+    push_number(&mut row, core);
+    out.put(row.as_slice())
+}
