@@ -50,12 +50,12 @@ impl Piece<'_> {
         self.text.eq_ignore_ascii_case(name.as_bytes())
     }
 
-    /// Whether it is a word that may be a label: it names no instruction, directive, prefix or register.
+    /// Whether it is a word that may be a label: it names no instruction, directive, prefix, register or size.
     pub fn is_label(&self) -> bool {
         self.is_word() && is_label(self.text)
     }
 
-    /// Whether it is a word that names an instruction, a directive or a prefix.
+    /// Whether it is a word that names an instruction, a directive or a prefix, or one that NASM keeps for itself.
     pub fn is_keyword(&self) -> bool {
         self.is_word() && !is_label(self.text) && register_of(self.text).is_none()
     }

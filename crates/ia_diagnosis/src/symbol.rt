@@ -6,7 +6,7 @@ use crate::line::head_of;
 use crate::meaning::Meaning;
 use crate::near::Nearest;
 use crate::piece::{Piece, next_piece};
-use crate::words::{is_among, is_other_register, is_sixteen_bits};
+use crate::words::{is_among, is_kept, is_other_register, is_sixteen_bits};
 use ia_item::{Name, Scope};
 use ia_lex::{first_line, register_of};
 use std::alloc::{AllocError, Global};
@@ -136,7 +136,7 @@ pub fn symbol_twice<'a>(alloc: Global, line: FaultyLine<'a>) -> Result<Finding<'
 fn is_symbol(piece: &Piece<'_>) -> bool {
     piece.is_word()
         && register_of(piece.text).is_none()
-        && !piece.is_keyword()
+        && (!piece.is_keyword() || is_kept(piece.text))
         && !is_among(&SIZES, piece.text)
 }
 

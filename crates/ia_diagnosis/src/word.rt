@@ -4,7 +4,7 @@ use crate::finding::Finding;
 use crate::meaning::Meaning;
 use crate::near::near_keyword;
 use crate::piece::{Piece, next_piece};
-use crate::words::instead_of;
+use crate::words::{instead_of, is_kept};
 use std::alloc::{AllocError, Global};
 
 /// What stands on a line in place of an instruction or a directive.
@@ -54,12 +54,12 @@ fn is_strange(alloc: Global, word: &Piece<'_>) -> Result<bool, AllocError> {
 
 // A part in place of an instruction.
 fn of_statement<'a>(alloc: Global, piece: &Piece<'a>) -> Result<Finding<'a>, AllocError> {
-    if !piece.is_label() {
-        return Ok(Finding::at(piece, Meaning::NoStatement));
-    }
-    let meaning = match instead_of(piece.text) {
-        Some(instead) => Meaning::NotRead(piece.text, instead),
-        None => Meaning::NoInstruction(piece.text, near_keyword(alloc, piece.text)?),
+    let meaning = if let Some(instead) = instead_of(piece.text) {
+        Meaning::NotRead(piece.text, instead)
+    } else if piece.is_label() || is_kept(piece.text) {
+        Meaning::NoInstruction(piece.text, near_keyword(alloc, piece.text)?)
+    } else {
+        Meaning::NoStatement
     };
     Ok(Finding::at(piece, meaning))
 }

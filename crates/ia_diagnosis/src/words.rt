@@ -13,8 +13,13 @@ const OTHERS: [&str; 40] = [
 /// Sizes of operands.
 const SIZES: [&str; 7] = ["word", "qword", "tword", "oword", "yword", "zword", "fword"];
 
-/// Directives of NASM, and what is read in their place.
-const DIRECTIVES: [(&str, &str); 16] = [
+/// Prefixes of instructions, but for those that repeat.
+const PREFIXES: [&str; 9] = [
+    "xacquire", "xrelease", "bnd", "nobnd", "a16", "a32", "o16", "o32", "wait",
+];
+
+/// Directives and prefixes of NASM, and what is read in their place.
+const DIRECTIVES: [(&str, &str); 18] = [
     ("dw", "db and dd are"),
     ("dq", "db and dd are"),
     ("dt", "db and dd are"),
@@ -28,7 +33,9 @@ const DIRECTIVES: [(&str, &str); 16] = [
     ("extern", "all symbols stand in one source"),
     ("rep", "loops are written out"),
     ("repe", "loops are written out"),
+    ("repz", "loops are written out"),
     ("repne", "loops are written out"),
+    ("repnz", "loops are written out"),
     ("incbin", "db is"),
     ("struc", "equ is"),
 ];
@@ -58,7 +65,22 @@ pub fn is_other_size(word: &[u8]) -> bool {
     is_among(&SIZES, word)
 }
 
-/// What is read in place of a directive of NASM.
+// Whether a word is a prefix that is not read here, and that nothing is read in place of.
+fn is_other_prefix(word: &[u8]) -> bool {
+    is_among(&PREFIXES, word)
+}
+
+/// Whether a word is kept by NASM and is a symbol where a source here names one: a prefix, or a register or a size that is
+/// not read.
+pub fn is_kept(word: &[u8]) -> bool {
+    is_sixteen_bits(word)
+        || is_other_register(word)
+        || is_other_size(word)
+        || is_other_prefix(word)
+        || instead_of(word).is_some()
+}
+
+/// What is read in place of a directive or a prefix of NASM.
 pub fn instead_of(word: &[u8]) -> Option<&'static [u8]> {
     for (name, instead) in &DIRECTIVES {
         if word.eq_ignore_ascii_case(name.as_bytes()) {
