@@ -22,7 +22,7 @@ use Rattle.tm_hunt.specs.declared.attempt.Failure.{Failure}
 use Rattle.tm_hunt.specs.declared.searching.Found.{Found}
 use Rattle.tm_hunt.specs.declared.searching.Search.{Search}
 use Rattle.tm_hunt.specs.declared.trial.Trial.{Trial}
-use Rattle.elide_hunt.specs.Shell.{shell_word}
+use Rattle.elide_hunt.specs.Shell.{path_word, shell_word}
 use Rattle.elide_hunt.specs.declared.command.Answer.{Answer}
 use Rattle.elide_hunt.specs.declared.command.Answer.TheVariants.{NoneFailed, Failed}
 use Rattle.elide_hunt.specs.declared.report.Counts.{Counts}
@@ -83,12 +83,12 @@ steps_option cores =
 -- by its file, where it was recorded
 abbrev pub schedule_text : Option (Bor (List ℕ)) → List ℕ → List ℕ
 schedule_text None cores = steps_option cores
-schedule_text (Some path) cores = codes " --schedule " ++ shell_word path.now
+schedule_text (Some path) cores = codes " --schedule " ++ path_word path.now
 
 -- the command that replays a schedule
 abbrev pub replay_line : HuntOptions → List ℕ → List ℕ
 replay_line options cores =
-    codes "elide replay " ++ (shell_word options.machine.file.now
+    codes "elide replay " ++ (path_word options.machine.file.now
     ++ (machine_text options.machine ++ (schedule_text options.record cores ++ line_end)))
 
 unfoldable pub run_front : ℕ → List ℕ

@@ -7,7 +7,7 @@ ghost use Rattle.ia_text.specs.TextLine.{number_text};
 ghost use Rattle.elide_hunt.specs.Printed.{machine_text, option_text, replay_line, schedule_text};
 ghost use Rattle.elide_hunt.specs.Printed.{steps_option, steps_text};
 
-use crate::shell::put_word;
+use crate::shell::{put_path, put_word};
 use elide_args::{HuntOptions, MachineOptions};
 use ia_text::page::push;
 use ia_text::text_line::{TextLine, push_number};
@@ -25,7 +25,7 @@ pub fn put_command<O: Out>(
     ensures { OnOk result (Wrote (O.device out.old) (O.device out.new) (replay_line options.now cores.now)) }
 {
     out.put(b"elide replay ")?;
-    put_word(options.machine.file, out)?;
+    put_path(options.machine.file, out)?;
     put_machine(&options.machine, out)?;
     put_schedule(options.record, cores, out)?;
     out.put(b"\n")
@@ -67,7 +67,7 @@ fn put_schedule<O: Out>(path: Option<&str>, cores: &[u8], out: &mut O) -> Result
     match path {
         Some(path) => {
             out.put(b" --schedule ")?;
-            put_word(path, out)
+            put_path(path, out)
         }
         None => put_steps(cores, out),
     }

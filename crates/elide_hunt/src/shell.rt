@@ -1,9 +1,9 @@
 //! Words of a command, as a POSIX shell reads them.
 
-ghost use Rattle.std.specs.Prelude.{◌≡◌, OnOk};
+ghost use Rattle.std.specs.Prelude.{◌≡◌, ◌++◌, OnOk, codes};
 ghost use Rattle.std.specs.List.{flat_map, list_all};
 ghost use Rattle.ia_text.specs.Writing.{Wrote};
-ghost use Rattle.elide_hunt.specs.Shell.{is_plain, is_plain_word, quoted, quoted_byte, shell_word};
+ghost use Rattle.elide_hunt.specs.Shell.{begins_with_dash, is_plain, is_plain_word, path_word, quoted, quoted_byte, shell_word};
 
 use ia_text::{Failed, Out};
 
@@ -17,6 +17,34 @@ pub fn put_word<O: Out>(word: &str, out: &mut O) -> Result<(), Failed>
     } else {
         put_quoted(word, out)
     }
+}
+
+/// Writes the path of a file, from its folder on where it begins as an option does.
+#[tactic(auto, unfolding(crate::specs::Shell::path_word))]
+pub fn put_path<O: Out>(path: &str, out: &mut O) -> Result<(), Failed>
+    ensures { OnOk result (Wrote (O.device out.old) (O.device out.new) (path_word path.now)) }
+{
+    if begins_with_dash(path.as_bytes()) {
+        put_in_folder(path, out)
+    } else {
+        put_word(path, out)
+    }
+}
+
+fn begins_with_dash(path: &[u8]) -> bool
+    ensures { result ≡ begins_with_dash path.now }
+{
+    match path.first() {
+        Some(byte) => *byte == b'-',
+        None => false,
+    }
+}
+
+fn put_in_folder<O: Out>(path: &str, out: &mut O) -> Result<(), Failed>
+    ensures { OnOk result (Wrote (O.device out.old) (O.device out.new) (codes "./" ++ shell_word path.now)) }
+{
+    out.put(b"./")?;
+    put_word(path, out)
 }
 
 // Whether a word stands for itself.
