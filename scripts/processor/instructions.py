@@ -25,7 +25,7 @@ EDGES = (0, 1, 2, 0x0F, 0x10, 0x1F, 0x20, 0x21, 0x7F, 0x80, 0xFF, 0x7FFFFFFF, 0x
 
 # The flags that the manual leaves undefined (docs/MACHINE.md): those of a shift or rotation also hang on its count.
 UNDEFINED = dict.fromkeys(["and", "or", "xor", "test", "shl", "shr", "sar"], AF)
-UNDEFINED |= {"mul": AF | ZF | SF | PF, "imul": AF | ZF | PF}
+UNDEFINED |= dict.fromkeys(["mul", "imul"], AF | ZF | SF | PF)
 UNDEFINED |= dict.fromkeys(BITS.values(), OF | SF | AF | PF)
 UNDEFINED |= dict.fromkeys(["div", "idiv"], ALL)
 

@@ -75,11 +75,11 @@ product_overflow a b f = overflow_written _ _ _
 
 pub signed_product_carry : (a b : ℕ) (f : Flags) → has_carry (signed_product_flags a b f) ≡ overflows D (signed_value D a *ℤ signed_value D b)
 unfolding signed_product_flags
-signed_product_carry a b f = carry_of _ _ _ _ _ _
+signed_product_carry a b f = carry_written _ _ _
 
 pub signed_product_overflow : (a b : ℕ) (f : Flags) → has_overflow (signed_product_flags a b f) ≡ overflows D (signed_value D a *ℤ signed_value D b)
 unfolding signed_product_flags
-signed_product_overflow a b f = overflow_of _ _ _ _ _ _
+signed_product_overflow a b f = overflow_written _ _ _
 
 -- 0 less a number: it overflows for the least number alone
 pub negation_overflows : (n : ℕ) → n < 2 ^ 32 → IsOutside D (signed_value D 0 -ℤ signed_value D n -ℤ pos 0) ↔ n ≡ 2 ^ 31

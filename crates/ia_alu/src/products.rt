@@ -2,12 +2,12 @@
 
 ghost use Rattle.std.specs.Prelude.{◌≡◌, ◌<◌, ◌^◌, ◌%◌, ◌/◌, ◌*◌, ◌+◌, ◌*ℤ◌, Ok, Err, true, ◌↔◌, IsErr, IsTrue, IfOk, ◌≤◌, ◌≢◌, pos, int_div, int_rem};
 ghost use Rattle.ia_alu.specs.Numbers.{signed_value, modulo, overflows, IsOutside};
-ghost use Rattle.ia_alu.specs.Products.{flags_of_product, product_flags, signed_product_flags, double_of, signed_double, CannotDivide, CannotDivideSigned, signed_quotient, signed_remainder, div_of, idiv_of};
-ghost use Rattle.ia_regs.specs.Flags.{has_carry, has_parity, has_adjust, has_zero, has_sign, has_overflow};
+ghost use Rattle.ia_alu.specs.Products.{product_flags, signed_product_flags, double_of, signed_double, CannotDivide, CannotDivideSigned, signed_quotient, signed_remainder, div_of, idiv_of};
+ghost use Rattle.ia_regs.specs.Flags.{has_carry, has_parity, has_adjust, has_zero, has_sign, has_overflow, with_carry, with_overflow};
 ghost use Rattle.ia_word.specs.declared.width.Width.TheVariants.{D};
 
 use crate::divide::Divide;
-use crate::numbers::{as_signed, half, is_outside, low_word};
+use crate::numbers::{as_signed, is_outside, low_word};
 use ia_regs::Flags;
 use ia_word::Width;
 
@@ -42,15 +42,15 @@ pub fn imul(a: u32, b: u32, flags: Flags) -> (u32, u32, Flags)
     ensures high { result.1 ≡ modulo (2 ^ 64) (signed_value D a *ℤ signed_value D b) / 2 ^ 32 }
     ensures flags { result.2 ≡ signed_product_flags a b flags }
 
-    // The flags one by one: PF, AF and ZF are kept.
+    // The flags one by one: PF, AF, ZF and SF are kept.
     ensures cf { IsTrue (has_carry result.2) ↔ IsOutside D (signed_value D a *ℤ signed_value D b) }
     ensures of { IsTrue (has_overflow result.2) ↔ IsOutside D (signed_value D a *ℤ signed_value D b) }
-    ensures sf { IsTrue (has_sign result.2) ↔ 2 ^ 31 ≤ modulo (2 ^ 32) (signed_value D a *ℤ signed_value D b) }
     ensures pf { has_parity result.2 ≡ has_parity flags }
     ensures af { has_adjust result.2 ≡ has_adjust flags }
     ensures zf { has_zero result.2 ≡ has_zero flags }
+    ensures sf { has_sign result.2 ≡ has_sign flags }
 {
-    let product = signed_product(a, b);
+    let product = as_signed(Width::D, a) * as_signed(Width::D, b);
     let (low, high) = halves(product);
     (low, high, signed_flags(product, flags))
 }
@@ -61,23 +61,16 @@ pub fn imul_low(a: u32, b: u32, flags: Flags) -> (u32, Flags)
     ensures value { result.0 ≡ modulo (2 ^ 32) (signed_value D a *ℤ signed_value D b) }
     ensures flags { result.1 ≡ signed_product_flags a b flags }
 
-    // The flags one by one: PF, AF and ZF are kept.
+    // The flags one by one: PF, AF, ZF and SF are kept.
     ensures cf { IsTrue (has_carry result.1) ↔ IsOutside D (signed_value D a *ℤ signed_value D b) }
     ensures of { IsTrue (has_overflow result.1) ↔ IsOutside D (signed_value D a *ℤ signed_value D b) }
-    ensures sf { IsTrue (has_sign result.1) ↔ 2 ^ 31 ≤ modulo (2 ^ 32) (signed_value D a *ℤ signed_value D b) }
     ensures pf { has_parity result.1 ≡ has_parity flags }
     ensures af { has_adjust result.1 ≡ has_adjust flags }
     ensures zf { has_zero result.1 ≡ has_zero flags }
+    ensures sf { has_sign result.1 ≡ has_sign flags }
 {
-    let product = signed_product(a, b);
+    let product = as_signed(Width::D, a) * as_signed(Width::D, b);
     (low_word(product), signed_flags(product, flags))
-}
-
-// The product of two signed doublewords.
-fn signed_product(a: u32, b: u32) -> i64
-    ensures { result ≡ signed_value D a *ℤ signed_value D b }
-{
-    as_signed(Width::D, a) * as_signed(Width::D, b)
 }
 
 // What a signed number leaves in two doublewords, low half first.
@@ -91,23 +84,16 @@ fn halves(number: i64) -> (u32, u32)
 
 // The flags of a signed product.
 fn signed_flags(product: i64, flags: Flags) -> Flags
-    ensures flags { result ≡ flags_of_product product flags }
+    ensures flags { result ≡ with_overflow (overflows D product) (with_carry (overflows D product) flags) }
     ensures cf { IsTrue (has_carry result) ↔ IsOutside D product }
     ensures of { IsTrue (has_overflow result) ↔ IsOutside D product }
-    ensures sf { IsTrue (has_sign result) ↔ 2 ^ 31 ≤ modulo (2 ^ 32) product }
     ensures pf { has_parity result ≡ has_parity flags }
     ensures af { has_adjust result ≡ has_adjust flags }
     ensures zf { has_zero result ≡ has_zero flags }
+    ensures sf { has_sign result ≡ has_sign flags }
 {
     let wide = is_outside(Width::D, product);
-    Flags::of(
-        wide,
-        flags.parity(),
-        flags.adjust(),
-        flags.zero(),
-        u64::from(low_word(product)) >= half(Width::D),
-        wide,
-    )
+    flags.with_carry(wide).with_overflow(wide)
 }
 
 /// The quotient and remainder of high and low half by a divisor (SDM volume 2, DIV). `Divide` where the divisor is 0 or

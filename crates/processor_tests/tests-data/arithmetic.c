@@ -10,7 +10,7 @@
  * Each instruction runs twice on each operand: with the six flags clear, and with all of them set. A flag that the manual
  * (SDM volume 2) leaves undefined after an instruction is printed as it was before, which is what this machine does with
  * it: `defined` below has the flags that the manual defines or keeps. The processor has them otherwise: AND, OR, XOR and
- * shifts clear AF, MUL and IMUL write AF, ZF and PF, MUL writes SF, and shifts, and rotations by CL, by more than 1 write OF.
+ * shifts clear AF, MUL and IMUL write AF, ZF, SF and PF, and shifts, and rotations by CL, by more than 1 write OF.
  */
 #include <setjmp.h>
 #include <signal.h>
@@ -204,14 +204,14 @@ static void bits(const char *doc, const char *name, insn run)
     printf("\";\n\n");
 }
 
-static void products(const char *doc, const char *name, insn run, uint32_t defined)
+static void products(const char *doc, const char *name, insn run)
 {
     head(doc, name);
     for (int i = 0; i < 8; i++)
         for (int j = 0; j < 8; j++)
             for (int k = 0; k < 2; k++) {
                 struct after r = run(wide_edges[i], wide_edges[j], flags_before[k]);
-                put(r.value), put(r.high), put(kept(r.flags, flags_before[k], defined));
+                put(r.value), put(r.high), put(kept(r.flags, flags_before[k], CF | OF));
             }
     printf("\";\n\n");
 }
@@ -278,9 +278,9 @@ int main(int count, char **words)
         bits("BTC.", "BTC", btc_d);
     } else {
         about("Results and flags of MUL, IMUL, DIV and IDIV");
-        products("MUL.", "MUL", mul_d, CF | OF);
-        products("IMUL with one operand.", "IMUL", imul_d, CF | SF | OF);
-        pairs("IMUL with two operands.", "IMUL_LOW", imul_low, wide_edges, 8, CF | SF | OF);
+        products("MUL.", "MUL", mul_d);
+        products("IMUL with one operand.", "IMUL", imul_d);
+        pairs("IMUL with two operands.", "IMUL_LOW", imul_low, wide_edges, 8, CF | OF);
         quotients("DIV: whether there is #DE, quotient and remainder.", "DIV", div_d);
         quotients("IDIV: whether there is #DE, quotient and remainder.", "IDIV", idiv_d);
     }

@@ -39,11 +39,11 @@ d1c8; ror eax, 0x1; eax=1 ecx=8021 flags=44; goes eax=80000000 flags=845\n";
 /// Products and quotients in EAX and EDX.
 const PRODUCTS: &str = "\
 f7e1; mul ecx; eax=10000 ecx=10000 edx=9; goes eax=0 edx=1 flags=801\n\
-f7e9; imul ecx; eax=80000000 ecx=ffffffff edx=9; goes eax=80000000 edx=0 flags=881\n\
+f7e9; imul ecx; eax=80000000 ecx=ffffffff edx=9; goes eax=80000000 edx=0 flags=801\n\
 f7f9; idiv ecx; eax=fffffff9 ecx=2 edx=ffffffff; goes eax=fffffffd edx=ffffffff\n\
 f7f1; div ecx; eax=9 ecx=2; goes eax=4 edx=1\n\
 0fafc8; imul ecx, eax; eax=3 ecx=5; goes ecx=f\n\
-6bd0ff; imul edx, eax, 0xffffffff; eax=3 ecx=5 flags=40; goes edx=fffffffd flags=c0\n";
+6bd0ff; imul edx, eax, 0xffffffff; eax=3 ecx=5; goes edx=fffffffd\n";
 
 /// Byte registers and immediates.
 const BYTES: &str = "\

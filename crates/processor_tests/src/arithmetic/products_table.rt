@@ -23,34 +23,34 @@ ffffff80 7f 8d5 ffffff01 fe 801 ffffff01 fe 8d5 80000001 7ffffffe 801 80000001 7
 
 /// IMUL with one operand.
 pub(super) const IMUL: &str = "\
-0 0 0 0 0 54 0 0 0 0 0 54 0 0 0 0 0 54 0 0 0 0 0 54 0 0 0 0 0 54 0 0 0 0 0 54 0 0 0 0 0 54 0 0 0 0 0 54 0 0 0 0 0 \
-54 1 0 0 1 0 54 7f 0 0 7f 0 54 80 0 0 80 0 54 ff 0 0 ff 0 54 7fffffff 0 0 7fffffff 0 54 80000000 ffffffff 80 \
-80000000 ffffffff d4 ffffffff ffffffff 80 ffffffff ffffffff d4 0 0 0 0 0 54 7f 0 0 7f 0 54 3f01 0 0 3f01 0 54 3f80 \
-0 0 3f80 0 54 7e81 0 0 7e81 0 54 7fffff81 3f 801 7fffff81 3f 855 80000000 ffffffc0 881 80000000 ffffffc0 8d5 \
-ffffff81 ffffffff 80 ffffff81 ffffffff d4 0 0 0 0 0 54 80 0 0 80 0 54 3f80 0 0 3f80 0 54 4000 0 0 4000 0 54 7f80 0 \
-0 7f80 0 54 ffffff80 3f 881 ffffff80 3f 8d5 0 ffffffc0 801 0 ffffffc0 855 ffffff80 ffffffff 80 ffffff80 ffffffff d4 \
-0 0 0 0 0 54 ff 0 0 ff 0 54 7e81 0 0 7e81 0 54 7f80 0 0 7f80 0 54 fe01 0 0 fe01 0 54 7fffff01 7f 801 7fffff01 7f \
-855 80000000 ffffff80 881 80000000 ffffff80 8d5 ffffff01 ffffffff 80 ffffff01 ffffffff d4 0 0 0 0 0 54 7fffffff 0 0 \
-7fffffff 0 54 7fffff81 3f 801 7fffff81 3f 855 ffffff80 3f 881 ffffff80 3f 8d5 7fffff01 7f 801 7fffff01 7f 855 1 \
-3fffffff 801 1 3fffffff 855 80000000 c0000000 881 80000000 c0000000 8d5 80000001 ffffffff 80 80000001 ffffffff d4 0 \
-0 0 0 0 54 80000000 ffffffff 80 80000000 ffffffff d4 80000000 ffffffc0 881 80000000 ffffffc0 8d5 0 ffffffc0 801 0 \
-ffffffc0 855 80000000 ffffff80 881 80000000 ffffff80 8d5 80000000 c0000000 881 80000000 c0000000 8d5 0 40000000 801 \
-0 40000000 855 80000000 0 881 80000000 0 8d5 0 0 0 0 0 54 ffffffff ffffffff 80 ffffffff ffffffff d4 ffffff81 \
-ffffffff 80 ffffff81 ffffffff d4 ffffff80 ffffffff 80 ffffff80 ffffffff d4 ffffff01 ffffffff 80 ffffff01 ffffffff \
-d4 80000001 ffffffff 80 80000001 ffffffff d4 80000000 0 881 80000000 0 8d5 1 0 0 1 0 54 ";
+0 0 0 0 0 d4 0 0 0 0 0 d4 0 0 0 0 0 d4 0 0 0 0 0 d4 0 0 0 0 0 d4 0 0 0 0 0 d4 0 0 0 0 0 d4 0 0 0 0 0 d4 0 0 0 0 0 \
+d4 1 0 0 1 0 d4 7f 0 0 7f 0 d4 80 0 0 80 0 d4 ff 0 0 ff 0 d4 7fffffff 0 0 7fffffff 0 d4 80000000 ffffffff 0 \
+80000000 ffffffff d4 ffffffff ffffffff 0 ffffffff ffffffff d4 0 0 0 0 0 d4 7f 0 0 7f 0 d4 3f01 0 0 3f01 0 d4 3f80 0 \
+0 3f80 0 d4 7e81 0 0 7e81 0 d4 7fffff81 3f 801 7fffff81 3f 8d5 80000000 ffffffc0 801 80000000 ffffffc0 8d5 ffffff81 \
+ffffffff 0 ffffff81 ffffffff d4 0 0 0 0 0 d4 80 0 0 80 0 d4 3f80 0 0 3f80 0 d4 4000 0 0 4000 0 d4 7f80 0 0 7f80 0 \
+d4 ffffff80 3f 801 ffffff80 3f 8d5 0 ffffffc0 801 0 ffffffc0 8d5 ffffff80 ffffffff 0 ffffff80 ffffffff d4 0 0 0 0 0 \
+d4 ff 0 0 ff 0 d4 7e81 0 0 7e81 0 d4 7f80 0 0 7f80 0 d4 fe01 0 0 fe01 0 d4 7fffff01 7f 801 7fffff01 7f 8d5 80000000 \
+ffffff80 801 80000000 ffffff80 8d5 ffffff01 ffffffff 0 ffffff01 ffffffff d4 0 0 0 0 0 d4 7fffffff 0 0 7fffffff 0 d4 \
+7fffff81 3f 801 7fffff81 3f 8d5 ffffff80 3f 801 ffffff80 3f 8d5 7fffff01 7f 801 7fffff01 7f 8d5 1 3fffffff 801 1 \
+3fffffff 8d5 80000000 c0000000 801 80000000 c0000000 8d5 80000001 ffffffff 0 80000001 ffffffff d4 0 0 0 0 0 d4 \
+80000000 ffffffff 0 80000000 ffffffff d4 80000000 ffffffc0 801 80000000 ffffffc0 8d5 0 ffffffc0 801 0 ffffffc0 8d5 \
+80000000 ffffff80 801 80000000 ffffff80 8d5 80000000 c0000000 801 80000000 c0000000 8d5 0 40000000 801 0 40000000 \
+8d5 80000000 0 801 80000000 0 8d5 0 0 0 0 0 d4 ffffffff ffffffff 0 ffffffff ffffffff d4 ffffff81 ffffffff 0 \
+ffffff81 ffffffff d4 ffffff80 ffffffff 0 ffffff80 ffffffff d4 ffffff01 ffffffff 0 ffffff01 ffffffff d4 80000001 \
+ffffffff 0 80000001 ffffffff d4 80000000 0 801 80000000 0 8d5 1 0 0 1 0 d4 ";
 
 /// IMUL with two operands.
 pub(super) const IMUL_LOW: &str = "\
-0 0 0 54 0 0 0 54 0 0 0 54 0 0 0 54 0 0 0 54 0 0 0 54 0 0 0 54 0 0 0 54 0 0 0 54 1 0 1 54 7f 0 7f 54 80 0 80 54 ff \
-0 ff 54 7fffffff 0 7fffffff 54 80000000 80 80000000 d4 ffffffff 80 ffffffff d4 0 0 0 54 7f 0 7f 54 3f01 0 3f01 54 \
-3f80 0 3f80 54 7e81 0 7e81 54 7fffff81 801 7fffff81 855 80000000 881 80000000 8d5 ffffff81 80 ffffff81 d4 0 0 0 54 \
-80 0 80 54 3f80 0 3f80 54 4000 0 4000 54 7f80 0 7f80 54 ffffff80 881 ffffff80 8d5 0 801 0 855 ffffff80 80 ffffff80 \
-d4 0 0 0 54 ff 0 ff 54 7e81 0 7e81 54 7f80 0 7f80 54 fe01 0 fe01 54 7fffff01 801 7fffff01 855 80000000 881 80000000 \
-8d5 ffffff01 80 ffffff01 d4 0 0 0 54 7fffffff 0 7fffffff 54 7fffff81 801 7fffff81 855 ffffff80 881 ffffff80 8d5 \
-7fffff01 801 7fffff01 855 1 801 1 855 80000000 881 80000000 8d5 80000001 80 80000001 d4 0 0 0 54 80000000 80 \
-80000000 d4 80000000 881 80000000 8d5 0 801 0 855 80000000 881 80000000 8d5 80000000 881 80000000 8d5 0 801 0 855 \
-80000000 881 80000000 8d5 0 0 0 54 ffffffff 80 ffffffff d4 ffffff81 80 ffffff81 d4 ffffff80 80 ffffff80 d4 ffffff01 \
-80 ffffff01 d4 80000001 80 80000001 d4 80000000 881 80000000 8d5 1 0 1 54 ";
+0 0 0 d4 0 0 0 d4 0 0 0 d4 0 0 0 d4 0 0 0 d4 0 0 0 d4 0 0 0 d4 0 0 0 d4 0 0 0 d4 1 0 1 d4 7f 0 7f d4 80 0 80 d4 ff \
+0 ff d4 7fffffff 0 7fffffff d4 80000000 0 80000000 d4 ffffffff 0 ffffffff d4 0 0 0 d4 7f 0 7f d4 3f01 0 3f01 d4 \
+3f80 0 3f80 d4 7e81 0 7e81 d4 7fffff81 801 7fffff81 8d5 80000000 801 80000000 8d5 ffffff81 0 ffffff81 d4 0 0 0 d4 \
+80 0 80 d4 3f80 0 3f80 d4 4000 0 4000 d4 7f80 0 7f80 d4 ffffff80 801 ffffff80 8d5 0 801 0 8d5 ffffff80 0 ffffff80 \
+d4 0 0 0 d4 ff 0 ff d4 7e81 0 7e81 d4 7f80 0 7f80 d4 fe01 0 fe01 d4 7fffff01 801 7fffff01 8d5 80000000 801 80000000 \
+8d5 ffffff01 0 ffffff01 d4 0 0 0 d4 7fffffff 0 7fffffff d4 7fffff81 801 7fffff81 8d5 ffffff80 801 ffffff80 8d5 \
+7fffff01 801 7fffff01 8d5 1 801 1 8d5 80000000 801 80000000 8d5 80000001 0 80000001 d4 0 0 0 d4 80000000 0 80000000 \
+d4 80000000 801 80000000 8d5 0 801 0 8d5 80000000 801 80000000 8d5 80000000 801 80000000 8d5 0 801 0 8d5 80000000 \
+801 80000000 8d5 0 0 0 d4 ffffffff 0 ffffffff d4 ffffff81 0 ffffff81 d4 ffffff80 0 ffffff80 d4 ffffff01 0 ffffff01 \
+d4 80000001 0 80000001 d4 80000000 801 80000000 8d5 1 0 1 d4 ";
 
 /// DIV: whether there is #DE, quotient and remainder.
 pub(super) const DIV: &str = "\

@@ -1,26 +1,25 @@
 use Rattle.std.proofs.Common.{◌∙◌, ap, rules}
 use Rattle.ia_regs.specs.Flags.{has_carry, has_parity, has_adjust, has_zero, has_sign, has_overflow}
-use Rattle.ia_regs.proofs.Laws.{carry_of, parity_of, adjust_of, zero_of, sign_of, overflow_of}
-use Rattle.ia_alu.proofs.Readings.{reads_le, reads_outside}
+use Rattle.ia_alu.proofs.Readings.{reads_outside, carry_written, overflow_written, parity_kept, adjust_kept, zero_kept, sign_kept}
 use Rattle.ia_alu.proofs.products.signed_flags.Goals as goal
 
 pub returns-clause-flags : goal.returns-clause-flags
 returns-clause-flags c = search rules
 
 pub returns-clause-cf : goal.returns-clause-cf
-returns-clause-cf c = reads_outside _ _ _ (ap has_carry (returns-clause-flags c) ∙ carry_of _ _ _ _ _ _)
+returns-clause-cf c = reads_outside _ _ _ (ap has_carry (returns-clause-flags c) ∙ carry_written _ _ _)
 
 pub returns-clause-of : goal.returns-clause-of
-returns-clause-of c = reads_outside _ _ _ (ap has_overflow (returns-clause-flags c) ∙ overflow_of _ _ _ _ _ _)
-
-pub returns-clause-sf : goal.returns-clause-sf
-returns-clause-sf c = reads_le _ _ _ (ap has_sign (returns-clause-flags c) ∙ sign_of _ _ _ _ _ _)
+returns-clause-of c = reads_outside _ _ _ (ap has_overflow (returns-clause-flags c) ∙ overflow_written _ _ _)
 
 pub returns-clause-pf : goal.returns-clause-pf
-returns-clause-pf c = ap has_parity (returns-clause-flags c) ∙ parity_of _ _ _ _ _ _
+returns-clause-pf c = ap has_parity (returns-clause-flags c) ∙ parity_kept _ _ _
 
 pub returns-clause-af : goal.returns-clause-af
-returns-clause-af c = ap has_adjust (returns-clause-flags c) ∙ adjust_of _ _ _ _ _ _
+returns-clause-af c = ap has_adjust (returns-clause-flags c) ∙ adjust_kept _ _ _
 
 pub returns-clause-zf : goal.returns-clause-zf
-returns-clause-zf c = ap has_zero (returns-clause-flags c) ∙ zero_of _ _ _ _ _ _
+returns-clause-zf c = ap has_zero (returns-clause-flags c) ∙ zero_kept _ _ _
+
+pub returns-clause-sf : goal.returns-clause-sf
+returns-clause-sf c = ap has_sign (returns-clause-flags c) ∙ sign_kept _ _ _
