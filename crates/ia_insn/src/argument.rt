@@ -106,45 +106,66 @@ fn doubleword(role: Role, operand: Operand) -> Argument
     Argument::Operand(role, Width::D, operand)
 }
 
+/// A register or a place, and what is read beside it.
+fn with_source(role: Role, width: Width, to: Operand, from: Operand) -> Arguments
+    ensures { result ≡ two (Argument.Operand role width to) (Argument.Source width from) }
+{
+    two(
+        Argument::Operand(role, width, to),
+        Argument::Source(width, from),
+    )
+}
+
+/// A register of 32 bits, and a register or a place that is read into it.
+fn register_from(role: Role, reg: u8, width: Width, from: Operand) -> Arguments
+    ensures { result ≡ two (Argument.Operand role Width.D (Operand.Reg reg)) (Argument.Operand Role.Read width from) }
+{
+    two(
+        register(role, reg),
+        Argument::Operand(Role::Read, width, from),
+    )
+}
+
+/// A register or a place that is changed, and a register of its width.
+fn with_register(width: Width, to: Operand, role: Role, reg: u8) -> Arguments
+    ensures { result ≡ two (Argument.Operand Role.Changed width to) (Argument.Operand role width (Operand.Reg reg)) }
+{
+    two(
+        Argument::Operand(Role::Changed, width, to),
+        Argument::Operand(role, width, Operand::Reg(reg)),
+    )
+}
+
+/// The three operands of IMUL with a number.
+fn product_by(reg: u8, from: Operand, number: u32) -> Arguments
+    ensures { result ≡ three
+        (Argument.Operand Role.Written Width.D (Operand.Reg reg))
+        (Argument.Operand Role.Read Width.D from)
+        (Argument.Source Width.D (Operand.Imm number)) }
+{
+    three(
+        register(Role::Written, reg),
+        doubleword(Role::Read, from),
+        Argument::Source(Width::D, Operand::Imm(number)),
+    )
+}
+
 impl Op {
     /// The operands, with what is done to each.
     pub fn operands(&self) -> Arguments
         ensures { result ≡ operands_of self.now }
     {
         match *self {
-            Op::Alu(kind, width, to, from) => two(
-                Argument::Operand(alu_role(kind), width, to),
-                Argument::Source(width, from),
-            ),
-            Op::Mov(width, to, from) => two(
-                Argument::Operand(Role::Written, width, to),
-                Argument::Source(width, from),
-            ),
+            Op::Alu(kind, width, to, from) => with_source(alu_role(kind), width, to, from),
+            Op::Mov(width, to, from) => with_source(Role::Written, width, to, from),
             Op::Lea(reg, place) => two(register(Role::Written, reg), Argument::Address(place)),
-            Op::Xchg(width, operand, reg) => two(
-                Argument::Operand(Role::Changed, width, operand),
-                Argument::Operand(Role::Changed, width, Operand::Reg(reg)),
-            ),
+            Op::Xchg(width, to, reg) => with_register(width, to, Role::Changed, reg),
             Op::IncDec(_, width, operand) => one(Argument::Operand(Role::Changed, width, operand)),
-            Op::Test(width, left, right) => two(
-                Argument::Operand(Role::Read, width, left),
-                Argument::Source(width, right),
-            ),
+            Op::Test(width, left, right) => with_source(Role::Read, width, left, right),
             Op::Unary(kind, operand) => one(doubleword(unary_role(kind), operand)),
-            Op::Imul(reg, operand) => {
-                two(
-                    register(Role::Changed, reg),
-                    doubleword(Role::Read, operand),
-                )
-            }
-            Op::ImulImm(reg, operand, number) => three(
-                register(Role::Written, reg),
-                doubleword(Role::Read, operand),
-                Argument::Source(Width::D, Operand::Imm(number)),
-            ),
-            Op::Shift(_, operand, count) => {
-                two(doubleword(Role::Changed, operand), Argument::Count(count))
-            }
+            Op::Imul(reg, from) => register_from(Role::Changed, reg, Width::D, from),
+            Op::ImulImm(reg, from, number) => product_by(reg, from, number),
+            Op::Shift(_, to, count) => two(doubleword(Role::Changed, to), Argument::Count(count)),
             Op::Push(operand) => one(Argument::Source(Width::D, operand)),
             Op::Pop(operand) => one(doubleword(Role::Written, operand)),
             Op::Call(distance) => one(Argument::Near(5, distance)),
@@ -157,24 +178,11 @@ impl Op {
             Op::Jcc(_, distance) => one(Argument::Near(6, distance)),
             Op::JccShort(_, distance) => one(Argument::Short(distance)),
             Op::Setcc(_, operand) => one(Argument::Operand(Role::Written, Width::B, operand)),
-            Op::Cmovcc(_, reg, operand) => {
-                two(
-                    register(Role::Changed, reg),
-                    doubleword(Role::Read, operand),
-                )
-            }
+            Op::Cmovcc(_, reg, from) => register_from(Role::Changed, reg, Width::D, from),
             Op::LoopJump(_, distance) => one(Argument::Short(distance)),
-            Op::Extend(_, reg, operand) => two(
-                register(Role::Written, reg),
-                Argument::Operand(Role::Read, Width::B, operand),
-            ),
-            Op::Exchange(kind, operand, reg) => two(
-                doubleword(Role::Changed, operand),
-                register(exchange_role(kind), reg),
-            ),
-            Op::Bit(kind, operand, number) => {
-                two(doubleword(bit_role(kind), operand), Argument::Byte(number))
-            }
+            Op::Extend(_, reg, from) => register_from(Role::Written, reg, Width::B, from),
+            Op::Exchange(kind, to, reg) => with_register(Width::D, to, exchange_role(kind), reg),
+            Op::Bit(kind, to, bit) => two(doubleword(bit_role(kind), to), Argument::Byte(bit)),
             Op::Nop => NONE,
             Op::NopOf(operand) => one(doubleword(Role::Named, operand)),
             Op::Bare(_) => NONE,
