@@ -8,7 +8,9 @@ ghost use Rattle.ia_form.specs.Forms.{op_of, instruction_of};
 
 use crate::shape::{OperandShape, OperandShapes};
 use ia_insn::{Count, Insn, Mnemonic, Op, Operand, is_encodable};
-use ia_word::{BareOp, Condition, ShiftOp, UnaryOp, Width};
+use ia_word::{
+    AluOp, BareOp, BitOp, Condition, ExchangeOp, ExtendOp, IncDecOp, ShiftOp, UnaryOp, Width,
+};
 
 fn is_same(first: Width, second: Width) -> bool
     ensures { result ≡ same_width first second }
@@ -313,69 +315,129 @@ fn no_operands(kind: BareOp, shapes: OperandShapes) -> Option<Op>
     }
 }
 
+/// ADD to CMP of a destination and a source.
+#[tactic(auto, unfolding(crate::specs::Forms::op_of))]
+fn alu_form(kind: AluOp, shapes: OperandShapes) -> Option<Op>
+    ensures { result ≡ op_of (Mnemonic.Alu kind) shapes }
+{
+    let (width, to, from) = pair(shapes)?;
+    Some(Op::Alu(kind, width, to, from))
+}
+
+/// MOV of a source to a destination.
+#[tactic(auto, unfolding(crate::specs::Forms::op_of))]
+fn mov_form(shapes: OperandShapes) -> Option<Op>
+    ensures { result ≡ op_of Mnemonic.Mov shapes }
+{
+    let (width, to, from) = pair(shapes)?;
+    Some(Op::Mov(width, to, from))
+}
+
+/// INC or DEC of one register or place.
+#[tactic(auto, unfolding(crate::specs::Forms::op_of))]
+fn inc_dec_form(kind: IncDecOp, shapes: OperandShapes) -> Option<Op>
+    ensures { result ≡ op_of (Mnemonic.IncDec kind) shapes }
+{
+    let (width, operand) = sized_operand(shapes)?;
+    Some(Op::IncDec(kind, width, operand))
+}
+
+/// NOT to IDIV of one register or place of 32 bits.
+#[tactic(auto, unfolding(crate::specs::Forms::op_of))]
+fn unary_form(kind: UnaryOp, shapes: OperandShapes) -> Option<Op>
+    ensures { result ≡ op_of (Mnemonic.Unary kind) shapes }
+{
+    let operand = one_operand(Width::D, shapes)?;
+    Some(Op::Unary(kind, operand))
+}
+
+/// POP to one register or place of 32 bits.
+#[tactic(auto, unfolding(crate::specs::Forms::op_of))]
+fn pop_form(shapes: OperandShapes) -> Option<Op>
+    ensures { result ≡ op_of Mnemonic.Pop shapes }
+{
+    let operand = one_operand(Width::D, shapes)?;
+    Some(Op::Pop(operand))
+}
+
+/// SETcc of one register or place of 8 bits.
+#[tactic(auto, unfolding(crate::specs::Forms::op_of))]
+fn setcc_form(condition: Condition, shapes: OperandShapes) -> Option<Op>
+    ensures { result ≡ op_of (Mnemonic.Setcc condition) shapes }
+{
+    let operand = one_operand(Width::B, shapes)?;
+    Some(Op::Setcc(condition, operand))
+}
+
+/// CMOVcc of a source of 32 bits to a register.
+#[tactic(auto, unfolding(crate::specs::Forms::op_of))]
+fn cmovcc_form(condition: Condition, shapes: OperandShapes) -> Option<Op>
+    ensures { result ≡ op_of (Mnemonic.Cmovcc condition) shapes }
+{
+    let (register, from) = load_form(Width::D, shapes)?;
+    Some(Op::Cmovcc(condition, register, from))
+}
+
+/// MOVZX or MOVSX of a source of 8 bits to a register.
+#[tactic(auto, unfolding(crate::specs::Forms::op_of))]
+fn extend_form(kind: ExtendOp, shapes: OperandShapes) -> Option<Op>
+    ensures { result ≡ op_of (Mnemonic.Extend kind) shapes }
+{
+    let (register, from) = load_form(Width::B, shapes)?;
+    Some(Op::Extend(kind, register, from))
+}
+
+/// XADD or CMPXCHG of a destination and a register.
+#[tactic(auto, unfolding(crate::specs::Forms::op_of))]
+fn exchange_form(kind: ExchangeOp, shapes: OperandShapes) -> Option<Op>
+    ensures { result ≡ op_of (Mnemonic.Exchange kind) shapes }
+{
+    let (to, register) = store_form(shapes)?;
+    Some(Op::Exchange(kind, to, register))
+}
+
+/// BT to BTC of a destination and a number.
+#[tactic(auto, unfolding(crate::specs::Forms::op_of))]
+fn bit_form(kind: BitOp, shapes: OperandShapes) -> Option<Op>
+    ensures { result ≡ op_of (Mnemonic.Bit kind) shapes }
+{
+    let operand = number_form(shapes)?;
+    Some(Op::Bit(kind, operand, 0))
+}
+
 /// The operation that a mnemonic and operands of these shapes write.
 #[tactic(auto, unfolding(crate::specs::Forms::op_of))]
 fn op(mnemonic: Mnemonic, shapes: OperandShapes) -> Option<Op>
     ensures { result ≡ op_of mnemonic shapes }
 {
     match mnemonic {
-        Mnemonic::Alu(kind) => {
-            let (width, to, from) = pair(shapes)?;
-            Some(Op::Alu(kind, width, to, from))
-        }
-        Mnemonic::Mov => {
-            let (width, to, from) = pair(shapes)?;
-            Some(Op::Mov(width, to, from))
-        }
+        Mnemonic::Alu(kind) => alu_form(kind, shapes),
+        Mnemonic::Mov => mov_form(shapes),
         Mnemonic::Lea => lea_form(shapes),
         Mnemonic::Xchg => {
             let (width, operand, register) = xchg_form(shapes)?;
             Some(Op::Xchg(width, operand, register))
         }
-        Mnemonic::IncDec(kind) => {
-            let (width, operand) = sized_operand(shapes)?;
-            Some(Op::IncDec(kind, width, operand))
-        }
+        Mnemonic::IncDec(kind) => inc_dec_form(kind, shapes),
         Mnemonic::Test => {
             let (width, left, right) = test_form(shapes)?;
             Some(Op::Test(width, left, right))
         }
-        Mnemonic::Unary(kind) => {
-            let operand = one_operand(Width::D, shapes)?;
-            Some(Op::Unary(kind, operand))
-        }
+        Mnemonic::Unary(kind) => unary_form(kind, shapes),
         Mnemonic::Imul => imul_form(shapes),
         Mnemonic::Shift(kind) => shift_form(kind, shapes),
         Mnemonic::Push => push_form(shapes),
-        Mnemonic::Pop => {
-            let operand = one_operand(Width::D, shapes)?;
-            Some(Op::Pop(operand))
-        }
+        Mnemonic::Pop => pop_form(shapes),
         Mnemonic::Call => call_form(shapes),
         Mnemonic::Ret => ret_form(shapes),
         Mnemonic::Jmp => jmp_form(shapes),
         Mnemonic::Jcc(condition) => jcc_form(condition, shapes),
-        Mnemonic::Setcc(condition) => {
-            let operand = one_operand(Width::B, shapes)?;
-            Some(Op::Setcc(condition, operand))
-        }
-        Mnemonic::Cmovcc(condition) => {
-            let (register, from) = load_form(Width::D, shapes)?;
-            Some(Op::Cmovcc(condition, register, from))
-        }
+        Mnemonic::Setcc(condition) => setcc_form(condition, shapes),
+        Mnemonic::Cmovcc(condition) => cmovcc_form(condition, shapes),
         Mnemonic::LoopJump(kind) => with_number(Op::LoopJump(kind, 0), shapes),
-        Mnemonic::Extend(kind) => {
-            let (register, from) = load_form(Width::B, shapes)?;
-            Some(Op::Extend(kind, register, from))
-        }
-        Mnemonic::Exchange(kind) => {
-            let (to, register) = store_form(shapes)?;
-            Some(Op::Exchange(kind, to, register))
-        }
-        Mnemonic::Bit(kind) => {
-            let operand = number_form(shapes)?;
-            Some(Op::Bit(kind, operand, 0))
-        }
+        Mnemonic::Extend(kind) => extend_form(kind, shapes),
+        Mnemonic::Exchange(kind) => exchange_form(kind, shapes),
+        Mnemonic::Bit(kind) => bit_form(kind, shapes),
         Mnemonic::Nop => nop_form(shapes),
         Mnemonic::Xbegin => with_number(Op::Xbegin(0), shapes),
         Mnemonic::Xabort => with_number(Op::Xabort(0), shapes),
