@@ -30,9 +30,7 @@ fn put_op(out: &mut Bytes, wide: Wide, op: &Op)
         Op::Alu(kind, width, to, from) => put_alu(out, wide, *kind, *width, to, from),
         Op::Mov(width, to, from) => put_mov(out, wide, *width, to, from),
         Op::Lea(reg, place) => put_form(out, wide, 0x8d, *reg, &Operand::Mem(*place)),
-        Op::Xchg(width, operand, reg) => {
-            put_form(out, wide, 0x86 + width_bit(*width), *reg, operand);
-        }
+        Op::Xchg(width, to, reg) => put_form(out, wide, 0x86 + width_bit(*width), *reg, to),
         Op::IncDec(kind, width, operand) => put_inc_dec(out, wide, *kind, *width, operand),
         Op::Test(width, left, right) => put_test(out, wide, *width, left, right),
         Op::Unary(kind, operand) => put_form(out, wide, 0xf7, unary_number(*kind), operand),
@@ -52,19 +50,13 @@ fn put_op(out: &mut Bytes, wide: Wide, op: &Op)
             put_near(out, &[0x0f, 0x80 + condition.number()], *distance);
         }
         Op::JccShort(condition, distance) => put_short(out, 0x70 + condition.number(), *distance),
-        Op::Setcc(condition, operand) => {
-            put_form_0f(out, wide, 0x90 + condition.number(), 0, operand);
-        }
+        Op::Setcc(condition, to) => put_form_0f(out, wide, 0x90 + condition.number(), 0, to),
         Op::Cmovcc(condition, reg, operand) => {
             put_form_0f(out, wide, 0x40 + condition.number(), *reg, operand);
         }
         Op::LoopJump(kind, distance) => put_short(out, loop_opcode(*kind), *distance),
-        Op::Extend(kind, reg, operand) => {
-            put_form_0f(out, wide, extend_opcode(*kind), *reg, operand);
-        }
-        Op::Exchange(kind, operand, reg) => {
-            put_form_0f(out, wide, exchange_opcode(*kind), *reg, operand);
-        }
+        Op::Extend(kind, reg, from) => put_form_0f(out, wide, extend_opcode(*kind), *reg, from),
+        Op::Exchange(kind, to, reg) => put_form_0f(out, wide, exchange_opcode(*kind), *reg, to),
         Op::Bit(kind, operand, number) => put_bit(out, wide, *kind, operand, *number),
         Op::Nop => out.push(0x90),
         Op::NopOf(operand) => put_form_0f(out, wide, 0x1f, 0, operand),
