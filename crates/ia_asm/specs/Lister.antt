@@ -18,7 +18,8 @@ row_line (Some r) = Some r.line
 -- the lines that a row with these bytes so far begins, with the places behind
 abbrev pub pending : Env → Option ListingRow → List ℕ → List EntryPlace → List ℕ
 pending env None bytes ps = lines_from env None ps
-pending env (Some r) bytes ps = bytes_lines r.at (bytes ++ rest_of_line env r.line ps) ++ lines_from env (Some r.line) ps
+pending env (Some r) bytes ps =
+    bytes_lines r.at (bytes ++ rest_of_line env r.line ps) ++ lines_from env (Some r.line) ps
 
 -- the lines so far, and those of the places behind
 abbrev pub listing_with : Lister → List EntryPlace → List ℕ

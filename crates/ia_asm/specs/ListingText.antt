@@ -1,6 +1,7 @@
--- The listing: a line for each instruction, and the lines of each line of `db` or `dd`, each `resb` and each `align`, in
--- the order of the source (docs/FORMATS.md, "Listing").
-use Rattle.std.specs.Prelude.{ℕ, ◌+◌, ◌*◌, ◌/◌, ◌%◌, ◌^◌, Bool, true, false, ◌==◌, ◌&&◌, if◌then◌else◌, Option, Some, None, List, []}
+-- The listing: a line for each instruction, and the lines of each line of `db` or `dd`, each `resb` and each `align`,
+-- in the order of the source (docs/FORMATS.md, "Listing").
+use Rattle.std.specs.Prelude.{ℕ, ◌+◌, ◌*◌, ◌/◌, ◌%◌, ◌^◌, Bool, true, false, ◌==◌, ◌&&◌, if◌then◌else◌, Option, Some}
+use Rattle.std.specs.Prelude.{None, List, []}
 use Rattle.std.specs.Prelude.{◌∷◌, ◌++◌, codes, drop, length, take}
 use Rattle.std.specs.List.{flat_map, range_with_len}
 use Rattle.hex.specs.Hex.{encode_lower}

@@ -43,7 +43,8 @@ abbrev pub AreRising : List ℕ → ℕ → List Diagnosis → ℕ → Type 0
 AreRising text least [] end = least ≤ end
 AreRising text least (d ∷ ds) end = (least ≤ turn d.fault) × IsPlaced text d × AreRising text (turn d.fault + 1) ds end
 
--- the first is the fault that assembling tells; there is none where the text is assembled, or the told line is not there
+-- the first is the fault that assembling tells; there is none where the text is assembled,
+-- or the told line is not there
 abbrev pub BeginsWell : List ℕ → List Diagnosis → Type 0
 BeginsWell text [] = HasProgram text ⊎ ((f : AsmFault) × RefusedAs text f × HasNoLine text f)
 BeginsWell text (d ∷ ds) = RefusedAs text d.fault
@@ -59,7 +60,8 @@ pub record AreDiagnoses (text : List ℕ) (ds : List Diagnosis) : Type 0 where
 abbrev pub Extends : List ℕ → List Diagnosis → ℕ → List Diagnosis → ℕ → Type 0
 Extends text before least after next =
     ((after ≡ before) × (next ≡ least))
-    ⊎ ((d : Diagnosis) × IsPlaced text d × (least ≤ turn d.fault) × (after ≡ before ++ d ∷ []) × (next ≡ turn d.fault + 1))
+    ⊎ ((d : Diagnosis) × IsPlaced text d × (least ≤ turn d.fault)
+    × (after ≡ before ++ d ∷ []) × (next ≡ turn d.fault + 1))
 
 -- those that were told so far, at least one, where others may follow from this turn on
 pub record Course (text : List ℕ) (ds : List Diagnosis) (least : ℕ) : Type 0 where

@@ -18,7 +18,8 @@ use Rattle.ia_insn.specs.declared.operand.Operand.TheVariants.{Reg, Imm, Mem as 
 use Rattle.ia_insn.specs.Operands.{word}
 use Rattle.ia_insn.specs.Spelling.{lockable}
 use Rattle.ia_insn.specs.Writing.{fits_mem, fits_operand, is_signed_byte, operand_bytes}
-use Rattle.ia_insn.specs.Operations.{alu_number, shift_number, bit_number, unary_number, inc_dec_number, extend_opcode, exchange_opcode, loop_opcode, bare_bytes}
+use Rattle.ia_insn.specs.Operations.{alu_number, shift_number, bit_number, unary_number, inc_dec_number, extend_opcode}
+use Rattle.ia_insn.specs.Operations.{exchange_opcode, loop_opcode, bare_bytes}
 
 -- 0 at bytes, 1 at doublewords
 abbrev pub width_bit : Width → ℕ

@@ -6,7 +6,8 @@ use Rattle.ia_insn.specs.declared.op.Op.{Op}
 use Rattle.ia_insn.specs.declared.op.Op.TheVariants as op
 use Rattle.ia_insn.specs.declared.mnemonic.Mnemonic.{Mnemonic}
 use Rattle.ia_insn.specs.declared.mnemonic.Mnemonic.TheVariants as name
-use Rattle.ia_insn.specs.Operations.{alu_name, inc_dec_name, unary_name, shift_name, loop_name, extend_name, exchange_name, bit_name, bare_name, condition_name}
+use Rattle.ia_insn.specs.Operations.{alu_name, inc_dec_name, unary_name, shift_name, loop_name, extend_name}
+use Rattle.ia_insn.specs.Operations.{exchange_name, bit_name, bare_name, condition_name}
 
 -- IMUL has one name for all of its forms
 abbrev pub unary_mnemonic : UnaryOp → Mnemonic

@@ -70,7 +70,8 @@ AreGiven env (x ∷ xs) = GivesItem env x xs x.entry.item × AreGiven env xs
 
 -- these bytes at this address, so many of them code, are the entries' items: those of `.text` from the address on, and
 -- those of `.data` from the next multiple of 64 on, with zeros between
-pub record IsPlacement (es : List Entry) (base code_len : ℕ) (image : List ℕ) (symbols : List (Symbol × ℤ)) : Type 0 where
+pub record IsPlacement (es : List Entry) (base code_len : ℕ) (image : List ℕ) (symbols : List (Symbol × ℤ))
+    : Type 0 where
   pub items : List PlacedItem
   pub tail : ℕ
   pub entries : map (λ (x : PlacedItem). x.entry) items ≡ es

@@ -18,7 +18,8 @@ pub record IsNaming (naming : Naming) (names : Names) : Type 0 where
 
 -- the symbol has this name
 abbrev pub IsNamed : Names → Symbol → List ℕ → Type 0
-IsNamed names s name = (s.number < length (wholes names.nodes.keys)) × (get_or (wholes names.nodes.keys) s.number [] ≡ name)
+IsNamed names s name =
+    (s.number < length (wholes names.nodes.keys)) × (get_or (wholes names.nodes.keys) s.number [] ≡ name)
 
 -- the names of the numbers stay
 abbrev pub Grows : Names → Names → Type 0

@@ -1,5 +1,6 @@
 -- The tree of names, node by node.
-use Rattle.std.specs.Prelude.{◌≡◌, ℕ, ◌+◌, ◌<◌, Bool, true, false, not, ◌&&◌, ◌||◌, ◌==◌, List, [], ◌∷◌, ◌++◌, get_or, length}
+use Rattle.std.specs.Prelude.{◌≡◌, ℕ, ◌+◌, ◌<◌, Bool, true, false, not, ◌&&◌, ◌||◌, ◌==◌, List, [], ◌∷◌, ◌++◌, get_or}
+use Rattle.std.specs.Prelude.{length}
 use Rattle.std.specs.List.{fold, list_any}
 use Rattle.ia_names.specs.declared.node.Node.{Node}
 
@@ -10,8 +11,8 @@ abbrev pub is_empty : List ℕ → Bool
 is_empty [] = true
 is_empty (b ∷ bs) = false
 
--- what stands behind a name as its last part: some letters, of which the first alone may be a dot, and is one unless the
--- name has no letters
+-- what stands behind a name as its last part: some letters, of which the first alone may be a dot, and is one unless
+-- the name has no letters
 abbrev pub is_part : List ℕ → List ℕ → Bool
 is_part front [] = false
 is_part front (b ∷ bs) = not (has_dot bs) && ((b == 46) || is_empty front)
@@ -19,8 +20,8 @@ is_part front (b ∷ bs) = not (has_dot bs) && ((b == 46) || is_empty front)
 abbrev pub with_whole : List (List ℕ) → Node → List (List ℕ)
 with_whole names n = names ++ (get_or names n.parent [] ++ n.part.now) ∷ []
 
--- the whole names by their numbers: 0 is the name without letters, and each node adds the name of its parent with its part
--- behind it
+-- the whole names by their numbers: 0 is the name without letters, and each node adds the name of its parent with its
+-- part behind it
 abbrev pub wholes : List Node → List (List ℕ)
 wholes nodes = fold with_whole ([] ∷ []) nodes
 

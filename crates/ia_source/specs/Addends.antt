@@ -17,8 +17,8 @@ abbrev pub after_piece : Bool → Option (Piece × ℕ) → (ℕ → List Addend
 after_piece negative None more = []
 after_piece negative (Some p) more = record { negative = negative; piece = p.0 } ∷ more (p.1 - 1)
 
--- The addends of tokens up to the closing bracket, the first so many of which belong to the piece before: behind a sign,
--- or behind a piece.
+-- The addends of tokens up to the closing bracket, the first so many of which belong to the piece before: behind a
+-- sign, or behind a piece.
 abbrev pub addends_from : ℕ → Option Bool → List Lexeme → List Addend
 addends_from skip sign [] = []
 addends_from (suc skip) sign (t ∷ ts) = addends_from skip sign ts

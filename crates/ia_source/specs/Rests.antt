@@ -16,4 +16,5 @@ entries_with r rest names es =
 
 -- the lines that are left ask for these entries, by any naming that has the names behind them
 abbrev pub LeftAs : Rest → Names → Names → List Entry → Type 0
-LeftAs rest old new es = (r : Reading) → IsNaming r.naming new → entries_with r rest old [] ≡ Ok (map (entry_content r) es)
+LeftAs rest old new es =
+    (r : Reading) → IsNaming r.naming new → entries_with r rest old [] ≡ Ok (map (entry_content r) es)

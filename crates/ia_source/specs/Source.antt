@@ -1,5 +1,6 @@
 -- What a source asks for, line by line, or the first line that is wrong.
-use Rattle.std.specs.Prelude.{◌≡◌, ℕ, Bool, true, false, if◌then◌else◌, Option, Some, None, option_map, List, [], ◌∷◌, ◌++◌, map}
+use Rattle.std.specs.Prelude.{◌≡◌, ℕ, Bool, true, false, if◌then◌else◌, Option, Some, None, option_map, List, [], ◌∷◌}
+use Rattle.std.specs.Prelude.{◌++◌, map}
 use Rattle.std.specs.Prelude.{Result, Ok, Err}
 use Rattle.std.specs.List.{list_any}
 use Rattle.std.specs.Str.{bytes_eq}
@@ -100,7 +101,8 @@ entries_of source = lines_onto first_content (lines_of source)
 abbrev pub names_content : {S : Type 0} → Naming → IndexSet Symbol S → List (List ℕ)
 names_content naming symbols = map (λ (s : Symbol). naming s.number) symbols.keys
 
-abbrev pub source_content : {S : Type 0} → Reading → SourceState → Names → IndexSet Symbol S → List Entry → SourceContent
+abbrev pub source_content : {S : Type 0}
+    → Reading → SourceState → Names → IndexSet Symbol S → List Entry → SourceContent
 source_content r state names symbols es = record {
   at = state_content names.scope.text.now state;
   names = names_content r.naming symbols;
@@ -111,8 +113,8 @@ source_content r state names symbols es = record {
 abbrev pub ReadsAs : List ℕ → Names → List Entry → Type 0
 ReadsAs source names es = (r : Reading) → IsNaming r.naming names → entries_of source ≡ Ok (map (entry_content r) es)
 
--- the lines of the source ask for these entries: by the letters of their definitions, and by the names of their symbols,
--- no two of which are the same
+-- the lines of the source ask for these entries: by the letters of their definitions, and by the names of their
+-- symbols, no two of which are the same
 pub record AsksFor (source : List ℕ) (es : List Entry) : Type 0 where
   pub naming : Naming
   pub one_to_one : IsOneToOne naming

@@ -1,6 +1,7 @@
 -- A buffer as its callers see it: a map from addresses to bytes, and the lines of these bytes.
 use Rattle.std.specs.Prelude.{ℕ, ◌≡◌, ◌+◌, ◌<◌, ◌==◌, Bool, List, [], ◌∷◌, ◌++◌, map, length, refl, Option, Some, None}
-use Rattle.std.specs.Prelude.{IsSome, is_some, if◌then◌else◌, nat_eq, option_map, unwrap_or, slice_index, slice_index_or}
+use Rattle.std.specs.Prelude.{IsSome, is_some, if◌then◌else◌, nat_eq, option_map, unwrap_or, slice_index}
+use Rattle.std.specs.Prelude.{slice_index_or}
 use Rattle.std.specs.List.{range_with_len}
 use Rattle.std.specs.Ordering.{nat_cmp}
 use Rattle.std.specs.Coded.{Coded, code_by, coded×, coded_ℕ, coded_list}
@@ -16,8 +17,8 @@ Bytes = bytes_map.FinMap nat_cmp ℕ
 abbrev pub Lines : Type 0
 Lines = set.FinSet nat_cmp
 
--- the stored bytes, the lines that they are on in the order of each line's first store, the slot that each of these lines
--- holds, and how many lines there is room for
+-- the stored bytes, the lines that they are on in the order of each line's first store, the slot that each of these
+-- lines holds, and how many lines there is room for
 pub record BufferValue : Type 0 where
   pub bytes : Bytes
   pub order : List ℕ
@@ -76,7 +77,8 @@ with_lines order (l ∷ ls) = with_lines (with_line order l) ls
 abbrev pub Keep : List ℕ → List ℕ → Type 0
 Keep before after = (slot : ℕ) → IsSome (place_of before slot) → place_of after slot ≡ place_of before slot
 
--- The slot given for a line is below the room. Where the line is new the slot is not in use, and else the line holds it.
+-- The slot given for a line is below the room. Where the line is new the slot is not in use,
+-- and else the line holds it.
 abbrev pub IsSlotOf : BufferValue → ℕ → Option ℕ → Type 0
 IsSlotOf buffer line None = ⊥
 IsSlotOf buffer line (Some slot) = (slot < buffer.room) × (place_of buffer.order line ≡ place_of buffer.slots slot)
