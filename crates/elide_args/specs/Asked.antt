@@ -14,7 +14,8 @@ use Rattle.elide_args.specs.declared.subcommand.SessionOptions.{SessionOptions}
 use Rattle.elide_args.specs.declared.subcommand.StatsOptions.{StatsOptions}
 use Rattle.elide_args.specs.declared.subcommand.Subcommand.{Subcommand}
 use Rattle.elide_args.specs.declared.subcommand.ThreadsOptions.{ThreadsOptions}
-use Rattle.elide_args.specs.declared.subcommand.Subcommand.TheVariants.{Asm, Dis, Run, Threads, Replay, Debug, Gdb, Hunt}
+use Rattle.elide_args.specs.declared.subcommand.Subcommand.TheVariants.{Asm, Dis, Run, Threads, Replay, Debug, Gdb}
+use Rattle.elide_args.specs.declared.subcommand.Subcommand.TheVariants.{Hunt}
 use Rattle.elide_args.specs.declared.subcommand.Subcommand.TheVariants.{Outcomes, Stats, Draw, Explain}
 
 -- the flag of this name: false, unless clap read `true` of it

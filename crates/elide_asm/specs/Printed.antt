@@ -35,7 +35,8 @@ Prints printed before after = (text : List ℕ) × printed text × Wrote before 
 abbrev pub RefusesSource : List ℕ → (List ℕ → Type 0) → Device → Device → ProgramRefusal → Type 0
 RefusesSource source printed before after why =
     ((f : AsmFault) × (why ≡ refusal.Fault (fault.Assemble f)) × RefusedAs source f × (after ≡ before))
-    ⊎ ((f : WriteFault) × (why ≡ refusal.Fault (fault.Write f)) × (text : List ℕ) × printed text × Stopped before after text)
+    ⊎ ((f : WriteFault) × (why ≡ refusal.Fault (fault.Write f))
+    × (text : List ℕ) × printed text × Stopped before after text)
 
 -- FILE holds a source, and its image text or its listing was written
 abbrev pub PrintsAssembly : Option (List ℕ) → Bool → Device → Device → Type 0

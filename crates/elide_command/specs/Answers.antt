@@ -1,4 +1,5 @@
--- What a command that was not refused came to, and the exit status by which that is told (docs/FORMATS.md, "Options of the command line").
+-- What a command that was not refused came to, and the exit status by which that is told (docs/FORMATS.md, "Options of
+-- the command line").
 use Rattle.std.specs.Prelude.{◌≡◌, ℕ, Result, Ok, Err, MatchResult}
 use Rattle.elide_hunt.specs.declared.command.Answer.{Answer as Hunted}
 use Rattle.elide_hunt.specs.declared.command.Answer.TheVariants as hunted

@@ -15,8 +15,8 @@ use Rattle.elide_session.specs.ElideSetup.Terminals.{Terminals}
 abbrev pub manner_at : Terminals → Manner
 manner_at terminals = if terminals.input && terminals.output then Spoken else Plain
 
--- what was written are the answers to the input with that board, by the symbols of the program that the content of FILE is
--- read as, along some plan, which has no step where no schedule is asked for, and this is left of the input
+-- what was written are the answers to the input with that board, by the symbols of the program that the content of FILE
+-- is read as, along some plan, which has no step where no schedule is asked for, and this is left of the input
 pub record IsServed (options : SessionOptions) (terminals : Terminals) (content input left : Option (List ℕ))
     (old new : Device) : Type 0 where
   pub first : Board
@@ -28,4 +28,5 @@ pub record IsServed (options : SessionOptions) (terminals : Terminals) (content 
   pub labels : List Symbol
   pub manner : Manner
   pub speaks : manner ≡ manner_at terminals
-  pub answers : BehindPrompt manner old (λ begun. ServesInput input left (start_in manner plan symbols labels first) begun new last)
+  pub answers : BehindPrompt manner old
+      (λ begun. ServesInput input left (start_in manner plan symbols labels first) begun new last)

@@ -51,7 +51,8 @@ pub record BeginsWithWord (text word rest : List ℕ) : Type 0 where
 abbrev pub SaysItems : ProgramFile → List ℕ → List Item → Type 0
 SaysItems file text [] = NoCharPasses is_not_whitespace text
 SaysItems file text (item ∷ items) =
-    (word : List ℕ) × (rest : List ℕ) × BeginsWithWord text word rest × IsItem file word item × SaysItems file rest items
+    (word : List ℕ) × (rest : List ℕ)
+    × BeginsWithWord text word rest × IsItem file word item × SaysItems file rest items
 
 -- ---- the option
 

@@ -1,5 +1,5 @@
--- What `elide outcomes` prints (docs/FORMATS.md, "Outcomes"): the lines of what a search over all schedules of FILE's program found,
--- and how much that is.
+-- What `elide outcomes` prints (docs/FORMATS.md, "Outcomes"): the lines of what a search over all schedules of FILE's
+-- program found, and how much that is.
 use Rattle.std.specs.Prelude.{◌≡◌, ℕ, ◌≤◌, ◌++◌, Bool, List, length, Option, Some, if◌then◌else◌}
 use Rattle.std.specs.Io.KnownBytes.{Appends}
 use Rattle.std.specs.Option.{option_copied}
@@ -19,7 +19,8 @@ use Rattle.elide_outcomes.specs.declared.command.Answer.TheVariants.{Cut, Whole}
 
 -- ---- what is searched
 
--- the machine is the one that a file was made into, and what is shown of it is what `--show` says, by the file's symbols
+-- the machine is the one that a file was made into, and what is shown of it is what `--show` says,
+-- by the file's symbols
 pub record IsTrialOf (file : ProgramFile) (setup : Setup) (show : Option (List ℕ)) (trial : Trial) : Type 0 where
   pub program : trial.program.now ≡ setup.program
   pub limits : trial.limits ≡ setup.limits
@@ -35,8 +36,8 @@ pub record IsLimit (option : Option (List ℕ)) (most : ℕ) : Type 0 where
 abbrev pub answer_of : Bool → Answer
 answer_of is_cut = if is_cut then Cut else Whole
 
--- what is shown is there, a line for each outcome that a search found and the line of counts were written, and the answer is `Cut`
--- just where its limit ended it
+-- what is shown is there, a line for each outcome that a search found and the line of counts were written, and the
+-- answer is `Cut` just where its limit ended it
 pub record IsTold (trial : Trial) (most : ℕ) (answer : Answer) (before after : Option (List ℕ)) : Type 0 where
   pub there : AreThere trial
   pub search : Search

@@ -7,7 +7,8 @@ use Rattle.ia_image.specs.ImageText.{image_fault_line, image_fault_number}
 use Rattle.ia_image.specs.Load as load
 use Rattle.ia_image.specs.declared.fault.LoadFault.TheVariants as want
 use Rattle.elide_program.specs.declared.fault.ProgramFault.{ProgramFault}
-use Rattle.elide_program.specs.declared.fault.ProgramFault.TheVariants.{Write, Assemble, Image, Elf, Load, Input, TooLong}
+use Rattle.elide_program.specs.declared.fault.ProgramFault.TheVariants.{Write, Assemble, Image, Elf, Load, Input}
+use Rattle.elide_program.specs.declared.fault.ProgramFault.TheVariants.{TooLong}
 use Rattle.elide_program.specs.declared.paths.ReadFault.{ReadFault}
 use Rattle.elide_program.specs.declared.paths.ReadFault.TheVariants as read
 

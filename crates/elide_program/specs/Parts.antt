@@ -17,6 +17,7 @@ pub record IsDump (file : ProgramFile) (text : List ℕ) (dump : Dump) : Type 0 
   pub length : word32 count ≡ Some dump.length
 
 -- each option has its part, in their order
-pub record AreParts (file : ProgramFile) (parts_asked values_asked : List (Bor (List ℕ))) (parts : MemoryParts) : Type 0 where
+pub record AreParts (file : ProgramFile) (parts_asked values_asked : List (Bor (List ℕ))) (parts : MemoryParts)
+    : Type 0 where
   pub dumps : AllZip (λ text dump. IsDump file text.now dump) parts_asked parts.dumps.items
   pub values : AllZip (λ text address. IsSum file text.now (Some address)) values_asked parts.values.items

@@ -1,5 +1,6 @@
 -- What a program's file says: image text, an executable in ELF, or a source.
-use Rattle.std.specs.Prelude.{◌≡◌, ◌≢◌, ◌+◌, ◌<◌, ℕ, Bool, true, false, List, length, Option, Some, None, Ok, codes, nat_eq}
+use Rattle.std.specs.Prelude.{◌≡◌, ◌≢◌, ◌+◌, ◌<◌, ℕ, Bool, true, false, List, length, Option, Some, None, Ok, codes}
+use Rattle.std.specs.Prelude.{nat_eq}
 use Rattle.std.specs.List.{starts_with}
 use Rattle.ia_asm.specs.Assembles.{AssemblesImage}
 use Rattle.ia_asm.specs.Assemblies.{known_as}

@@ -30,8 +30,8 @@ BeginsWithSign bytes = 0 < length bytes → is_sign (slice_index bytes 0) ≡ tr
 abbrev pub HasNoSign : List ℕ → Type 0
 HasNoSign bytes = (k : ℕ) → k < length bytes → is_sign (slice_index bytes k) ≡ false
 
--- the value modulo 2^32 of what stands behind a sign: of a term alone, or of a term and what stands behind the next sign; none
--- where a term is neither a number nor a symbol
+-- the value modulo 2^32 of what stands behind a sign: of a term alone, or of a term and what stands behind the next
+-- sign; none where a term is neither a number nor a symbol
 pub data IsSumBehind (file : ProgramFile) : ℕ → List ℕ → Option ℕ → Type 0 where
   alone : {sign : ℕ} {term : List ℕ} {value : ℕ} → HasNoSign term → IsTerm file term (Some value)
       → IsSumBehind file sign term (Some (signed sign value % 2 ^ 32))

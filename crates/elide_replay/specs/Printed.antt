@@ -1,5 +1,5 @@
--- What `elide replay` prints (docs/FORMATS.md, "Printed lines"): the state of the machine that the schedule's steps made of FILE's
--- program, what is asked for of memory, and whether the second run ended alike.
+-- What `elide replay` prints (docs/FORMATS.md, "Printed lines"): the state of the machine that the schedule's steps
+-- made of FILE's program, what is asked for of memory, and whether the second run ended alike.
 use Rattle.std.specs.Prelude.{◌≡◌, ℕ, false, List, [], ◌++◌, Option}
 use Rattle.std.specs.Io.KnownBytes.{Appends}
 use Rattle.elide_args.specs.declared.subcommand.ReplayOptions.{ReplayOptions}
@@ -13,8 +13,10 @@ use Rattle.elide_replay.specs.Replayed.{IsBoardOf, cores_stepped}
 use Rattle.elide_replay.specs.Told.{agreement_text}
 use Rattle.elide_replay.specs.declared.agreement.Agreement.TheVariants.{Agrees}
 
--- the state, and below it what the second run came to, and above both the lines of aborts with their reasons, where these are asked for
-pub record IsTold (setup : Setup) (options : ReplayOptions) (board : Board) (before after : Option (List ℕ)) : Type 0 where
+-- the state, and below it what the second run came to, and above both the lines of aborts with their reasons, where
+-- these are asked for
+pub record IsTold (setup : Setup) (options : ReplayOptions) (board : Board) (before after : Option (List ℕ))
+    : Type 0 where
   pub law : IsHistory board
   pub lines : List ℕ
   pub unexplained : options.explains ≡ false → lines ≡ []
@@ -23,7 +25,8 @@ pub record IsTold (setup : Setup) (options : ReplayOptions) (board : Board) (bef
   pub wrote : Appends before after (lines ++ (shown_text board.machine memory ++ agreement_text Agrees))
 
 -- the board is one of the options and of what FILE's content is read as, and made the steps of their schedule
-pub record IsPrinted (content : List ℕ → Option (List ℕ)) (options : ReplayOptions) (before after : Option (List ℕ)) : Type 0 where
+pub record IsPrinted (content : List ℕ → Option (List ℕ)) (options : ReplayOptions) (before after : Option (List ℕ))
+    : Type 0 where
   pub setup : Setup
   pub asked : IsAsked (content options.machine.file.now) options.machine setup
   pub board : Board

@@ -1,5 +1,5 @@
--- What `elide run --expect-halt` tells of a machine (docs/FORMATS.md, "Options of the command line"): a line a core that has not
--- stopped, and whether there is one.
+-- What `elide run --expect-halt` tells of a machine (docs/FORMATS.md, "Options of the command line"): a line a core
+-- that has not stopped, and whether there is one.
 use Rattle.std.specs.Prelude.{ℕ, Bool, List, [], ◌++◌, codes, if◌then◌else◌, is_some, length}
 use Rattle.std.specs.List.{flat_map, list_all, range_with_len}
 use Rattle.ia_text.specs.Number.{eight_digits}
@@ -14,7 +14,8 @@ is_stopped machine core = is_some (stop_shown (view_at machine core).mode)
 
 -- the line of a core that has not, and the address at which it is
 unfoldable pub running_line : ℕ → ℕ → List ℕ
-running_line core eip = codes "core " ++ number_text core ++ codes " has not stopped: eip=" ++ eight_digits eip ++ line_end
+running_line core eip =
+    codes "core " ++ number_text core ++ codes " has not stopped: eip=" ++ eight_digits eip ++ line_end
 
 -- that of a core of a machine, where it has not stopped
 abbrev pub running_text : Machine → ℕ → List ℕ
@@ -26,7 +27,8 @@ halt_lines machine = flat_map (running_text machine) (range_with_len 0 (length m
 
 -- `RunsOn` exactly where a core has not stopped
 abbrev pub halt_ending : Machine → Ending
-halt_ending machine = if list_all (is_stopped machine) (range_with_len 0 (length machine.views)) then AsAsked else RunsOn
+halt_ending machine =
+    if list_all (is_stopped machine) (range_with_len 0 (length machine.views)) then AsAsked else RunsOn
 
 -- both where it is asked for that all cores stop
 abbrev pub asked_lines : Bool → Machine → List ℕ

@@ -1,5 +1,5 @@
--- What `elide run` prints (docs/FORMATS.md, "Printed lines"): the lines of its steps, and below them the state of the machine that
--- these steps made of FILE's program.
+-- What `elide run` prints (docs/FORMATS.md, "Printed lines"): the lines of its steps, and below them the state of the
+-- machine that these steps made of FILE's program.
 use Rattle.std.specs.Prelude.{◌≡◌, ℕ, Bool, false, List, [], ◌++◌, Option, if◌then◌else◌}
 use Rattle.std.specs.Io.KnownBytes.{Appends}
 use Rattle.std.specs.List.{flat_map}
@@ -24,8 +24,8 @@ outcome_lines steps = flat_map (λ step. outcome_line step.0 step.1) steps
 abbrev pub trace_text : Bool → List (ℕ × Outcome) → List ℕ
 trace_text traces steps = if traces then outcome_lines steps else []
 
--- the machine is that of the options and of what FILE's content is read as, run by the rules along their schedule, and the lines of
--- its steps were written; those that tell why transactions aborted are any
+-- the machine is that of the options and of what FILE's content is read as, run by the rules along their schedule, and
+-- the lines of its steps were written; those that tell why transactions aborted are any
 pub record IsRunAsAsked (content : List ℕ → Option (List ℕ)) (options : RunOptions) (setup : Setup) (machine : Machine)
     (before after : Option (List ℕ)) : Type 0 where
   pub asked : IsAsked (content options.machine.file.now) options.machine setup
@@ -36,8 +36,8 @@ pub record IsRunAsAsked (content : List ℕ → Option (List ℕ)) (options : Ru
   pub traced : options.explains ≡ false → lines ≡ trace_text options.traces history
   pub wrote : Appends before after lines
 
--- the state and what is asked for of memory was written, and below it, where it is expected that all cores stop, the lines of those
--- that have not, of which the ending tells, too
+-- the state and what is asked for of memory was written, and below it, where it is expected that all cores stop, the
+-- lines of those that have not, of which the ending tells, too
 pub record IsTold (options : RunOptions) (setup : Setup) (machine : Machine) (ending : Ending)
     (before after : Option (List ℕ)) : Type 0 where
   pub memory : ShownMemory

@@ -8,9 +8,10 @@ use Rattle.elide_setup.specs.declared.machine.Setup.{Setup}
 use Rattle.elide_session.specs.Symbols.{AreSymbolsOf}
 use Rattle.tm_debug.specs.TmHist.Board.{IsNew, ShownBoard as Board}
 
--- the board of the options and of the program that the content of FILE is read as, before its first step and with room for
--- 1,000,000 of them, and that program's symbols
-pub record IsOpened (content : Option (List ℕ)) (options : MachineOptions) (board : Board) (symbols : List Symbol) : Type 0 where
+-- the board of the options and of the program that the content of FILE is read as, before its first step and with room
+-- for 1,000,000 of them, and that program's symbols
+pub record IsOpened (content : Option (List ℕ)) (options : MachineOptions) (board : Board) (symbols : List Symbol)
+    : Type 0 where
   pub setup : Setup
   pub asked : IsAsked content options setup
   pub new : IsNew setup.program setup.limits 1000000 board

@@ -14,8 +14,10 @@ pub record IsMachineStep (before : Machine) (core : ℕ) (outcome : Outcome) (af
       (start : Machine) (state : State) (doomed : ℕ → Option ℕ) (steps : List (ℕ × Outcome)) →
       IsRun start before state doomed steps → IsRun start after state doomed (steps ++ (core, outcome) ∷ [])
 
--- the history is a run by the rules from the program's opening state, each outcome the owed one, and the machine stands for its end
-pub record IsRunOf (program : Program) (limits : Limits) (history : List (ℕ × Outcome)) (machine : Machine) : Type 0 where
+-- the history is a run by the rules from the program's opening state, each outcome the owed one, and the machine stands
+-- for its end
+pub record IsRunOf (program : Program) (limits : Limits) (history : List (ℕ × Outcome)) (machine : Machine)
+    : Type 0 where
   pub start : Machine
   pub rules : machine_setting start ≡ program_setting program limits.read_lines limits.write_lines
   pub cores : length start.views ≡ length program.entries

@@ -8,8 +8,8 @@ use Rattle.elide_setup.specs.declared.plan.Course.TheVariants as course
 use Rattle.elide_setup.specs.declared.plan.Plan.{Plan}
 use Rattle.elide_setup.specs.declared.plan.Plan.TheVariants as plan
 
--- the cores are those of `--steps`, and those of the schedule that the file at `--schedule` holds, where its content is known
--- (docs/FORMATS.md, "Schedules"); nothing is said of a schedule that is drawn
+-- the cores are those of `--steps`, and those of the schedule that the file at `--schedule` holds, where its content is
+-- known (docs/FORMATS.md, "Schedules"); nothing is said of a schedule that is drawn
 pub record AreAsked (content : List ℕ → Option (List ℕ)) (options : ScheduleOptions) (cores : List ℕ) : Type 0 where
   pub steps : IfSome options.steps (λ text. steps_of text.now ≡ Ok cores)
   pub file : IfSome options.path (λ path. IfSome (content path.now) (λ text. schedule_of text ≡ Ok cores))

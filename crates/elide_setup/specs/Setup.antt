@@ -8,8 +8,8 @@ use Rattle.elide_program.specs.declared.file.ProgramFile.{ProgramFile}
 use Rattle.elide_program.specs.declared.settings.Settings.{Settings}
 use Rattle.elide_setup.specs.declared.machine.Setup.{Setup}
 
--- the machine is that of a file with the cores, the memory and the limits of the settings, and what is printed of memory is what
--- they ask for
+-- the machine is that of a file with the cores, the memory and the limits of the settings, and what is printed of
+-- memory is what they ask for
 pub record IsSetup (file : ProgramFile) (settings : Settings) (setup : Setup) : Type 0 where
   pub cores : length setup.program.entries ≡ settings.cores
   pub program : setup.program ≡ loaded file settings.memory setup.program.entries

@@ -34,7 +34,8 @@ pub record IsWhole (shown : ShownMemory) : Type 0 where
   pub values : list_all (is_value_held (length shown.bytes.now)) shown.values.now ≡ true
 
 -- the parts of a memory, all of which it has, and the sums that they were asked for by
-pub record IsShownOf (memory : List ℕ) (parts : MemoryParts) (texts : List (Bor (List ℕ))) (shown : ShownMemory) : Type 0 where
+pub record IsShownOf (memory : List ℕ) (parts : MemoryParts) (texts : List (Bor (List ℕ))) (shown : ShownMemory)
+    : Type 0 where
   pub bytes : shown.bytes.now ≡ memory
   pub dumps : shown.dumps.now ≡ parts.dumps.items
   pub sums : shown.sums.now ≡ texts
@@ -63,11 +64,13 @@ value_line sum value = sum ++ value_text value
 abbrev pub values_text : List ℕ → List (Bor (List ℕ)) → List ℕ → List ℕ
 values_text bytes [] values = []
 values_text bytes (sum ∷ sums) [] = []
-values_text bytes (sum ∷ sums) (address ∷ values) = value_line sum.now (doubleword bytes address) ++ values_text bytes sums values
+values_text bytes (sum ∷ sums) (address ∷ values) =
+    value_line sum.now (doubleword bytes address) ++ values_text bytes sums values
 
 -- the dump lines, and below them the lines of the doublewords
 abbrev pub parts_text : ShownMemory → List ℕ
-parts_text shown = dumps_text shown.bytes.now shown.dumps.now ++ values_text shown.bytes.now shown.sums.now shown.values.now
+parts_text shown =
+    dumps_text shown.bytes.now shown.dumps.now ++ values_text shown.bytes.now shown.sums.now shown.values.now
 
 -- the state lines, and below them what is printed of memory
 abbrev pub shown_text : Machine → ShownMemory → List ℕ

@@ -1,5 +1,5 @@
--- What `elide threads` prints (docs/FORMATS.md, "Printed lines"): the state of the machine that the workers' history made of FILE's
--- program, and what is asked for of memory.
+-- What `elide threads` prints (docs/FORMATS.md, "Printed lines"): the state of the machine that the workers' history
+-- made of FILE's program, and what is asked for of memory.
 use Rattle.std.specs.Prelude.{◌≡◌, ◌*◌, ℕ, false, List, [], ◌++◌, length, Option, Some, replicate}
 use Rattle.std.specs.Io.KnownBytes.{Appends}
 use Rattle.std.specs.Option.{option_copied}
@@ -12,23 +12,28 @@ use Rattle.elide_setup.specs.declared.machine.Setup.{Setup}
 use Rattle.elide_setup.specs.declared.shown.ShownMemory.{ShownMemory}
 use Rattle.tm_work.specs.Workers.{IsReport}
 
--- a new board of this program and these limits was given to workers, one a core, each with this budget, and came back as this one
+-- a new board of this program and these limits was given to workers, one a core, each with this budget,
+-- and came back as this one
 pub record IsWorked (setup : Setup) (budget : ℕ) (board : Board) : Type 0 where
   pub first : Board
   pub new : IsNew setup.program setup.limits (length setup.program.entries * budget) first
   pub steps : List ℕ
   pub report : IsReport first (replicate (length first.program.entries) budget) board steps
 
--- the state, where no counts are asked for in its place, and above it the lines of aborts with their reasons, where these are
-pub record IsTold (options : ThreadsOptions) (setup : Setup) (board : Board) (before after : Option (List ℕ)) : Type 0 where
+-- the state, where no counts are asked for in its place, and above it the lines of aborts with their reasons,
+-- where these are
+pub record IsTold (options : ThreadsOptions) (setup : Setup) (board : Board) (before after : Option (List ℕ))
+    : Type 0 where
   pub lines : List ℕ
   pub unexplained : options.explains ≡ false → lines ≡ []
   pub state :
-      options.counts ≡ false → (memory : ShownMemory) × IsShownOf board.machine.memory setup.parts options.machine.shows.items memory
+      options.counts ≡ false → (memory : ShownMemory)
+      × IsShownOf board.machine.memory setup.parts options.machine.shows.items memory
       × Appends before after (lines ++ shown_text board.machine memory)
 
 -- of a board that was worked on, of the options and of what FILE's content is read as
-pub record IsPrinted (content : List ℕ → Option (List ℕ)) (options : ThreadsOptions) (before after : Option (List ℕ)) : Type 0 where
+pub record IsPrinted (content : List ℕ → Option (List ℕ)) (options : ThreadsOptions) (before after : Option (List ℕ))
+    : Type 0 where
   pub setup : Setup
   pub asked : IsAsked (content options.machine.file.now) options.machine setup
   pub budget : ℕ

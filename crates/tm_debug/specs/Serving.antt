@@ -46,8 +46,8 @@ request_by true blank read = Refuse LongLine
 request_by false true read = Nothing
 request_by false false read = request_for read
 
--- by these symbols, a line of more than 256 bytes is refused, one without words requests nothing, and each other one is a
--- command
+-- by these symbols, a line of more than 256 bytes is refused, one without words requests nothing, and each other one is
+-- a command
 unfoldable pub request_of : List Symbol → List ℕ → Request
 request_of symbols line =
     request_by (nat_lt 256 (length line)) (length (first_word line) == 0) (command_of symbols line)
@@ -195,8 +195,8 @@ FailsToWriteIn Spoken input left from old new board =
     (Stopped old new prompt_text × (left ≡ input) × (board ≡ from.board))
     ⊎ BehindPrompt Spoken old (λ between. FailsToWrite input left from between new board)
 
--- the commands that take memory: a core's sets, and to take steps back and to tell why a core aborts, which make a board of
--- their own
+-- the commands that take memory: a core's sets, and to take steps back and to tell why a core aborts, which make a
+-- board of their own
 abbrev pub TakesMemory : Command → Type 0
 TakesMemory (command.Sets core) = ⊤
 TakesMemory (command.Why core) = ⊤

@@ -24,7 +24,8 @@ use Rattle.tm_reason.specs.History.{IsReasonOf}
 use Rattle.tm_reason.specs.Lines.{reason_line}
 use Rattle.tm_reason.specs.TmWhy.Reason.{Reason}
 use Rattle.debug_command.specs.declared.command.Command.{Command}
-use Rattle.debug_command.specs.declared.command.Command.TheVariants.{Step, Run, Next, Back, Break, Clear, Regs, Mem, Sets, Why}
+use Rattle.debug_command.specs.declared.command.Command.TheVariants.{Step, Run, Next, Back, Break, Clear, Regs, Mem}
+use Rattle.debug_command.specs.declared.command.Command.TheVariants.{Sets, Why}
 use Rattle.debug_command.specs.declared.command.Command.TheVariants.{List as Listing, Help, Quit}
 use Rattle.debug_command.specs.declared.manner.Manner.{Manner}
 use Rattle.debug_command.specs.declared.manner.Manner.TheVariants.{Plain, Spoken}
@@ -145,8 +146,8 @@ abbrev pub is_midway : CoreState → Bool
 is_midway Mid = true
 is_midway _ = false
 
--- before a step of a run by this core, in this order: whether the history is full, or a breakpoint stands at the address
--- that the core shows, which is not asked before the first step, nor in the midst of an instruction
+-- before a step of a run by this core, in this order: whether the history is full, or a breakpoint stands at the
+-- address that the core shows, which is not asked before the first step, nor in the midst of an instruction
 abbrev pub core_check : ℕ → Bool → SessionValue → RunCheck
 core_check core first session =
     if nat_eq (length session.board.history) session.board.limit then Full
@@ -260,7 +261,8 @@ NextLine (AtBreakpoint core address) from line to = (line ≡ run_ending from (A
     × (to ≡ from)
 
 -- a run of n steps that was broken off: the lines of some steps were written, and a beginning of the next line
-pub record RunBroken (way : Way) (number : ℕ) (from : SessionValue) (old new : Device) (to : SessionValue) : Type 0 where
+pub record RunBroken (way : Way) (number : ℕ) (from : SessionValue) (old new : Device) (to : SessionValue)
+    : Type 0 where
   pub count : ℕ
   pub below : count < number
   pub lines : List ℕ

@@ -67,8 +67,8 @@ abbrev pub AreDistinct : List Told → Type 0
 AreDistinct [] = ⊤
 AreDistinct (told ∷ all) = ¬ AreTold all told.values.items × AreDistinct all
 
--- No outcome is told that is not one, and none twice; and where the search was not cut, whatever the schedule and its length, its
--- outcome is told. It is cut at the limit on states alone.
+-- No outcome is told that is not one, and none twice; and where the search was not cut, whatever the schedule and its
+-- length, its outcome is told. It is cut at the limit on states alone.
 pub record IsSearch (trial : Trial) (most : ℕ) (search : Search) : Type 0 where
   pub told : All (IsTold trial) search.outcomes.items
   pub once : AreDistinct search.outcomes.items

@@ -10,7 +10,8 @@ abbrev pub core_count : Trial → ℕ
 core_count trial = length trial.program.now.entries
 
 -- the nodes up to this index are done, with these schedules
-pub record IsSearching (trial : Trial) (most : ℕ) (search : Searching) (schedules : List (List ℕ)) (done : ℕ) : Type 0 where
+pub record IsSearching (trial : Trial) (most : ℕ) (search : Searching) (schedules : List (List ℕ)) (done : ℕ)
+    : Type 0 where
   pub tree : IsTree (core_count trial) search.nodes.items schedules
   pub explored : IsExplored trial schedules search.outcomes.items done
   pub told : All (IsTold trial) search.outcomes.items
@@ -26,7 +27,8 @@ pub record Grows (trial : Trial) (before after : List Node) (schedules : List (L
 abbrev pub IsFollowedIn : Trial → ℕ → List Node → List Node → ℕ → ℕ → Type 0
 IsFollowedIn trial most before after index core =
     (length after ≤ most)
-    × ((schedules : List (List ℕ)) → IsTree (core_count trial) before schedules → Grows trial before after schedules index core)
+    × ((schedules : List (List ℕ)) → IsTree (core_count trial) before schedules
+    → Grows trial before after schedules index core)
 
 -- the same while the steps of a node are followed: those of the cores below one
 pub record IsUnderway (trial : Trial) (most : ℕ) (search : Searching) (index core : ℕ) : Type 0 where

@@ -29,8 +29,8 @@ pub record IsWatchOf (board : Board) (count : ℕ) (watch : Watch) : Type 0 wher
   pub told : AreTold board steps
   pub kept : IsWatch watch steps
 
--- why the core's next step is an abort, where it is one: what the machine says of it, and what is known of its transaction
--- behind all steps of the history
+-- why the core's next step is an abort, where it is one: what the machine says of it, and what is known of its
+-- transaction behind all steps of the history
 pub record IsReasonOf (board : Board) (core : ℕ) (reason : Option Reason) : Type 0 where
   pub steps : List Told
   pub all : length steps ≡ length board.history

@@ -1,6 +1,7 @@
--- The bytes that the open transaction of a core has loaded and stored, by the list of the steps of that core, the newest
--- first. Conflicts go by the line (SDM volume 1, 16.2.4.2): those that would not be there if they went by the byte are
--- of apart bytes (false sharing: Bolosky and Scott, "False Sharing and Its Effect on Shared Memory Performance", 1993).
+-- The bytes that the open transaction of a core has loaded and stored, by the list of the steps of that core, the
+-- newest first. Conflicts go by the line (SDM volume 1, 16.2.4.2): those that would not be there if they went by the
+-- byte are of apart bytes (false sharing: Bolosky and Scott, "False Sharing and Its Effect on Shared Memory
+-- Performance", 1993).
 use Rattle.std.specs.Prelude.{◌≡◌, ℕ, ◌/◌, Bool, true, false, ◌&&◌, ◌||◌, not, if◌then◌else◌, List, [], ◌∷◌, nat_eq}
 use Rattle.std.specs.List.{list_any}
 use Rattle.std.specs.HashSet.{contains}

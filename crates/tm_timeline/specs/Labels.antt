@@ -1,5 +1,5 @@
--- Characters that no label shows as they are (Extensible Markup Language 1.0, sections 2.2 "Characters" and 2.4 "Character
--- Data and Markup").
+-- Characters that no label shows as they are (Extensible Markup Language 1.0, sections 2.2 "Characters" and 2.4
+-- "Character Data and Markup").
 use Rattle.std.specs.Prelude.{ℕ, Bool, ◌==◌, ◌||◌, nat_lt}
 
 -- the marks of tags, references and attributes, and characters that a document cannot hold

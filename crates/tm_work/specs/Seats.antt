@@ -91,8 +91,8 @@ IsLater before None = ⊥
 IsLater None (Some now) = ⊤
 IsLater (Some before) (Some now) = before.index < now.index
 
--- so many steps of this core led from one board to the other, and its progress from the one to the other: in any ledger that
--- agrees with the first board and has the first progress of this core, the second one agrees with the second board
+-- so many steps of this core led from one board to the other, and its progress from the one to the other: in any ledger
+-- that agrees with the first board and has the first progress of this core, the second one agrees with the second board
 pub record AreStepsMade (before after : ShownBoard) (core : ℕ) (was now : Progress) (made : ℕ) : Type 0 where
   pub agrees : (given : ShownBoard) (ledger : List Progress) → LedgerAgrees given before ledger →
       slice_get ledger core ≡ Some was → LedgerAgrees given after (slice_set ledger core now)
