@@ -1,9 +1,10 @@
-//! A board that threads share: one seat a core, and a desk that makes their steps one at a time.
+//! A board that threads share: one seat a core, a desk that makes their steps one at a time, and workers, one a core.
 //!
-//! Each turn of a seat is under the desk's one lock, and is one step of the board or only a look at it. So the history
-//! of the board is a list of whole steps in one order, whatever the threads did. Promised: the board that comes back is
-//! the run of its history, each outcome the owed one, and what each seat and each report says of its core is so. No
-//! clause says which thread comes first, or that a turn returns.
+//! The steps of a seat, one (`Desk::turn`) or several (`Desk::turns`), are made under the desk's one lock. So the
+//! history of the board is a list of whole steps in one order, whatever the threads did. Promised: the board that comes
+//! back is the run of its history, each outcome the owed one, and what each seat and each report says of its core is
+//! so. `run_workers` and `run_steadily` start a worker a core. No clause says which thread comes first, or that a turn
+//! returns.
 //!
 //! It stands on `tm_hist` (boards and their histories) and on `tm_ledger` (what a worker knows of its own line while
 //! others write theirs).
