@@ -105,73 +105,77 @@ fn register(role: Role) -> Option<Argument> {
     Some(Argument::Operand(role, Width::D, Operand::Reg(2)))
 }
 
-// By the tables "Instruction Operand Encoding" of the pages.
+fn arguments(
+    first: Option<Argument>,
+    second: Option<Argument>,
+    third: Option<Argument>,
+) -> Arguments {
+    Arguments {
+        first,
+        second,
+        third,
+    }
+}
+
+// By the tables "Instruction Operand Encoding" of the pages, as the two tests below.
 #[test]
-fn operands(rt: HostRuntime) {
-    let source = Some(Argument::Source(Width::D, Operand::Imm(7)));
-    let seven = Some(Argument::Byte(7));
-    let near = Some(Argument::Near(6, 0x1000));
-    let short = Some(Argument::Short(0xffff_fff0));
+fn operands_in_places(rt: HostRuntime) {
     let number = Operand::Imm(7);
+    let source = Some(Argument::Source(Width::D, number));
+    let seven = Some(Argument::Byte(7));
     let add = Op::Alu(AluOp::Add, Width::D, PLACE, number);
     let cmp = Op::Alu(AluOp::Cmp, Width::D, PLACE, number);
     let rows = [
-        (add, place(Role::Changed), source, None),
-        (cmp, place(Role::Read), source, None),
-        (
-            Op::Mov(Width::D, PLACE, number),
-            place(Role::Written),
-            source,
-            None,
-        ),
+        (add, Role::Changed, source),
+        (cmp, Role::Read, source),
+        (Op::Mov(Width::D, PLACE, number), Role::Written, source),
+        (Op::Bit(BitOp::Bt, PLACE, 7), Role::Read, seven),
+        (Op::Bit(BitOp::Btc, PLACE, 7), Role::Changed, seven),
+        (Op::Pop(PLACE), Role::Written, None),
+        (Op::NopOf(PLACE), Role::Named, None),
+    ];
+    for (op, role, second) in rows {
+        let wanted = arguments(place(role), second, None);
+        assert_eq!(rt; op.operands(), wanted, "{op:?}");
+    }
+}
+
+#[test]
+fn operands_in_registers(rt: HostRuntime) {
+    let read = place(Role::Read);
+    let changed = place(Role::Changed);
+    let number = Some(Argument::Source(Width::D, Operand::Imm(7)));
+    let compare = Op::Exchange(ExchangeOp::Compare, PLACE, 2);
+    let add = Op::Exchange(ExchangeOp::Add, PLACE, 2);
+    let cmovl = Op::Cmovcc(Condition::Less, 2, PLACE);
+    let rows = [
         (
             Op::ImulImm(2, PLACE, 7),
             register(Role::Written),
-            place(Role::Read),
-            source,
+            read,
+            number,
         ),
-        (Op::Bit(BitOp::Bt, PLACE, 7), place(Role::Read), seven, None),
-        (
-            Op::Bit(BitOp::Btc, PLACE, 7),
-            place(Role::Changed),
-            seven,
-            None,
-        ),
-        (
-            Op::Cmovcc(Condition::Less, 2, PLACE),
-            register(Role::Changed),
-            place(Role::Read),
-            None,
-        ),
-        (
-            Op::Exchange(ExchangeOp::Compare, PLACE, 2),
-            place(Role::Changed),
-            register(Role::Read),
-            None,
-        ),
-        (
-            Op::Exchange(ExchangeOp::Add, PLACE, 2),
-            place(Role::Changed),
-            register(Role::Changed),
-            None,
-        ),
-        (Op::Pop(PLACE), place(Role::Written), None, None),
-        (Op::NopOf(PLACE), place(Role::Named), None, None),
-        (Op::Jcc(Condition::Less, 0x1000), near, None, None),
-        (
-            Op::JccShort(Condition::Less, 0xffff_fff0),
-            short,
-            None,
-            None,
-        ),
-        (Op::Bare(BareOp::Cpuid), None, None, None),
+        (cmovl, register(Role::Changed), read, None),
+        (compare, changed, register(Role::Read), None),
+        (add, changed, register(Role::Changed), None),
     ];
     for (op, first, second, third) in rows {
-        let wanted = Arguments {
-            first,
-            second,
-            third,
-        };
+        let wanted = arguments(first, second, third);
+        assert_eq!(rt; op.operands(), wanted, "{op:?}");
+    }
+}
+
+#[test]
+fn operands_that_are_distances(rt: HostRuntime) {
+    let near = Some(Argument::Near(6, 0x1000));
+    let short = Some(Argument::Short(0xffff_fff0));
+    let rows = [
+        (Op::Jcc(Condition::Less, 0x1000), near),
+        (Op::JccShort(Condition::Less, 0xffff_fff0), short),
+        (Op::Bare(BareOp::Cpuid), None),
+    ];
+    for (op, first) in rows {
+        let wanted = arguments(first, None, None);
         assert_eq!(rt; op.operands(), wanted, "{op:?}");
     }
 }
