@@ -20,10 +20,10 @@ fn gives_the_same_image(alloc: Global, source: &[u8], name: &[u8]) -> bool {
     }
 }
 
+// Sources, and a name that each has or has not, here and in the tests below.
 #[test]
-fn images_without_a_listing(rt: HostRuntime) {
-    // Sources, and a name that each has or has not.
-    let cases: [(&[u8], &[u8]); 26] = [
+fn programs_without_a_listing(rt: HostRuntime) {
+    let cases: [(&[u8], &[u8]); 9] = [
         (WORKED, b"start"),
         (WORKED, b"fall"),
         (WORKED, b"count"),
@@ -33,6 +33,18 @@ fn images_without_a_listing(rt: HostRuntime) {
         (ELIDED, b"mutex"),
         (ELIDED, b"count"),
         (b"", b"none"),
+    ];
+    for (source, name) in cases {
+        assert!(rt;
+            gives_the_same_image(rt.alloc(), source, name),
+            "{source:?}"
+        );
+    }
+}
+
+#[test]
+fn data_without_a_listing(rt: HostRuntime) {
+    let cases: [(&[u8], &[u8]); 8] = [
         (
             b"org 16\ndb 'ab', 255, -128\nalign 8\ndd -1\nresb 2\n",
             b"none",
@@ -50,6 +62,18 @@ fn images_without_a_listing(rt: HostRuntime) {
         (b"x equ 5\nadd eax, x\n", b"x"),
         (b"x equ 1\nshl eax, x\nshl eax, 1\n", b"x"),
         (b"x equ 0\nmov al, [ebx + x]\nmov al, [ebx]\n", b"x"),
+    ];
+    for (source, name) in cases {
+        assert!(rt;
+            gives_the_same_image(rt.alloc(), source, name),
+            "{source:?}"
+        );
+    }
+}
+
+#[test]
+fn labels_without_a_listing(rt: HostRuntime) {
+    let cases: [(&[u8], &[u8]); 6] = [
         (b"a: jmp short a\nloop a\nret 8\n", b"a"),
         (b"jmp short a\nresb 127\na: nop\n", b"a"),
         (
@@ -62,6 +86,18 @@ fn images_without_a_listing(rt: HostRuntime) {
             b"a.b.c",
         ),
         (b"nop\n.b: nop\na:\n.b:\n", b".b"),
+    ];
+    for (source, name) in cases {
+        assert!(rt;
+            gives_the_same_image(rt.alloc(), source, name),
+            "{source:?}"
+        );
+    }
+}
+
+#[test]
+fn faults_without_a_listing(rt: HostRuntime) {
+    let cases: [(&[u8], &[u8]); 3] = [
         (b"nop\ndb 256\n", b"none"),
         (b"nop\nfoo bar\n", b"none"),
         (b"db 256\nfoo bar\n", b"none"),
