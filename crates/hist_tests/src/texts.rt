@@ -1,8 +1,9 @@
 //! Texts with numbers that no command has, and serial runs of histories that were written by hand. All other lines, schedules and
 //! dumps the worked rows of `doc_tests` show.
 
-use ia_image::load;
+use ia_image::{LoadFault, Program, load};
 use ia_text::{ToVec, WriteFault};
+use std::alloc::Global;
 use tm_core::Outcome;
 use tm_hist::{History, SerialFault, serial, write_dump, write_outcome};
 use tm_rule::Stop;
@@ -43,9 +44,14 @@ const INCREMENT: [u8; 22] = [
     0xf4, 0xf4,
 ];
 
+// Two cores, each of which runs the increment.
+fn increments(alloc: Global) -> Result<Program, LoadFault> {
+    load(alloc, &INCREMENT, 0x100, 22, 65536, &[0x100, 0x100])
+}
+
 #[test]
-fn serial_runs(rt: HostRuntime) -> Result<(), SerialFault> {
-    let Ok(program) = load(rt.alloc(), &INCREMENT, 0x100, 22, 65536, &[0x100, 0x100]) else {
+fn a_serial_run(rt: HostRuntime) -> Result<(), SerialFault> {
+    let Ok(program) = increments(rt.alloc()) else {
         assert!(rt; false, "the program is loaded");
         return Ok(());
     };
@@ -76,6 +82,28 @@ fn serial_runs(rt: HostRuntime) -> Result<(), SerialFault> {
     }
     assert!(rt; end.regs(2).is_err());
     assert!(rt; end.stop(2).is_err());
+    Ok(())
+}
+
+// An abort may come at any step of a transaction.
+#[test]
+fn a_serial_run_of_an_abort(rt: HostRuntime) -> Result<(), SerialFault> {
+    let Ok(program) = increments(rt.alloc()) else {
+        assert!(rt; false, "the program is loaded");
+        return Ok(());
+    };
+    let allowed = [(0, Outcome::Begun), (0, Outcome::Aborted(0))];
+    let end = serial(rt.alloc(), &program, History::new(&allowed))?;
+    assert!(rt; end.regs(0).is_ok());
+    Ok(())
+}
+
+#[test]
+fn no_serial_run(rt: HostRuntime) {
+    let Ok(program) = increments(rt.alloc()) else {
+        assert!(rt; false, "the program is loaded");
+        return;
+    };
     let refused = [
         ([(0, Outcome::Committed)].as_slice(), 0),
         ([(0, Outcome::Begun), (0, Outcome::Plain)].as_slice(), 1),
@@ -99,8 +127,4 @@ fn serial_runs(rt: HostRuntime) -> Result<(), SerialFault> {
             }
         }
     }
-    let allowed = [(0, Outcome::Begun), (0, Outcome::Aborted(0))];
-    let end = serial(rt.alloc(), &program, History::new(&allowed))?;
-    assert!(rt; end.regs(0).is_ok());
-    Ok(())
 }

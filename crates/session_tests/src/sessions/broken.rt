@@ -126,10 +126,9 @@ fn cut<R: Abort + Wait>(
     input.reader.len()
 }
 
-// Whether plain or spoken, whose prompts are cut too, a session stops at the byte for which there is no room, and reads no line
-// more.
+// A session stops at the byte for which there is no room, and reads no line more.
 #[test]
-fn an_output_is_cut(rt: HostRuntime) {
+fn a_plain_output_is_cut(rt: HostRuntime) {
     let lines = b"run 2\nsets 0\nstep 9\nquit\nstep 0\n".as_slice();
     let text = b"0 begun\n0 inside\nsets 0 tx1 reads 40 writes -\nerror 72\nbye\n".as_slice();
     for room in 0..=text.len() {
@@ -146,6 +145,11 @@ fn an_output_is_cut(rt: HostRuntime) {
             made,
         );
     }
+}
+
+// So does a spoken one, whose prompts are cut too.
+#[test]
+fn a_spoken_output_is_cut(rt: HostRuntime) {
     let lines = b"step 0\nstep 0\nquit\nleft".as_slice();
     let text =
         b"elide> 0 begun\nelide> error 74: the session has made its most steps\nelide> bye\n".as_slice();
