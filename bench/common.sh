@@ -10,6 +10,15 @@ need() {
     command -v "$1" >/dev/null || { echo "bench: $1 is not there; the Debian package $2 has it" >&2; exit 1; }
 }
 
+# The program that ./elide starts, for what counts its instructions; which it is goes to standard error.
+program_itself() {
+    local program
+    "$elide" --version >&2
+    # shellcheck disable=SC1091
+    . "$here/../out/choice"
+    echo "$here/../out/$program"
+}
+
 # The seconds that a command takes, three decimals.
 seconds() {
     local from to
