@@ -9,14 +9,15 @@ use Rattle.std.specs.FinSet as set
 use Rattle.std.specs.Cmp.{nat_cmp_total}
 use Rattle.ia_word.specs.Line.{line}
 use Rattle.tm_model.specs.Access.{Stores, stored_addresses, stores_of}
+use Rattle.tm_model.specs.declared.outcome.Event.TheVariants as event
 use Rattle.tm_model.specs.Conflicts.{Doomed, addresses_loaded_by, addresses_stored_by, depth_at_hit, doom_after_other}
 use Rattle.tm_model.specs.Conflicts.{doom_after_own, doomed_after, is_hit}
 use Rattle.tm_model.specs.Isolated.{Body, instruction_after, isolated_body}
-use Rattle.tm_model.specs.Owed.{abort_at, owed_after, owed_inside, owed_outcome}
+use Rattle.tm_model.specs.Owed.{abort_at, abort_by, depth_of, owed_after, owed_inside, owed_outcome, owed_under}
 use Rattle.tm_model.specs.Owed.{owed_with_room}
 use Rattle.tm_model.specs.Setting.{Setting}
 use Rattle.tm_model.specs.State.{Closed, Core, Halted, Midway, Opened, State}
-use Rattle.tm_model.specs.Types.{Capacity, Committed, Ends, Fails, GoesOn, Idle, Inside}
+use Rattle.tm_model.specs.Types.{Capacity, Committed, Ends, Event, Fails, GoesOn, Idle, Inside}
 use Rattle.tm_model.specs.Types.{Nests, Outcome, InsideResult}
 
 -- ---- the definitions over lists of lines
@@ -90,6 +91,19 @@ owed_outcome_by_lists setting memory (Opened regs steps) None =
     owed_after_by_lists setting memory (isolated_body setting regs memory steps)
 owed_outcome_by_lists setting memory core doom = owed_outcome setting memory core doom
 
+abbrev pub owed_under_by_lists : Option Event → Setting → List ℕ → Core → Option ℕ → Outcome
+owed_under_by_lists None setting memory core doom = owed_outcome_by_lists setting memory core doom
+owed_under_by_lists (Some (event.Abort by)) setting memory (Opened regs steps) None =
+    abort_by by (depth_of (isolated_body setting regs memory steps))
+owed_under_by_lists (Some (event.Abort by)) setting memory core doom = owed_outcome_by_lists setting memory core doom
+
+-- the same, by the setting first
+abbrev pub owing : Setting → Option Event → List ℕ → Core → Option ℕ → Outcome
+owing setting event = owed_under event setting
+
+abbrev pub owing_by_lists : Setting → Option Event → List ℕ → Core → Option ℕ → Outcome
+owing_by_lists setting event = owed_under_by_lists event setting
+
 -- ---- they are the same
 
 same_hit : (loads stores : List ℕ) (body : Body) →
@@ -152,3 +166,15 @@ same_at setting memory (Halted regs stop) doom = refl
 
 pub same_owed : (setting : Setting) → owed_outcome setting ≡ owed_outcome_by_lists setting
 same_owed setting = λ i memory core doom. same_at setting memory core doom i
+
+same_under_at : (event : Option Event) (setting : Setting) (memory : List ℕ) (core : Core) (doom : Option ℕ) →
+    owed_under event setting memory core doom ≡ owed_under_by_lists event setting memory core doom
+same_under_at None setting memory core doom = same_at setting memory core doom
+same_under_at (Some (event.Abort by)) setting memory (Opened regs steps) None = refl
+same_under_at (Some (event.Abort by)) setting memory (Opened regs steps) (Some depth) = refl
+same_under_at (Some (event.Abort by)) setting memory (Closed regs) doom = refl
+same_under_at (Some (event.Abort by)) setting memory (Midway regs value) doom = refl
+same_under_at (Some (event.Abort by)) setting memory (Halted regs stop) doom = refl
+
+pub same_under : (setting : Setting) → owing setting ≡ owing_by_lists setting
+same_under setting = λ i event memory core doom. same_under_at event setting memory core doom i

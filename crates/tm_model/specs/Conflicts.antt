@@ -7,7 +7,8 @@ use Rattle.tm_model.specs.Access.{have_line_of, stored_addresses, stores_of}
 use Rattle.tm_model.specs.Isolated.{Body, isolated_body, read_set, write_set}
 use Rattle.tm_model.specs.Setting.{Setting, outside_at}
 use Rattle.tm_model.specs.State.{Closed, Core, Midway, Opened, State}
-use Rattle.tm_model.specs.Types.{Aborted, Begins, Committed, Goes, Inside, Loaded, Outcome, OutsideResult, Plain}
+use Rattle.tm_model.specs.Types.{Aborted, AbortedBy, Begins, Committed, Goes, Inside, Loaded, Outcome, OutsideResult}
+use Rattle.tm_model.specs.Types.{Plain}
 use Rattle.tm_model.specs.Types.{Stops}
 
 -- ---- what a step loads and stores
@@ -68,6 +69,7 @@ doom_after_other setting memory loads stores core doom = doom
 -- a doomed core is so until its own abort
 abbrev pub doom_after_own : Outcome → Option ℕ → Option ℕ
 doom_after_own (Aborted status) doom = None
+doom_after_own (AbortedBy by status) doom = None
 doom_after_own outcome doom = doom
 
 -- the doomed cores after a step of the core of this number

@@ -17,8 +17,8 @@ use Rattle.tm_model.specs.Isolated.{Body, instruction_after, isolated_body, read
 use Rattle.tm_model.specs.Owed.{abort_at, owed_outcome}
 use Rattle.tm_model.specs.Setting.{Setting, outside_at}
 use Rattle.tm_model.specs.State.{Closed, Core, Halted, Midway, Opened, State}
-use Rattle.tm_model.specs.Types.{Aborted, Begins, Begun, Cause, Committed, Ends, Fails, Goes, GoesOn, Idle, Inside}
-use Rattle.tm_model.specs.Types.{InsideResult, Loaded, Nests, Outcome, OutsideResult, Plain, Stopped, Stops}
+use Rattle.tm_model.specs.Types.{Aborted, AbortedBy, Begins, Begun, Cause, Committed, Ends, Fails, Goes, GoesOn, Idle}
+use Rattle.tm_model.specs.Types.{Inside, InsideResult, Loaded, Nests, Outcome, OutsideResult, Plain, Stopped, Stops}
 
 -- ---- whom a step hits (SDM volume 1, 16.2.4.2)
 
@@ -136,6 +136,7 @@ abort_reason setting memory (Opened regs steps) None =
 
 abbrev pub is_abort : Outcome → Bool
 is_abort (Aborted status) = true
+is_abort (AbortedBy by status) = true
 is_abort Plain = false
 is_abort Loaded = false
 is_abort (Stopped stop) = false

@@ -3,12 +3,16 @@
 use Rattle.std.specs.Prelude.{ℕ, Bool, ◌&&◌, not, if◌then◌else◌, List, [], ◌++◌, Option, Some, None, nat_eq, nat_lt}
 use Rattle.std.specs.FinSet as set
 use Rattle.tm_status.specs.Status.{status_of}
+use Rattle.tm_status.specs.declared.cause.Cause.TheVariants as cause
+use Rattle.tm_model.specs.declared.outcome.Event.TheVariants as event
+use Rattle.tm_model.specs.declared.outcome.Interference.TheVariants as by
 use Rattle.tm_model.specs.Access.{Lines, Stores, lines_of, stored_addresses, stores_of}
 use Rattle.tm_model.specs.Isolated.{Body, instruction_after, isolated_body}
 use Rattle.tm_model.specs.Setting.{Setting, outside_at}
 use Rattle.tm_model.specs.State.{Closed, Core, Halted, Midway, Opened}
-use Rattle.tm_model.specs.Types.{Aborted, Begins, Begun, Capacity, Cause, Committed, Conflict, Ends, Fails, Goes}
-use Rattle.tm_model.specs.Types.{GoesOn, Idle, Inside, InsideResult, Loaded, Nests, Outcome, OutsideResult}
+use Rattle.tm_model.specs.Types.{Aborted, AbortedBy, Begins, Begun, Capacity, Cause, Committed, Conflict, Ends}
+use Rattle.tm_model.specs.Types.{Event, Fails, Goes, GoesOn, Idle, Inside, InsideResult, Interference, Loaded, Nests}
+use Rattle.tm_model.specs.Types.{Outcome, OutsideResult}
 use Rattle.tm_model.specs.Types.{Plain, Stopped, Stops}
 
 -- the status of an abort at this depth, and its outcome
@@ -63,3 +67,28 @@ owed_outcome setting memory (Closed regs) None =
     owed_outside (setting.takes_two_steps regs) (outside_at setting regs memory)
 owed_outcome setting memory (Opened regs steps) None =
     owed_after setting memory (isolated_body setting regs memory steps)
+
+-- ---- a step under an event
+
+-- the cause that the status is made of (SDM volume 1, 16.3.5)
+abbrev pub cause_of_interference : Interference → Cause
+cause_of_interference by.Interrupt = cause.Other
+cause_of_interference by.Eviction = Capacity
+cause_of_interference by.Snoop = Conflict
+
+abbrev pub abort_by : Interference → ℕ → Outcome
+abort_by by depth = AbortedBy by (status_at (cause_of_interference by) depth)
+
+-- an open core has a body in each state that a run reaches
+abbrev pub depth_of : Option Body → ℕ
+depth_of None = 0
+depth_of (Some body) = body.depth
+
+-- The transaction of a core that is open and not doomed is aborted, whatever its next instruction: at any time, for
+-- reasons that are not the program's (SDM volume 1, 16.3.8). A doomed one aborts by its conflict, and outside of
+-- transactions such an event changes nothing that a program sees. Where an event befalls nothing, the core steps.
+abbrev pub owed_under : Option Event → Setting → List ℕ → Core → Option ℕ → Outcome
+owed_under None setting memory core doom = owed_outcome setting memory core doom
+owed_under (Some (event.Abort by)) setting memory (Opened regs steps) None =
+    abort_by by (depth_of (isolated_body setting regs memory steps))
+owed_under (Some (event.Abort by)) setting memory core doom = owed_outcome setting memory core doom

@@ -8,7 +8,7 @@ use Rattle.tm_model.specs.Access.{memory_after, stores_of}
 use Rattle.tm_model.specs.Isolated.{Body, isolated_body}
 use Rattle.tm_model.specs.Setting.{Setting, outside_at, value_at}
 use Rattle.tm_model.specs.State.{Closed, Core, Halted, Midway, Opened, State}
-use Rattle.tm_model.specs.Types.{Aborted, Begins, Begun, Committed, Goes, Idle, Inside, Loaded, Outcome}
+use Rattle.tm_model.specs.Types.{Aborted, AbortedBy, Begins, Begun, Committed, Goes, Idle, Inside, Loaded, Outcome}
 use Rattle.tm_model.specs.Types.{OutsideResult, Plain, Regs, Stop, Stopped, Stops}
 
 -- memory and the core after a step; nothing where the rules do not allow the step
@@ -80,6 +80,8 @@ after_step_of setting memory (Opened regs steps) Inside = Some (memory, Opened r
 after_step_of setting memory (Opened regs steps) Committed =
     option_and_then (after_commit memory) (isolated_body setting regs memory (suc steps))
 after_step_of setting memory (Opened regs steps) (Aborted status) =
+    Some (memory, Closed (registers_after_abort setting regs status))
+after_step_of setting memory (Opened regs steps) (AbortedBy by status) =
     Some (memory, Closed (registers_after_abort setting regs status))
 after_step_of setting memory core outcome = None
 
