@@ -4,7 +4,8 @@ use Rattle.std.proofs.Common.{if◌then◌else◌, refl, ap, ◌∙◌, arith}
 use Rattle.std.specs.HashMap.{HashMap}
 use Rattle.tm_model.specs.declared.outcome.Outcome.{Outcome}
 use Rattle.tm_model.specs.declared.outcome.Outcome.TheVariants.{Plain, Loaded, Stopped, Idle, Begun, Inside}
-use Rattle.tm_model.specs.declared.outcome.Outcome.TheVariants.{Committed, Aborted}
+use Rattle.tm_model.specs.declared.outcome.Outcome.TheVariants.{Committed, Aborted, AbortedBy}
+use Rattle.tm_stats.specs.Causes.{cause_counted}
 use Rattle.tm_stats.specs.Counts.{begun_at, committed_at, aborted_at, aborted_for, commits_of, counts_of}
 use Rattle.tm_stats.specs.Counts.{is_aborted, is_begun, is_committed, lost_at, open_steps, same_cause, same_size}
 use Rattle.tm_stats.specs.Places.{Fits, after_step, counts_at}
@@ -43,6 +44,8 @@ at Committed true b c a l before = refl
 at Committed false b c a l before = refl
 at (Aborted status) true b c a l before = refl
 at (Aborted status) false b c a l before = refl
+at (AbortedBy interference status) true b c a l before = refl
+at (AbortedBy interference status) false b c a l before = refl
 
 pub counts_step : (step : Step) (earlier : List Step) (q : ℕ) →
     (if nat_eq step.place q
@@ -96,11 +99,12 @@ pub causes_told : {S : Type 0} (same : AbortCause → AbortCause → Bool) (old 
     (steps : List Step) → length steps + 1 < 2 ^ 32
     → ((q : PlaceCause) → total_of (same_cause same) old q ≡ aborted_for same q.place q.cause steps)
     → ((q : PlaceCause) → total_of (same_cause same) old q + 1 < 2 ^ 64 → total_of (same_cause same) new q
-    ≡ counted (is_aborted step.outcome && (nat_eq step.place q.place && same step.cause q.cause))
+    ≡ counted
+    (is_aborted step.outcome && (nat_eq step.place q.place && same (cause_counted step.outcome step.cause) q.cause))
     (total_of (same_cause same) old q))
     → (q : PlaceCause) → total_of (same_cause same) new q ≡ aborted_for same q.place q.cause (step ∷ steps)
 causes_told same old new step steps few are made q =
     let test : Step → Bool =
-    λ one. is_aborted one.outcome && (nat_eq one.place q.place && same one.cause q.cause) in
+    λ one. is_aborted one.outcome && (nat_eq one.place q.place && same (cause_counted one.outcome one.cause) q.cause) in
     let room : total_of (same_cause same) old q + 1 < 2 ^ 64 = omega (arith, are q, how_many-le test steps) in
     made q room ∙ ap (λ n. counted (test step) n) (are q)

@@ -3,6 +3,7 @@ use Rattle.std.proofs.Common.{◌≡◌, ℕ, ◌+◌, ◌^◌, ◌<◌, ◌&&�
 use Rattle.std.proofs.Common.{if◌then◌else◌, slice_index, slice_set, sym, ap, ◌∙◌, arith, ◌⊎◌, inl, inr}
 use Rattle.std.proofs.lemmas.List.{get_or-set_same, get_or-set_other}
 use Rattle.std.proofs.lemmas.Bool.{cases_eq, eq-eqb, ne_eqb}
+use Rattle.tm_stats.specs.Causes.{cause_counted}
 use Rattle.tm_stats.specs.Counts.{AreCounts, SameCounts, how_many, is_aborted, is_committed, is_idle, is_outside}
 use Rattle.tm_stats.specs.Counts.{lines_read, lines_written, open_after, open_steps, same_cause, same_size, steps_taken}
 use Rattle.tm_stats.specs.Places.{Fits, after_step, counts_at}
@@ -34,7 +35,8 @@ pub record IsTold (same : AbortCause → AbortCause → Bool) (old new : RunCoun
       ≡ (if nat_eq step.place q then after_step step.outcome before (counts_at old.places q) else counts_at old.places q)
   pub causes : (q : PlaceCause) → total_of (same_cause same) old.causes q + 1 < 2 ^ 64
       → total_of (same_cause same) new.causes q
-      ≡ counted (is_aborted step.outcome && (nat_eq step.place q.place && same step.cause q.cause))
+      ≡ counted
+      (is_aborted step.outcome && (nat_eq step.place q.place && same (cause_counted step.outcome step.cause) q.cause))
       (total_of (same_cause same) old.causes q)
   pub lengths : (q : PlaceSize) → total_of same_size old.lengths q + 1 < 2 ^ 64 → total_of same_size new.lengths q
       ≡ counted (is_committed step.outcome && (nat_eq step.place q.place && nat_eq length_now q.size))

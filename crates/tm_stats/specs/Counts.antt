@@ -5,7 +5,8 @@ use Rattle.std.specs.HashMap.{spare}
 use Rattle.std.specs.Prelude.{nat_eq, slice_index}
 use Rattle.tm_model.specs.declared.outcome.Outcome.{Outcome}
 use Rattle.tm_model.specs.declared.outcome.Outcome.TheVariants.{Plain, Loaded, Stopped, Idle, Begun, Inside}
-use Rattle.tm_model.specs.declared.outcome.Outcome.TheVariants.{Committed, Aborted}
+use Rattle.tm_model.specs.declared.outcome.Outcome.TheVariants.{Committed, Aborted, AbortedBy}
+use Rattle.tm_stats.specs.Causes.{cause_counted}
 use Rattle.tm_stats.specs.Places.{counts_at}
 use Rattle.tm_stats.specs.Tally.{counted, total_of}
 use Rattle.tm_stats.specs.declared.cause.AbortCause.{AbortCause}
@@ -27,6 +28,7 @@ is_committed outcome = false
 
 abbrev pub is_aborted : Outcome → Bool
 is_aborted (Aborted status) = true
+is_aborted (AbortedBy interference status) = true
 is_aborted outcome = false
 
 -- outside of transactions
@@ -59,7 +61,8 @@ aborted_at place = how_many (λ step. is_aborted step.outcome && nat_eq step.pla
 -- how many of them aborted for a cause, where `same` compares causes
 abbrev pub aborted_for : (AbortCause → AbortCause → Bool) → ℕ → AbortCause → List Step → ℕ
 aborted_for same place cause =
-    how_many (λ step. is_aborted step.outcome && (nat_eq step.place place && same step.cause cause))
+    how_many (λ step. is_aborted step.outcome
+    && (nat_eq step.place place && same (cause_counted step.outcome step.cause) cause))
 
 -- ---- steps of transactions
 

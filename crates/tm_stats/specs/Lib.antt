@@ -1,5 +1,6 @@
 pub mod Tally
 pub mod Places
+pub mod Causes
 pub mod Counts
 pub mod Conflicts
 pub mod OpenBytes

@@ -2,7 +2,7 @@
 use Rattle.std.specs.Prelude.{ℕ, ◌+◌, ◌^◌, ◌<◌, unwrap_or, nat_eq}
 use Rattle.std.specs.HashMap.{HashMap, get}
 use Rattle.tm_model.specs.declared.outcome.Outcome.{Outcome}
-use Rattle.tm_model.specs.declared.outcome.Outcome.TheVariants.{Begun, Committed, Aborted}
+use Rattle.tm_model.specs.declared.outcome.Outcome.TheVariants.{Begun, Committed, Aborted, AbortedBy}
 use Rattle.tm_stats.specs.declared.place_counts.PlaceCounts.{PlaceCounts}
 
 -- what none came to
@@ -18,6 +18,8 @@ abbrev pub after_step : Outcome → ℕ → PlaceCounts → PlaceCounts
 after_step Begun before counts = record counts { begun = counts.begun + 1 }
 after_step Committed before counts = record counts { committed = counts.committed + 1 }
 after_step (Aborted status) before counts =
+    record counts { aborted = counts.aborted + 1; lost = counts.lost + (before + 1) }
+after_step (AbortedBy interference status) before counts =
     record counts { aborted = counts.aborted + 1; lost = counts.lost + (before + 1) }
 after_step outcome before counts = counts
 

@@ -1,7 +1,11 @@
 //! Why transactions abort, as it is counted.
 
+ghost use Rattle.std.specs.Prelude.{◌≡◌};
+ghost use Rattle.tm_stats.specs.Causes.{cause_from_outside};
+
 use std::fmt;
 use std::fmt::{Display, Formatter, Write};
+use tm_model::Interference;
 
 /// Why a transaction aborts, as statistics tell causes apart (docs/FORMATS.md, "Statistics").
 #[derive(Clone, Copy, PartialEq, Eq, PartialOrd, Ord, Hash)]
@@ -36,6 +40,25 @@ pub enum AbortCause {
     NotInSubset,
     /// An instruction that no transaction may run.
     NotAllowed,
+    /// An interrupt from outside of the program.
+    Interrupt,
+    /// An eviction from outside of the program.
+    Eviction,
+    /// An access by what is no core of the machine.
+    Snoop,
+}
+
+impl AbortCause {
+    /// The cause of an abort from outside of the program.
+    pub fn from_outside(interference: Interference) -> AbortCause
+        ensures { result ≡ cause_from_outside interference }
+    {
+        match interference {
+            Interference::Interrupt => AbortCause::Interrupt,
+            Interference::Eviction => AbortCause::Eviction,
+            Interference::Snoop => AbortCause::Snoop,
+        }
+    }
 }
 
 impl Display for AbortCause {
@@ -56,6 +79,9 @@ impl Display for AbortCause {
             AbortCause::Fetch => "fetch",
             AbortCause::NotInSubset => "not-in-subset",
             AbortCause::NotAllowed => "not-allowed",
+            AbortCause::Interrupt => "interrupt",
+            AbortCause::Eviction => "eviction",
+            AbortCause::Snoop => "snoop",
         };
         f.write_str(name)
     }

@@ -3,6 +3,7 @@
 ghost use Rattle.std.specs.Prelude.{◌≡◌, ◌+◌, ◌^◌, ◌<◌, ◌&&◌, ◌∷◌, [], ℕ, List, OnErr, OnOk, if◌then◌else◌};
 ghost use Rattle.std.specs.Prelude.{length, nat_eq};
 ghost use Rattle.indexmap.specs.IndexMap.{spare};
+ghost use Rattle.tm_stats.specs.Causes.{cause_counted};
 ghost use Rattle.tm_stats.specs.Counts.{is_aborted, is_committed, is_idle, is_outside, open_after, same_cause, same_size};
 ghost use Rattle.tm_stats.specs.Places.{Fits, after_step, counts_at};
 ghost use Rattle.tm_stats.specs.Tally.{counted, total_of};
@@ -152,7 +153,7 @@ fn count_place(places: &mut IndexMap<u32, PlaceCounts>, place: u32, outcome: Out
         ≡ (if nat_eq place q then after_step outcome before (counts_at places.old q) else counts_at places.old q) }
 {
     match outcome {
-        Outcome::Begun | Outcome::Committed | Outcome::Aborted(_) => {
+        Outcome::Begun | Outcome::Committed | Outcome::Aborted(_) | Outcome::AbortedBy(_, _) => {
             let counts = places.get(&place).copied().unwrap_or(NO_COUNTS);
             match places.insert(place, counts.after(outcome, before)) {
                 Ok(_) => {}
@@ -163,17 +164,22 @@ fn count_place(places: &mut IndexMap<u32, PlaceCounts>, place: u32, outcome: Out
     }
 }
 
-// Counts an abort, by its cause.
+// Counts an abort, by its cause: one from outside by what it came from.
 fn count_cause(causes: &mut Tally<PlaceCause>, place: u32, outcome: Outcome, cause: AbortCause)
     requires { 0 < spare causes.old }
     ensures { let same = ⟦<AbortCause as PartialEq>⟧.eq in
         (q : PlaceCause) → total_of (same_cause same) causes.old q + 1 < 2 ^ 64
         → total_of (same_cause same) causes.new q
-        ≡ counted (is_aborted outcome && (nat_eq place q.place && same cause q.cause))
+        ≡ counted (is_aborted outcome && (nat_eq place q.place && same (cause_counted outcome cause) q.cause))
         (total_of (same_cause same) causes.old q) }
 {
-    if let Outcome::Aborted(_) = outcome {
-        add_one(causes, PlaceCause { place, cause });
+    match outcome {
+        Outcome::Aborted(_) => add_one(causes, PlaceCause { place, cause }),
+        Outcome::AbortedBy(interference, _) => {
+            let cause = AbortCause::from_outside(interference);
+            add_one(causes, PlaceCause { place, cause });
+        }
+        _ => {}
     }
 }
 

@@ -36,7 +36,7 @@ impl PlaceCounts {
         match outcome {
             Outcome::Begun => counts.begun = plus(counts.begun, 1),
             Outcome::Committed => counts.committed = plus(counts.committed, 1),
-            Outcome::Aborted(_) => {
+            Outcome::Aborted(_) | Outcome::AbortedBy(_, _) => {
                 counts.aborted = plus(counts.aborted, 1);
                 counts.lost = plus(counts.lost, plus(before, 1));
             }

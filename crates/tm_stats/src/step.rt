@@ -12,7 +12,7 @@ pub struct Step {
     pub place: u32,
     /// What the step was.
     pub outcome: Outcome,
-    /// Why it aborted. It counts only where the outcome is an abort.
+    /// Why it aborted. It counts only where the outcome is an abort of the program's own.
     pub cause: AbortCause,
     /// How many lines the read set had before the step. It counts only where the outcome is a commit.
     pub reads: u32,
