@@ -18,7 +18,7 @@ use Rattle.tm_core.specs.Machine.{shown_by}
 use Rattle.tm_core.specs.Representation.{cpu_at, cpu_views, parts_setting}
 use Rattle.tm_core.specs.StepRefinement.{add_all, seen}
 use Rattle.tm_core.specs.Theorem.{StandsFor}
-use Rattle.tm_core.specs.Types.{Aborted, Access, AtStop, Begins, Begun, Capacity, Committed, Condemned, Ends, Fails}
+use Rattle.tm_core.specs.Types.{Aborted, AbortedBy, Access, AtStop, Begins, Begun, Capacity, Committed, Condemned, Ends, Fails}
 use Rattle.tm_core.specs.Types.{Goes, GoesOn, Idle, Inside, InsideResult, Loaded, Nests, Open, Outcome, OutsideResult}
 use Rattle.tm_core.specs.Types.{Plain, Read, Regs, Running, Stopped, Stops, Write}
 use Rattle.tm_core.proofs.BufferLemmas.{add_all-lines, map_seen}
@@ -60,6 +60,7 @@ module _ (k : Setting) (m : List ℕ) (b : Body) where
   by_body body Begun = ([], [])
   by_body body Committed = ([], [])
   by_body body (Aborted status) = ([], [])
+  by_body body (AbortedBy by status) = ([], [])
 
   abbrev instruction_reach : Reached
   instruction_reach = (k.load_of b.regs, addresses_stored_next (instruction_after k m b))
@@ -111,6 +112,7 @@ module _ (k : Setting) (m : List ℕ) (b : Body) where
   by_outcome s n Begun = refl
   by_outcome s n Committed = refl
   by_outcome s n (Aborted status) = refl
+  by_outcome s n (AbortedBy by status) = refl
 
 -- ---- of a state that a machine stands for, what it shows
 

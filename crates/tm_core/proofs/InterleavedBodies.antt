@@ -6,8 +6,8 @@ use Rattle.tm_model.specs.Access.{Stores, memory_after, stored_addresses, stores
 use Rattle.tm_model.specs.Conflicts.{addresses_loaded_by, addresses_stored_by, depth_at_hit, doom_after_other}
 use Rattle.tm_model.specs.Conflicts.{doom_after_own, doomed_after, is_hit}
 use Rattle.tm_model.specs.Isolated.{Body, isolated_body, longer_body, read_set}
-use Rattle.tm_model.specs.Owed.{owed_outcome}
-use Rattle.tm_model.specs.Runs.{AreOwed, doomed_at_end}
+use Rattle.tm_model.specs.Owed.{owed_under}
+use Rattle.tm_model.specs.Runs.{AreOwed, doomed_at_end, event_told}
 use Rattle.tm_model.specs.Setting.{Setting, outside_at, value_at}
 use Rattle.tm_model.specs.Shown.{View, ViewsStandFor, body_alone, view_between, view_inside, view_midway, view_of}
 use Rattle.tm_model.specs.Shown.{view_outside, view_with_body}
@@ -16,16 +16,18 @@ use Rattle.tm_model.specs.Steps.{after_begin, after_commit, after_load, after_pl
 use Rattle.tm_model.specs.Steps.{registers_after_abort, run, state_with, step, stop_number}
 use Rattle.tm_model.specs.Went.{after_step_with_body, body_after, opening_with_bodies, run_with_bodies}
 use Rattle.tm_model.specs.Went.{state_with_body, step_with_body}
-use Rattle.tm_core.specs.StepRefinement.{StepResult, stepped, views_after}
+use Rattle.tm_model.specs.declared.outcome.Event.TheVariants as event
+use Rattle.tm_core.specs.StepRefinement.{StepResult, stepped_under, views_after}
 use Rattle.tm_core.specs.Theorem.{TransactionsAsTheyWent, condemned_depth, machine_setting, view_at}
-use Rattle.tm_core.specs.Types.{Aborted, AtStop, Begins, Begun, Committed, Condemned, Goes, Idle, Inside, Loaded}
+use Rattle.tm_core.specs.Types.{Aborted, AbortedBy, AtStop, Begins, Begun, Committed, Condemned, Event, Goes, Idle, Inside}
+use Rattle.tm_core.specs.Types.{Loaded}
 use Rattle.tm_core.specs.Types.{Outcome, OutsideResult, Plain, Regs, Running, Stop, Stopped, Stops}
 use Rattle.tm_core.proofs.BufferLemmas.{lines_on, not_hit}
 use Rattle.tm_core.proofs.Frame.{frame, length-memory_after}
 use Rattle.tm_core.proofs.OtherCores.{stores_missed, view_inside_is}
 use Rattle.tm_core.proofs.Sound.{Sound}
 use Rattle.tm_core.proofs.StepTheorem.{Right, right}
-use Rattle.tm_core.proofs.SteppingCore.{Own, isolated_body-suc, own}
+use Rattle.tm_core.proofs.SteppingCore.{Own, isolated_body-suc, own_under}
 use Rattle.tm_core.proofs.Table.{sound}
 
 -- ---- the core that steps
@@ -40,19 +42,21 @@ more k m s n w v is same =
     ap (option_and_then (longer_body k m)) same ∙ sym (body_alone-suc k s m n b e1))
 
 -- the owed step is the same with the body that bodies
-same_with_body : (k : Setting) (m : List ℕ) (x : Core) (w : Option Body) (dx : Option ℕ) (o : Outcome) (v : View) → o ≡ owed_outcome k m x dx → view_of k m x dx ≡ Some v → (dx ≡ None → w ≡ body_alone k m x) → after_step_with_body k m x w o ≡ after_step_of k m x o
-same_with_body k m (Closed s) w dx o v owes is same = refl
-same_with_body k m (Midway s value) w dx o v owes is same = refl
-same_with_body k m (Halted s x) w dx o v owes is same = refl
-same_with_body k m (Opened s n) w dx Plain v owes is same = refl
-same_with_body k m (Opened s n) w dx Loaded v owes is same = refl
-same_with_body k m (Opened s n) w dx (Stopped x) v owes is same = refl
-same_with_body k m (Opened s n) w dx Idle v owes is same = refl
-same_with_body k m (Opened s n) w dx Begun v owes is same = refl
-same_with_body k m (Opened s n) w dx Inside v owes is same = refl
-same_with_body k m (Opened s n) w dx (Aborted status) v owes is same = refl
-same_with_body k m (Opened s n) w (Some depth) Committed v owes is same = cc
-same_with_body k m (Opened s n) w None Committed v owes is same = ap (option_and_then (after_commit m)) (more k m s n w v is (same refl))
+same_with_body : (event : Option Event) (k : Setting) (m : List ℕ) (x : Core) (w : Option Body) (dx : Option ℕ) (o : Outcome) (v : View) → o ≡ owed_under event k m x dx → view_of k m x dx ≡ Some v → (dx ≡ None → w ≡ body_alone k m x) → after_step_with_body k m x w o ≡ after_step_of k m x o
+same_with_body event k m (Closed s) w dx o v owes is same = refl
+same_with_body event k m (Midway s value) w dx o v owes is same = refl
+same_with_body event k m (Halted s x) w dx o v owes is same = refl
+same_with_body event k m (Opened s n) w dx Plain v owes is same = refl
+same_with_body event k m (Opened s n) w dx Loaded v owes is same = refl
+same_with_body event k m (Opened s n) w dx (Stopped x) v owes is same = refl
+same_with_body event k m (Opened s n) w dx Idle v owes is same = refl
+same_with_body event k m (Opened s n) w dx Begun v owes is same = refl
+same_with_body event k m (Opened s n) w dx Inside v owes is same = refl
+same_with_body event k m (Opened s n) w dx (Aborted status) v owes is same = refl
+same_with_body event k m (Opened s n) w dx (AbortedBy by status) v owes is same = refl
+same_with_body None k m (Opened s n) w (Some depth) Committed v owes is same = cc
+same_with_body (Some (event.Abort by)) k m (Opened s n) w (Some depth) Committed v owes is same = cc
+same_with_body event k m (Opened s n) w None Committed v owes is same = ap (option_and_then (after_commit m)) (more k m s n w v is (same refl))
 
 after_plain_closed : (k : Setting) (m : List ℕ) (o : OutsideResult) (q : List ℕ × Core) → after_plain m o ≡ Some q → None ≡ body_alone k q.0 q.1
 after_plain_closed k m (Goes t w) q e = ap (λ (p : List ℕ × Core). body_alone k p.0 p.1) (same_Some (memory_after m (stores_of w), Closed t) q e)
@@ -104,6 +108,7 @@ went_own k m (Closed s) w dx Idle q v e is same free = cc
 went_own k m (Closed s) w dx Inside q v e is same free = cc
 went_own k m (Closed s) w dx Committed q v e is same free = cc
 went_own k m (Closed s) w dx (Aborted status) q v e is same free = cc
+went_own k m (Closed s) w dx (AbortedBy by status) q v e is same free = cc
 went_own k m (Midway s value) w dx Plain q v e is same free = after_plain_closed k m (k.outside s value) q e
 went_own k m (Midway s value) w dx Loaded q v e is same free = cc
 went_own k m (Midway s value) w dx (Stopped x) q v e is same free = cc
@@ -112,6 +117,7 @@ went_own k m (Midway s value) w dx Idle q v e is same free = cc
 went_own k m (Midway s value) w dx Inside q v e is same free = cc
 went_own k m (Midway s value) w dx Committed q v e is same free = cc
 went_own k m (Midway s value) w dx (Aborted status) q v e is same free = cc
+went_own k m (Midway s value) w dx (AbortedBy by status) q v e is same free = cc
 went_own k m (Halted s x) w dx Idle q v e is same free = ap (λ (p : List ℕ × Core). body_alone k p.0 p.1) (same_Some (m, Halted s x) q e)
 went_own k m (Halted s x) w dx Plain q v e is same free = cc
 went_own k m (Halted s x) w dx Loaded q v e is same free = cc
@@ -120,11 +126,13 @@ went_own k m (Halted s x) w dx Begun q v e is same free = cc
 went_own k m (Halted s x) w dx Inside q v e is same free = cc
 went_own k m (Halted s x) w dx Committed q v e is same free = cc
 went_own k m (Halted s x) w dx (Aborted status) q v e is same free = cc
+went_own k m (Halted s x) w dx (AbortedBy by status) q v e is same free = cc
 went_own k m (Opened s n) w dx Inside q v e is same free =
     more k m s n w v (subst (λ d. view_of k m (Opened s n) d ≡ Some v) free is) (same free)
     ∙ ap (λ (p : List ℕ × Core). body_alone k p.0 p.1) (same_Some (m, Opened s (suc n)) q e)
 went_own k m (Opened s n) w dx Committed q v e is same free = option_and_then_some (after_commit m) (isolated_body k s m (suc n)) q e (λ b e1 e2. after_commit_closed k m b q e2)
 went_own k m (Opened s n) w dx (Aborted status) q v e is same free = ap (λ (p : List ℕ × Core). body_alone k p.0 p.1) (same_Some (m, Closed (registers_after_abort k s status)) q e)
+went_own k m (Opened s n) w dx (AbortedBy by status) q v e is same free = ap (λ (p : List ℕ × Core). body_alone k p.0 p.1) (same_Some (m, Closed (registers_after_abort k s status)) q e)
 went_own k m (Opened s n) w dx Plain q v e is same free = cc
 went_own k m (Opened s n) w dx Loaded q v e is same free = cc
 went_own k m (Opened s n) w dx (Stopped x) q v e is same free = cc
@@ -169,9 +177,9 @@ pub record OneGoes (k : Setting) (cores : ℕ) (a : State) (w : ℕ → Option B
   pub stands : ViewsStandFor k cores next.memory views next (doomed_after k a d c o)
   pub by_itself : AreAlone k cores next bodies (doomed_after k a d c o)
 
-module _ (k : Setting) (cores : ℕ) (a : State) (w : ℕ → Option Body) (d : ℕ → Option ℕ) (c : ℕ) (views : ℕ → View) (r : StepResult)
+module _ (event : Option Event) (k : Setting) (cores : ℕ) (a : State) (w : ℕ → Option Body) (d : ℕ → Option ℕ) (c : ℕ) (views : ℕ → View) (r : StepResult)
     (size : length a.memory ≡ k.size) (each : (j : ℕ) → j < cores → view_of k a.memory (a.cores j) (d j) ≡ Some (views j))
-    (mine : Own k a.memory (a.cores c) (d c) r) (below : c < cores) (counted : cores ≡ a.count) (same : AreAlone k cores a w d) where
+    (mine : Own event k a.memory (a.cores c) (d c) r) (below : c < cores) (counted : cores ≡ a.count) (same : AreAlone k cores a w d) where
   abbrev after : List ℕ
   after = memory_after a.memory mine.stores
 
@@ -181,8 +189,8 @@ module _ (k : Setting) (cores : ℕ) (a : State) (w : ℕ → Option Body) (d : 
   abbrev own_body : Option Body
   own_body = body_after k a.memory (a.cores c) (w c) r.outcome
 
-  is_right : Right k cores a d c r.outcome r.memory (views_after views c r)
-  is_right = right k cores a d c views r each mine below counted
+  is_right : Right event k cores a d c r.outcome r.memory (views_after views c r)
+  is_right = right event k cores a d c views r each mine below counted
 
   steps_by : step k a c r.outcome ≡ Some next
   steps_by =
@@ -197,7 +205,7 @@ module _ (k : Setting) (cores : ℕ) (a : State) (w : ℕ → Option Body) (d : 
   goes_by : step_with_body k (record { state = a; bodies = w }) c r.outcome ≡ Some (state_with_body (record { state = a; bodies = w }) c own_body (after, mine.next))
   goes_by =
       ap (λ t. cond t (option_map (state_with_body (record { state = a; bodies = w }) c own_body) (after_step_with_body k a.memory (a.cores c) (w c) r.outcome)) None) (lt-ltb c a.count (subst (λ n. c < n) counted below))
-      ∙ ap (option_map (state_with_body (record { state = a; bodies = w }) c own_body)) (same_with_body k a.memory (a.cores c) (w c) (d c) r.outcome (views c) mine.owes (each c below) (same c below) ∙ mine.moves)
+      ∙ ap (option_map (state_with_body (record { state = a; bodies = w }) c own_body)) (same_with_body event k a.memory (a.cores c) (w c) (d c) r.outcome (views c) mine.owes (each c below) (same c below) ∙ mine.moves)
 
   there : (j : ℕ) → j < cores → doom_after_other k a.memory (addresses_loaded_by k a.memory (a.cores c) r.outcome) (addresses_stored_by k a.memory (a.cores c) r.outcome) (a.cores j) (d j) ≡ None → w j ≡ body_alone k after (a.cores j)
   there j within free =
@@ -238,9 +246,10 @@ all_go k sound cores views a w d [] last size stands same owes e =
     (w, ap (λ (b : State). Some (record { state = b; bodies = w })) e2, subst (λ (b : State). AreAlone k cores b w d) e2 same)
 all_go k sound cores views a w d (p ∷ ps) last size stands same owes e =
     let below : p.0 < cores = option_and_then_some (λ b. run k b ps) (step k a p.0 p.1) last e (λ b e1 e2. subst (λ n. p.0 < n) (sym stands.same_count) (ltb-true p.0 a.count (step_exists k a p.0 p.1 b e1))) in
-    let r : StepResult = stepped k a.memory (views p.0) (views p.0).mode in
-    let mine : Own k a.memory (a.cores p.0) (d p.0) r = own k sound a.memory size (a.cores p.0) (d p.0) (views p.0) (stands.each p.0 below) in
-    let one : OneGoes k cores a w d p.0 p.1 = subst (OneGoes k cores a w d p.0) (mine.owes ∙ sym owes.0) (one_goes k cores a w d p.0 views r size stands.each mine below stands.same_count same) in
+    let event : Option Event = event_told p.1 in
+    let r : StepResult = stepped_under event k a.memory (views p.0) (views p.0).mode in
+    let mine : Own event k a.memory (a.cores p.0) (d p.0) r = own_under event k sound a.memory size (a.cores p.0) (d p.0) (views p.0) (stands.each p.0 below) in
+    let one : OneGoes k cores a w d p.0 p.1 = subst (OneGoes k cores a w d p.0) (mine.owes ∙ sym owes.0) (one_goes event k cores a w d p.0 views r size stands.each mine below stands.same_count same) in
     let d2 : ℕ → Option ℕ = doomed_after k a d p.0 p.1 in
     let owes2 : AreOwed k one.next d2 ps = subst (λ s. MatchOption s ⊥ (λ b. AreOwed k b d2 ps)) one.steps owes.1 in
     let e2 : run k one.next ps ≡ Some last = subst (λ s. option_and_then (λ b. run k b ps) s ≡ Some last) one.steps e in

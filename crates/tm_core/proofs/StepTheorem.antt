@@ -5,28 +5,29 @@ use Rattle.std.proofs.lemmas.Bool.{lt-ltb}
 use Rattle.tm_model.specs.Access.{memory_after}
 use Rattle.tm_model.specs.Conflicts.{addresses_loaded_by, addresses_stored_by, doom_after_other, doom_after_own}
 use Rattle.tm_model.specs.Conflicts.{doomed_after}
-use Rattle.tm_model.specs.Owed.{owed_outcome}
+use Rattle.tm_model.specs.Owed.{owed_under}
 use Rattle.tm_model.specs.Runs.{AreOwed, doomed_at_end}
 use Rattle.tm_model.specs.Setting.{Setting}
 use Rattle.tm_model.specs.Shown.{View, ViewsStandFor, view_of}
 use Rattle.tm_model.specs.State.{State}
 use Rattle.tm_model.specs.Steps.{after_step_of, run, state_with, step}
-use Rattle.tm_core.specs.StepRefinement.{StepResult, stepped, view_after_hit, views_after}
-use Rattle.tm_core.specs.Types.{Outcome}
+use Rattle.tm_core.specs.StepRefinement.{StepResult, stepped_under, view_after_hit, views_after}
+use Rattle.tm_core.specs.Types.{Event, Outcome}
+use Rattle.tm_model.proofs.Events.{owed_in_history}
 use Rattle.tm_core.proofs.OtherCores.{other}
 use Rattle.tm_core.proofs.Sound.{Sound}
-use Rattle.tm_core.proofs.SteppingCore.{Own, own}
+use Rattle.tm_core.proofs.SteppingCore.{Own, own_under}
 
--- a right step of core c, by what it does to the machine
-pub record Right (k : Setting) (cores : ℕ) (a : State) (d : ℕ → Option ℕ) (c : ℕ) (outcome : Outcome) (m : List ℕ) (views : ℕ → View) : Type 0 where
-  pub owes : outcome ≡ owed_outcome k a.memory (a.cores c) (d c)
+-- a right step of core c under an event, or under none, by what it does to the machine
+pub record Right (event : Option Event) (k : Setting) (cores : ℕ) (a : State) (d : ℕ → Option ℕ) (c : ℕ) (outcome : Outcome) (m : List ℕ) (views : ℕ → View) : Type 0 where
+  pub owes : outcome ≡ owed_under event k a.memory (a.cores c) (d c)
   pub next : State
   pub steps : step k a c outcome ≡ Some next
   pub stands : ViewsStandFor k cores m views next (doomed_after k a d c outcome)
 
-module _ (k : Setting) (cores : ℕ) (a : State) (d : ℕ → Option ℕ) (c : ℕ) (views : ℕ → View) (r : StepResult)
+module _ (event : Option Event) (k : Setting) (cores : ℕ) (a : State) (d : ℕ → Option ℕ) (c : ℕ) (views : ℕ → View) (r : StepResult)
     (each : (j : ℕ) → j < cores → view_of k a.memory (a.cores j) (d j) ≡ Some (views j))
-    (mine : Own k a.memory (a.cores c) (d c) r) (below : c < cores) (counted : cores ≡ a.count) where
+    (mine : Own event k a.memory (a.cores c) (d c) r) (below : c < cores) (counted : cores ≡ a.count) where
   abbrev after : List ℕ
   after = memory_after a.memory mine.stores
 
@@ -39,7 +40,7 @@ module _ (k : Setting) (cores : ℕ) (a : State) (d : ℕ → Option ℕ) (c : �
       ∙ ap (λ ps. view_of k after (a.cores j) (doom_after_other k a.memory mine.loads ps (a.cores j) (d j))) (sym mine.wrote)
       ∙ other k a.memory mine.loads mine.stores r.touched mine.touch (a.cores j) (d j) (views j) (each j within)
 
-  pub right : Right k cores a d c r.outcome r.memory (views_after views c r)
+  pub right : Right event k cores a d c r.outcome r.memory (views_after views c r)
   right = record {
     owes = mine.owes;
     next = state_with a c (after, mine.next);
@@ -58,12 +59,12 @@ module _ (k : Setting) (cores : ℕ) (a : State) (d : ℕ → Option ℕ) (c : �
   }
 
 -- one step of the machine is the owed step of each state that it stands for
-pub one_step : (k : Setting) → Sound k → (cores : ℕ) (m : List ℕ) (views : ℕ → View) (a : State) (d : ℕ → Option ℕ) (c : ℕ) → length m ≡ k.size → c < cores → ViewsStandFor k cores m views a d →
-    Right k cores a d c (stepped k m (views c) (views c).mode).outcome (stepped k m (views c) (views c).mode).memory (views_after views c (stepped k m (views c) (views c).mode))
-one_step k sound cores m views a d c size below stands =
-    subst (λ n. Right k cores a d c (stepped k n (views c) (views c).mode).outcome (stepped k n (views c) (views c).mode).memory (views_after views c (stepped k n (views c) (views c).mode))) (sym stands.same_memory)
-    (right k cores a d c views (stepped k a.memory (views c) (views c).mode) stands.each
-    (own k sound a.memory (ap length (sym stands.same_memory) ∙ size) (a.cores c) (d c) (views c) (stands.each c below)) below stands.same_count)
+pub one_step : (event : Option Event) (k : Setting) → Sound k → (cores : ℕ) (m : List ℕ) (views : ℕ → View) (a : State) (d : ℕ → Option ℕ) (c : ℕ) → length m ≡ k.size → c < cores → ViewsStandFor k cores m views a d →
+    Right event k cores a d c (stepped_under event k m (views c) (views c).mode).outcome (stepped_under event k m (views c) (views c).mode).memory (views_after views c (stepped_under event k m (views c) (views c).mode))
+one_step event k sound cores m views a d c size below stands =
+    subst (λ n. Right event k cores a d c (stepped_under event k n (views c) (views c).mode).outcome (stepped_under event k n (views c) (views c).mode).memory (views_after views c (stepped_under event k n (views c) (views c).mode))) (sym stands.same_memory)
+    (right event k cores a d c views (stepped_under event k a.memory (views c) (views c).mode) stands.each
+    (own_under event k sound a.memory (ap length (sym stands.same_memory) ∙ size) (a.cores c) (d c) (views c) (stands.each c below)) below stands.same_count)
 
 -- ---- lists of steps
 
@@ -78,20 +79,20 @@ pub runs_none : (k : Setting) (cores : ℕ) (a : State) (d : ℕ → Option ℕ)
 runs_none k cores a d m views stands = record { end = a; is_run = refl; owed = tt; stands = stands }
 
 -- a run goes on by one right step
-pub runs_more : (k : Setting) (cores : ℕ) (a : State) (d : ℕ → Option ℕ) (ps : List (ℕ × Outcome)) (m : List ℕ) (views : ℕ → View) (c : ℕ) (o : Outcome) (n : List ℕ) (views2 : ℕ → View) →
+pub runs_more : (event : Option Event) (k : Setting) (cores : ℕ) (a : State) (d : ℕ → Option ℕ) (ps : List (ℕ × Outcome)) (m : List ℕ) (views : ℕ → View) (c : ℕ) (o : Outcome) (n : List ℕ) (views2 : ℕ → View) →
     Runs k cores a d ps m views →
-    ((b : State) (e : ℕ → Option ℕ) → ViewsStandFor k cores m views b e → Right k cores b e c o n views2) →
+    ((b : State) (e : ℕ → Option ℕ) → ViewsStandFor k cores m views b e → Right event k cores b e c o n views2) →
     Runs k cores a d (ps ++ (c, o) ∷ []) n views2
-runs_more k cores a d [] m views c o n views2 runs right =
+runs_more event k cores a d [] m views c o n views2 runs right =
     let same : a ≡ runs.end = same_Some a runs.end runs.is_run in
-    let now : Right k cores a d c o n views2 = right a d (subst (λ x. ViewsStandFor k cores m views x d) (sym same) runs.stands) in
+    let now : Right event k cores a d c o n views2 = right a d (subst (λ x. ViewsStandFor k cores m views x d) (sym same) runs.stands) in
     record {
       end = now.next;
       is_run = ap (option_and_then (λ b. run k b [])) now.steps;
-      owed = (now.owes, subst (λ s. MatchOption s ⊥ (λ b. AreOwed k b (doomed_after k a d c o) [])) (sym now.steps) tt);
+      owed = (owed_in_history event k a d c o now.owes, subst (λ s. MatchOption s ⊥ (λ b. AreOwed k b (doomed_after k a d c o) [])) (sym now.steps) tt);
       stands = subst (λ s. ViewsStandFor k cores n views2 now.next (elim s [ None ↦ d | Some b ↦ doomed_at_end k b (doomed_after k a d c o) [] ])) (sym now.steps) now.stands;
     }
-runs_more k cores a d (p ∷ ps) m views c o n views2 runs right =
+runs_more event k cores a d (p ∷ ps) m views c o n views2 runs right =
     let all : (z : State) × (run k a ((p ∷ ps) ++ (c, o) ∷ []) ≡ Some z) × MatchOption (step k a p.0 p.1) ⊥ (λ b. AreOwed k b (doomed_after k a d p.0 p.1) (ps ++ (c, o) ∷ [])) × ViewsStandFor k cores n views2 z (doomed_at_end k a d ((p ∷ ps) ++ (c, o) ∷ [])) =
     (elim (step k a p.0 p.1) as (λ s.
     option_and_then (λ b. run k b ps) s ≡ Some runs.end →
@@ -100,7 +101,7 @@ runs_more k cores a d (p ∷ ps) m views c o n views2 runs right =
     (z : State) × (option_and_then (λ b. run k b (ps ++ (c, o) ∷ [])) s ≡ Some z) × MatchOption s ⊥ (λ b. AreOwed k b (doomed_after k a d p.0 p.1) (ps ++ (c, o) ∷ [])) × ViewsStandFor k cores n views2 z (elim s [ None ↦ d | Some b ↦ doomed_at_end k b (doomed_after k a d p.0 p.1) (ps ++ (c, o) ∷ []) ])) [
       | None ↦ λ _ never _. absurd never
       | Some b ↦ λ is owed stands.
-          let rest : Runs k cores b (doomed_after k a d p.0 p.1) (ps ++ (c, o) ∷ []) n views2 = runs_more k cores b (doomed_after k a d p.0 p.1) ps m views c o n views2 (record { end = runs.end; is_run = is; owed = owed; stands = stands }) right in
+          let rest : Runs k cores b (doomed_after k a d p.0 p.1) (ps ++ (c, o) ∷ []) n views2 = runs_more event k cores b (doomed_after k a d p.0 p.1) ps m views c o n views2 (record { end = runs.end; is_run = is; owed = owed; stands = stands }) right in
           (rest.end, rest.is_run, rest.owed, rest.stands)
     ]) runs.is_run runs.owed.1 runs.stands in
     record { end = all.0; is_run = all.1; owed = (runs.owed.0, all.2); stands = all.3 }

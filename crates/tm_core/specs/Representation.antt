@@ -16,10 +16,10 @@ use Rattle.tm_core.specs.declared.usual.UsualOutcome.{UsualOutcome}
 use Rattle.tm_core.specs.declared.usual.UsualOutcome.TheVariants as tag
 use Rattle.tm_core.specs.declared.transaction.InsideStep.{InsideStep}
 use Rattle.tm_core.specs.declared.transaction.InsideStep.TheVariants.{Aborts, Commits, GoesInside}
-use Rattle.tm_core.specs.StepRefinement.{StepResult, Touched, finished, lines_hit, stayed, stepped, touched_by}
-use Rattle.tm_core.specs.StepRefinement.{views_after}
+use Rattle.tm_core.specs.StepRefinement.{StepResult, Touched, finished, lines_hit, stayed, stepped, stepped_under}
+use Rattle.tm_core.specs.StepRefinement.{touched_by, views_after}
 use Rattle.tm_core.specs.Theorem.{no_regs}
-use Rattle.tm_core.specs.Types.{Aborted, Access, AtStop, Begun, Committed, Condemned, CoreState, Idle}
+use Rattle.tm_core.specs.Types.{Aborted, AbortedBy, Access, AtStop, Begun, Committed, Condemned, CoreState, Event, Idle}
 use Rattle.tm_core.specs.Types.{Inside, Kind}
 use Rattle.tm_core.specs.Types.{Lines}
 use Rattle.tm_core.specs.Types.{Open}
@@ -200,6 +200,7 @@ has_begun Idle = false
 has_begun Inside = false
 has_begun Committed = false
 has_begun (Aborted status) = false
+has_begun (AbortedBy by status) = false
 
 -- ---- a step, by its parts
 
@@ -231,13 +232,17 @@ left_inside memory Commits view = finished memory view
 left_inside memory (GoesInside access) view = stayed memory (loaded_addresses access) view
 left_inside memory (Aborts outcome) view = record { outcome = outcome; memory = memory; view = view; touched = [] }
 
--- a step of the core of this number gives this outcome, memory and views
-pub record IsStep (setting : Setting) (memory : List ℕ) (views : ℕ → View) (count number : ℕ) (outcome : Outcome)
-    (memory_now : List ℕ) (views_now : ℕ → View) : Type 0 where
-  pub outcome_is : outcome ≡ (stepped setting memory (views number) (views number).mode).outcome
-  pub new_memory : memory_now ≡ (stepped setting memory (views number) (views number).mode).memory
-  pub each : (other : ℕ) → other < count →
-      views_now other ≡ views_after views number (stepped setting memory (views number) (views number).mode) other
+-- a step of the core of this number, under an event or under none, gives this outcome, memory and views
+pub record IsStepUnder (event : Option Event) (setting : Setting) (memory : List ℕ) (views : ℕ → View)
+    (count number : ℕ) (outcome : Outcome) (memory_now : List ℕ) (views_now : ℕ → View) : Type 0 where
+  pub outcome_is : outcome ≡ (stepped_under event setting memory (views number) (views number).mode).outcome
+  pub new_memory : memory_now ≡ (stepped_under event setting memory (views number) (views number).mode).memory
+  pub each : (other : ℕ) → other < count → views_now other
+      ≡ views_after views number (stepped_under event setting memory (views number) (views number).mode) other
+
+abbrev pub IsStep : Setting → List ℕ → (ℕ → View) → ℕ → ℕ → Outcome → List ℕ → (ℕ → View) → Type 0
+IsStep setting memory views count number outcome memory_now views_now =
+    IsStepUnder None setting memory views count number outcome memory_now views_now
 
 -- ---- a usual step where no core is open
 

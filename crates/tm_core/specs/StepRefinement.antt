@@ -8,12 +8,14 @@ use Rattle.std.specs.FinMap as map_of
 use Rattle.std.specs.List.{list_any}
 use Rattle.ia_word.specs.Line.{line}
 use Rattle.tm_buffer.specs.Buffer.{with_bytes, memory_with}
+use Rattle.tm_model.specs.declared.outcome.Event.TheVariants as event
 use Rattle.tm_model.specs.Access.{Stores, addresses_of, memory_after, stored_addresses, stores_of}
-use Rattle.tm_model.specs.Owed.{have_room, status_at}
+use Rattle.tm_model.specs.Owed.{cause_of_interference, have_room, status_at}
 use Rattle.tm_model.specs.Setting.{Setting, outside_at, value_at}
 use Rattle.tm_model.specs.Shown.{Buffer, View, view_between, view_outside}
 use Rattle.tm_model.specs.Steps.{registers_after_abort}
-use Rattle.tm_core.specs.Types.{Aborted, AtStop, Begins, Begun, Capacity, Committed, Condemned, Conflict, CoreState}
+use Rattle.tm_core.specs.Types.{Aborted, AbortedBy, AtStop, Begins, Begun, Capacity, Committed, Condemned, Conflict}
+use Rattle.tm_core.specs.Types.{CoreState, Event, Interference}
 use Rattle.tm_core.specs.Types.{Ends, Fails, Goes, GoesOn, Idle, Inside, InsideResult, Kind, Lines, Loaded, Mid, Nests}
 use Rattle.tm_core.specs.Types.{Open, Outcome, OutsideResult, Plain, Read, Regs, Running, Stopped, Stops, Store, Write}
 
@@ -180,6 +182,22 @@ stepped setting memory view (Open depth) =
     (setting.value_of view.regs (map (seen view.buffer memory) (setting.load_of view.regs))))
 stepped setting memory view (Condemned depth) = quit setting memory view (status_at Conflict depth)
 stepped setting memory view (AtStop stop) = record { outcome = Idle; memory = memory; view = view; touched = [] }
+
+-- an abort from outside of the program
+abbrev pub quit_by : Interference → Setting → List ℕ → View → ℕ → StepResult
+quit_by by setting memory view status = record {
+  outcome = AbortedBy by status;
+  memory = memory;
+  view = view_outside Running (registers_after_abort setting view.base status);
+  touched = [];
+}
+
+-- a step under an event, or under none
+abbrev pub stepped_under : Option Event → Setting → List ℕ → View → CoreState → StepResult
+stepped_under None setting memory view mode = stepped setting memory view mode
+stepped_under (Some (event.Abort by)) setting memory view (Open depth) =
+    quit_by by setting memory view (status_at (cause_of_interference by) depth)
+stepped_under (Some (event.Abort by)) setting memory view mode = stepped setting memory view mode
 
 -- the views of all cores after a step of the core of this number
 abbrev pub views_after : (ℕ → View) → ℕ → StepResult → ℕ → View

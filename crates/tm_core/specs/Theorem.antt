@@ -8,13 +8,13 @@ use Rattle.tm_sets.specs.declared.interface.Kind.{Kind}
 use Rattle.tm_sets.specs.declared.interface.Kind.TheVariants.{Read, Write}
 use Rattle.tm_model.specs.Access.{Lines}
 use Rattle.tm_model.specs.Conflicts.{Doomed, doomed_after}
-use Rattle.tm_model.specs.Runs.{AreOwed, IsOwed, doomed_at_end}
+use Rattle.tm_model.specs.Runs.{AreOwed, IsOwedUnder, TellNoAbort, doomed_at_end}
 use Rattle.tm_model.specs.Setting.{Setting, setting_of}
 use Rattle.tm_model.specs.Shown.{View, ViewsStandFor, body_alone, view_outside, view_with_body}
 use Rattle.tm_model.specs.State.{State, opening_state}
 use Rattle.tm_model.specs.Steps.{run, step}
-use Rattle.tm_core.specs.Types.{AtStop, Begun, Committed, Condemned, CoreState, Inside, Mid, Open, Outcome, Plain}
-use Rattle.tm_core.specs.Types.{Regs, Running}
+use Rattle.tm_core.specs.Types.{AtStop, Begun, Committed, Condemned, CoreState, Event, Inside, Mid, Open, Outcome}
+use Rattle.tm_core.specs.Types.{Plain, Regs, Running}
 use Rattle.tm_model.specs.Went.{StateWithBodies, opening_with_bodies, run_with_bodies}
 
 -- ---- what is shown
@@ -50,13 +50,18 @@ abbrev pub StandsFor : ShownMachine → State → Doomed → Type 0
 StandsFor machine state doomed =
     ViewsStandFor (machine_setting machine) (length machine.views) machine.memory (view_at machine) state doomed
 
--- a step of the core of this number is owed and allowed, and the machine then stands for what follows
-pub record TakesStep (before after : ShownMachine) (state : State) (doomed : Doomed) (number : ℕ) (outcome : Outcome)
-    : Type 0 where
-  pub is_owed : IsOwed (machine_setting before) state doomed number outcome
+-- a step of the core of this number under an event, or under none, is owed and allowed, and the machine then stands for
+-- what follows
+pub record TakesStepUnder (event : Option Event) (before after : ShownMachine) (state : State) (doomed : Doomed)
+    (number : ℕ) (outcome : Outcome) : Type 0 where
+  pub is_owed : IsOwedUnder event (machine_setting before) state doomed number outcome
   pub next : State
   pub is_step : step (machine_setting before) state number outcome ≡ Some next
   pub stands : StandsFor after next (doomed_after (machine_setting before) state doomed number outcome)
+
+-- the same under no event: each abort has its cause in the program
+abbrev pub TakesStep : ShownMachine → ShownMachine → State → Doomed → ℕ → Outcome → Type 0
+TakesStep before after state doomed number outcome = TakesStepUnder None before after state doomed number outcome
 
 -- the same of a history: the steps, each a core and its outcome
 pub record TakesSteps (before after : ShownMachine) (state : State) (doomed : Doomed) (history : List (ℕ × Outcome))
@@ -79,10 +84,11 @@ pub record IsRun (start now : ShownMachine) (state : State) (doomed : Doomed) (h
 
 -- ---- several steps at once
 
--- from each state that the machine stands for it takes these steps, so that a run goes on with them; no core that has
--- stopped goes on
+-- from each state that the machine stands for it takes these steps, none an abort from outside of the program, so that a
+-- run goes on with them; no core that has stopped goes on
 pub record TakesAll (before after : ShownMachine) (history : List (ℕ × Outcome)) : Type 0 where
   pub same : SameMachine before after
+  pub tells : TellNoAbort history
   pub takes : (state : State) (doomed : Doomed) → StandsFor before state doomed →
       TakesSteps before after state doomed history
   pub runs : (start : ShownMachine) (state : State) (doomed : Doomed) (earlier : List (ℕ × Outcome)) →

@@ -12,6 +12,10 @@
 //! line), `Machine::abort_reason` (why it is an abort), `Machine::counts` (how large the sets are) and `Machine::reach`
 //! (which bytes it loads and stores). `Machine::seen` tells a byte of memory as a core sees it.
 //!
+//! `Machine::step_under` makes a step under an event: an abort from outside of the program, which hardware may do at any
+//! time. All other calls make steps under none, and promise that they tell of no such abort; and what is asked before a
+//! step speaks of the step under none.
+//!
 //! `Machine::transact` makes the steps of a whole transaction as one, where no other core steps between: its instructions
 //! run on registers alone, and its stores go to memory at its XEND. Its proof goes by the isolated body of `tm_model`, which
 //! is what it runs (`specs/AtOnce.antt`). `Machine::steps_on_registers` makes as many steps outside of transactions as touch
@@ -46,6 +50,7 @@ mod touches;
 mod transact;
 mod transaction;
 mod two_steps;
+mod under;
 mod usual;
 
 pub use explain_laws::{hits_condemn, reasons_are_of_aborts};
@@ -55,7 +60,9 @@ pub use limits::Limits;
 pub use machine::Machine;
 pub use opening::MachineMemory;
 pub use start::{opening_memory, start_regs};
-pub use tm_model::{AbortReason, CoreState, Counts, Hit, Outcome, Program, Reach, Stop};
+pub use tm_model::{
+    AbortReason, CoreState, Counts, Event, Hit, Interference, Outcome, Pick, Program, Reach, Stop,
+};
 pub use tm_rule::Store;
 pub use tm_sets::Kind;
 pub use two_steps::takes_two_steps;

@@ -1,0 +1,118 @@
+//! A step of a core under an event that may befall it.
+
+ghost use Rattle.std.specs.Prelude.{◌≡◌, ◌<◌, ◌≤◌, ◌++◌, ◌∷◌, ◌↔◌, ℕ, List, [], Option, Some, length, false};
+ghost use Rattle.std.specs.Prelude.{IfNone, IfOk, IfSome, IsOk, OnErr};
+ghost use Rattle.tm_model.specs.State.{State};
+ghost use Rattle.tm_model.specs.declared.outcome.Event.TheVariants as event;
+ghost use Rattle.tm_model.specs.declared.outcome.Outcome.{Outcome};
+ghost use Rattle.tm_core.specs.Representation.{IsHeld, IsStepUnder, cpu_at, cpu_views, is_open, kept_at, parts_setting};
+ghost use Rattle.tm_core.specs.Theorem.{IsRun, SameMachine, ShownMachine, StandsFor, TakesStepUnder, view_at};
+
+use crate::cpu::Cpu;
+use crate::fault::NoSuchCore;
+use crate::machine::{Machine, any_open};
+use crate::transaction::abort;
+use tm_model::{CoreState, Event, Interference, Outcome};
+use tm_rule::Code;
+use tm_sets::{Kind, Sets};
+use tm_status::status;
+
+// The abort of core c, which is in a transaction of this depth, from outside of the program: what it does to what each core
+// shows.
+#[inline(never)]
+fn abort_by<S: Sets>(
+    code: &Code,
+    cpus: &mut [Cpu],
+    sets: &mut S,
+    c: u8,
+    by: Interference,
+    depth: u8,
+) -> Outcome
+    requires open { (cpu_at cpus.old c).state ≡ CoreState.Open depth }
+    requires cores { length cpus.old ≤ (S.content sets.old).fixed.cores }
+    requires exists { c < length cpus.old }
+    requires held { (j : ℕ) → j < length cpus.old → IsHeld ((S.content sets.old).fixed.room Kind.Write)
+        (kept_at (S.content sets.old) cpus.old j) }
+    ensures step { (memory : List ℕ) → IsStepUnder (Some (event.Abort by))
+        (parts_setting code.now.bytes.now code.now.base (length memory) (S.content sets.old)) memory
+        (cpu_views (S.content sets.old) cpus.old) (length cpus.old) c result memory
+        (cpu_views (S.content sets.new) cpus.new) }
+    ensures held { (j : ℕ) → j < length cpus.old → IsHeld ((S.content sets.old).fixed.room Kind.Write)
+        (kept_at (S.content sets.new) cpus.new j) }
+    ensures fixed { (S.content sets.new).fixed ≡ (S.content sets.old).fixed }
+{
+    let cause = by.cause();
+    let _outcome = abort(code, &mut cpus[c as usize], sets, c, cause, depth);
+    Outcome::AbortedBy(by, status(cause, depth > 1))
+}
+
+impl<S: Sets> Machine<S> {
+    /// One step of a core under an event. Where the core is in a transaction that is not condemned, `Event::Abort` aborts
+    /// it, whatever its next instruction is; anywhere else nothing is befallen, and the step is that of [`Machine::step`]
+    /// (SDM volume 1, 16.3.8). `NoSuchCore` (42) where there is none of this number. Takes no memory.
+    pub fn step_under(&mut self, core: u8, event: Event) -> Result<Outcome, NoSuchCore>
+        ensures exists { IsOk result ↔ (core < length self.old.views) }
+        ensures same { SameMachine self.old self.new }
+        ensures ok { IfOk result (λ outcome. (a : State) (d : ℕ → Option ℕ) → StandsFor self.old a d →
+            TakesStepUnder (Some event) self.old self.new a d core outcome) }
+        ensures run { IfOk result (λ outcome. (start : ShownMachine) (a : State) (d : ℕ → Option ℕ)
+            (steps : List (ℕ × Outcome)) → IsRun start self.old a d steps →
+            IsRun start self.new a d (steps ++ (core, outcome) ∷ [])) }
+        ensures err { OnErr result (self.new ≡ self.old) }
+    {
+        match event {
+            Event::Abort(by) => self.interfere(core, by),
+        }
+    }
+
+    // One step of a core, or the abort of its transaction where it is in one that is not condemned.
+    fn interfere(&mut self, core: u8, by: Interference) -> Result<Outcome, NoSuchCore>
+        ensures exists { IsOk result ↔ (core < length self.old.views) }
+        ensures same { SameMachine self.old self.new }
+        ensures ok { IfOk result (λ outcome. (a : State) (d : ℕ → Option ℕ) → StandsFor self.old a d →
+            TakesStepUnder (Some (event.Abort by)) self.old self.new a d core outcome) }
+        ensures run { IfOk result (λ outcome. (start : ShownMachine) (a : State) (d : ℕ → Option ℕ)
+            (steps : List (ℕ × Outcome)) → IsRun start self.old a d steps →
+            IsRun start self.new a d (steps ++ (core, outcome) ∷ [])) }
+        ensures err { OnErr result (self.new ≡ self.old) }
+    {
+        match self.open_depth(core)? {
+            Some(depth) => Ok(self.abort_under(core, by, depth)),
+            None => self.step(core),
+        }
+    }
+
+    // The depth of a core's transaction, where it is in one that is not condemned.
+    fn open_depth(&self, core: u8) -> Result<Option<u8>, NoSuchCore>
+        ensures exists { IsOk result ↔ (core < length self.now.views) }
+        ensures some { IfOk result (λ found. IfSome found (λ depth. (view_at self.now core).mode
+            ≡ CoreState.Open depth)) }
+        ensures none { IfOk result (λ found. IfNone found (is_open (view_at self.now core).mode ≡ false)) }
+    {
+        match self.state(core)? {
+            CoreState::Open(depth) => Ok(Some(depth)),
+            CoreState::Running => Ok(None),
+            CoreState::Mid => Ok(None),
+            CoreState::Condemned(_depth) => Ok(None),
+            CoreState::Stopped(_stop) => Ok(None),
+        }
+    }
+
+    // The abort of a core in a transaction of this depth, from outside of the program.
+    fn abort_under(&mut self, core: u8, by: Interference, depth: u8) -> Outcome
+        requires core { core < length self.old.views }
+        requires open { (view_at self.old core).mode ≡ CoreState.Open depth }
+        ensures same { SameMachine self.old self.new }
+        ensures ok { (a : State) (d : ℕ → Option ℕ) → StandsFor self.old a d →
+            TakesStepUnder (Some (event.Abort by)) self.old self.new a d core result }
+    {
+        let code = Code {
+            bytes: &self.code,
+            base: self.base,
+            rows: &self.rows,
+        };
+        let outcome = abort_by(&code, &mut self.cpus, &mut self.sets, core, by, depth);
+        self.busy = any_open(&self.cpus);
+        outcome
+    }
+}
