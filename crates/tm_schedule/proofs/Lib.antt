@@ -2,6 +2,8 @@ pub mod Cuts
 pub mod Counts
 pub mod WordsBack
 pub mod NumbersBack
+pub mod PicksBack
+pub mod ListsBack
 mod ShortWords
 pub mod RunsOf
 pub mod RunsBack

@@ -1,15 +1,11 @@
--- A list in the first form reads as that list.
-use Rattle.std.proofs.Common.{◌≡◌, ℕ, ◌+◌, ◌-◌, ◌*◌, ◌/◌, ◌%◌, ◌<◌, Bool, true, false, if◌then◌else◌, nat_lt, List, [], ◌∷◌, refl, ◌∙◌, ap, arith, length, map, get_or, Option, Some, None, Ok}
+-- A core number that is written reads as that number.
+use Rattle.std.proofs.Common.{◌≡◌, ℕ, ◌+◌, ◌-◌, ◌*◌, ◌/◌, ◌%◌, ◌<◌, Bool, true, false, if◌then◌else◌, nat_lt, List, refl, ◌∙◌, ap, arith, length, Some}
 use Rattle.std.specs.Char.{is_ascii_digit}
-use Rattle.std.specs.List.{flat_map}
 use Rattle.std.proofs.lemmas.Bool.{lt-ltb, ltb-true}
 use Rattle.std.proofs.lemmas.Bool.Decides.{nat_tests}
-use Rattle.ia_lex.specs.Lines.{lines_of}
 use Rattle.ia_text.specs.TextLine.{number_text}
-use Rattle.tm_schedule.specs.ScheduleNumbers.{small, three_digits, core_number, number_steps}
-use Rattle.tm_schedule.specs.ScheduleWords.{steps_said, words_from, unless, words_text}
-use Rattle.tm_schedule.specs.Schedule.{schedule_of, numbers_text}
-use Rattle.tm_schedule.proofs.WordsBack.{Above, Bytes, above_less, bytes_are, by_test, AreWords, AreSaid, words_back, fault_back, said_back}
+use Rattle.tm_schedule.specs.ScheduleNumbers.{small, three_digits, core_number}
+use Rattle.tm_schedule.proofs.WordsBack.{Above, by_test}
 
 pub cases : (P : List ℕ → Type 0) (b c : Bool) (x y z : List ℕ) → (b ≡ true → P x) → (b ≡ false → c ≡ true → P y) → (b ≡ false → c ≡ false → P z) →
     P (if b then x else if c then y else z)
@@ -22,9 +18,6 @@ unfolding number_text
 number_digits n = cases (Above 42) (nat_lt n 10) (nat_lt n 100) _ _ _
     (λ _. (omega arith, tt)) (λ _ _. (omega arith, (omega arith, tt))) (λ _ _. (omega arith, (omega arith, (omega arith, tt))))
 
-number_above : (n : ℕ) → Above 32 (number_text n)
-number_above n = above_less 32 42 (number_text n) (omega arith) (number_digits n)
-
 digit_yes : (a : ℕ) → a < 10 → is_ascii_digit (48 + a) ≡ true
 digit_yes a h = grind (arith, nat_tests)
 
@@ -36,10 +29,6 @@ three a b c n ha hb hc e h =
     let v : (48 + a - 48) * 100 + (48 + b - 48) * 10 + (48 + c - 48) ≡ n = omega arith in
     rw (digit_yes a ha, digit_yes b hb, digit_yes c hc) (ap small v ∙ small_yes n h)
 
-abbrev pub one : Option ℕ → Option (List ℕ)
-one None = None
-one (Some n) = Some (n ∷ [])
-
 pub core_back : (n : ℕ) → n < 256 → core_number (number_text n) ≡ Some n
 unfolding number_text core_number
 core_back n h = cases (λ t. core_number t ≡ Some n) (nat_lt n 10) (nat_lt n 100) _ _ _
@@ -47,39 +36,7 @@ core_back n h = cases (λ t. core_number t ≡ Some n) (nat_lt n 10) (nat_lt n 1
     (λ _ e. let l = ltb-true n 100 e in three 0 (n / 10) (n % 10) n (omega arith) (omega arith) (omega arith) (omega arith) h)
     (λ _ _. three (n / 100) (n / 10 % 10) (n % 10) n (omega arith) (omega arith) (omega arith) (omega arith) h)
 
-number_back : (n : ℕ) → n < 256 → number_steps (number_text n) ≡ Some (n ∷ [])
-unfolding number_text number_steps core_number
-number_back n h = cases (λ t. number_steps t ≡ Some (n ∷ [])) (nat_lt n 10) (nat_lt n 100) _ _ _
-    (λ e. let l = ltb-true n 10 e in ap one (three 0 0 n n (omega arith) (omega arith) (omega arith) (omega arith) h))
-    (λ _ e. let l = ltb-true n 100 e in ap one (three 0 (n / 10) (n % 10) n (omega arith) (omega arith) (omega arith) (omega arith) h))
-    (λ _ _. ap one (three (n / 100) (n / 10 % 10) (n % 10) n (omega arith) (omega arith) (omega arith) (omega arith) h))
-
 pub number_long : (n : ℕ) → 0 < length (number_text n)
 unfolding number_text
 number_long n = by_test (λ (text : List ℕ). 0 < length text) (nat_lt n 10) _ _ (λ _. omega arith)
     (λ _. by_test (λ (text : List ℕ). 0 < length text) (nat_lt n 100) _ _ (λ _. omega arith) (λ _. omega arith))
-
--- ---- a list
-
-abbrev step : ℕ → List ℕ
-step core = core ∷ []
-
-are_words : (cores : List ℕ) → AreWords (map number_text cores)
-are_words [] = tt
-are_words (core ∷ cores) = (record { some = number_long core; above = above_less 32 42 (number_text core) (omega arith) (number_digits core) }, are_words cores)
-
-are_said : (cores : List ℕ) → Bytes cores → AreSaid number_steps number_text step cores
-are_said [] h = tt
-are_said (core ∷ cores) h = (number_back core h.0, are_said cores h.1)
-
-steps_are : (cores : List ℕ) → flat_map step cores ≡ cores
-steps_are [] = refl
-steps_are (core ∷ cores) = ap (λ l. core ∷ l) (steps_are cores)
-
-pub numbers_back : (cores : List ℕ) → ((i : ℕ) → get_or cores i 0 < 256) → schedule_of (numbers_text cores) ≡ Ok cores
-numbers_back cores h =
-    let words = words_from 2 (lines_of (words_text 32 0 (map number_text cores))) in
-    let same = words_back 32 0 2 (map number_text cores) (are_words cores) in
-    let said = are_said cores (bytes_are cores h) in
-    ap (λ fault. unless fault (flat_map (steps_said number_steps) words)) (fault_back number_steps None number_text step words cores 0 same said refl)
-    ∙ ap Ok (said_back number_steps number_text step words cores same said ∙ steps_are cores)

@@ -1,5 +1,5 @@
--- A list in the second form reads as that list.
-use Rattle.std.proofs.Common.{◌≡◌, ℕ, suc, ◌+◌, ◌<◌, ◌≤◌, ◌==◌, Bool, true, false, List, [], ◌∷◌, ◌++◌, refl, sym, ◌∙◌, ap, arith, length, take, drop, map, get_or, Some, None, Ok}
+-- A list that is written as runs reads as that list.
+use Rattle.std.proofs.Common.{◌≡◌, ℕ, suc, ◌+◌, ◌<◌, ◌≤◌, ◌==◌, Bool, true, false, List, [], ◌∷◌, ◌++◌, refl, sym, ◌∙◌, ap, arith, length, drop, map, Some, None, Ok}
 use Rattle.std.specs.Prelude.{cond, nat_lt, option_map}
 use Rattle.std.specs.Char.{digit_char, digit_value, is_ascii_digit}
 use Rattle.std.specs.Int.Digits.{digits_of, number_from_digits}
@@ -10,14 +10,18 @@ use Rattle.std.proofs.lemmas.Bool.Decides.{nat_tests}
 use Rattle.std.proofs.lemmas.List.{length-map, length-append}
 use Rattle.std.proofs.lemmas.Int.Digits.{all_below_base_digits_of, number_digits_of, digits_value_is, length-digits_of_step, length-digits_of-le}
 use Rattle.ia_lex.specs.Lines.{lines_of}
+use Rattle.ia_text.specs.TextLine.{line_end}
+use Rattle.tm_model.specs.declared.outcome.Pick.{Pick}
+use Rattle.tm_schedule.specs.declared.schedule.picks.Form.{Form}
+use Rattle.tm_schedule.specs.declared.schedule.picks.Form.TheVariants.{Cores, Picks}
 use Rattle.tm_schedule.specs.declared.schedule.runs.Run.{Run}
-use Rattle.ia_text.specs.TextLine.{number_text}
-use Rattle.tm_schedule.specs.ScheduleNumbers.{core_number}
+use Rattle.tm_schedule.specs.Picks.{AreBytes, pick_in, pick_word, has_event}
 use Rattle.tm_schedule.specs.ScheduleRuns.{run_steps, is_count, in_range, count_number, run_from, run_at, word_run, word_steps, runs_of, count_text, run_word}
-use Rattle.tm_schedule.specs.ScheduleWords.{steps_said, words_from, unless, words_text}
+use Rattle.tm_schedule.specs.ScheduleWords.{steps_said, words_from, words_read, unless, words_text}
 use Rattle.tm_schedule.specs.Schedule.{schedule_of, schedule_text}
-use Rattle.tm_schedule.proofs.WordsBack.{Above, above_append, above_less, differs, bytes_are, by_test, AreWords, AreSaid, words_back, fault_back, said_back}
-use Rattle.tm_schedule.proofs.NumbersBack.{number_digits, number_long, core_back}
+use Rattle.tm_schedule.proofs.WordsBack.{Above, above_append, above_less, differs, by_test, AreWords, AreSaid, words_back, fault_back, said_back}
+use Rattle.tm_schedule.proofs.PicksBack.{pick_above, pick_long, pick_back, take_front}
+use Rattle.tm_schedule.proofs.ListsBack.{AllFit, all_fit, plain_fit}
 use Rattle.tm_schedule.proofs.RunsOf.{IsRun, AreRuns, runs_steps, are_runs}
 
 -- ---- a count
@@ -95,55 +99,51 @@ star_at xs ys h =
     let long = length-append xs (42 ∷ ys) in
     found (position_or_len star (xs ++ 42 ∷ ys)) (length (xs ++ 42 ∷ ys)) (omega arith) ∙ ap Some e
 
-take_front : (xs ys : List ℕ) → take (length xs) (xs ++ ys) ≡ xs
-take_front [] ys = refl
-take_front (x ∷ xs) ys = ap (λ l. x ∷ l) (take_front xs ys)
-
 drop_front : (xs : List ℕ) (y : ℕ) (ys : List ℕ) → drop (length xs + 1) (xs ++ y ∷ ys) ≡ ys
 drop_front [] y ys = refl
 drop_front (x ∷ xs) y ys =
     let e : length (x ∷ xs) + 1 ≡ suc (length xs + 1) = omega arith in
     ap (λ n. drop n (x ∷ (xs ++ y ∷ ys))) e ∙ drop_front xs y ys
 
-run_back : (run : Run) → IsRun run → word_run (run_word run) ≡ Some run
+run_back : (form : Form) (run : Run) → IsRun form run → word_run form (run_word run) ≡ Some run
 unfolding run_word
-run_back run h = by_test (λ word. word_run word ≡ Some run) (run.count == 1) _ _
+run_back form run h = by_test (λ word. word_run form word ≡ Some run) (run.count == 1) _ _
     (λ e.
-    let front = number_text run.core in
+    let front = pick_word run.pick in
     let same = eqb-true run.count 1 e in
-    ap (run_at front) (star_none front (number_digits run.core))
-    ∙ ap (λ core. run_from core (Some 1)) (core_back run.core h.core)
-    ∙ ap (λ n. Some (record { core = run.core; count = n })) (sym same))
+    ap (run_at form front) (star_none front (pick_above run.pick))
+    ∙ ap (λ pick. run_from pick (Some 1)) (pick_back form run.pick h.pick)
+    ∙ ap (λ n. Some (record { pick = run.pick; count = n })) (sym same))
     (λ e.
-    let front = number_text run.core in
+    let front = pick_word run.pick in
     let count = count_text run.count in
-    ap (run_at (front ++ 42 ∷ count)) (star_at front count (number_digits run.core))
-    ∙ ap (λ digits. run_from (core_number digits) (count_number (drop (length front + 1) (front ++ 42 ∷ count)))) (take_front front (42 ∷ count))
-    ∙ ap (λ digits. run_from (core_number front) (count_number digits)) (drop_front front 42 count)
-    ∙ ap (λ core. run_from core (count_number count)) (core_back run.core h.core)
-    ∙ ap (run_from (Some run.core)) (count_back run.count h.some h.few))
+    ap (run_at form (front ++ 42 ∷ count)) (star_at front count (pick_above run.pick))
+    ∙ ap (λ text. run_from (pick_in form text) (count_number (drop (length front + 1) (front ++ 42 ∷ count)))) (take_front front (42 ∷ count))
+    ∙ ap (λ digits. run_from (pick_in form front) (count_number digits)) (drop_front front 42 count)
+    ∙ ap (λ pick. run_from pick (count_number count)) (pick_back form run.pick h.pick)
+    ∙ ap (run_from (Some run.pick)) (count_back run.count h.some h.few))
 
 word_long : (run : Run) → 0 < length (run_word run)
 unfolding run_word
 word_long run = by_test (λ (word : List ℕ). 0 < length word) (run.count == 1) _ _
-    (λ _. number_long run.core)
-    (λ _. let some = number_long run.core in let long = length-append (number_text run.core) (42 ∷ count_text run.count) in omega arith)
+    (λ _. pick_long run.pick)
+    (λ _. let some = pick_long run.pick in let long = length-append (pick_word run.pick) (42 ∷ count_text run.count) in omega arith)
 
 word_above : (run : Run) → Above 32 (run_word run)
 unfolding run_word
 word_above run =
-    let front = above_less 32 42 (number_text run.core) (omega arith) (number_digits run.core) in
+    let front = above_less 32 42 (pick_word run.pick) (omega arith) (pick_above run.pick) in
     by_test (Above 32) (run.count == 1) _ _
     (λ _. front)
-    (λ _. above_append 32 (number_text run.core) (42 ∷ count_text run.count) front
+    (λ _. above_append 32 (pick_word run.pick) (42 ∷ count_text run.count) front
     (omega arith, above_less 32 42 (count_text run.count) (omega arith) (count_above run.count)))
 
-steps_back : (run : Run) → IsRun run → word_steps (run_word run) ≡ Some (run_steps run)
+steps_back : (form : Form) (run : Run) → IsRun form run → word_steps form (run_word run) ≡ Some (run_steps run)
 unfolding word_steps
-steps_back run h =
+steps_back form run h =
     let long = word_long run in
     let some : (length (run_word run) == 0) ≡ false = grind (arith, nat_tests) in
-    rw some (ap (option_map run_steps) (run_back run h))
+    rw some (ap (option_map run_steps) (run_back form run h))
 
 -- ---- a list
 
@@ -151,17 +151,24 @@ are_words : (runs : List Run) → AreWords (map run_word runs)
 are_words [] = tt
 are_words (run ∷ runs) = (record { some = word_long run; above = word_above run }, are_words runs)
 
-are_said : (runs : List Run) → AreRuns runs → AreSaid word_steps run_word run_steps runs
-are_said [] h = tt
-are_said (run ∷ runs) h = (steps_back run h.0, are_said runs h.1)
+are_said : (form : Form) (runs : List Run) → AreRuns form runs → AreSaid (word_steps form) run_word run_steps runs
+are_said form [] h = tt
+are_said form (run ∷ runs) h = (steps_back form run h.0, are_said form runs h.1)
 
-pub runs_back : (cores : List ℕ) → ((i : ℕ) → get_or cores i 0 < 256) → length cores ≤ 16777216 → schedule_of (schedule_text cores) ≡ Ok cores
-runs_back cores h l =
-    let runs = runs_of cores in
+list_back : (form : Form) (picks : List Pick) → AllFit form picks → length picks ≤ 16777216 →
+    words_read (word_steps form) (Some 16777216) (words_from 2 (lines_of (words_text 16 0 (map run_word (runs_of picks))))) ≡ Ok picks
+list_back form picks h l =
+    let runs = runs_of picks in
     let words = words_from 2 (lines_of (words_text 16 0 (map run_word runs))) in
     let same = words_back 16 0 2 (map run_word runs) (are_words runs) in
-    let said = are_said runs (are_runs cores (bytes_are cores h)) in
-    let long = ap length (runs_steps cores) in
-    ap (λ fault. unless fault (flat_map (steps_said word_steps) words))
-    (fault_back word_steps (Some 16777216) run_word run_steps words runs 0 same said (not_above (0 + length (flat_map run_steps runs)) 16777216 (omega arith)))
-    ∙ ap Ok (said_back word_steps run_word run_steps words runs same said ∙ runs_steps cores)
+    let said = are_said form runs (are_runs form picks h) in
+    let long = ap length (runs_steps picks) in
+    ap (λ fault. unless fault (flat_map (steps_said (word_steps form)) words))
+    (fault_back (word_steps form) (Some 16777216) run_word run_steps words runs 0 same said (not_above (0 + length (flat_map run_steps runs)) 16777216 (omega arith)))
+    ∙ ap Ok (said_back (word_steps form) run_word run_steps words runs same said ∙ runs_steps picks)
+
+pub runs_back : (picks : List Pick) → AreBytes picks → length picks ≤ 16777216 → schedule_of (schedule_text picks) ≡ Ok picks
+runs_back picks h l =
+    by_test (λ title. schedule_of ((title ++ line_end) ++ words_text 16 0 (map run_word (runs_of picks))) ≡ Ok picks) (has_event picks) _ _
+    (λ _. list_back Picks picks (all_fit picks h) l)
+    (λ e. list_back Cores picks (plain_fit picks h e) l)

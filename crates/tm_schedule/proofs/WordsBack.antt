@@ -1,5 +1,5 @@
 -- A text of words is read as those words.
-use Rattle.std.proofs.Common.{◌≡◌, ℕ, ◌+◌, ◌%◌, ◌<◌, ◌≤◌, ◌==◌, Bool, true, false, List, [], ◌∷◌, ◌++◌, refl, sym, ◌∙◌, ap, arith, append_assoc, length, map, Option, Some, None, suc, get_or}
+use Rattle.std.proofs.Common.{◌≡◌, ℕ, ◌+◌, ◌%◌, ◌<◌, ◌≤◌, ◌==◌, Bool, true, false, List, [], ◌∷◌, ◌++◌, refl, sym, ◌∙◌, ap, arith, append_assoc, length, map, Option, Some, None}
 use Rattle.std.specs.Prelude.{cond, unwrap_or}
 use Rattle.std.specs.List.{AllByRecursion, flat_map, slice_split}
 use Rattle.std.proofs.lemmas.Bool.{ne_eqb}
@@ -8,13 +8,11 @@ use Rattle.std.proofs.lemmas.List.{length-append}
 use Rattle.ia_lex.specs.Lines.{onto, lines_of}
 use Rattle.tm_schedule.specs.declared.schedule.ScheduleFault.TheVariants.{TooManySteps}
 use Rattle.ia_text.specs.TextLine.{line_end}
+use Rattle.tm_model.specs.declared.outcome.Pick.{Pick}
 use Rattle.tm_schedule.specs.ScheduleWords.{Word, on_line, words_from, is_above, steps_fault, steps_said, first_of, first_fault, behind_word, words_text}
 
 abbrev pub Above : ℕ → List ℕ → Type 0
 Above k xs = AllByRecursion (λ b. k < b) xs
-
-abbrev pub Bytes : List ℕ → Type 0
-Bytes xs = AllByRecursion (λ b. b < 256) xs
 
 pub above_append : (k : ℕ) (xs ys : List ℕ) → Above k xs → Above k ys → Above k (xs ++ ys)
 above_append k [] ys a b = b
@@ -129,10 +127,10 @@ fewer None a b h e = refl
 fewer (Some most) a b h e = grind (arith, nat_tests)
 
 -- what each of these is written as says its steps
-abbrev pub AreSaid : {X : Type 0} → (List ℕ → Option (List ℕ)) → (X → List ℕ) → (X → List ℕ) → List X → Type 0
+abbrev pub AreSaid : {X : Type 0} → (List ℕ → Option (List Pick)) → (X → List ℕ) → (X → List Pick) → List X → Type 0
 AreSaid {X} says write steps xs = AllByRecursion (λ (x : X). says (write x) ≡ Some (steps x)) xs
 
-pub fault_back : {X : Type 0} (says : List ℕ → Option (List ℕ)) (most : Option ℕ) (write steps : X → List ℕ) (words : List Word) (xs : List X) (before : ℕ) →
+pub fault_back : {X : Type 0} (says : List ℕ → Option (List Pick)) (most : Option ℕ) (write : X → List ℕ) (steps : X → List Pick) (words : List Word) (xs : List X) (before : ℕ) →
     texts words ≡ map write xs → AreSaid says write steps xs → is_above most (before + length (flat_map steps xs)) ≡ false → first_fault says most before words ≡ None
 fault_back says most write steps [] xs before e h l = refl
 fault_back says most write steps (word ∷ words) [] before e h l = absurd (cc)
@@ -147,7 +145,7 @@ fault_back says most write steps (word ∷ words) (x ∷ xs) before e h l =
     (fewer most (before + length (steps x)) (before + length (steps x ++ flat_map steps xs)) (omega arith) l)
     ∙ fault_back says most write steps words xs (before + length (steps x)) tail h.1 (ap (is_above most) (sym whole) ∙ l)
 
-pub said_back : {X : Type 0} (says : List ℕ → Option (List ℕ)) (write steps : X → List ℕ) (words : List Word) (xs : List X) →
+pub said_back : {X : Type 0} (says : List ℕ → Option (List Pick)) (write : X → List ℕ) (steps : X → List Pick) (words : List Word) (xs : List X) →
     texts words ≡ map write xs → AreSaid says write steps xs → flat_map (steps_said says) words ≡ flat_map steps xs
 said_back says write steps [] [] e h = refl
 said_back says write steps [] (x ∷ xs) e h = absurd (cc)
@@ -157,7 +155,3 @@ said_back says write steps (word ∷ words) (x ∷ xs) e h =
     let tail : texts words ≡ map write xs = cc in
     let said : says word.text ≡ Some (steps x) = ap says head ∙ h.0 in
     ap (λ o. unwrap_or o [] ++ flat_map (steps_said says) words) said ∙ ap (λ front. steps x ++ front) (said_back says write steps words xs tail h.1)
-
-pub bytes_are : (xs : List ℕ) → ((i : ℕ) → get_or xs i 0 < 256) → Bytes xs
-bytes_are [] h = tt
-bytes_are (x ∷ xs) h = (h 0, bytes_are xs (λ i. h (suc i)))

@@ -1,5 +1,6 @@
 pub mod ScheduleWords
 pub mod ScheduleNumbers
+pub mod Picks
 pub mod ScheduleRuns
 pub mod Schedule
 pub mod Pieces

@@ -1,6 +1,6 @@
 -- The first form of a schedule's text: core numbers (docs/FORMATS.md, "Schedules").
-use Rattle.std.specs.Prelude.{◌≡◌, ℕ, ◌+◌, ◌-◌, ◌*◌, ◌<◌, ◌==◌, ◌&&◌, Bool, List, [], ◌∷◌, length, Option, Some, None}
-use Rattle.std.specs.Prelude.{option_map, nat_lt, if◌then◌else◌}
+use Rattle.std.specs.Prelude.{◌≡◌, ℕ, ◌+◌, ◌-◌, ◌*◌, ◌<◌, ◌&&◌, Bool, List, [], ◌∷◌, Option, Some, None, nat_lt}
+use Rattle.std.specs.Prelude.{if◌then◌else◌}
 use Rattle.std.specs.Char.{is_ascii_digit}
 
 abbrev pub small : ℕ → Option ℕ
@@ -19,10 +19,6 @@ core_number (c ∷ []) = three_digits 48 48 c
 core_number (b ∷ c ∷ []) = three_digits 48 b c
 core_number (a ∷ b ∷ c ∷ []) = three_digits a b c
 core_number _ = None
-
--- the step that a word says, or nothing where it says none; the empty word says no step
-unfoldable pub number_steps : List ℕ → Option (List ℕ)
-number_steps word = if length word == 0 then Some [] else option_map (λ core. core ∷ []) (core_number word)
 
 -- a text begins with the one digit of a core and a line end or a space
 abbrev pub BeginsWithDigit : List ℕ → ℕ → Bool → List ℕ → Type 0

@@ -5,6 +5,7 @@ use Rattle.std.specs.List.{flat_map, slice_split}
 use Rattle.tm_schedule.specs.declared.schedule.ScheduleFault.{ScheduleFault}
 use Rattle.tm_schedule.specs.declared.schedule.ScheduleFault.TheVariants.{BadSchedule, TooManySteps}
 use Rattle.ia_text.specs.TextLine.{line_end}
+use Rattle.tm_model.specs.declared.outcome.Pick.{Pick}
 
 -- what stands between the spaces of a line; between two spaces side by side this is empty, and no word
 abbrev pub words_of : List ℕ → List (List ℕ)
@@ -31,12 +32,12 @@ is_above None steps = false
 is_above (Some most) steps = nat_lt most steps
 
 -- what is wrong with a word of line n that stands behind so many steps, by the steps that it says
-abbrev pub steps_fault : Option ℕ → ℕ → ℕ → Option (List ℕ) → Option ScheduleFault
+abbrev pub steps_fault : Option ℕ → ℕ → ℕ → Option (List Pick) → Option ScheduleFault
 steps_fault most before n None = Some (BadSchedule n)
 steps_fault most before n (Some steps) = if is_above most (before + length steps) then Some (TooManySteps n) else None
 
 -- the steps of a word, of which there are none where it breaks the form
-abbrev pub steps_said : (List ℕ → Option (List ℕ)) → Word → List ℕ
+abbrev pub steps_said : (List ℕ → Option (List Pick)) → Word → List Pick
 steps_said says word = unwrap_or (says word.text) []
 
 -- the fault of the first word that has one, so many steps standing before these words
@@ -44,18 +45,18 @@ abbrev pub first_of : Option ScheduleFault → Option ScheduleFault → Option S
 first_of None later = later
 first_of (Some fault) later = Some fault
 
-abbrev pub first_fault : (List ℕ → Option (List ℕ)) → Option ℕ → ℕ → List Word → Option ScheduleFault
+abbrev pub first_fault : (List ℕ → Option (List Pick)) → Option ℕ → ℕ → List Word → Option ScheduleFault
 first_fault says most before [] = None
 first_fault says most before (word ∷ words) =
     first_of (steps_fault most before word.line (says word.text))
     (first_fault says most (before + length (steps_said says word)) words)
 
 -- words are the steps of each, one after another, unless one of them has a fault
-abbrev pub unless : Option ScheduleFault → List ℕ → Result (List ℕ) ScheduleFault
+abbrev pub unless : Option ScheduleFault → List Pick → Result (List Pick) ScheduleFault
 unless None steps = Ok steps
 unless (Some fault) steps = Err fault
 
-abbrev pub words_read : (List ℕ → Option (List ℕ)) → Option ℕ → List Word → Result (List ℕ) ScheduleFault
+abbrev pub words_read : (List ℕ → Option (List Pick)) → Option ℕ → List Word → Result (List Pick) ScheduleFault
 words_read says most words = unless (first_fault says most 0 words) (flat_map (steps_said says) words)
 
 -- ---- writing

@@ -10,11 +10,12 @@ ghost use Rattle.tm_schedule.specs.ScheduleWords.{steps_fault, steps_said, first
 ghost use Rattle.tm_schedule.specs.Unread.{unread_words};
 
 use super::ScheduleFault;
-use super::numbers::core_of;
+use super::picks::Form;
 use super::runs::{MOST_STEPS, Run};
 use super::words::Unread;
 use crate::pieces::find;
 use std::alloc::{AllocError, Global};
+use tm_model::Pick;
 
 fn are_digits(text: &[u8]) -> bool
     ensures { result ≡ list_all is_ascii_digit text.now }
@@ -70,37 +71,37 @@ fn count_of(digits: &[u8]) -> Option<u32>
     Some(count)
 }
 
-fn run_from(core: Option<u8>, count: Option<u32>) -> Option<Run>
-    ensures { result ≡ run_from core count }
+fn run_from(pick: Option<Pick>, count: Option<u32>) -> Option<Run>
+    ensures { result ≡ run_from pick count }
 {
-    match (core, count) {
-        (Some(core), Some(count)) => Some(Run { core, count }),
+    match (pick, count) {
+        (Some(pick), Some(count)) => Some(Run { pick, count }),
         _ => None,
     }
 }
 
 // The run that a word says.
-fn run_of(word: &[u8]) -> Option<Run>
-    ensures { result ≡ word_run word.now }
+fn run_of(form: Form, word: &[u8]) -> Option<Run>
+    ensures { result ≡ word_run form word.now }
 {
     match find(word, b'*') {
-        None => run_from(core_of(word), Some(1)),
-        Some(star) => run_from(core_of(&word[..star]), count_of(&word[star + 1..])),
+        None => run_from(form.pick_in(word), Some(1)),
+        Some(star) => run_from(form.pick_in(&word[..star]), count_of(&word[star + 1..])),
     }
 }
 
 // How many steps there are with those of a word, so many standing before it.
 #[tactic(auto, unfolding(crate::specs::ScheduleRuns::word_steps))]
-fn count_word(word: &[u8], line: usize, before: usize) -> Result<usize, ScheduleFault>
+fn count_word(form: Form, word: &[u8], line: usize, before: usize) -> Result<usize, ScheduleFault>
     requires { before ≤ 16777216 }
-    ensures ok { IfOk result (λ count. (steps_fault (Some most_steps) before line (word_steps word.now) ≡ None)
-        × (count ≡ before + length (unwrap_or (word_steps word.now) [])) × (count ≤ 16777216)) }
-    ensures err { IfErr result (λ fault. steps_fault (Some most_steps) before line (word_steps word.now) ≡ Some fault) }
+    ensures ok { IfOk result (λ count. (steps_fault (Some most_steps) before line (word_steps form word.now) ≡ None)
+        × (count ≡ before + length (unwrap_or (word_steps form word.now) [])) × (count ≤ 16777216)) }
+    ensures err { IfErr result (λ fault. steps_fault (Some most_steps) before line (word_steps form word.now) ≡ Some fault) }
 {
     if word.is_empty() {
         return Ok(before);
     }
-    let Some(run) = run_of(word) else {
+    let Some(run) = run_of(form, word) else {
         return Err(ScheduleFault::BadSchedule(line));
     };
     let count = before + run.count as usize;
@@ -111,15 +112,15 @@ fn count_word(word: &[u8], line: usize, before: usize) -> Result<usize, Schedule
 }
 
 // How many steps words say.
-fn count_steps(words: Unread) -> Result<usize, ScheduleFault>
-    ensures ok { OnOk result (first_fault word_steps (Some most_steps) 0 (unread_words words.entry) ≡ None) }
+fn count_steps(form: Form, words: Unread) -> Result<usize, ScheduleFault>
+    ensures ok { OnOk result (first_fault (word_steps form) (Some most_steps) 0 (unread_words words.entry) ≡ None) }
     ensures err { IfErr result (λ fault.
-        first_fault word_steps (Some most_steps) 0 (unread_words words.entry) ≡ Some fault) }
+        first_fault (word_steps form) (Some most_steps) 0 (unread_words words.entry) ≡ Some fault) }
 {
     let mut unread = words;
     let mut count = 0;
     'words: while let Some((word, rest)) = unread.next() {
-        count = count_word(word, rest.line, count)?;
+        count = count_word(form, word, rest.line, count)?;
         unread = rest;
     }
     Ok(count)
@@ -127,40 +128,46 @@ fn count_steps(words: Unread) -> Result<usize, ScheduleFault>
 
 // Adds the steps of a word, and none where it says none.
 #[tactic(auto, unfolding(crate::specs::ScheduleRuns::word_steps))]
-fn push_word(word: &[u8], steps: &mut Vec<u8>) -> Result<(), AllocError>
-    ensures { OnOk result (steps.new.items ≡ steps.old.items ++ unwrap_or (word_steps word.now) []) }
+fn push_word(form: Form, word: &[u8], steps: &mut Vec<Pick>) -> Result<(), AllocError>
+    ensures { OnOk result (steps.new.items ≡ steps.old.items ++ unwrap_or (word_steps form word.now) []) }
 {
     if word.is_empty() {
         return Ok(());
     }
-    if let Some(run) = run_of(word) {
-        steps.resize(steps.len() + run.count as usize, run.core)?;
+    if let Some(run) = run_of(form, word) {
+        steps.resize(steps.len() + run.count as usize, run.pick)?;
     }
     Ok(())
 }
 
 // The steps that words say, so many being expected.
-fn list_steps(alloc: Global, words: Unread, count: usize) -> Result<Vec<u8>, AllocError>
-    ensures { IfOk result (λ steps. steps.items ≡ flat_map (steps_said word_steps) (unread_words words.entry)) }
+fn list_steps(
+    alloc: Global,
+    form: Form,
+    words: Unread,
+    count: usize,
+) -> Result<Vec<Pick>, AllocError>
+    ensures { IfOk result (λ steps.
+        steps.items ≡ flat_map (steps_said (word_steps form)) (unread_words words.entry)) }
 {
     let mut steps = Vec::with_capacity(alloc, count)?;
     let mut unread = words;
     'words: while let Some((word, rest)) = unread.next() {
-        push_word(word, &mut steps)?;
+        push_word(form, word, &mut steps)?;
         unread = rest;
     }
     Ok(steps)
 }
 
-/// The steps that words say. They are counted first, so that a text with too many takes no memory.
-pub fn read_runs(alloc: Global, words: Unread) -> Result<Vec<u8>, ScheduleFault>
-    ensures ok { IfOk result (λ cores.
-        words_read word_steps (Some most_steps) (unread_words words.entry) ≡ Ok cores.items) }
+/// The steps that words say, in this form. They are counted first, so that a text with too many takes no memory.
+pub fn read_runs(alloc: Global, form: Form, words: Unread) -> Result<Vec<Pick>, ScheduleFault>
+    ensures ok { IfOk result (λ picks.
+        words_read (word_steps form) (Some most_steps) (unread_words words.entry) ≡ Ok picks.items) }
     ensures err { IfErr result (λ fault. (fault ≡ ScheduleFault.NoMemory)
-        ⊎ (words_read word_steps (Some most_steps) (unread_words words.entry) ≡ Err fault)) }
+        ⊎ (words_read (word_steps form) (Some most_steps) (unread_words words.entry) ≡ Err fault)) }
 {
-    let count = count_steps(words)?;
-    match list_steps(alloc, words, count) {
+    let count = count_steps(form, words)?;
+    match list_steps(alloc, form, words, count) {
         Ok(steps) => Ok(steps),
         Err(_) => Err(ScheduleFault::NoMemory),
     }
