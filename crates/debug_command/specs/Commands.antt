@@ -11,6 +11,9 @@ use Rattle.debug_command.specs.declared.symbol.Symbol.{Symbol}
 use Rattle.debug_command.specs.Numbers.{number_in}
 use Rattle.debug_command.specs.Symbols.{address_in}
 use Rattle.debug_command.specs.Words.{after_first_word, first_word}
+use Rattle.tm_model.specs.declared.outcome.Event.{Event}
+use Rattle.tm_model.specs.declared.outcome.Pick.{Pick}
+use Rattle.tm_schedule.specs.Picks.{pick_of_word}
 
 unfoldable pub name_of : List ℕ → Option CommandName
 name_of word =
@@ -29,7 +32,7 @@ name_of word =
     else if pointwise nat_eq word (codes "quit") then Some name.Quit
     else None
 
--- the words behind the name must be none, a number, an address, or an address and a number
+-- the words behind the name must be none, a number, a step, an address, or an address and a number
 abbrev pub command_alone : CommandName → List ℕ → Command → Result Command Refusal
 command_alone name first command = if length first == 0 then Ok command else Err (BadArgument name)
 
@@ -40,6 +43,16 @@ number_result name (Some number) = Ok number
 abbrev pub one_number : CommandName → List ℕ → List ℕ → Result ℕ Refusal
 one_number name first second = if length second == 0 then number_result name (number_in first)
     else Err (BadArgument name)
+
+-- a step: a number, which is a core under no event, or the word of a step in a schedule (docs/FORMATS.md, "Schedules")
+abbrev pub step_result : Option ℕ → Option Pick → Result (ℕ × Option Event) Refusal
+step_result (Some core) pick = Ok (core, None)
+step_result None (Some pick) = Ok (pick.core, pick.event)
+step_result None None = Err (BadArgument name.Step)
+
+abbrev pub one_step : List ℕ → List ℕ → Result (ℕ × Option Event) Refusal
+one_step first second = if length second == 0 then step_result (number_in first) (pick_of_word first)
+    else Err (BadArgument name.Step)
 
 -- an address: a number, or what a symbol stands for
 abbrev pub address_result : CommandName → List ℕ → Option ℕ → Result ℕ Refusal
@@ -69,7 +82,7 @@ command_with make (Err refusal) = Err refusal
 -- the command of this name with these words behind it
 abbrev pub command_named : CommandName → List Symbol → List ℕ → List ℕ → List ℕ → Result Command Refusal
 command_named name.Step symbols first second third =
-    command_with (λ number. command.Step number) (one_number name.Step first second)
+    command_with (λ (step : ℕ × Option Event). command.Step step.0 step.1) (one_step first second)
 command_named name.Run symbols first second third =
     command_with (λ number. command.Run number) (one_number name.Run first second)
 command_named name.Next symbols first second third =
@@ -83,13 +96,15 @@ command_named name.Clear symbols first second third =
 command_named name.Regs symbols first second third =
     command_with (λ number. command.Regs number) (one_number name.Regs first second)
 command_named name.Mem symbols first second third =
-    command_with (λ (pair : ℕ × ℕ). command.Mem pair.0 pair.1) (address_and_number name.Mem symbols first second third)
+    command_with (λ (pair : ℕ × ℕ). command.Mem pair.0 pair.1)
+    (address_and_number name.Mem symbols first second third)
 command_named name.Sets symbols first second third =
     command_with (λ number. command.Sets number) (one_number name.Sets first second)
 command_named name.Why symbols first second third =
     command_with (λ number. command.Why number) (one_number name.Why first second)
 command_named name.List symbols first second third =
-    command_with (λ (pair : ℕ × ℕ). command.List pair.0 pair.1) (address_and_number name.List symbols first second third)
+    command_with (λ (pair : ℕ × ℕ). command.List pair.0 pair.1)
+    (address_and_number name.List symbols first second third)
 command_named name.Help symbols first second third = command_alone name.Help first command.Help
 command_named name.Quit symbols first second third = command_alone name.Quit first command.Quit
 

@@ -1,5 +1,6 @@
 -- What labels say of an address (docs/FORMATS.md, "Debugger").
-use Rattle.std.specs.Prelude.{ℕ, ◌-◌, ◌==◌, if◌then◌else◌, List, [], ◌++◌, codes, filter, find, length, map, max, nat_le, Option, Some, None}
+use Rattle.std.specs.Prelude.{ℕ, ◌-◌, ◌==◌, if◌then◌else◌, List, [], ◌++◌, codes, filter, find, length, map}
+use Rattle.std.specs.Prelude.{max, nat_le, Option, Some, None}
 use Rattle.std.specs.List.{flat_map, reduce}
 use Rattle.ia_text.specs.Listing.{listing_line}
 use Rattle.ia_text.specs.Number.{number}

@@ -8,8 +8,9 @@ use Rattle.debug_command.specs.declared.manner.Manner.TheVariants.{Plain, Spoken
 use Rattle.debug_command.specs.declared.refusal.Range.{Range}
 use Rattle.debug_command.specs.declared.refusal.Range.TheVariants.{Addresses, Bytes, Lines, Made, Steps}
 use Rattle.debug_command.specs.declared.refusal.Refusal.{Refusal}
-use Rattle.debug_command.specs.declared.refusal.Refusal.TheVariants.{UnknownCommand, LongLine, BadArgument, NoSuchSymbol}
-use Rattle.debug_command.specs.declared.refusal.Refusal.TheVariants.{NoSuchCore, OutOfRange, LimitReached, TooManyBreakpoints}
+use Rattle.debug_command.specs.declared.refusal.Refusal.TheVariants.{UnknownCommand, LongLine, BadArgument}
+use Rattle.debug_command.specs.declared.refusal.Refusal.TheVariants.{NoSuchSymbol, NoSuchCore, OutOfRange}
+use Rattle.debug_command.specs.declared.refusal.Refusal.TheVariants.{LimitReached, TooManyBreakpoints}
 
 abbrev pub refusal_code : Refusal → ℕ
 refusal_code UnknownCommand = 70

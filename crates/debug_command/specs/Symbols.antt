@@ -1,6 +1,6 @@
 -- The symbols of a program, and the addresses that words write by them (docs/FORMATS.md, "Debugger").
-use Rattle.std.specs.Prelude.{ℕ, ◌+◌, ◌-◌, ◌^◌, ◌==◌, ◌||◌, Bool, if◌then◌else◌, List, length, min, nat_lt, Option, Some}
-use Rattle.std.specs.Prelude.{None, drop, find, position, reverse, slice_index, take}
+use Rattle.std.specs.Prelude.{ℕ, ◌+◌, ◌-◌, ◌^◌, ◌==◌, ◌||◌, Bool, if◌then◌else◌, List, length, min, nat_lt, Option}
+use Rattle.std.specs.Prelude.{Some, None, drop, find, position, reverse, slice_index, take}
 use Rattle.std.specs.Option.{option_map, option_or}
 use Rattle.std.specs.Str.{bytes_eq}
 use Rattle.debug_command.specs.declared.symbol.Symbol.{Symbol}
@@ -17,7 +17,8 @@ symbol_in symbols name = option_map (λ (s : Symbol). s.value) (find (is_named n
 abbrev pub is_sign : ℕ → Bool
 is_sign byte = (byte == 43) || (byte == 45)
 
--- a value and a number behind a sign, in whole numbers. What is no address is read as 2^64 - 1, as too large a number is
+-- a value and a number behind a sign, in whole numbers. What is no address is read as 2^64 - 1, as too large a number
+-- is
 abbrev pub signed_sum : ℕ → ℕ → ℕ → ℕ
 signed_sum value sign number =
     if sign == 43 then min (value + number) (2 ^ 64 - 1)

@@ -4,13 +4,17 @@ ghost use Rattle.std.specs.Prelude.{◌≡◌};
 ghost use Rattle.debug_command.specs.Numbers.{number_in};
 ghost use Rattle.debug_command.specs.Symbols.{address_in};
 ghost use Rattle.debug_command.specs.Commands.{address_and_number, address_result, command_alone, command_named};
-ghost use Rattle.debug_command.specs.Commands.{command_of, name_of, number_result, one_address, one_number};
+ghost use Rattle.debug_command.specs.Commands.{command_of, name_of, number_result, one_address, one_number, one_step};
+ghost use Rattle.debug_command.specs.Commands.{step_result};
+ghost use Rattle.tm_schedule.specs.Picks.{pick_of_word};
 
 use crate::address::read_address;
 use crate::number::number;
 use crate::refusal::Refusal;
 use crate::symbol::Symbol;
 use crate::words::split_word;
+use tm_model::Event;
+use tm_schedule::pick_of_word;
 
 /// The name of a command.
 #[derive(Clone, Copy, PartialEq, Eq, Debug, Drop)]
@@ -33,8 +37,8 @@ pub enum CommandName {
 /// A command with its numbers, of which none is in its range for sure.
 #[derive(Clone, Copy, PartialEq, Eq)]
 pub enum Command {
-    /// A step of this core.
-    Step(u64),
+    /// A step of this core, under this event or under none.
+    Step(u64, Option<Event>),
     /// So many steps, round by round.
     Run(u64),
     /// So many steps of the plan.
@@ -124,6 +128,29 @@ fn one(name: CommandName, first: &[u8], second: &[u8]) -> Result<u64, Refusal>
     number_of(name, first)
 }
 
+// The step that a word says: a number is a core under no event, and any other word that of a schedule.
+fn step_of(word: &[u8]) -> Result<(u64, Option<Event>), Refusal>
+    ensures { result ≡ step_result (number_in word.now) (pick_of_word word.now) }
+{
+    if let Some(core) = number(word) {
+        return Ok((core, None));
+    }
+    match pick_of_word(word) {
+        Some(pick) => Ok((u64::from(pick.core), pick.event)),
+        None => Err(Refusal::BadArgument(CommandName::Step)),
+    }
+}
+
+// The one step that is given.
+fn one_step(first: &[u8], second: &[u8]) -> Result<(u64, Option<Event>), Refusal>
+    ensures { result ≡ one_step first.now second.now }
+{
+    if !second.is_empty() {
+        return Err(Refusal::BadArgument(CommandName::Step));
+    }
+    step_of(first)
+}
+
 // The one address that is given.
 fn one_address(
     name: CommandName,
@@ -179,7 +206,10 @@ fn command_named(
     ensures { result ≡ command_named name symbols.now first.now second.now third.now }
 {
     match name {
-        CommandName::Step => Ok(Command::Step(one(name, first, second)?)),
+        CommandName::Step => {
+            let (core, event) = one_step(first, second)?;
+            Ok(Command::Step(core, event))
+        }
         CommandName::Run => Ok(Command::Run(one(name, first, second)?)),
         CommandName::Next => Ok(Command::Next(one(name, first, second)?)),
         CommandName::Back => Ok(Command::Back(one(name, first, second)?)),

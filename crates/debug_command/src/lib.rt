@@ -1,8 +1,8 @@
 //! The commands of the debugger as they are read, the refusals of a line, and the names that both know.
 //!
-//! Promised: a line is the command, or the refusal, that `specs/Commands.antt` says, by the symbols of a program; the lines that
-//! tell a refusal, plainly or with words; and which label tells an address. Stands on `ia_lex` (numbers) and `ia_text`
-//! (listings, and devices that are written to); takes no memory.
+//! Promised: a line is the command, or the refusal, that `specs/Commands.antt` says, by the symbols of a program; the
+//! lines that tell a refusal, plainly or with words; and which label tells an address. Stands on `ia_lex` (numbers),
+//! `tm_schedule` (the word of a step) and `ia_text` (listings, and devices that are written to); takes no memory.
 #![tactic(auto)]
 
 mod address;
