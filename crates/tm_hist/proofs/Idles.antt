@@ -1,11 +1,14 @@
--- A core's step is idle exactly where the core has stopped.
-use Rattle.std.proofs.Common.{◌≡◌, ℕ, ◌<◌, Bool, true, false, cond, eqb, List, [], ◌++◌, length, Option, Some, None, sym, ap, ◌∙◌}
+-- A core's step, under an event or under none, is idle exactly where the core has stopped.
+use Rattle.std.proofs.Common.{◌≡◌, ℕ, ◌<◌, Bool, true, false, cond, eqb, List, [], ◌++◌, length, Option, Some, None, refl, sym, ap, ◌∙◌}
 use Rattle.std.specs.Prelude.{◌↔◌}
 use Rattle.std.proofs.lemmas.Option.{option_and_then_some, same_Some}
+use Rattle.ia_regs.specs.declared.Regs.{Regs}
 use Rattle.tm_rule.specs.declared.kinds.Stop.{Stop}
 use Rattle.tm_core.specs.TmModel.Access.{Stores, lines_of, stored_addresses, stores_of}
 use Rattle.tm_core.specs.TmModel.Isolated.{Body, instruction_after, isolated_body}
-use Rattle.tm_core.specs.TmModel.Owed.{abort_at, have_room, owed_after, owed_inside, owed_outcome, owed_outside, owed_with_room}
+use Rattle.tm_core.specs.TmModel.Event.{Event}
+use Rattle.tm_core.specs.TmModel.Event.TheVariants as event
+use Rattle.tm_core.specs.TmModel.Owed.{abort_at, have_room, owed_after, owed_inside, owed_outcome, owed_outside, owed_under, owed_with_room}
 use Rattle.tm_core.specs.TmModel.Setting.{Setting, outside_at}
 use Rattle.tm_core.specs.TmModel.Shown.{View, view_inside, view_of, view_outside}
 use Rattle.tm_core.specs.TmModel.State.{Closed, Core, Halted, Midway, Opened, State}
@@ -17,7 +20,7 @@ use Rattle.tm_rule.specs.declared.kinds.OutsideResult.TheVariants.{Goes, Begins,
 use Rattle.tm_rule.specs.declared.kinds.InsideResult.{InsideResult}
 use Rattle.tm_rule.specs.declared.kinds.InsideResult.TheVariants.{GoesOn, Nests, Ends, Fails}
 use Rattle.tm_status.specs.declared.cause.Cause.TheVariants.{Capacity}
-use Rattle.tm_core.specs.Theorem.{ShownMachine as Machine, StandsFor, TakesStep, machine_setting, view_at}
+use Rattle.tm_core.specs.Theorem.{ShownMachine as Machine, StandsFor, TakesStepUnder, machine_setting, view_at}
 use Rattle.tm_hist.specs.Board.{stop_shown}
 use Rattle.tm_hist.proofs.Stops.{IsHalted, is_halted}
 
@@ -58,11 +61,24 @@ idle_stops k m (Midway s value) (Some depth) v e i = absurd (cc)
 idle_stops k m (Opened s n) (Some depth) v e i = absurd (cc)
 idle_stops k m (Opened s n) None v e i = absurd (option_and_then_some (view_inside s) (isolated_body k s m n) v e (λ b is e2. inside_moves k b (instruction_after k m b) (ap (owed_after k m) (sym is) ∙ i)))
 
-pub idle_exactly : (old new : Machine) (a : State) (d : ℕ → Option ℕ) (c : ℕ) (o : Outcome) → StandsFor old a d → c < length old.views → TakesStep old new a d c o →
+-- no abort by an event is idle
+idle_stops_under : (event : Option Event) (k : Setting) (m : List ℕ) (x : Core) (dx : Option ℕ) (v : View) → view_of k m x dx ≡ Some v → owed_under event k m x dx ≡ Idle → ShowsStop v
+idle_stops_under None k m x dx v e i = idle_stops k m x dx v e i
+idle_stops_under (Some (event.Abort by)) k m (Opened s n) None v e i = absurd (cc)
+idle_stops_under (Some (event.Abort by)) k m (Opened s n) (Some depth) v e i = idle_stops k m (Opened s n) (Some depth) v e i
+idle_stops_under (Some (event.Abort by)) k m (Closed s) dx v e i = idle_stops k m (Closed s) dx v e i
+idle_stops_under (Some (event.Abort by)) k m (Midway s value) dx v e i = idle_stops k m (Midway s value) dx v e i
+idle_stops_under (Some (event.Abort by)) k m (Halted s why) dx v e i = idle_stops k m (Halted s why) dx v e i
+
+halted_idles : (event : Option Event) (k : Setting) (m : List ℕ) (s : Regs) (why : Stop) (dx : Option ℕ) → owed_under event k m (Halted s why) dx ≡ Idle
+halted_idles None k m s why dx = refl
+halted_idles (Some (event.Abort by)) k m s why dx = refl
+
+pub idle_exactly : (event : Option Event) (old new : Machine) (a : State) (d : ℕ → Option ℕ) (c : ℕ) (o : Outcome) → StandsFor old a d → c < length old.views → TakesStepUnder event old new a d c o →
     (o ≡ Idle) ↔ ShowsStop (view_at old c)
-idle_exactly old new a d c o stands below takes = (
-  λ idle. idle_stops (machine_setting old) a.memory (a.cores c) (d c) (view_at old c) (stands.each c below) (sym takes.is_owed ∙ idle),
+idle_exactly event old new a d c o stands below takes = (
+  λ idle. idle_stops_under event (machine_setting old) a.memory (a.cores c) (d c) (view_at old c) (stands.each c below) (sym takes.is_owed ∙ idle),
   λ shows.
       let h : IsHalted (a.cores c) (d c) shows.0 = is_halted (machine_setting old) a.memory shows.0 (a.cores c) (d c) (view_at old c) (stands.each c below) shows.1 in
-      takes.is_owed ∙ ap (λ x. owed_outcome (machine_setting old) a.memory x (d c)) h.core,
+      takes.is_owed ∙ ap (λ x. owed_under event (machine_setting old) a.memory x (d c)) h.core ∙ halted_idles event (machine_setting old) a.memory h.regs shows.0 (d c),
 )

@@ -7,3 +7,4 @@ pub mod Stops
 pub mod Idles
 pub mod Boards
 pub mod Pushes
+pub mod UnderEvents

@@ -7,7 +7,7 @@ use Rattle.tm_core.specs.TmModel.Setting.{Setting, setting_of}
 use Rattle.tm_core.specs.TmModel.State.{Closed, Core, Halted, Midway, Opened, State}
 use Rattle.tm_core.specs.TmModel.Steps.{after_commit, after_step_of, run, state_with, step}
 use Rattle.tm_core.specs.TmModel.Outcome.{Outcome}
-use Rattle.tm_core.specs.TmModel.Outcome.TheVariants.{Plain, Loaded, Stopped, Idle, Begun, Inside, Committed, Aborted}
+use Rattle.tm_core.specs.TmModel.Outcome.TheVariants.{Plain, Loaded, Stopped, Idle, Begun, Inside, Committed, Aborted, AbortedBy}
 
 module _ (code : List ℕ) (base size reads writes : ℕ) where
   abbrev limited : Setting
@@ -32,12 +32,14 @@ module _ (code : List ℕ) (base size reads writes : ℕ) where
   same_moved m (Midway s value) Inside = refl
   same_moved m (Midway s value) Committed = refl
   same_moved m (Midway s value) (Aborted status) = refl
+  same_moved m (Midway s value) (AbortedBy by status) = refl
   same_moved m (Closed s) (Stopped why) = refl
   same_moved m (Closed s) Idle = refl
   same_moved m (Closed s) Begun = refl
   same_moved m (Closed s) Inside = refl
   same_moved m (Closed s) Committed = refl
   same_moved m (Closed s) (Aborted status) = refl
+  same_moved m (Closed s) (AbortedBy by status) = refl
   same_moved m (Halted s x) Plain = refl
   same_moved m (Halted s x) Loaded = refl
   same_moved m (Halted s x) (Stopped why) = refl
@@ -46,6 +48,7 @@ module _ (code : List ℕ) (base size reads writes : ℕ) where
   same_moved m (Halted s x) Inside = refl
   same_moved m (Halted s x) Committed = refl
   same_moved m (Halted s x) (Aborted status) = refl
+  same_moved m (Halted s x) (AbortedBy by status) = refl
   same_moved m (Opened s n) Plain = refl
   same_moved m (Opened s n) Loaded = refl
   same_moved m (Opened s n) (Stopped why) = refl
@@ -54,6 +57,7 @@ module _ (code : List ℕ) (base size reads writes : ℕ) where
   same_moved m (Opened s n) Inside = refl
   same_moved m (Opened s n) Committed = ap (option_and_then (after_commit m)) (same_body s m (suc n))
   same_moved m (Opened s n) (Aborted status) = refl
+  same_moved m (Opened s n) (AbortedBy by status) = refl
 
   same_step : (a : State) (c : ℕ) (o : Outcome) → step limited a c o ≡ step free a c o
   same_step a c o = ap (λ x. cond (ltb c a.count) (option_map (state_with a c) x) None) (same_moved a.memory (a.cores c) o)

@@ -14,11 +14,12 @@ use Rattle.tm_core.specs.TmModel.Setting.{Setting}
 use Rattle.tm_core.specs.TmModel.Shown.{View, view_between, view_inside, view_midway, view_of, view_of_body, view_outside}
 use Rattle.tm_core.specs.TmModel.State.{Closed, Core, Halted, Midway, Opened, State}
 use Rattle.tm_core.specs.TmModel.Steps.{after_step_of, state_with, step}
-use Rattle.tm_core.specs.Theorem.{SameMachine, ShownMachine as Machine, StandsFor, TakesStep, machine_setting}
+use Rattle.tm_core.specs.Theorem.{SameMachine, ShownMachine as Machine, StandsFor, TakesStepUnder, machine_setting}
 use Rattle.tm_core.specs.Theorem.{no_regs, view_at}
 use Rattle.tm_hist.specs.Board.{stop_shown}
 use Rattle.tm_core.specs.TmModel.Outcome.{Outcome}
-use Rattle.tm_core.specs.TmModel.Outcome.TheVariants.{Plain, Loaded, Stopped, Idle, Begun, Inside, Committed, Aborted}
+use Rattle.tm_core.specs.TmModel.Outcome.TheVariants.{Plain, Loaded, Stopped, Idle, Begun, Inside, Committed, Aborted, AbortedBy}
+use Rattle.tm_core.specs.TmModel.Event.{Event}
 use Rattle.tm_core.specs.TmModel.CoreState.{CoreState}
 use Rattle.tm_core.specs.TmModel.CoreState.TheVariants.{Running, Mid, Open, Condemned, Stopped as AtStop}
 
@@ -65,6 +66,7 @@ halted_moved k m s why Begun p e = cc
 halted_moved k m s why Inside p e = cc
 halted_moved k m s why Committed p e = cc
 halted_moved k m s why (Aborted status) p e = cc
+halted_moved k m s why (AbortedBy by status) p e = cc
 
 not_doomed : (o : Outcome) → doom_after_own o None ≡ None
 not_doomed Plain = refl
@@ -75,6 +77,7 @@ not_doomed Begun = refl
 not_doomed Inside = refl
 not_doomed Committed = refl
 not_doomed (Aborted status) = refl
+not_doomed (AbortedBy by status) = refl
 
 -- the step of a core, by its move
 record Moved (k : Setting) (a : State) (c : ℕ) (o : Outcome) (next : State) : Type 0 where
@@ -126,9 +129,9 @@ is_there machine j why stop =
           cc
     ] refl
 
-pub stays_stopped : (old new : Machine) (a : State) (d : ℕ → Option ℕ) (c : ℕ) (o : Outcome) → StandsFor old a d → SameMachine old new → TakesStep old new a d c o →
+pub stays_stopped : (event : Option Event) (old new : Machine) (a : State) (d : ℕ → Option ℕ) (c : ℕ) (o : Outcome) → StandsFor old a d → SameMachine old new → TakesStepUnder event old new a d c o →
     (j : ℕ) (why : Stop) → stop_shown (view_at old j).mode ≡ Some why → stop_shown (view_at new j).mode ≡ Some why
-stays_stopped old new a d c o stands same takes j why stop =
+stays_stopped event old new a d c o stands same takes j why stop =
     let below : j < length old.views = is_there old j why stop in
     let cores : length new.views ≡ length old.views = same.cores in
     let within : j < length new.views = omega arith in

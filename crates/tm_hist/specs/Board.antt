@@ -1,6 +1,6 @@
 -- A machine with the history of its steps.
-use Rattle.std.specs.Prelude.{◌≡◌, ◌≢◌, ℕ, ◌≤◌, Bool, ◌||◌, List, [], ◌++◌, All, Option, Some, None, drop, length, nat_lt}
-use Rattle.std.specs.Prelude.{refl}
+use Rattle.std.specs.Prelude.{◌≡◌, ◌≢◌, ℕ, ◌≤◌, Bool, ◌||◌, List, [], ◌++◌, All, Option, Some, None, drop, length}
+use Rattle.std.specs.Prelude.{nat_lt, refl}
 use Rattle.std.specs.Coded.{Coded, code_by, coded×, coded_ℕ, coded_list}
 use Rattle.tm_core.specs.IaImage.Program.{ProgramValue as Program}
 use Rattle.tm_rule.specs.declared.kinds.Stop.{Stop}
@@ -9,7 +9,10 @@ use Rattle.tm_core.specs.TmModel.CoreState.{CoreState}
 use Rattle.tm_core.specs.TmModel.CoreState.TheVariants as state
 use Rattle.tm_core.specs.TmModel.Outcome.{Outcome}
 use Rattle.tm_core.specs.TmModel.Outcome.TheVariants.{Idle}
-use Rattle.tm_core.specs.TmModel.Runs.{AreOwed, doomed_at_end}
+use Rattle.tm_core.specs.TmModel.Event.{Event}
+use Rattle.tm_core.specs.TmModel.Event.TheVariants as event
+use Rattle.tm_core.specs.TmModel.Owed.{abort_by}
+use Rattle.tm_core.specs.TmModel.Runs.{AreOwed, IsOwedUnder, TellNoAbort, doomed_at_end, event_told}
 use Rattle.tm_core.specs.TmModel.Setting.{Setting, program_setting}
 use Rattle.tm_core.specs.TmModel.State.{State, opening_state}
 use Rattle.tm_core.specs.TmModel.Steps.{run}
@@ -112,15 +115,30 @@ IsStopped b core = (why : Stop) × (stop_shown (shown_state b.machine core) ≡ 
 abbrev pub IsFull : ShownBoard → Type 0
 IsFull b = length b.history ≡ b.limit
 
+-- the outcome of a core's next step is the one that is owed under this event, or under none, behind the history
+abbrev pub IsOwedNext : Option Event → ShownBoard → ℕ → Outcome → Type 0
+IsOwedNext event board core outcome =
+    (end : State) → run (board_setting board) (opening_state board.program) board.history ≡ Some end →
+    IsOwedUnder event (board_setting board) end
+    (doomed_at_end (board_setting board) (opening_state board.program) (λ _. None) board.history) core outcome
+
+-- The same by what the core showed: its transaction is aborted at the depth that it had, and anywhere else nothing is
+-- told of the event (SDM volume 1, 16.3.8).
+abbrev pub TellsAsShown : Event → CoreState → Outcome → Type 0
+TellsAsShown (event.Abort by) (state.Open depth) outcome = outcome ≡ abort_by by depth
+TellsAsShown event state outcome = event_told outcome ≡ None
+
 -- the pairs of a board's history behind those of an earlier one's
 abbrev pub pairs_behind : ShownBoard → ShownBoard → List (ℕ × Outcome)
 pairs_behind old new = drop (length old.history) new.history
 
--- so many steps of a core led from one board to the other, none of them idle, and none where the core had stopped
+-- so many steps of a core led from one board to the other, none of them idle or aborted from outside of the program,
+-- and none where the core had stopped
 pub record AreSteps (old new : ShownBoard) (core made : ℕ) : Type 0 where
   pub same : SameBoard old new
   pub history : new.history ≡ old.history ++ pairs_behind old new
   pub count : length (pairs_behind old new) ≡ made
   pub own : All (λ (pair : ℕ × Outcome). (pair.0 ≡ core) × (pair.1 ≢ Idle)) (pairs_behind old new)
+  pub alone : TellNoAbort (pairs_behind old new)
   pub stops : (other : ℕ) → IsStopped old other → IsStopped new other
   pub stopped : IsStopped old core → made ≡ 0

@@ -3,7 +3,8 @@ use Rattle.std.specs.Prelude.{ℕ, List, map}
 use Rattle.ia_word.specs.Bytes.{long_of}
 use Rattle.tm_core.specs.TmModel.Outcome.{Outcome}
 use Rattle.tm_core.specs.TmModel.Outcome.TheVariants.{Plain, Loaded, Stopped, Idle, Begun, Inside}
-use Rattle.tm_core.specs.TmModel.Outcome.TheVariants.{Committed, Aborted}
+use Rattle.tm_core.specs.TmModel.Outcome.TheVariants.{Committed, Aborted, AbortedBy}
+use Rattle.tm_core.specs.TmModel.Interference.TheVariants.{Interrupt, Eviction, Snoop}
 use Rattle.tm_hist.specs.declared.pair.PackedOutcome.{PackedOutcome}
 use Rattle.tm_hist.specs.declared.pair.PackedOutcome.TheVariants as kept
 use Rattle.tm_hist.specs.declared.pair.Pair.{Pair}
@@ -21,6 +22,9 @@ outcome_of kept.Begun = Begun
 outcome_of kept.Inside = Inside
 outcome_of kept.Committed = Committed
 outcome_of (kept.Aborted status) = Aborted (long_of status)
+outcome_of (kept.Interrupted status) = AbortedBy Interrupt (long_of status)
+outcome_of (kept.Evicted status) = AbortedBy Eviction (long_of status)
+outcome_of (kept.Snooped status) = AbortedBy Snoop (long_of status)
 
 abbrev pub pair_of : Pair → ℕ × Outcome
 pair_of p = (p.core, outcome_of p.outcome)

@@ -15,6 +15,8 @@ use Rattle.tm_core.specs.TmModel.CoreState.{CoreState}
 use Rattle.tm_core.specs.TmModel.Outcome.{Outcome}
 use Rattle.tm_core.specs.TmModel.CoreState.TheVariants as state
 use Rattle.tm_core.specs.TmModel.Outcome.TheVariants as outcome
+use Rattle.tm_core.specs.TmModel.Interference.{Interference}
+use Rattle.tm_core.specs.TmModel.Interference.TheVariants as interference
 use Rattle.tm_core.specs.Theorem.{ShownMachine}
 use Rattle.tm_hist.specs.Machine.{core_count, shown_regs, shown_state}
 
@@ -69,6 +71,12 @@ core_text machine core = core_line core (shown_state machine core) (shown_regs m
 abbrev pub state_text : ShownMachine → List ℕ
 state_text machine = flat_map (core_text machine) (range_with_len 0 (core_count machine))
 
+-- what aborted a transaction from outside of the program
+abbrev pub interference_word : Interference → List ℕ
+interference_word interference.Interrupt = codes "interrupt"
+interference_word interference.Eviction = codes "eviction"
+interference_word interference.Snoop = codes "snoop"
+
 abbrev pub outcome_words : Outcome → List ℕ
 outcome_words outcome.Plain = codes "plain"
 outcome_words outcome.Loaded = codes "loaded"
@@ -78,6 +86,8 @@ outcome_words outcome.Begun = codes "begun"
 outcome_words outcome.Inside = codes "inside"
 outcome_words outcome.Committed = codes "committed"
 outcome_words (outcome.Aborted status) = codes "aborted " ++ eight_digits status
+outcome_words (outcome.AbortedBy by status) =
+    codes "aborted " ++ eight_digits status ++ codes " " ++ interference_word by
 
 -- an outcome line
 unfoldable pub outcome_line : ℕ → Outcome → List ℕ

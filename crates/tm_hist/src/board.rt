@@ -1,10 +1,12 @@
 //! A machine with the history of its steps.
 
 ghost use Rattle.std.specs.Prelude.{◌≡◌, ◌↔◌, ◌⊎◌, ◌<◌, ◌≤◌, ℕ, List, [], ◌∷◌, ◌++◌, Err, IfErr, IfOk, IsTrue, OnErr};
-ghost use Rattle.std.specs.Prelude.{◌-◌, false, length, min, true};
+ghost use Rattle.std.specs.Prelude.{◌-◌, None, Some, false, length, min, true};
 ghost use Rattle.tm_core.specs.AtOnce.{IsDoneOnRegisters};
 ghost use Rattle.tm_core.specs.Machine.{bad_limits};
-ghost use Rattle.tm_hist.specs.Board.{AreSteps, IsFull, IsHistory, IsNew, IsStopped, SameBoard, bad_limit};
+ghost use Rattle.tm_core.specs.TmModel.Runs.{event_told};
+ghost use Rattle.tm_hist.specs.Board.{AreSteps, IsFull, IsHistory, IsNew, IsOwedNext, IsStopped, SameBoard};
+ghost use Rattle.tm_hist.specs.Board.{TellsAsShown, bad_limit};
 ghost use Rattle.tm_hist.specs.BoardFaults.{board_code, step_code};
 ghost use Rattle.tm_hist.specs.History.{pairs_of};
 ghost use Rattle.tm_hist.specs.Machine.{shown_state};
@@ -20,7 +22,7 @@ use std::alloc::Global;
 use std::marker::Model;
 use thiserror::Error;
 use tm_core::{
-    CoreState, Limits, Machine, MachineFault, MachineMemory, NoSuchCore, Outcome, Program,
+    CoreState, Event, Limits, Machine, MachineFault, MachineMemory, NoSuchCore, Outcome, Program,
 };
 
 /// Why no board was made.
@@ -171,7 +173,7 @@ impl Board {
         })
     }
 
-    /// One step of a core, which is one more pair of the history.
+    /// One step of a core, which is one more pair of the history. The program alone aborts transactions in it.
     ///
     /// [`StepFault::NoSuchCore`], where the program has no core of this number; for one that it has,
     /// [`StepFault::LimitReached`] exactly where the history is full. Then the board is as before. Takes no memory.
@@ -182,6 +184,8 @@ impl Board {
             ↔ ((core < length self.old.program.entries) × IsFull self.old) }
         ensures same { SameBoard self.old self.new }
         ensures ok { IfOk result (λ outcome. self.new.history ≡ self.old.history ++ (core, outcome) ∷ []) }
+        ensures owed { IfOk result (λ outcome. IsOwedNext None self.old core outcome) }
+        ensures alone { IfOk result (λ outcome. event_told outcome ≡ None) }
         ensures stops { (k : ℕ) → IsStopped self.old k → IsStopped self.new k }
         ensures idle { IfOk result (λ outcome. (outcome ≡ Outcome.Idle) ↔ IsStopped self.old core) }
         ensures err { OnErr result (self.new ≡ self.old) }
@@ -201,8 +205,42 @@ impl Board {
         }
     }
 
+    /// One step of a core under an event from outside of the program, which is one more pair of the history: where the
+    /// core is in a transaction that is not condemned, the event aborts it, whatever its next instruction. Anywhere
+    /// else the event changes nothing, and the step is that of [`Board::step`] (SDM volume 1, 16.3.8).
+    ///
+    /// [`StepFault::NoSuchCore`], where the program has no core of this number; for one that it has,
+    /// [`StepFault::LimitReached`] exactly where the history is full. Then the board is as before. Takes no memory.
+    pub fn step_under(&mut self, core: u8, event: Event) -> Result<Outcome, StepFault>
+        ensures none { result ≡ Err StepFault.NoSuchCore ↔ (length self.old.program.entries ≤ core) }
+        ensures full { result ≡ Err StepFault.LimitReached
+            ↔ ((core < length self.old.program.entries) × IsFull self.old) }
+        ensures same { SameBoard self.old self.new }
+        ensures ok { IfOk result (λ outcome. self.new.history ≡ self.old.history ++ (core, outcome) ∷ []) }
+        ensures owed { IfOk result (λ outcome. IsOwedNext (Some event) self.old core outcome) }
+        ensures told { IfOk result (λ outcome. TellsAsShown event (shown_state self.old.machine core) outcome) }
+        ensures stops { (k : ℕ) → IsStopped self.old k → IsStopped self.new k }
+        ensures idle { IfOk result (λ outcome. (outcome ≡ Outcome.Idle) ↔ IsStopped self.old core) }
+        ensures err { OnErr result (self.new ≡ self.old) }
+    {
+        if core >= self.cores() {
+            return Err(StepFault::NoSuchCore);
+        }
+        if self.is_full() {
+            return Err(StepFault::LimitReached);
+        }
+        match self.machine.step_under(core, event) {
+            Ok(told) => {
+                self.made.push_reserved(Pair::new(core, told));
+                Ok(told)
+            }
+            Err(NoSuchCore) => Err(StepFault::NoSuchCore),
+        }
+    }
+
     /// Up to so many steps of a core, each of them one more pair of the history, and how many they were: fewer only where
-    /// the core has stopped or the history is full. So none of them is idle. Takes no memory.
+    /// the core has stopped or the history is full. So none of them is idle, and none is aborted from outside of the
+    /// program. Takes no memory.
     pub fn steps(&mut self, core: u8, most: u32) -> u32
         requires { core < length self.old.program.entries }
         ensures most { result ≤ most }

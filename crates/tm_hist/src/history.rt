@@ -2,10 +2,11 @@
 
 ghost use Rattle.std.specs.Prelude.{◌≡◌, ◌==◌, length, map};
 ghost use Rattle.std.specs.List.{slice_get};
+ghost use Rattle.tm_core.specs.TmModel.Runs.{event_told, pick_of, picks_of};
 ghost use Rattle.tm_hist.specs.History.{pair_of, pairs_in, pairs_of};
 
 use crate::pair::Pair;
-use tm_core::Outcome;
+use tm_core::{Event, Outcome, Pick};
 
 /// A list of steps, which it borrows. Copying it copies no step.
 #[derive(Clone, Copy, Debug)]
@@ -73,5 +74,26 @@ impl<'a> History<'a> {
             Steps::Given(pairs) => pairs.get(index).copied(),
             Steps::Made(pairs) => pairs.get(index).map(|pair| (pair.core, pair.outcome())),
         }
+    }
+    /// The pick of the step at an index: its core, and the event that its outcome tells of. Nothing behind the last. A
+    /// step under an event that aborted nothing tells of none.
+    pub fn pick_at(self, index: usize) -> Option<Pick>
+        ensures { result ≡ slice_get (picks_of (pairs_of self.entry)) index }
+    {
+        let (core, outcome) = self.get(index)?;
+        Some(Pick {
+            core,
+            event: event_of(outcome),
+        })
+    }
+}
+
+// The event that an outcome tells of.
+fn event_of(outcome: Outcome) -> Option<Event>
+    ensures { result ≡ event_told outcome }
+{
+    match outcome {
+        Outcome::AbortedBy(interference, _status) => Some(Event::Abort(interference)),
+        _ => None,
     }
 }

@@ -25,10 +25,12 @@ mod whole;
 pub use board::{Board, BoardFault, MOST_STEPS, StepFault};
 pub use history::History;
 pub use history_memory::HistoryMemory;
-pub use lines::{push_state, stop_text, write_core, write_dump, write_outcome, write_state};
+pub use lines::{
+    interference_text, push_state, stop_text, write_core, write_dump, write_outcome, write_state,
+};
 pub use one_memory::serial;
 pub use replay::{Serial, SerialFault};
 pub use tm_core::{
-    AbortReason, CoreState, Counts, Kind, Limits, Machine, MachineFault, MachineMemory, Outcome,
-    Reach, RunFault, Stop, memory,
+    AbortReason, CoreState, Counts, Event, Interference, Kind, Limits, Machine, MachineFault,
+    MachineMemory, Outcome, Pick, Reach, RunFault, Stop, memory,
 };

@@ -4,14 +4,15 @@ ghost use Rattle.std.specs.Prelude.{◌≡◌, ◌+◌, ◌-◌, ◌*◌, ◌%�
 ghost use Rattle.arrayvec.specs.ArrayVec.{array_vec_len};
 ghost use Rattle.ia_text.specs.Writing.{Writes};
 ghost use Rattle.tm_hist.specs.Lines.{core_line, core_text, dump_line, dump_lines, flag_sum, flags_text};
-ghost use Rattle.tm_hist.specs.Lines.{outcome_line, register_text, regs_text, state_text, state_word, stop_word};
+ghost use Rattle.tm_hist.specs.Lines.{interference_word, outcome_line, register_text, regs_text, state_text};
+ghost use Rattle.tm_hist.specs.Lines.{state_word, stop_word};
 ghost use Rattle.tm_hist.specs.Machine.{core_count};
 
 use ia_regs::{Flags, Regs};
 use ia_text::page::{push, push_bytes, push_eight};
 use ia_text::text_line::{TextLine, push_number};
 use ia_text::{Out, WriteFault};
-use tm_core::{CoreState, Machine, Outcome};
+use tm_core::{CoreState, Interference, Machine, Outcome};
 use tm_rule::Stop;
 
 /// The word of a stop.
@@ -29,6 +30,18 @@ pub fn stop_text(stop: Stop) -> &'static [u8]
         Stop::CodeStore => b"code-store",
         Stop::Fetch => b"fetch",
         Stop::NotInSubset => b"not-in-subset",
+    }
+}
+
+/// The word of what aborted a transaction from outside of the program: `interrupt`, `eviction` or `snoop`.
+pub fn interference_text(interference: Interference) -> &'static [u8]
+    ensures text { result.now ≡ interference_word interference }
+    ensures short { length result.now ≤ 9 }
+{
+    match interference {
+        Interference::Interrupt => b"interrupt",
+        Interference::Eviction => b"eviction",
+        Interference::Snoop => b"snoop",
     }
 }
 
@@ -171,6 +184,12 @@ fn push_outcome(row: &mut TextLine, core: u8, outcome: &Outcome)
         Outcome::Aborted(status) => {
             push(row, b"aborted ");
             push_eight(row, *status);
+        }
+        Outcome::AbortedBy(interference, status) => {
+            push(row, b"aborted ");
+            push_eight(row, *status);
+            push(row, b" ");
+            push(row, interference_text(*interference));
         }
     }
     push(row, b"\n");

@@ -4,7 +4,7 @@ ghost use Rattle.std.specs.Prelude.{◌≡◌};
 ghost use Rattle.tm_hist.specs.History.{outcome_of, pair_of};
 
 use ia_word::{from_le, le_bytes};
-use tm_core::{Outcome, Stop};
+use tm_core::{Interference, Outcome, Stop};
 
 /// An outcome, with the status of an abort in bytes, so that it needs no alignment.
 #[derive(Clone, Copy, Debug)]
@@ -17,6 +17,9 @@ pub enum PackedOutcome {
     Inside,
     Committed,
     Aborted([u8; 4]),
+    Interrupted([u8; 4]),
+    Evicted([u8; 4]),
+    Snooped([u8; 4]),
 }
 
 /// The core that stepped, and its outcome.
@@ -41,6 +44,18 @@ fn pack(outcome: Outcome) -> PackedOutcome
         Outcome::Inside => PackedOutcome::Inside,
         Outcome::Committed => PackedOutcome::Committed,
         Outcome::Aborted(status) => PackedOutcome::Aborted(le_bytes(status)),
+        Outcome::AbortedBy(interference, status) => pack_abort(interference, status),
+    }
+}
+
+// An abort from outside of the program.
+fn pack_abort(interference: Interference, status: u32) -> PackedOutcome
+    ensures { outcome_of result ≡ Outcome.AbortedBy interference status }
+{
+    match interference {
+        Interference::Interrupt => PackedOutcome::Interrupted(le_bytes(status)),
+        Interference::Eviction => PackedOutcome::Evicted(le_bytes(status)),
+        Interference::Snoop => PackedOutcome::Snooped(le_bytes(status)),
     }
 }
 
@@ -58,6 +73,15 @@ impl PackedOutcome {
             PackedOutcome::Inside => Outcome::Inside,
             PackedOutcome::Committed => Outcome::Committed,
             PackedOutcome::Aborted(status) => Outcome::Aborted(from_le(*status)),
+            PackedOutcome::Interrupted(status) => {
+                Outcome::AbortedBy(Interference::Interrupt, from_le(*status))
+            }
+            PackedOutcome::Evicted(status) => {
+                Outcome::AbortedBy(Interference::Eviction, from_le(*status))
+            }
+            PackedOutcome::Snooped(status) => {
+                Outcome::AbortedBy(Interference::Snoop, from_le(*status))
+            }
         }
     }
 }

@@ -211,7 +211,8 @@ fn closed_step(
         }
         Outcome::Stopped(stop) => stop_step(row, code, size, memory, regs, *stop),
         Outcome::Begun => begin_step(row, code, size, memory, regs),
-        Outcome::Idle | Outcome::Inside | Outcome::Committed | Outcome::Aborted(_) => None,
+        Outcome::Idle | Outcome::Inside | Outcome::Committed => None,
+        Outcome::Aborted(_) | Outcome::AbortedBy(_, _) => None,
     }
 }
 
@@ -250,6 +251,9 @@ fn open_step(
             None => None,
         },
         Outcome::Aborted(status) => Some(SerialCore::Closed(registers_after_abort(
+            code, regs, *status,
+        ))),
+        Outcome::AbortedBy(_interference, status) => Some(SerialCore::Closed(registers_after_abort(
             code, regs, *status,
         ))),
         Outcome::Plain | Outcome::Loaded | Outcome::Stopped(_) | Outcome::Idle | Outcome::Begun =>

@@ -19,3 +19,9 @@ returns-in-Aborted-clause-step c =
     let k = setting_of c.args.code.now.bytes.now c.args.code.now.base c.args.size 0 0 in
     ap (λ o. after_step_of k c.args.memory.now (Opened c.args.regs.now c.args.steps) o) c.in-Aborted.is
     ∙ ap (λ r. Some (c.args.memory.now, Closed r)) (sym (c.registers_after_abort.ensures c.args.size))
+
+pub returns-in-AbortedBy-clause-step : goal.returns-in-AbortedBy-clause-step
+returns-in-AbortedBy-clause-step c =
+    let k = setting_of c.args.code.now.bytes.now c.args.code.now.base c.args.size 0 0 in
+    ap (λ o. after_step_of k c.args.memory.now (Opened c.args.regs.now c.args.steps) o) c.in-AbortedBy.is
+    ∙ ap (λ r. Some (c.args.memory.now, Closed r)) (sym (c.registers_after_abort-in-AbortedBy.ensures c.args.size))
