@@ -1,5 +1,5 @@
 -- A board after the first steps of another one's history.
-use Rattle.std.specs.Prelude.{◌≡◌, ℕ, ◌≤◌, List, Some, length, take}
+use Rattle.std.specs.Prelude.{◌≡◌, ℕ, ◌≤◌, Some, length, take}
 use Rattle.std.specs.List.{slice_get}
 use Rattle.tm_hist.specs.TmModel.Outcome.{Outcome}
 use Rattle.tm_hist.specs.Board.{SameBoard, ShownBoard as Board}

@@ -1,13 +1,13 @@
 //! The first steps of a history, made once more.
 
-ghost use Rattle.std.specs.Prelude.{◌≡◌, ◌↔◌, ◌+◌, ◌<◌, ◌≤◌, Err, IfOk, OnErr, OnOk, false, length, true};
+ghost use Rattle.std.specs.Prelude.{◌≡◌, ◌↔◌, ◌+◌, ◌++◌, ◌<◌, ◌≤◌, ◌∷◌, [], Err, IfOk, OnErr, OnOk, false, length, true};
 ghost use Rattle.tm_hist.specs.TmCore.Machine.{bad_limits};
-ghost use Rattle.tm_hist.specs.Board.{IsNew, bad_limit};
+ghost use Rattle.tm_hist.specs.Board.{IsFull, IsNew, IsOwedNext, SameBoard, bad_limit};
 ghost use Rattle.tm_back.specs.Back.{HasStranger, IsFirst};
 
 use std::alloc::Global;
 use thiserror::Error;
-use tm_hist::{Board, BoardFault, StepFault};
+use tm_hist::{Board, BoardFault, Outcome, Pick, StepFault};
 
 /// Why the first steps were not made once more.
 #[derive(Clone, Copy, PartialEq, Eq, Debug, Drop, Error)]
@@ -22,7 +22,7 @@ pub enum BackFault {
 }
 
 /// A board of the same program and limits after the first so many steps of a board's history, all of them where there are
-/// fewer. The steps are made once more, at the cost of a step each.
+/// fewer. The steps are made once more, each under the event that its outcome tells of, at the cost of a step each.
 ///
 /// [`BackFault::NoBoard`] with the fault of [`Board::new`], and [`BackFault::NoSuchCore`], where the history names no core.
 pub fn first_steps(alloc: Global, board: &Board, count: u64) -> Result<Board, BackFault>
@@ -72,7 +72,7 @@ fn follow(board: &Board, count: u64, first: &mut Board) -> Result<(), Stranger>
     Ok(())
 }
 
-// Makes the next step of a board's history.
+// Makes the next step of a board's history, under the event that its outcome tells of.
 fn follow_step(board: &Board, made: u64, first: &mut Board) -> Result<(), Stranger>
     requires within { made < length board.now.history }
     requires so_far { IsFirst board.now made first.old }
@@ -81,15 +81,27 @@ fn follow_step(board: &Board, made: u64, first: &mut Board) -> Result<(), Strang
 {
     board.is_run();
     let _made = board.made();
-    let Some((core, _outcome)) = board.history().get(made as usize) else {
+    let Some(pick) = board.history().pick_at(made as usize) else {
         unreachable!()
     };
-    match first.step(core) {
-        Ok(_outcome) => {
-            first.is_run();
-            Ok(())
-        }
+    match step_as_told(first, pick) {
+        Ok(_outcome) => Ok(()),
         Err(StepFault::NoSuchCore) => Err(Stranger),
         Err(StepFault::LimitReached) => unreachable!(),
+    }
+}
+
+// The step that a pick tells of.
+fn step_as_told(board: &mut Board, pick: Pick) -> Result<Outcome, StepFault>
+    ensures none { result ≡ Err StepFault.NoSuchCore ↔ (length board.old.program.entries ≤ pick.core) }
+    ensures full { result ≡ Err StepFault.LimitReached
+        ↔ ((pick.core < length board.old.program.entries) × IsFull board.old) }
+    ensures same { SameBoard board.old board.new }
+    ensures ok { IfOk result (λ outcome. board.new.history ≡ board.old.history ++ (pick.core, outcome) ∷ []) }
+    ensures owed { IfOk result (λ outcome. IsOwedNext pick.event board.old pick.core outcome) }
+{
+    match pick.event {
+        Some(event) => board.step_under(pick.core, event),
+        None => board.step(pick.core),
     }
 }

@@ -9,6 +9,6 @@ mod back;
 pub use back::{BackFault, first_steps};
 pub use ia_image::Program;
 pub use tm_hist::{
-    AbortReason, Board, CoreState, Kind, Machine, Outcome, StepFault, push_state, stop_text,
-    write_core, write_dump, write_outcome,
+    AbortReason, Board, CoreState, Event, Interference, Kind, Machine, Outcome, Pick, StepFault,
+    interference_text, push_state, stop_text, write_core, write_dump, write_outcome,
 };
