@@ -5,7 +5,7 @@ use ia_text::ToVec;
 use std::alloc::{AllocError, Global};
 use std::str;
 use std::test::Fail;
-use tm_model::Outcome;
+use tm_model::{Interference, Outcome};
 use tm_timeline::{Label, LineLabels, LineUse, Rows, Timeline, Window};
 
 // A source whose line 6 is called `a<b`.
@@ -79,6 +79,40 @@ fn a_small_run(rt: HostRuntime) -> Result<(), Fail> {
     assert!(rt; text.contains("core 0, steps 8 to 9: aborted ab000001 xabort"));
     assert!(rt; text.contains("core 1, steps 7 to 9: not ended"));
     assert!(rt; text.contains("step 3: core 1 plain"));
+    Ok(())
+}
+
+// A core is aborted from outside three times, the last one with the status of a conflict.
+fn told_from_outside(alloc: Global, window: Window) -> Result<Timeline, AllocError> {
+    let mut timeline = Timeline::new(alloc, 1, window)?;
+    timeline.told(0, Outcome::Begun)?;
+    timeline.told(0, Outcome::AbortedBy(Interference::Interrupt, 0))?;
+    timeline.told(0, Outcome::Begun)?;
+    timeline.told(0, Outcome::AbortedBy(Interference::Eviction, 8))?;
+    timeline.told(0, Outcome::Begun)?;
+    timeline.told(0, Outcome::AbortedBy(Interference::Snoop, 6))?;
+    timeline.finish()?;
+    Ok(timeline)
+}
+
+#[test]
+fn aborts_from_outside(rt: HostRuntime) -> Result<(), Fail> {
+    let window = Window {
+        from: 0,
+        to: 6,
+        total: 6,
+    };
+    let timeline = told_from_outside(rt.alloc(), window)?;
+    let bytes = picture(rt.alloc(), &timeline, "x.asm", &Rows::all(1))?;
+    let text = str::from_utf8(bytes.as_slice())?;
+    assert!(rt; elements_of(text).is_ok());
+    // Three bars of other aborts, and of each other class but its entry of the legend; no arrow but that of the legend.
+    assert_eq!(rt; count_of(text, "<rect class='b o'"), 4);
+    assert_eq!(rt; count_of(text, "<rect class='b x'"), 1);
+    assert_eq!(rt; count_of(text, "<path class='a'"), 1);
+    assert!(rt; text.contains("core 0, steps 1 to 2: aborted 00000000 interrupt<"));
+    assert!(rt; text.contains("core 0, steps 3 to 4: aborted 00000008 eviction<"));
+    assert!(rt; text.contains("core 0, steps 5 to 6: aborted 00000006 snoop<"));
     Ok(())
 }
 

@@ -97,7 +97,7 @@ fn draw_word<O: Out>(
 // The class of the word on a bar: light on a dark one, and dark on a light one.
 fn class_of(fate: Fate) -> &'static str {
     match fate {
-        Fate::Other(_) | Fate::Open => "s",
+        Fate::Other(_) | Fate::Outside(_, _) | Fate::Open => "s",
         _ => "w",
     }
 }
@@ -124,7 +124,7 @@ fn draw_title<O: Out, L: LineLabels>(svg: &mut Svg<'_, O>, span: &Span, labels: 
 fn draw_fate<O: Out>(svg: &mut Svg<'_, O>, fate: Fate) {
     match fate {
         Fate::Committed => svg.text("committed"),
-        Fate::Conflict(status) | Fate::Other(status) => {
+        Fate::Conflict(status) | Fate::Other(status) | Fate::Outside(_, status) => {
             svg.put("aborted {} {}", &[Status(status), Word(fate.word())]);
         }
         Fate::Doomed => svg.text("doomed, not yet aborted"),

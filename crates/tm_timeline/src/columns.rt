@@ -84,7 +84,9 @@ impl Share {
             Fate::Conflict(_) | Fate::Doomed => {
                 self.conflict = self.conflict.saturating_add(count);
             }
-            Fate::Other(_) => self.other = self.other.saturating_add(count),
+            Fate::Other(_) | Fate::Outside(_, _) => {
+                self.other = self.other.saturating_add(count);
+            }
             Fate::Open => return,
         }
         self.open = 0;

@@ -1,8 +1,9 @@
 //! What transactions come to.
 
 ghost use Rattle.std.specs.Prelude.{◌≡◌};
-ghost use Rattle.tm_timeline.specs.Fates.{fate_of};
+ghost use Rattle.tm_timeline.specs.Fates.{fate_at, fate_of};
 
+use tm_model::{Interference, Outcome};
 use tm_status::causes;
 
 /// What a transaction came to.
@@ -14,6 +15,8 @@ pub enum Fate {
     Conflict(u32),
     /// Something else aborted it, with this status.
     Other(u32),
+    /// It was aborted from outside of the program, with this status.
+    Outside(Interference, u32),
     /// It was hit, and the run ended before the abort.
     Doomed,
     /// It was open, and not hit, where the run ended.
@@ -31,6 +34,24 @@ pub fn fate_of(status: u32) -> Fate
     }
 }
 
+/// What a transaction came to that a step of this outcome ends, if it ends one. That of an abort from outside goes by the
+/// outcome, since the status alone may tell of a conflict.
+pub fn fate_at(outcome: Outcome) -> Option<Fate>
+    ensures { result ≡ fate_at outcome }
+{
+    match outcome {
+        Outcome::Committed => Some(Fate::Committed),
+        Outcome::Aborted(status) => Some(fate_of(status)),
+        Outcome::AbortedBy(interference, status) => Some(Fate::Outside(interference, status)),
+        Outcome::Plain
+        | Outcome::Loaded
+        | Outcome::Stopped(_)
+        | Outcome::Idle
+        | Outcome::Begun
+        | Outcome::Inside => None,
+    }
+}
+
 impl Fate {
     /// The word that stands on a bar.
     pub fn word(self) -> &'static str {
@@ -38,6 +59,7 @@ impl Fate {
             Fate::Committed => "commit",
             Fate::Conflict(_) => "conflict",
             Fate::Other(status) => cause_word(status),
+            Fate::Outside(interference, _) => outside_word(interference),
             Fate::Doomed => "doomed",
             Fate::Open => "open",
         }
@@ -48,9 +70,18 @@ impl Fate {
         match self {
             Fate::Committed => "k",
             Fate::Conflict(_) | Fate::Doomed => "x",
-            Fate::Other(_) => "o",
+            Fate::Other(_) | Fate::Outside(_, _) => "o",
             Fate::Open => "p",
         }
+    }
+}
+
+// The word of an abort from outside of the program.
+fn outside_word(interference: Interference) -> &'static str {
+    match interference {
+        Interference::Interrupt => "interrupt",
+        Interference::Eviction => "eviction",
+        Interference::Snoop => "snoop",
     }
 }
 

@@ -4,8 +4,8 @@
 //! few steps is drawn with a bar for each transaction and an arrow for each hit; of a longer one columns of many steps are
 //! drawn, with shares of what became of them. What is kept is bounded by the picture and not by the run.
 //!
-//! Promised: each commit in a window that is drawn by bars is told as a bar; bars lie within the window, and the window
-//! within the picture; and a [`Label`] holds no markup, whatever text it is made from. What a picture looks like is compared
+//! Promised: each transaction that ends in a window that is drawn by bars is told as a bar, with what it came to; bars lie
+//! within the window, and the window within the picture; and a [`Label`] holds no markup, whatever text it is made from. What a picture looks like is compared
 //! by `draw_tests`. Stands on `tm_model` and `tm_status` for what a step is, and on `ia_text` for the devices that pictures
 //! go to. Takes memory where a timeline is made, and for bars and arrows.
 #![tactic(auto)]
@@ -28,7 +28,7 @@ mod timeline;
 mod value;
 mod window;
 
-pub use fate::{Fate, fate_of};
+pub use fate::{Fate, fate_at, fate_of};
 pub use label::{Label, LineLabels};
 pub use rows::Rows;
 pub use spans::{Hit, LineUse, Span};

@@ -1,9 +1,9 @@
 //! What is kept of a run.
 
-ghost use Rattle.std.specs.Prelude.{◌≡◌, ◌<◌, ◌≤◌, ◌++◌, ◌∷◌, [], OnOk, true};
+ghost use Rattle.std.specs.Prelude.{◌≡◌, ◌<◌, ◌≤◌, ◌++◌, ◌∷◌, [], OnOk, Some, true};
 
 use crate::columns::{Columns, StepKind};
-use crate::fate::{Fate, fate_of};
+use crate::fate::{Fate, fate_at};
 use crate::frame::Sheet;
 use crate::label::{Label, LineLabels};
 use crate::picture::{Picture, draw};
@@ -41,7 +41,9 @@ struct Transaction {
 }
 
 impl Timeline {
+    ghost use Rattle.tm_timeline.specs.Fates.{fate_at};
     ghost use Rattle.tm_timeline.specs.Told.{AddsBar, IsEnded, bars, is_few};
+    ghost use Rattle.tm_timeline.specs.declared.fate.Fate.{Fate};
 
     /// A run of so many cores, of which no step is told.
     pub fn new(alloc: Global, cores: u8, window: Window) -> Result<Timeline, AllocError> {
@@ -121,21 +123,20 @@ impl Timeline {
     }
 
     /// Tells the next step: its core and what it was. Where transactions are drawn one by one, and the step is in the window, a
-    /// commit adds the bar of a transaction that was committed by this step.
+    /// commit or an abort adds the bar of a transaction that came to this by this step.
     pub fn told(&mut self, core: u8, outcome: Outcome) -> Result<(), AllocError>
         ensures window { self.new.window ≡ self.old.window }
-        ensures commit { OnOk result (outcome ≡ Outcome.Committed → is_few self.old.picture ≡ true →
+        ensures bar { OnOk result ((what : Fate) → fate_at outcome ≡ Some what → is_few self.old.picture ≡ true →
             self.old.window.from ≤ self.old.next → self.old.next < self.old.window.to →
-            AddsBar self.old.picture self.new.picture core self.old.next Fate.Committed) }
+            AddsBar self.old.picture self.new.picture core self.old.next what) }
     {
         let step = self.next;
         self.next = step.saturating_add(1);
         self.begin(core, step, outcome);
         self.keep(step, core, outcome)?;
-        match outcome {
-            Outcome::Committed => self.end(core, step, Fate::Committed),
-            Outcome::Aborted(status) => self.end(core, step, fate_of(status)),
-            _ => Ok(()),
+        match fate_at(outcome) {
+            Some(fate) => self.end(core, step, fate),
+            None => Ok(()),
         }
     }
 
@@ -267,9 +268,11 @@ impl Timeline {
 // Where a step is counted.
 fn kind_of(outcome: Outcome) -> StepKind {
     match outcome {
-        Outcome::Begun | Outcome::Inside | Outcome::Committed | Outcome::Aborted(_) => {
-            StepKind::Inside
-        }
+        Outcome::Begun
+        | Outcome::Inside
+        | Outcome::Committed
+        | Outcome::Aborted(_)
+        | Outcome::AbortedBy(_, _) => StepKind::Inside,
         Outcome::Plain | Outcome::Loaded | Outcome::Stopped(_) => StepKind::Outside,
         Outcome::Idle => StepKind::Idle,
     }
