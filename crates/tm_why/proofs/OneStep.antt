@@ -3,7 +3,7 @@ use Rattle.std.proofs.Common.{◌≡◌, ℕ, suc, ◌==◌, ◌<◌, Bool, true
 use Rattle.std.specs.Option.{option_or}
 use Rattle.tm_core.specs.TmModel.Outcome.{Outcome}
 use Rattle.tm_why.specs.Types.{Asked, StandingHit, Watched}
-use Rattle.tm_why.specs.Watched.{Told, begun_by, begun_in, hit_in, hit_on, left_by, outside, standing, watched_in}
+use Rattle.tm_why.specs.Watched.{Told, begun_by, begun_in, hit_in, hit_made, left_by, outside, standing, watched_in}
 use Rattle.tm_why.specs.Rows.{row_after}
 
 abbrev row_of : Option ℕ → Option StandingHit → Watched
@@ -21,7 +21,7 @@ row_after_is core asked outcome steps =
     by_field (core == asked.core)
     (begun_by outcome (suc (length steps)) (begun_in core steps)) (begun_in core steps)
     (left_by outcome (hit_in core steps))
-    (option_or (hit_in core steps) (standing (suc (length steps)) asked (hit_on asked core)))
+    (option_or (hit_in core steps) (standing (suc (length steps)) asked (hit_made (asked, outcome) core)))
 
 -- so for the rows of all cores
 pub one_step : (rows news : List Watched) (asked : Asked) (outcome : Outcome) (number : ℕ) (steps : List Told) →

@@ -1,20 +1,24 @@
 -- A hit stands on a core exactly while the core is doomed.
-use Rattle.std.proofs.Common.{◌≡◌, ℕ, suc, Bool, true, false, eqb, if◌then◌else◌, List, ◌∷◌, length, Option, Some, None, refl, sym, ap, ◌∙◌, subst}
-use Rattle.std.specs.Prelude.{IsSome, MatchOption, nat_eq, option_map}
+use Rattle.std.proofs.Common.{◌≡◌, ◌⊎◌, inl, inr, ℕ, suc, Bool, true, false, eqb, if◌then◌else◌, List, length, Option, Some, None, refl, sym, ap, ◌∙◌, subst}
+use Rattle.std.specs.Prelude.{IsSome, MatchOption}
 use Rattle.std.specs.Option.{is_some, option_or}
 use Rattle.std.proofs.lemmas.Bool.{eqb-true, eq-eqb, true≢false}
 use Rattle.tm_core.specs.TmModel.Conflicts.{Doomed, addresses_loaded_by, addresses_stored_by, doom_after_other, doom_after_own, doomed_after}
 use Rattle.tm_core.specs.TmModel.Explained.{IsHitTold}
-use Rattle.tm_core.specs.TmModel.Owed.{owed_outcome}
+use Rattle.tm_core.specs.TmModel.Owed.{owed_outcome, owed_under}
 use Rattle.tm_core.specs.TmModel.Setting.{Setting}
 use Rattle.tm_core.specs.TmModel.State.{Closed, Core, Halted, Midway, Opened, State}
+use Rattle.tm_core.specs.TmModel.Event.{Event}
+use Rattle.tm_core.specs.TmModel.Event.TheVariants as event
+use Rattle.tm_core.specs.TmModel.Interference.{Interference}
 use Rattle.tm_core.specs.TmModel.Outcome.{Outcome}
-use Rattle.tm_core.specs.TmModel.Outcome.TheVariants.{Aborted, Begun, Committed, Idle, Inside, Loaded, Plain, Stopped}
+use Rattle.tm_core.specs.TmModel.Outcome.TheVariants.{Aborted, AbortedBy, Begun, Committed, Idle, Inside, Loaded, Plain, Stopped}
 use Rattle.tm_core.specs.TmModel.Hit.{Hit}
 use Rattle.tm_core.proofs.ExplainLaws.{condemn}
+use Rattle.tm_core.proofs.TmModel.Events.{abort_hits_nobody, aborted_by_none, no_event_told}
 use Rattle.tm_why.specs.Standing.{AreStanding, HitsStand}
 use Rattle.tm_why.specs.Types.{Asked, StandingHit}
-use Rattle.tm_why.specs.Watched.{Told, hit_in, hit_on, left_by, standing}
+use Rattle.tm_why.specs.Watched.{Told, hit_in, hit_made, hit_on, left_by, standing}
 
 -- ---- the core's own step
 
@@ -28,18 +32,34 @@ not_doomed Begun hit e = refl
 not_doomed Inside hit e = e
 not_doomed Committed hit e = refl
 not_doomed (Aborted status) hit e = refl
+not_doomed (AbortedBy interference status) hit e = refl
 
-own : (setting : Setting) (memory : List ℕ) (core : Core) (doom : Option ℕ) (hit : Option StandingHit) →
+own_owed : (setting : Setting) (memory : List ℕ) (core : Core) (doom : Option ℕ) (hit : Option StandingHit) →
     is_some doom ≡ is_some hit →
     is_some (doom_after_own (owed_outcome setting memory core doom) doom)
     ≡ is_some (left_by (owed_outcome setting memory core doom) hit)
-own setting memory (Halted regs stop) doom hit e = e
-own setting memory (Closed regs) (Some depth) hit e = refl
-own setting memory (Midway regs value) (Some depth) hit e = refl
-own setting memory (Opened regs steps) (Some depth) hit e = refl
-own setting memory (Closed regs) None hit e = not_doomed (owed_outcome setting memory (Closed regs) None) hit e
-own setting memory (Midway regs value) None hit e = not_doomed (owed_outcome setting memory (Midway regs value) None) hit e
-own setting memory (Opened regs steps) None hit e = not_doomed (owed_outcome setting memory (Opened regs steps) None) hit e
+own_owed setting memory (Halted regs stop) doom hit e = e
+own_owed setting memory (Closed regs) (Some depth) hit e = refl
+own_owed setting memory (Midway regs value) (Some depth) hit e = refl
+own_owed setting memory (Opened regs steps) (Some depth) hit e = refl
+own_owed setting memory (Closed regs) None hit e = not_doomed (owed_outcome setting memory (Closed regs) None) hit e
+own_owed setting memory (Midway regs value) None hit e =
+    not_doomed (owed_outcome setting memory (Midway regs value) None) hit e
+own_owed setting memory (Opened regs steps) None hit e =
+    not_doomed (owed_outcome setting memory (Opened regs steps) None) hit e
+
+-- under an event, the abort by it, or else what is owed without
+own : (event : Option Event) (setting : Setting) (memory : List ℕ) (core : Core) (doom : Option ℕ)
+    (hit : Option StandingHit) → is_some doom ≡ is_some hit →
+    is_some (doom_after_own (owed_under event setting memory core doom) doom)
+    ≡ is_some (left_by (owed_under event setting memory core doom) hit)
+own None setting memory core doom hit e = own_owed setting memory core doom hit e
+own (Some (event.Abort by)) setting memory (Opened regs steps) None hit e = refl
+own (Some (event.Abort by)) setting memory (Opened regs steps) (Some depth) hit e = refl
+own (Some (event.Abort by)) setting memory (Halted regs stop) doom hit e = e
+own (Some (event.Abort by)) setting memory (Closed regs) doom hit e = own_owed setting memory (Closed regs) doom hit e
+own (Some (event.Abort by)) setting memory (Midway regs value) doom hit e =
+    own_owed setting memory (Midway regs value) doom hit e
 
 -- ---- another core's step
 
@@ -51,18 +71,34 @@ or_some : (hit : Option StandingHit) (more : StandingHit) → is_some (option_or
 or_some None more = refl
 or_some (Some hit) more = refl
 
+-- what a step that is told so makes of another core's doom
+abbrev IsTold : Option ℕ → Option ℕ → Option Hit → Type 0
+IsTold before after told = MatchOption told (after ≡ before) (λ (h : Hit). (before ≡ None) × IsSome after)
+
 told_other : (number : ℕ) (asked : Asked) (told : Option Hit) (before after : Option ℕ) (hit : Option StandingHit) →
-    MatchOption told (after ≡ before) (λ (h : Hit). (before ≡ None) × IsSome after) → is_some before ≡ is_some hit →
+    IsTold before after told → is_some before ≡ is_some hit →
     is_some after ≡ is_some (option_or hit (standing number asked told))
 told_other number asked None before after hit m e = ap is_some m ∙ e ∙ sym (or_none hit)
 told_other number asked (Some h) before after hit m e =
     m.1 ∙ sym (or_some hit (record { step = number; core = asked.core; eip = asked.eip; hit = h }))
 
+-- an event aborts the core, or the step is what it is without one
+befalls : (event : Option Event) (setting : Setting) (memory : List ℕ) (core : Core) (doom : Option ℕ) →
+    (owed_under event setting memory core doom ≡ owed_outcome setting memory core doom)
+    ⊎ ((by : Interference) × ((status : ℕ) × (owed_under event setting memory core doom ≡ AbortedBy by status)))
+befalls None setting memory core doom = inl refl
+befalls (Some (event.Abort by)) setting memory (Opened regs steps) None = inr (by, (_, refl))
+befalls (Some (event.Abort by)) setting memory (Opened regs steps) (Some depth) = inl refl
+befalls (Some (event.Abort by)) setting memory (Halted regs stop) doom = inl refl
+befalls (Some (event.Abort by)) setting memory (Closed regs) doom = inl refl
+befalls (Some (event.Abort by)) setting memory (Midway regs value) doom = inl refl
+
 -- ---- each step
 
-module _ (setting : Setting) (state : State) (doomed : Doomed) (asked : Asked) (earlier : List Told) where
+module _ (event : Option Event) (setting : Setting) (state : State) (doomed : Doomed) (asked : Asked)
+    (earlier : List Told) where
   abbrev outcome : Outcome
-  outcome = owed_outcome setting state.memory (state.cores asked.core) (doomed asked.core)
+  outcome = owed_under event setting state.memory (state.cores asked.core) (doomed asked.core)
 
   abbrev doom_own : Option ℕ
   doom_own = doom_after_own outcome (doomed asked.core)
@@ -78,24 +114,46 @@ module _ (setting : Setting) (state : State) (doomed : Doomed) (asked : Asked) (
   hit_own core = left_by outcome (hit_in core earlier)
 
   abbrev hit_other : ℕ → Option StandingHit
-  hit_other core = option_or (hit_in core earlier) (standing (suc (length earlier)) asked (hit_on asked core))
+  hit_other core =
+      option_or (hit_in core earlier) (standing (suc (length earlier)) asked (hit_made (asked, outcome) core))
+
+  abbrev IsToldBy : ℕ → Outcome → Type 0
+  IsToldBy core made =
+      IsTold (doomed core) (doomed_after setting state doomed asked.core made core) (hit_made (asked, made) core)
+
+  -- the core's own step hits as it was asked, and an abort from outside hits nobody
+  is_told : (core : ℕ) → eqb core asked.core ≡ false →
+      IsHitTold setting state doomed asked.core core (hit_on asked core) → IsToldBy core outcome
+  is_told core apart told =
+      elim (befalls event setting state.memory (state.cores asked.core) (doomed asked.core)) [
+        | inl same ↦
+            let own : Outcome = owed_outcome setting state.memory (state.cores asked.core) (doomed asked.core) in
+            let all : hit_on asked core ≡ hit_made (asked, own) core =
+            sym
+            (ap (λ aborted. if aborted then None else hit_on asked core)
+            (aborted_by_none own (no_event_told setting state.memory (state.cores asked.core) (doomed asked.core)))) in
+            subst (IsToldBy core) (sym same)
+            (subst (IsTold (doomed core) (doomed_after setting state doomed asked.core own core)) all
+            (condemn setting state doomed asked.core core (hit_on asked core) apart told))
+        | inr aborted ↦
+            subst (IsToldBy core) (sym aborted.1.1)
+            (abort_hits_nobody setting state doomed asked.core aborted.0 aborted.1.0 core apart)
+      ]
 
   by_core : (core : ℕ) (same : Bool) → eqb core asked.core ≡ same →
       ((other : ℕ) → (other ≡ asked.core → ⊥) → IsHitTold setting state doomed asked.core other (hit_on asked other)) →
       AreStanding doomed earlier →
       is_some (if same then doom_own else doom_other core) ≡ is_some (if same then hit_own core else hit_other core)
   by_core core true e told stands =
-      own setting state.memory (state.cores asked.core) (doomed asked.core) (hit_in core earlier)
+      own event setting state.memory (state.cores asked.core) (doomed asked.core) (hit_in core earlier)
       (sym (ap (λ c. is_some (doomed c)) (eqb-true core asked.core e)) ∙ stands core)
   by_core core false e told stands =
       let differs : core ≡ asked.core → ⊥ = λ same. true≢false (sym (eq-eqb core asked.core same) ∙ e) in
       let P : Bool → Type 0 =
-      λ b. MatchOption (hit_on asked core) ((if b then doom_own else doom_other core) ≡ doomed core)
-      (λ (h : Hit). (doomed core ≡ None) × IsSome (if b then doom_own else doom_other core)) in
-      told_other (suc (length earlier)) asked (hit_on asked core) (doomed core) (doom_other core) (hit_in core earlier)
-      (subst P e (condemn setting state doomed asked.core core (hit_on asked core) e (told core differs)))
-      (stands core)
+      λ b. IsTold (doomed core) (if b then doom_own else doom_other core) (hit_made (asked, outcome) core) in
+      told_other (suc (length earlier)) asked (hit_made (asked, outcome) core) (doomed core) (doom_other core)
+      (hit_in core earlier) (subst P e (is_told core e (told core differs))) (stands core)
 
 pub hits_stand : HitsStand
-hits_stand setting state doomed asked earlier told stands core =
-    by_core setting state doomed asked earlier core (eqb core asked.core) refl told stands
+hits_stand event setting state doomed asked earlier told stands core =
+    by_core event setting state doomed asked earlier core (eqb core asked.core) refl told stands

@@ -3,7 +3,7 @@ use Rattle.std.specs.Prelude.{ℕ, ◌==◌, if◌then◌else◌, Option}
 use Rattle.std.specs.Option.{option_or}
 use Rattle.tm_core.specs.TmModel.Outcome.{Outcome}
 use Rattle.tm_why.specs.Types.{Asked, Hit, Watched}
-use Rattle.tm_why.specs.Watched.{begun_by, hit_on, left_by, standing}
+use Rattle.tm_why.specs.Watched.{begun_by, hit_made, left_by, standing}
 
 abbrev pub row_after_own : Watched → Outcome → ℕ → Watched
 row_after_own row outcome number = record {
@@ -21,4 +21,4 @@ abbrev pub row_after : ℕ → Asked → Outcome → ℕ → Watched → Watched
 row_after core asked outcome number row =
     if core == asked.core
     then row_after_own row outcome number
-    else row_after_other row (hit_on asked core) asked number
+    else row_after_other row (hit_made (asked, outcome) core) asked number

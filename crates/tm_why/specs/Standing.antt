@@ -1,9 +1,10 @@
 -- A hit stands on a core exactly while the core is doomed.
-use Rattle.std.specs.Prelude.{◌≡◌, ℕ, List, ◌∷◌}
+use Rattle.std.specs.Prelude.{◌≡◌, ℕ, List, ◌∷◌, Option}
 use Rattle.std.specs.Option.{is_some}
 use Rattle.tm_core.specs.TmModel.Conflicts.{Doomed, doomed_after}
 use Rattle.tm_core.specs.TmModel.Explained.{IsHitTold}
-use Rattle.tm_core.specs.TmModel.Owed.{owed_outcome}
+use Rattle.tm_core.specs.TmModel.Event.{Event}
+use Rattle.tm_core.specs.TmModel.Owed.{owed_under}
 use Rattle.tm_core.specs.TmModel.Setting.{Setting}
 use Rattle.tm_core.specs.TmModel.State.{State}
 use Rattle.tm_core.specs.TmModel.Outcome.{Outcome}
@@ -13,13 +14,13 @@ use Rattle.tm_why.specs.Watched.{Told, hit_in, hit_on}
 abbrev pub AreStanding : Doomed → List Told → Type 0
 AreStanding doomed steps = (core : ℕ) → is_some (doomed core) ≡ is_some (hit_in core steps)
 
--- where it is so, it is so behind each owed step of which the hits were told: so from a run's begin on, where no core
--- is doomed and no step was told
+-- where it is so, it is so behind each step, under an event or under none, that is owed and of which the hits were told:
+-- so from a run's begin on, where no core is doomed and no step was told
 abbrev pub HitsStand : Type 0
 HitsStand =
-    (setting : Setting) (state : State) (doomed : Doomed) (asked : Asked) (earlier : List Told) →
+    (event : Option Event) (setting : Setting) (state : State) (doomed : Doomed) (asked : Asked) (earlier : List Told) →
     ((other : ℕ) → (other ≡ asked.core → ⊥) →
     IsHitTold setting state doomed asked.core other (hit_on asked other)) →
     AreStanding doomed earlier →
-    let outcome : Outcome = owed_outcome setting state.memory (state.cores asked.core) (doomed asked.core) in
+    let outcome : Outcome = owed_under event setting state.memory (state.cores asked.core) (doomed asked.core) in
     AreStanding (doomed_after setting state doomed asked.core outcome) ((asked, outcome) ∷ earlier)

@@ -4,7 +4,8 @@ use Rattle.std.specs.Prelude.{◌≡◌, ℕ, suc, ◌<◌, ◌==◌, if◌then�
 use Rattle.std.specs.Prelude.{option_map, slice_index_or}
 use Rattle.std.specs.Option.{option_or}
 use Rattle.tm_core.specs.TmModel.Outcome.{Outcome}
-use Rattle.tm_core.specs.TmModel.Outcome.TheVariants.{Aborted, Begun, Committed}
+use Rattle.tm_core.specs.TmModel.Outcome.TheVariants.{Aborted, AbortedBy, Begun, Committed}
+use Rattle.tm_core.specs.TmModel.Runs.{is_aborted_by}
 use Rattle.tm_why.specs.Types.{Asked, Hit, Reason, StandingHit, Watch, Watched}
 
 abbrev pub Told : Type 0
@@ -17,6 +18,7 @@ abbrev pub begun_by : Outcome → ℕ → Option ℕ → Option ℕ
 begun_by Begun number before = Some number
 begun_by Committed number before = None
 begun_by (Aborted status) number before = None
+begun_by (AbortedBy interference status) number before = None
 begun_by outcome number before = before
 
 abbrev pub begun_in : ℕ → List Told → Option ℕ
@@ -33,6 +35,7 @@ abbrev pub left_by : Outcome → Option StandingHit → Option StandingHit
 left_by Begun hit = None
 left_by Committed hit = None
 left_by (Aborted status) hit = None
+left_by (AbortedBy interference status) hit = None
 left_by outcome hit = hit
 
 -- the hit of a step of this number on a core, if there is one
@@ -43,12 +46,16 @@ standing number asked hit =
 abbrev pub hit_on : Asked → ℕ → Option Hit
 hit_on asked core = slice_index_or asked.hits core None
 
+-- what was asked speaks of the core's own step: where an abort from outside came in its place, it was not made
+abbrev pub hit_made : Told → ℕ → Option Hit
+hit_made step core = if is_aborted_by step.1 then None else hit_on step.0 core
+
 abbrev pub hit_in : ℕ → List Told → Option StandingHit
 hit_in core [] = None
 hit_in core (step ∷ earlier) =
     if core == step.0.core
     then left_by step.1 (hit_in core earlier)
-    else option_or (hit_in core earlier) (standing (suc (length earlier)) step.0 (hit_on step.0 core))
+    else option_or (hit_in core earlier) (standing (suc (length earlier)) step.0 (hit_made step core))
 
 -- ---- what a watch keeps
 

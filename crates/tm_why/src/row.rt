@@ -2,6 +2,7 @@
 
 ghost use Rattle.std.specs.Prelude.{◌≡◌, ◌<◌};
 ghost use Rattle.tm_why.specs.Rows.{row_after, row_after_other, row_after_own};
+ghost use Rattle.tm_why.specs.Watched.{hit_made};
 
 use crate::asked::Asked;
 use tm_core::{Hit, Outcome};
@@ -37,11 +38,29 @@ fn after_own(row: Watched, outcome: Outcome, number: u64) -> Watched
             begun: Some(number),
             hit: None,
         },
-        Outcome::Committed | Outcome::Aborted(_) => Watched {
+        Outcome::Committed | Outcome::Aborted(_) | Outcome::AbortedBy(_, _) => Watched {
             begun: None,
             hit: None,
         },
         _ => row,
+    }
+}
+
+// The hit of a step on another core. A step in whose place an abort from outside came was not made, and hits nobody.
+fn hit_made(asked: &Asked, outcome: Outcome, core: usize) -> Option<Hit>
+    requires { core < 64 }
+    ensures { result ≡ hit_made (asked.now, outcome) core }
+{
+    match outcome {
+        Outcome::AbortedBy(_, _) => None,
+        Outcome::Plain
+        | Outcome::Loaded
+        | Outcome::Stopped(_)
+        | Outcome::Idle
+        | Outcome::Begun
+        | Outcome::Inside
+        | Outcome::Committed
+        | Outcome::Aborted(_) => asked.hits[core],
     }
 }
 
@@ -71,6 +90,6 @@ pub fn row_after(row: Watched, core: usize, asked: &Asked, outcome: Outcome, num
     if core == asked.core as usize {
         after_own(row, outcome, number)
     } else {
-        after_other(row, asked.hits[core], asked, number)
+        after_other(row, hit_made(asked, outcome, core), asked, number)
     }
 }

@@ -18,7 +18,7 @@ pub struct Watch {
 }
 
 impl Watch {
-    ghost use Rattle.tm_why.specs.Watched.{IsWatch, Told, reason_in};
+    ghost use Rattle.tm_why.specs.Watched.{IsWatch, Told, begun_in, reason_in};
 
     /// Before the first step.
     pub fn new() -> Watch
@@ -34,7 +34,8 @@ impl Watch {
         }
     }
 
-    /// Why the step that was asked of is an abort, where it is one: to be asked before [`Watch::told`].
+    /// Why the step that was asked of is an abort, where it is one, if no event comes in its place: to be asked before
+    /// [`Watch::told`].
     pub fn reason(&self, asked: &Asked) -> Option<Reason>
         ensures { (steps : List Told) → IsWatch self.now steps → result ≡ reason_in asked.now steps }
     {
@@ -46,7 +47,16 @@ impl Watch {
         })
     }
 
-    /// Takes in a step: what the machine said of it, and what came of it. Takes no memory.
+    /// At which step the open transaction of the core that was asked of began, if it has one: to be asked before
+    /// [`Watch::told`], as of a transaction that is then aborted from outside.
+    pub fn begun(&self, asked: &Asked) -> Option<u64>
+        ensures { (steps : List Told) → IsWatch self.now steps → result ≡ begun_in asked.now.core steps }
+    {
+        self.rows[asked.core as usize].begun
+    }
+
+    /// Takes in a step: what the machine said of it, and what came of it, also where an event came in its place. Takes no
+    /// memory.
     pub fn told(&mut self, asked: &Asked, outcome: Outcome)
         ensures { (steps : List Told) → length steps < 2 ^ 64 - 1 → IsWatch self.old steps →
             IsWatch self.new ((asked.now, outcome) ∷ steps) }

@@ -1,4 +1,4 @@
-use Rattle.std.proofs.Common.{◌≡◌, ◌<◌, length, None, arith, ◌∙◌, length-set}
+use Rattle.std.proofs.Common.{◌<◌, length, arith, ◌∙◌, length-set}
 use Rattle.tm_why.proofs.FilledRows.{empty_next, own_next, said_next}
 use Rattle.tm_why.specs.Said.{IsSaidOf}
 use Rattle.tm_why.proofs.asked.put_hits.Goals as goal

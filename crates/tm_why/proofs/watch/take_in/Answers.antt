@@ -1,4 +1,4 @@
-use Rattle.std.proofs.Common.{◌≡◌, ◌<◌, length, get_or, arith, ap, ◌∙◌, ◌≤◌, length-set}
+use Rattle.std.proofs.Common.{◌<◌, length, arith, ap, ◌∙◌, ◌≤◌, length-set}
 use Rattle.tm_why.proofs.FilledRows.{passed_next, rest_next}
 use Rattle.tm_why.specs.Types.{Watched}
 use Rattle.tm_why.specs.Rows.{row_after}
