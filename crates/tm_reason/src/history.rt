@@ -1,16 +1,16 @@
 //! The steps of a history, of which a watch is told.
 
-ghost use Rattle.std.specs.Prelude.{◌≡◌, ◌+◌, ◌<◌, IfOk, OnOk, length};
+ghost use Rattle.std.specs.Prelude.{◌≡◌, ◌↔◌, ◌+◌, ◌++◌, ◌<◌, ◌∷◌, [], Err, IfOk, OnOk, length};
 ghost use Rattle.tm_back.specs.Back.{IsFirst};
-ghost use Rattle.tm_back.specs.TmHist.Board.{IsNew};
+ghost use Rattle.tm_back.specs.TmHist.Board.{IsFull, IsNew, IsOwedNext, SameBoard};
 ghost use Rattle.tm_reason.specs.History.{IsReasonOf, IsWatchOf};
 
 use std::alloc::{AllocError, Global};
-use tm_back::{Board, StepFault};
+use tm_back::{Board, Outcome, Pick, StepFault};
 use tm_why::{Asked, Reason, Watch};
 
-/// A watch that was told of each step of a board's history. They are made once more on a board of their own, at the cost of a step
-/// each. `AllocError`, where there was no memory for it.
+/// A watch that was told of each step of a board's history. They are made once more on a board of their own, each under the event
+/// that its outcome tells of, at the cost of a step each. `AllocError`, where there was no memory for it.
 pub fn watched(alloc: Global, board: &Board) -> Result<Watch, AllocError>
     ensures { IfOk result (λ watch. IsWatchOf board.now (length board.now.history) watch) }
 {
@@ -21,7 +21,8 @@ pub fn watched(alloc: Global, board: &Board) -> Result<Watch, AllocError>
     }
 }
 
-/// Why the next step of a core is an abort, where it is one. The watch was told of the board's whole history.
+/// Why the next step of a core is an abort, where it is one, if no event comes in its place. The watch was told of the board's
+/// whole history.
 pub fn reason_of(board: &Board, watch: &Watch, core: u8) -> Option<Reason>
     requires told { IsWatchOf board.now (length board.now.history) watch.now }
     requires exists { core < length board.now.machine.views }
@@ -66,19 +67,32 @@ fn watch_step(
     board.is_run();
     first.is_run();
     let _made = board.made();
-    let Some((core, _outcome)) = board.history().get(made as usize) else {
+    let Some(pick) = board.history().pick_at(made as usize) else {
         unreachable!()
     };
-    let Ok(asked) = Asked::of(first.machine(), core) else {
+    let Ok(asked) = Asked::of(first.machine(), pick.core) else {
         return Err(Stranger);
     };
-    match first.step(core) {
+    match step_as_told(first, pick) {
         Ok(outcome) => {
-            first.is_run();
             watch.told(&asked, outcome);
             Ok(())
         }
         Err(StepFault::NoSuchCore) => Err(Stranger),
         Err(StepFault::LimitReached) => unreachable!(),
+    }
+}
+
+// The step that a pick tells of.
+fn step_as_told(board: &mut Board, pick: Pick) -> Result<Outcome, StepFault>
+    ensures full { result ≡ Err StepFault.LimitReached
+        ↔ ((pick.core < length board.old.program.entries) × IsFull board.old) }
+    ensures same { SameBoard board.old board.new }
+    ensures ok { IfOk result (λ outcome. board.new.history ≡ board.old.history ++ (pick.core, outcome) ∷ []) }
+    ensures owed { IfOk result (λ outcome. IsOwedNext pick.event board.old pick.core outcome) }
+{
+    match pick.event {
+        Some(event) => board.step_under(pick.core, event),
+        None => board.step(pick.core),
     }
 }
