@@ -15,7 +15,7 @@ use Rattle.tm_model.specs.Setting.{Setting, outside_at, value_at}
 use Rattle.tm_model.specs.State.{Closed, Core, Halted, Midway, Opened, State}
 use Rattle.tm_model.specs.Steps.{Change, after_begin, after_commit, after_load, after_plain, after_step_of, after_stop, step, stop_number}
 use Rattle.tm_model.specs.declared.outcome.Outcome.{Outcome}
-use Rattle.tm_model.specs.declared.outcome.Outcome.TheVariants.{Plain, Loaded, Stopped, Idle, Begun, Inside, Committed, Aborted}
+use Rattle.tm_model.specs.declared.outcome.Outcome.TheVariants.{Plain, Loaded, Stopped, Idle, Begun, Inside, Committed, Aborted, AbortedBy}
 use Rattle.tm_outcomes.specs.Outcomes.{regs_of}
 use Rattle.tm_outcomes.specs.Places.{detail_after, detail_of}
 
@@ -77,6 +77,7 @@ detail_next setting memory (Halted regs stop) Idle made e = has (memory, Halted 
 detail_next setting memory (Opened regs steps) Inside made e = has (memory, Opened regs (suc steps)) made (suc steps) refl e
 detail_next setting memory (Opened regs steps) Committed made e = committed memory (isolated_body setting regs memory (suc steps)) made e
 detail_next setting memory (Opened regs steps) (Aborted status) made e = has (memory, Closed _) made 0 refl e
+detail_next setting memory (Opened regs steps) (AbortedBy interference status) made e = has (memory, Closed _) made 0 refl e
 detail_next setting memory core outcome made e = cc
 
 -- ---- the cores after a step

@@ -2,16 +2,16 @@
 use Rattle.std.proofs.Common.{◌≡◌, ℕ, Bool, true, false, cond, List, [], ◌∷◌, ◌++◌, Option, Some, None, refl, sym, ap, subst}
 use Rattle.std.specs.Prelude.{nat_lt, option_map, option_and_then}
 use Rattle.tm_outcomes.proofs.Somes.{same_in}
-use Rattle.tm_model.specs.Runs.{IsOwed}
+use Rattle.tm_model.specs.Runs.{IsOwedUnder}
 use Rattle.tm_model.specs.Setting.{Setting}
 use Rattle.tm_model.specs.State.{Core, State}
 use Rattle.tm_model.specs.Steps.{Change, after_step_of, state_with, step}
 use Rattle.tm_model.specs.declared.outcome.Outcome.{Outcome}
 use Rattle.tm_outcomes.specs.Schedules.{Situation, after_core, after_schedule, with_state}
 
--- a step that is owed and allowed is the next step
+-- a step that is owed under no event and allowed is the next step
 pub owed_is_next : (setting : Setting) (now : Situation) (core : ℕ) (outcome : Outcome) (next : State) →
-    IsOwed setting now.state now.doomed core outcome → step setting now.state core outcome ≡ Some next →
+    IsOwedUnder None setting now.state now.doomed core outcome → step setting now.state core outcome ≡ Some next →
     after_core setting now core ≡ Some (with_state setting now core outcome next)
 owed_is_next setting now core outcome next owed is_step =
     subst (λ (o : Outcome). option_map (with_state setting now core o) (step setting now.state core o) ≡ Some (with_state setting now core outcome next)) owed

@@ -7,7 +7,7 @@ use Rattle.tm_model.specs.declared.outcome.CoreState.{CoreState}
 use Rattle.tm_model.specs.declared.outcome.CoreState.TheVariants.{Running, Mid, Open, Condemned, Stopped as AtStop}
 use Rattle.tm_model.specs.declared.outcome.Outcome.{Outcome}
 use Rattle.tm_model.specs.declared.outcome.Outcome.TheVariants.{Plain, Loaded, Stopped, Idle, Begun, Inside}
-use Rattle.tm_model.specs.declared.outcome.Outcome.TheVariants.{Committed, Aborted}
+use Rattle.tm_model.specs.declared.outcome.Outcome.TheVariants.{Committed, Aborted, AbortedBy}
 use Rattle.tm_outcomes.specs.Outcomes.{trial_opening, trial_setting}
 use Rattle.tm_outcomes.specs.Schedules.{Situation, after_core, after_schedule}
 use Rattle.tm_outcomes.specs.declared.place.Place.{Place}
@@ -30,6 +30,7 @@ detail_after (Stopped stop) detail value = 0
 detail_after Idle detail value = 0
 detail_after Committed detail value = 0
 detail_after (Aborted status) detail value = 0
+detail_after (AbortedBy interference status) detail value = 0
 
 -- the machine stands for the end of this schedule, and the details are those of its cores
 pub record IsAt (trial : Trial) (place : Place) (schedule : List ℕ) : Type 0 where

@@ -1,15 +1,14 @@
 -- One step more of a history.
-use Rattle.std.proofs.Common.{◌≡◌, ℕ, zero, suc, ◌+◌, ◌<◌, List, [], ◌∷◌, ◌++◌, Some, refl, sym, ◌∙◌, ap, subst, length, take, arith}
+use Rattle.std.proofs.Common.{◌≡◌, ℕ, zero, suc, ◌+◌, ◌<◌, List, [], ◌∷◌, ◌++◌, Some, sym, ◌∙◌, ap, subst, length, take, arith}
 use Rattle.std.specs.List.{slice_get}
 use Rattle.tm_back.specs.TmModel.Outcome.{Outcome}
-use Rattle.tm_back.specs.TmHist.Board.{IsHistory, SameBoard, ShownBoard as Board}
+use Rattle.tm_back.specs.TmHist.Board.{IsHistory, ShownBoard as Board}
 use Rattle.tm_back.specs.Back.{IsFirst}
-use Rattle.tm_back.proofs.Owed.{first_more}
 use Rattle.tm_why.specs.Asked.{IsAsked}
 use Rattle.tm_why.specs.Watched.{IsWatch}
 use Rattle.tm_why.specs.declared.asked.Asked.{Asked}
 use Rattle.tm_why.specs.declared.watch.Watch.{Watch}
-use Rattle.tm_reason.specs.History.{IsTold, IsWatchOf}
+use Rattle.tm_reason.specs.History.{IsWatchOf}
 
 last_is : {X : Type 0} (xs : List X) (n : ℕ) (x : X) → n < length xs → take n xs ++ x ∷ [] ≡ take (suc n) xs → slice_get xs n ≡ Some x
 last_is [] n x below e = absurd (omega arith)

@@ -1,6 +1,5 @@
-use Rattle.std.proofs.Common.{◌≡◌, ◌-◌, ◌<◌, ◌^◌, Option, Some, arith, length, rules, subst, sym}
+use Rattle.std.proofs.Common.{◌-◌, ◌<◌, ◌^◌, Option, arith, length, rules, subst, sym}
 use Rattle.tm_back.proofs.Owed.{first_more, told_at}
-use Rattle.tm_back.specs.Back.{IsFirst}
 use Rattle.tm_back.specs.TmHist.Board.{IsOwedNext}
 use Rattle.tm_back.specs.TmModel.Event.{Event}
 use Rattle.tm_reason.proofs.Steps.{watched_more}
