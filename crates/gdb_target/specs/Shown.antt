@@ -11,6 +11,7 @@ use Rattle.gdb_target.specs.declared.shown.CoreShown.{CoreShown}
 -- the status of an abort
 abbrev pub status_of : Outcome → Option ℕ
 status_of (outcome.Aborted status) = Some status
+status_of (outcome.AbortedBy interference status) = Some status
 status_of outcome.Plain = None
 status_of outcome.Loaded = None
 status_of (outcome.Stopped why) = None

@@ -12,7 +12,7 @@ fn status_of(outcome: Outcome) -> Option<u32>
     ensures { result ≡ status_of outcome }
 {
     match outcome {
-        Outcome::Aborted(status) => Some(status),
+        Outcome::Aborted(status) | Outcome::AbortedBy(_, status) => Some(status),
         Outcome::Plain
         | Outcome::Loaded
         | Outcome::Stopped(_)
