@@ -3,7 +3,9 @@
 ghost use Rattle.elide_setup.specs.Runs.{IsMachineStep};
 
 use crate::watch::Watcher;
-use elide_setup::{Course, Machine, Outcome, Progress, Refusal, Setup, StepMaker, new_machine};
+use elide_setup::{
+    Course, Machine, Outcome, Pick, Progress, Refusal, Setup, StepMaker, new_machine,
+};
 use std::alloc::Global;
 use tm_timeline::{Timeline, Window};
 
@@ -12,12 +14,12 @@ use tm_timeline::{Timeline, Window};
 pub struct Tally {
     /// How many steps it makes.
     pub total: u32,
-    /// The cores of the steps that were drawn, where they were asked for.
-    pub made: Vec<u8>,
+    /// The picks that were drawn, where they were asked for.
+    pub made: Vec<Pick>,
 }
 
 /// How many steps a schedule makes: those of the list, or those that are drawn until all cores have stopped or the limit is
-/// reached. `keeps` asks for the cores of those that are drawn.
+/// reached. `keeps` asks for the picks that are drawn.
 pub fn counted<G: Progress>(
     alloc: Global,
     setup: &Setup,
@@ -55,15 +57,15 @@ struct Counter {
 }
 
 impl StepMaker for Counter {
-    ghost takes = { λ before core outcome after. IsMachineStep before.machine core outcome after.machine };
+    ghost takes = { λ before pick outcome after. IsMachineStep before.machine pick outcome after.machine };
 
-    fn make_step(&mut self, core: u8) -> Result<Outcome, Refusal> {
+    fn make_step(&mut self, pick: Pick) -> Result<Outcome, Refusal> {
         self.total = self.total.saturating_add(1);
-        self.machine.make_step(core)
+        self.machine.make_step(pick)
     }
 }
 
-/// Runs a schedule, and tells a timeline of this window of it. A picker draws the cores that it drew when the steps were
+/// Runs a schedule, and tells a timeline of this window of it. A picker draws the picks that it drew when the steps were
 /// counted.
 pub fn watched<G: Progress>(
     alloc: Global,

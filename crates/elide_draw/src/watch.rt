@@ -3,7 +3,7 @@
 ghost use Rattle.std.specs.Prelude.{IfOk};
 ghost use Rattle.elide_setup.specs.Runs.{IsMachineStep};
 
-use elide_setup::{CoreState, Kind, Machine, Outcome, Refusal, StepMaker};
+use elide_setup::{CoreState, Kind, Machine, Outcome, Pick, Refusal, StepMaker};
 use std::alloc::AllocError;
 use tm_timeline::{LineUse, Timeline};
 
@@ -31,23 +31,24 @@ impl Watcher {
 }
 
 impl StepMaker for Watcher {
-    ghost takes = { λ before core outcome after. IsMachineStep before.machine core outcome after.machine };
+    ghost takes = { λ before pick outcome after. IsMachineStep before.machine pick outcome after.machine };
 
-    fn make_step(&mut self, core: u8) -> Result<Outcome, Refusal> {
-        watch_step(&mut self.machine, core, &mut self.timeline)
+    fn make_step(&mut self, pick: Pick) -> Result<Outcome, Refusal> {
+        watch_step(&mut self.machine, pick, &mut self.timeline)
     }
 }
 
 // Makes a step, and tells a timeline whom it hits and what it was.
-fn watch_step(machine: &mut Machine, core: u8, timeline: &mut Timeline) -> Result<Outcome, Refusal>
-    ensures { IfOk result (λ outcome. IsMachineStep machine.old core outcome machine.new) }
+fn watch_step(machine: &mut Machine, pick: Pick, timeline: &mut Timeline) -> Result<Outcome, Refusal>
+    ensures { IfOk result (λ outcome. IsMachineStep machine.old pick outcome machine.new) }
 {
+    let core = pick.core;
     let uses = if timeline.shows_lines() {
         Some(uses_of(machine, core))
     } else {
         None
     };
-    let outcome = machine.make_step(core)?;
+    let outcome = machine.make_step(pick)?;
     tell_hits(machine, core, &uses, timeline)?;
     timeline.told(core, outcome)?;
     Ok(outcome)

@@ -8,7 +8,7 @@ use tm_stats::{AbortCause, Conflict, Step};
 pub struct Asked {
     // The EIP of the core's registers before its open transaction: that of the XBEGIN, also where the step is it.
     place: u32,
-    // Why the step aborts, where it does.
+    // Why the step aborts of its own, where it does.
     cause: AbortCause,
     // The lines of its read set and write set.
     lines: Counts,
@@ -48,7 +48,7 @@ fn place_of(machine: &Machine, core: u8) -> u32 {
     }
 }
 
-// Why the next step of a core aborts. Any cause, where it does not.
+// Why the next step of a core aborts of its own. Any cause, where it does not.
 fn cause_of(machine: &Machine, core: u8) -> AbortCause {
     if !is_inside(machine, core) {
         return AbortCause::Conflict;

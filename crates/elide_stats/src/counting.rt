@@ -5,7 +5,8 @@ ghost use Rattle.elide_setup.specs.Runs.{IsMachineStep};
 use crate::asked::Asked;
 use crate::hits::{CoreBytes, Hits};
 use elide_setup::{
-    Board, Course, Fault, Limits, Machine, Outcome, Paths, Progress, Refusal, RunFault, StepMaker,
+    Board, Course, Fault, Limits, Machine, Outcome, Paths, Pick, Progress, Refusal, RunFault,
+    StepMaker,
 };
 use ia_image::Program;
 use std::alloc::{AllocError, Global};
@@ -24,13 +25,14 @@ pub struct Counting {
 }
 
 impl StepMaker for Counting {
-    ghost takes = { λ before core outcome after. IsMachineStep before.machine core outcome after.machine };
+    ghost takes = { λ before pick outcome after. IsMachineStep before.machine pick outcome after.machine };
 
     // Makes a step, and counts it with the transactions that it hits.
-    fn make_step(&mut self, core: u8) -> Result<Outcome, Refusal> {
+    fn make_step(&mut self, pick: Pick) -> Result<Outcome, Refusal> {
+        let core = pick.core;
         let asked = Asked::before(&self.machine, core);
         let hits = Hits::before(&self.machine, core);
-        let outcome = self.machine.make_step(core)?;
+        let outcome = self.machine.make_step(pick)?;
         count_hits(&mut self.conflicts, &mut self.bytes, core, &hits, outcome)?;
         match self.counts.told(asked.step(core, outcome)) {
             Ok(()) => Ok(outcome),
@@ -81,8 +83,8 @@ impl Counting {
             if index % PORTION == 0 {
                 progress.tell(index as u64, history.len() as u64, "steps");
             }
-            if let Some((core, _outcome)) = history.get(index) {
-                self.make_step(core)?;
+            if let Some(pick) = history.pick_at(index) {
+                self.make_step(pick)?;
             }
         }
         Ok(())
@@ -114,7 +116,7 @@ fn count_hits(
     outcome: Outcome,
 ) -> Result<(), Refusal> {
     let step = hits.step(outcome);
-    for (victim, conflict) in hits.conflicts() {
+    for (victim, conflict) in hits.conflicts_by(outcome) {
         let mut conflict = *conflict;
         conflict.is_apart = bytes.is_apart(core, step, *victim, conflict.line);
         if conflicts.told(conflict).is_err() {

@@ -34,9 +34,13 @@ impl Hits {
         Hits { conflicts, reach }
     }
 
-    /// Each hit, with the core whose transaction it is.
-    pub fn conflicts(&self) -> &[(u8, Conflict)] {
-        self.conflicts.as_slice()
+    /// Each hit, with the core whose transaction it is, once the outcome is known: a step in whose place an abort from
+    /// outside came was not made, and hits nobody.
+    pub fn conflicts_by(&self, outcome: Outcome) -> &[(u8, Conflict)] {
+        match outcome {
+            Outcome::AbortedBy(_, _) => &[],
+            _ => self.conflicts.as_slice(),
+        }
     }
 
     /// The step, once its outcome is known.

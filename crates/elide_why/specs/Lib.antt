@@ -1,4 +1,5 @@
 pub mod Lines
+pub mod Interference
 pub mod Subset
 pub mod Words
 pub mod ElideSetup

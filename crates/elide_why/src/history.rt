@@ -46,8 +46,8 @@ fn told_steps<O: Out, G: Progress>(
         if index % PORTION == 0 {
             progress.tell(index as u64, history.len() as u64, "steps");
         }
-        if let Some((core, _outcome)) = history.get(index) {
-            teller.step(&mut machine, core, out)?;
+        if let Some(pick) = history.pick_at(index) {
+            teller.step(&mut machine, pick, out)?;
         }
     }
     Ok(())

@@ -1,26 +1,29 @@
 //! `--why`: the lines of a run's aborts go on with the reason of each.
 //!
-//! Promised: the line of an abort is the text of `specs/Lines.antt` for its reason, that of a stop where the subset ends the one
-//! of `specs/Subset.antt`, and the code that is told is the program's; a step that is told is one of the machine's. Which steps are
+//! Promised: the line of an abort is the text of `specs/Lines.antt` for its reason, that of an abort from outside of the program the
+//! one of `specs/Interference.antt`, that of a stop where the subset ends the one of `specs/Subset.antt`, and the code that is told is the program's; a step that is told is one of the machine's. Which steps are
 //! told of, and what the places of the source say, is compared by `doc_tests`. Stands on `tm_why` for the reasons and on
 //! `elide_places` for the symbols and lines of a source.
 #![tactic(auto)]
 
 mod history;
+mod interference;
 mod lines;
 mod outside;
 mod page;
+mod parts;
 mod placed;
 mod subset;
 mod teller;
 mod words;
 
 pub use elide_setup::{
-    Board, CoreState, Course, Drawn, Fault, Gathered, Lent, Machine, Outcome, Paths, Progress,
+    Board, CoreState, Course, Drawn, Fault, Gathered, Interference, Lent, Machine, Outcome, Paths, Pick, Progress,
     Refusal, RunFault, Serial, Setup, ShownMemory, StepMaker, new_machine, record, record_path,
     scheduled, show, shown_memory, write_outcome,
 };
 pub use history::tell_history;
+pub use interference::write_interference;
 pub use lines::write_abort;
 pub use outside::Outside;
 pub use placed::scheduled_places;

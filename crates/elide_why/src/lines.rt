@@ -4,15 +4,15 @@ ghost use Rattle.std.specs.Prelude.{◌≡◌, ◌+◌, ◌≤◌, ◌++◌, len
 ghost use Rattle.arrayvec.specs.ArrayVec.{array_vec_len};
 ghost use Rattle.ia_text.specs.Writing.{Writes};
 ghost use Rattle.elide_why.specs.Lines.{abort_back, abort_front, abort_line, begun_text, begun_told, cause_text};
-ghost use Rattle.elide_why.specs.Lines.{hit_words, insn_words, line_text, no_room_text, outside_words, use_word};
+ghost use Rattle.elide_why.specs.Lines.{hit_words, line_text, no_room_text, outside_words, use_word};
 
 use crate::page::push_decimal;
+use crate::parts::write_parts;
 use crate::subset::{push_outside, push_symbols};
 use crate::words::Words;
 use elide_setup::{AbortReason, stop_text};
-use ia_insn::Insn;
 use ia_text::page::{Page, push, push_eight, push_hex};
-use ia_text::{Out, WriteFault, write_insn};
+use ia_text::{Out, WriteFault};
 use tm_sets::Kind;
 use tm_why::{Reason, StandingHit};
 
@@ -32,20 +32,7 @@ pub fn write_abort<O: Out>(
     push_front(&mut front, core, status, reason, words);
     let mut back = Page::new();
     push_back(&mut back, reason);
-    out.put(front.as_slice())?;
-    write_words(words.insn, words.eip, out)?;
-    out.put(back.as_slice())?;
-    Ok(())
-}
-
-// An instruction, where there is one.
-fn write_words<O: Out>(insn: Option<Insn>, at: u32, out: &mut O) -> Result<(), WriteFault>
-    ensures { Writes (O.device out.old) (O.device out.new) (insn_words insn at) result }
-{
-    match insn {
-        Some(insn) => write_insn(&insn, at, out),
-        None => Ok(()),
-    }
+    write_parts(front.as_slice(), words, back.as_slice(), out)
 }
 
 // What stands before the instruction that is told.
@@ -86,7 +73,8 @@ fn begun_told(cause: AbortReason, begun: Option<u64>) -> Option<u64>
     }
 }
 
-fn push_begun(page: &mut Page, begun: Option<u64>)
+/// Adds when a transaction began, where that is told.
+pub fn push_begun(page: &mut Page, begun: Option<u64>)
     requires { array_vec_len page.old ≡ 0 }
     ensures text { page.new.items ≡ page.old.items ++ begun_text begun }
     ensures len { array_vec_len page.new ≤ 60 }

@@ -4,12 +4,15 @@ ghost use Rattle.std.specs.Prelude.{ℕ, IfOk, List};
 ghost use Rattle.elide_setup.specs.Runs.{IsMachineStep};
 ghost use Rattle.ia_text.specs.Writing.{Wrote};
 
+use crate::interference::write_interference;
 use crate::lines::write_abort;
 use crate::outside::Outside;
 use crate::subset::write_stop;
 use crate::words::Words;
 use elide_places::Places;
-use elide_setup::{Fault, Machine, Outcome, Program, Refusal, RunFault, Stop, write_outcome};
+use elide_setup::{
+    Fault, Machine, Outcome, Pick, Program, Refusal, RunFault, StepMaker, Stop, write_outcome,
+};
 use ia_text::Out;
 use tm_why::{Asked, Watch};
 
@@ -42,25 +45,30 @@ impl<'a> Teller<'a> {
         }
     }
 
-    /// Makes a step of a core, and prints its line. Takes no memory.
+    /// Makes the step of a pick, and prints its line. Takes no memory.
     pub fn step<O: Out>(
         &mut self,
         machine: &mut Machine,
-        core: u8,
+        pick: Pick,
         out: &mut O,
     ) -> Result<Outcome, Refusal>
-        ensures step { IfOk result (λ outcome. IsMachineStep machine.old core outcome machine.new) }
+        ensures step { IfOk result (λ outcome. IsMachineStep machine.old pick outcome machine.new) }
         ensures told { IfOk result (λ _. (text : List ℕ) × Wrote (O.device out.old) (O.device out.new) text) }
     {
+        let core = pick.core;
         let Ok(asked) = Asked::of(machine, core) else {
             return Err(Refusal::Fault(Fault::Run(RunFault::NoSuchCore)));
         };
         let reason = self.watch.reason(&asked);
-        let Ok(outcome) = machine.step(core) else {
-            return Err(Refusal::Fault(Fault::Run(RunFault::NoSuchCore)));
-        };
+        let begun = self.watch.begun(&asked);
+        let outcome = machine.make_step(pick)?;
         self.watch.told(&asked, outcome);
+        // Told is what came of the step: an abort from outside comes in its place, whatever reason it had to be one.
         match (outcome, reason) {
+            (Outcome::AbortedBy(interference, status), _) => {
+                let words = Words::at(self.program, self.path, self.places, asked.eip);
+                write_interference(core, interference, status, begun, &words, out)?;
+            }
             (Outcome::Aborted(status), Some(reason)) => {
                 let words = Words::of(self.program, self.path, self.places, &reason);
                 write_abort(core, status, &reason, &words, out)?;
@@ -75,15 +83,15 @@ impl<'a> Teller<'a> {
         Ok(outcome)
     }
 
-    /// The same of each core of a list, in its order.
+    /// The same of each pick of a list, in its order.
     pub fn step_all<O: Out>(
         &mut self,
         machine: &mut Machine,
-        cores: &[u8],
+        picks: &[Pick],
         out: &mut O,
     ) -> Result<(), Refusal> {
-        for core in cores {
-            self.step(machine, *core, out)?;
+        for pick in picks {
+            self.step(machine, *pick, out)?;
         }
         Ok(())
     }

@@ -23,8 +23,8 @@ pub type PlaceText = ArrayVec<u8, 1100>;
 pub struct Words<'a> {
     /// The symbols on the line that the reason tells of; none, where it tells of no line.
     pub symbols: SymbolText,
-    /// The address of the instruction that the reason tells of: the one by which another core hit, or else the one that
-    /// was aborted.
+    /// The address of the instruction that is told: the one by which another core hit, or else the one that was next
+    /// where the core was aborted.
     pub eip: u32,
     /// Where it stands.
     pub place: PlaceText,
@@ -54,6 +54,21 @@ impl<'a> Words<'a> {
                 None
             },
             outside: outside_of(program, places, reason),
+        }
+    }
+}
+
+impl<'a> Words<'a> {
+    /// What a program, of the source or image at this path and with these places, says of the instruction at an address.
+    pub fn at(program: &'a Program, path: &str, places: &Places, eip: u32) -> Words<'a>
+        ensures { result.eip ≡ eip }
+    {
+        Words {
+            symbols: SymbolText::new(),
+            eip,
+            place: place_of(path, places, eip),
+            insn: insn_at(program, eip),
+            outside: None,
         }
     }
 }
