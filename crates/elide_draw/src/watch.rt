@@ -39,7 +39,11 @@ impl StepMaker for Watcher {
 }
 
 // Makes a step, and tells a timeline whom it hits and what it was.
-fn watch_step(machine: &mut Machine, pick: Pick, timeline: &mut Timeline) -> Result<Outcome, Refusal>
+fn watch_step(
+    machine: &mut Machine,
+    pick: Pick,
+    timeline: &mut Timeline,
+) -> Result<Outcome, Refusal>
     ensures { IfOk result (λ outcome. IsMachineStep machine.old pick outcome machine.new) }
 {
     let core = pick.core;

@@ -39,13 +39,7 @@ pub fn write_interference<O: Out>(
 
 // What stands before the instruction.
 #[tactic(auto, unfolding(crate::specs::Interference::interference_front))]
-fn push_front(
-    page: &mut Page,
-    core: u8,
-    interference: Interference,
-    status: u32,
-    words: &Words<'_>,
-)
+fn push_front(page: &mut Page, core: u8, interference: Interference, status: u32, words: &Words<'_>)
     requires { array_vec_len page.old ≡ 0 }
     ensures { page.new.items ≡ page.old.items ++ interference_front core (interference_word interference) status words.now }
 {
