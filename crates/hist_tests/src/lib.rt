@@ -12,4 +12,6 @@ mod boards;
 #[cfg(test)]
 mod memory;
 #[cfg(test)]
+mod schedules;
+#[cfg(test)]
 mod texts;

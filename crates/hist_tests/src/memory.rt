@@ -6,7 +6,7 @@ use ia_image::{ImageFault, LoadFault, Program, load, read_image};
 use std::alloc::Global;
 use std::process::Abort;
 use tm_core::Outcome::{Begun, Inside};
-use tm_core::{CoreState, Limits, Machine, MachineFault, RunFault};
+use tm_core::{CoreState, Limits, Machine, MachineFault, Pick, RunFault};
 use tm_hist::{Board, BoardFault, SerialFault};
 use tm_schedule::{ScheduleFault, read_schedule, read_steps};
 use tm_sets::{Directory, Kind, PlainSets, Sets};
@@ -94,14 +94,14 @@ fn an_image_is_read(rt: HostRuntime) {
 #[test]
 fn schedules_are_read(rt: HostRuntime) {
     let text = b"schedule 2\n0*40 1*2\n".as_slice();
-    let cores = match read_schedule(rt.alloc(), text) {
-        Ok(cores) => cores,
+    let picks = match read_schedule(rt.alloc(), text) {
+        Ok(picks) => picks,
         Err(fault) => {
             assert_eq!(rt; fault, ScheduleFault::NoMemory);
             read_schedule(rt.alloc(), text).expect(&rt, "is read when asked again")
         }
     };
-    assert_eq!(rt; cores.as_slice().len(), 42);
+    assert_eq!(rt; picks.as_slice().len(), 42);
     let steps = match read_steps(rt.alloc(), b"0 1 0") {
         Ok(steps) => steps,
         Err(fault) => {
@@ -109,7 +109,12 @@ fn schedules_are_read(rt: HostRuntime) {
             read_steps(rt.alloc(), b"0 1 0").expect(&rt, "is read when asked again")
         }
     };
-    assert!(rt; steps.as_slice() == [0, 1, 0].as_slice());
+    let first = Pick {
+        core: 0,
+        event: None,
+    };
+    let listed = [first, Pick { core: 1, ..first }, first];
+    assert!(rt; steps.as_slice() == listed.as_slice());
 }
 
 #[test]

@@ -7,7 +7,6 @@ use std::alloc::Global;
 use tm_core::Outcome;
 use tm_hist::{History, SerialFault, serial, write_dump, write_outcome};
 use tm_rule::Stop;
-use tm_schedule::{ScheduleFault, read_schedule, read_steps, write_schedule};
 
 // Cores above 63, and addresses that go on at 0.
 #[test]
@@ -17,24 +16,9 @@ fn texts_are_written(rt: HostRuntime) -> Result<(), WriteFault> {
     write_outcome(255, &Outcome::Committed, &mut out)?;
     write_dump(b"0123456789abcdefg", 0xffff_fff8, &mut out)?;
     write_dump(&[], 0x1000, &mut out)?;
-    write_schedule(&[200; 33], &mut out)?;
     let text =
-        b"100 inside\n255 committed\nfffffff8 30313233343536373839616263646566\n00000008 67\nschedule 2\n200*33\n";
+        b"100 inside\n255 committed\nfffffff8 30313233343536373839616263646566\n00000008 67\n";
     assert_eq!(rt; out.bytes.as_slice(), text.as_slice());
-    Ok(())
-}
-
-// Cores above 63, and a list of steps in two lines.
-#[test]
-fn texts_are_read(rt: HostRuntime) -> Result<(), ScheduleFault> {
-    let read = read_schedule(rt.alloc(), b"schedule 1\r\n\r\n 7  007\r\n255 ")?;
-    assert_eq!(rt; read.as_slice(), [7, 7, 255].as_slice());
-    let runs = read_schedule(rt.alloc(), b"schedule 2\r\n\r\n 02*007  255\r\n3*00000001 ")?;
-    assert_eq!(rt; runs.as_slice(), [2, 2, 2, 2, 2, 2, 2, 255, 3].as_slice());
-    let back = read_schedule(rt.alloc(), b"schedule 2\n200*33\n")?;
-    assert_eq!(rt; back.as_slice(), [200; 33].as_slice());
-    let steps = read_steps(rt.alloc(), b"0 2\n15")?;
-    assert_eq!(rt; steps.as_slice(), [0, 2, 15].as_slice());
     Ok(())
 }
 
