@@ -6,6 +6,7 @@ use Rattle.debug_command.specs.Places.{labelled_line}
 use Rattle.debug_command.specs.declared.symbol.Symbol.{Symbol}
 use Rattle.ia_text.specs.Writing.{Device, Stopped, Writes, Wrote}
 use Rattle.ia_text.proofs.Writing.{writes_stopped, writes_then, wrote_none, wrote_then}
+use Rattle.tm_model.specs.declared.outcome.Pick.{Pick}
 use Rattle.tm_debug.specs.declared.state.RunCheck.{RunCheck}
 use Rattle.tm_debug.specs.declared.state.RunCheck.TheVariants.{AllStopped, AtBreakpoint, Full, Go, NoCore, PlanEnded}
 use Rattle.tm_debug.specs.declared.state.Way.{Way}
@@ -41,12 +42,12 @@ lines_then {T} {E} {a} {b} c labels n m shown code rest at next r h em es er en 
 abbrev pub SoFar : Way → ℕ → SessionValue → SessionValue → Device → Device → Type 0
 SoFar way n p q a b = (text : List ℕ) × IsRunOf way n p text q × Wrote a b text
 
-ran_more : (way : Way) (n : ℕ) (p q s : SessionValue) (core : ℕ) (text line : List ℕ) → run_check way q (n == 0) ≡ Go core → IsRunOf way n p text q → GoAnswer q core line s → IsRunOf way (n + 1) p (text ++ line) s
-ran_more way n p q s core text line turn ran go =
+ran_more : (way : Way) (n : ℕ) (p q s : SessionValue) (pick : Pick) (text line : List ℕ) → run_check way q (n == 0) ≡ Go pick → IsRunOf way n p text q → GoAnswer q pick line s → IsRunOf way (n + 1) p (text ++ line) s
+ran_more way n p q s pick text line turn ran go =
     let more : IsRunOf way (suc n) p (text ++ line) s = record {
       before = q;
       lines = text;
-      core = core;
+      pick = pick;
       outcome = go.0;
       steps_before = ran;
       goes_on = turn;
@@ -56,8 +57,8 @@ ran_more way n p q s core text line turn ran go =
     let same : suc n ≡ n + 1 = omega arith in
     subst (λ (k : ℕ). IsRunOf way k p (text ++ line) s) same more
 
-pub steps_more : {a b c : Device} (way : Way) (n : ℕ) (p q s : SessionValue) (core : ℕ) → run_check way q (n == 0) ≡ Go core → SoFar way n p q a b → (line : List ℕ) × GoAnswer q core line s × Wrote b c line → SoFar way (n + 1) p s a c
-steps_more way n p q s core turn so_far told = (so_far.0 ++ told.0, ran_more way n p q s core so_far.0 told.0 turn so_far.1 told.1, wrote_then so_far.2 told.2)
+pub steps_more : {a b c : Device} (way : Way) (n : ℕ) (p q s : SessionValue) (pick : Pick) → run_check way q (n == 0) ≡ Go pick → SoFar way n p q a b → (line : List ℕ) × GoAnswer q pick line s × Wrote b c line → SoFar way (n + 1) p s a c
+steps_more way n p q s pick turn so_far told = (so_far.0 ++ told.0, ran_more way n p q s pick so_far.0 told.0 turn so_far.1 told.1, wrote_then so_far.2 told.2)
 
 pub on_err : {T E : Type 0} (r : Result T E) (P : Type 0) → P → OnErr r P
 on_err (Ok x) P h = tt
@@ -79,19 +80,19 @@ next_broken {a} {b} {c} way count n p q s turn line below same next so_far stopp
 }
 
 -- the line of a step was not written whole
-pub step_broken : {a b c : Device} (way : Way) (count n : ℕ) (p q s : SessionValue) (core : ℕ) → n < count → run_check way q (n == 0) ≡ Go core → SoFar way n p q a b → (line : List ℕ) × GoAnswer q core line s × Stopped b c line → RunBroken way count p a c s
-step_broken way count n p q s core below turn so_far told = next_broken way count n p q s (Go core) told.0 below (sym turn) told.1 so_far told.2
+pub step_broken : {a b c : Device} (way : Way) (count n : ℕ) (p q s : SessionValue) (pick : Pick) → n < count → run_check way q (n == 0) ≡ Go pick → SoFar way n p q a b → (line : List ℕ) × GoAnswer q pick line s × Stopped b c line → RunBroken way count p a c s
+step_broken way count n p q s pick below turn so_far told = next_broken way count n p q s (Go pick) told.0 below (sym turn) told.1 so_far told.2
 
-ending_line : (turn : RunCheck) (q : SessionValue) → ((core : ℕ) → turn ≡ Go core → ⊥) → NextLine turn q (run_ending q turn) q
+ending_line : (turn : RunCheck) (q : SessionValue) → ((pick : Pick) → turn ≡ Go pick → ⊥) → NextLine turn q (run_ending q turn) q
 ending_line AllStopped q ends = (refl, refl)
 ending_line PlanEnded q ends = (refl, refl)
 ending_line (NoCore number) q ends = (refl, refl)
 ending_line Full q ends = (refl, refl)
 ending_line (AtBreakpoint core address) q ends = (refl, refl)
-ending_line (Go core) q ends = absurd (ends core refl)
+ending_line (Go pick) q ends = absurd (ends pick refl)
 
 -- a test ends the run
-pub run_ended : {E : Type 0} (a b c : Device) (way : Way) (count n : ℕ) (p q : SessionValue) (turn : RunCheck) (r : Result (Unit {0}) E) → n < count → turn ≡ run_check way q (n == 0) → ((core : ℕ) → turn ≡ Go core → ⊥) → SoFar way n p q a b → Writes b c (run_ending q turn) r →
+pub run_ended : {E : Type 0} (a b c : Device) (way : Way) (count n : ℕ) (p q : SessionValue) (turn : RunCheck) (r : Result (Unit {0}) E) → n < count → turn ≡ run_check way q (n == 0) → ((pick : Pick) → turn ≡ Go pick → ⊥) → SoFar way n p q a b → Writes b c (run_ending q turn) r →
     OnOk r ((text : List ℕ) × RunWhole way count p text q × Wrote a c text) × OnErr r (RunBroken way count p a c q)
 run_ended a b c way count n p q turn (Ok done) below same ends so_far writes = (
   (
@@ -101,7 +102,7 @@ run_ended a b c way count n p q turn (Ok done) below same ends so_far writes = (
       lines = so_far.0;
       tail = run_ending q turn;
       ran = so_far.1;
-      end = inr (below, ap (λ t. run_ending q t) same, λ core e. ends core (same ∙ e));
+      end = inr (below, ap (λ t. run_ending q t) same, λ pick e. ends pick (same ∙ e));
       whole = refl;
     },
     wrote_then so_far.2 writes,

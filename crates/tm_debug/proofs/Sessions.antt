@@ -299,7 +299,7 @@ run_rose way number q s false d1 d2 broken = broken.2.failures
 broken_rose : (command : Command) (q s : SessionValue) (d1 d2 : Device) → AnswersBroken command q d1 d2 s → Rose d1.failures d2.failures
 broken_rose (command.Run number) q s d1 d2 broken = run_rose InTurn number q s (is_run_length number) d1 d2 broken
 broken_rose (command.Next number) q s d1 d2 broken = run_rose AlongPlan number q s (is_run_length number) d1 d2 broken
-broken_rose (command.Step core) q s d1 d2 broken = broken.2.failures
+broken_rose (command.Step core event) q s d1 d2 broken = broken.2.failures
 broken_rose (command.Back count) q s d1 d2 broken = broken.2.failures
 broken_rose (command.Break address) q s d1 d2 broken = broken.2.failures
 broken_rose (command.Clear address) q s d1 d2 broken = broken.2.failures

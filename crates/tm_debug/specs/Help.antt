@@ -2,7 +2,7 @@
 use Rattle.std.specs.Prelude.{ℕ, List, ◌++◌, codes}
 
 unfoldable pub help_text : List ℕ
-help_text = codes "step C     one step of core C\n"
+help_text = codes "step C     one step of core C; Ci, Ce, Cs: under an interrupt, an eviction, a snoop\n"
     ++ codes "run N      1 to 100000 steps, of each core in turn\n"
     ++ codes "next N     the next 1 to 100000 steps of the schedule\n"
     ++ codes "back N     takes the last N steps back\n"

@@ -29,7 +29,7 @@ abbrev pub request_for : Result Command Refusal → Request
 request_for (Err refusal) = Refuse refusal
 request_for (Ok command.Quit) = Leave
 request_for (Ok command.Help) = Do command.Help
-request_for (Ok (command.Step core)) = Do (command.Step core)
+request_for (Ok (command.Step core event)) = Do (command.Step core event)
 request_for (Ok (command.Run number)) = Do (command.Run number)
 request_for (Ok (command.Next number)) = Do (command.Next number)
 request_for (Ok (command.Back count)) = Do (command.Back count)
@@ -201,7 +201,7 @@ abbrev pub TakesMemory : Command → Type 0
 TakesMemory (command.Sets core) = ⊤
 TakesMemory (command.Why core) = ⊤
 TakesMemory (command.Back count) = ⊤
-TakesMemory (command.Step core) = ⊥
+TakesMemory (command.Step core event) = ⊥
 TakesMemory (command.Run number) = ⊥
 TakesMemory (command.Next number) = ⊥
 TakesMemory (command.Break address) = ⊥

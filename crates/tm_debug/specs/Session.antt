@@ -13,9 +13,11 @@ use Rattle.ia_text.specs.declared.out.WriteFault.{WriteFault}
 use Rattle.ia_text.specs.Writing.{Device, Stopped, Writes, Wrote}
 use Rattle.tm_reason.specs.TmModel.CoreState.{CoreState}
 use Rattle.tm_reason.specs.TmModel.CoreState.TheVariants.{Mid}
-use Rattle.tm_reason.specs.TmModel.Outcome.{Outcome}
+use Rattle.tm_model.specs.declared.outcome.Event.{Event}
+use Rattle.tm_model.specs.declared.outcome.Outcome.{Outcome}
+use Rattle.tm_model.specs.declared.outcome.Pick.{Pick}
 use Rattle.tm_reason.specs.TmCore.Theorem.{ShownMachine as Machine, view_at}
-use Rattle.tm_reason.specs.TmHist.Board.{IsHistory, SameBoard, ShownBoard as Board, stop_shown}
+use Rattle.tm_reason.specs.TmHist.Board.{IsHistory, IsOwedNext, SameBoard, ShownBoard as Board, stop_shown}
 use Rattle.tm_reason.specs.TmHist.Lines.{core_text, dump_lines, outcome_line, state_word}
 use Rattle.ia_text.specs.TextLine.{line_end, number_text}
 use Rattle.tm_reason.specs.TmHist.Machine.{shown_regs, shown_state}
@@ -45,12 +47,12 @@ use Rattle.debug_command.specs.Places.{labelled_line, place_text}
 use Rattle.debug_command.specs.Refusals.{refusal_line}
 use Rattle.debug_command.specs.declared.symbol.Symbol.{Symbol}
 
--- between two lines: how it speaks, the plan (the core of each step), the program's symbols, by which commands write
+-- between two lines: how it speaks, the plan (the pick of each step), the program's symbols, by which commands write
 -- addresses, its labels, by which answers tell them, the board, the breakpoints, and the number behind that of the core
 -- that was stepped last, 0 before the first step
 pub record SessionValue : Type 0 where
   pub manner : Manner
-  pub plan : List ℕ
+  pub plan : List Pick
   pub symbols : List Symbol
   pub labels : List Symbol
   pub board : Board
@@ -69,7 +71,7 @@ value_of state = record {
 }
 
 -- before the first line
-abbrev pub start_in : Manner → List ℕ → List Symbol → List Symbol → Board → SessionValue
+abbrev pub start_in : Manner → List Pick → List Symbol → List Symbol → Board → SessionValue
 start_in manner plan symbols labels board = record {
   manner = manner;
   plan = plan;
@@ -146,26 +148,30 @@ abbrev pub is_midway : CoreState → Bool
 is_midway Mid = true
 is_midway _ = false
 
--- before a step of a run by this core, in this order: whether the history is full, or a breakpoint stands at the
--- address that the core shows, which is not asked before the first step, nor in the midst of an instruction
-abbrev pub core_check : ℕ → Bool → SessionValue → RunCheck
-core_check core first session =
+-- a step of a core under no event
+abbrev pub plain_pick : ℕ → Pick
+plain_pick core = record { core = core; event = None }
+
+-- before a step of a run by this pick, in this order: whether the history is full, or a breakpoint stands at the
+-- address that its core shows, which is not asked before the first step, nor in the midst of an instruction
+abbrev pub pick_check : Pick → Bool → SessionValue → RunCheck
+pick_check pick first session =
     if nat_eq (length session.board.history) session.board.limit then Full
-    else if not first && not (is_midway (shown_state session.board.machine core))
-    && list_any (λ b. b == (shown_regs session.board.machine core).eip) session.breaks
-    then AtBreakpoint core (shown_regs session.board.machine core).eip
-    else Go core
+    else if not first && not (is_midway (shown_state session.board.machine pick.core))
+    && list_any (λ b. b == (shown_regs session.board.machine pick.core).eip) session.breaks
+    then AtBreakpoint pick.core (shown_regs session.board.machine pick.core).eip
+    else Go pick
 
 -- in turn, first whether all cores have stopped
 abbrev pub turn_check : Option ℕ → Bool → SessionValue → RunCheck
 turn_check None first session = AllStopped
-turn_check (Some core) first session = core_check core first session
+turn_check (Some core) first session = pick_check (plain_pick core) first session
 
 -- along the plan, first whether it has a step behind those that are made, and of a core that there is
-abbrev pub plan_check : Option ℕ → Bool → SessionValue → RunCheck
+abbrev pub plan_check : Option Pick → Bool → SessionValue → RunCheck
 plan_check None first session = PlanEnded
-plan_check (Some core) first session =
-    if nat_lt core (cores_of session) then core_check core first session else NoCore (cores_of session)
+plan_check (Some pick) first session =
+    if nat_lt pick.core (cores_of session) then pick_check pick first session else NoCore (cores_of session)
 
 unfoldable pub run_check : Way → SessionValue → Bool → RunCheck
 run_check InTurn session first = turn_check (next_running session) first session
@@ -178,31 +184,32 @@ run_ending session PlanEnded = codes "the schedule has ended\n"
 run_ending session (NoCore count) = refusal_line session.manner (NoSuchCore count)
 run_ending session Full = refusal_line session.manner LimitReached
 run_ending session (AtBreakpoint core address) = break_line (told_labels session) core address
-run_ending session (Go core) = []
+run_ending session (Go pick) = []
 
--- one step of a core
-pub record IsStep (from : SessionValue) (core : ℕ) (outcome : Outcome) (to : SessionValue) : Type 0 where
+-- one step of a core, whose outcome is owed under the event of the pick
+pub record IsStep (from : SessionValue) (pick : Pick) (outcome : Outcome) (to : SessionValue) : Type 0 where
   pub same : SameBoard from.board to.board
-  pub history : to.board.history ≡ from.board.history ++ (core, outcome) ∷ []
+  pub history : to.board.history ≡ from.board.history ++ (pick.core, outcome) ∷ []
+  pub under : IsOwedNext pick.event from.board pick.core outcome
   pub law : IsHistory to.board
   pub manner : to.manner ≡ from.manner
   pub plan : to.plan ≡ from.plan
   pub symbols : to.symbols ≡ from.symbols
   pub labels : to.labels ≡ from.labels
   pub breaks : to.breaks ≡ from.breaks
-  pub next : to.next ≡ core + 1
+  pub next : to.next ≡ pick.core + 1
 
 -- the last of some steps of a run
 pub record LastStep (way : Way) (ran : List ℕ → SessionValue → Type 0) (first : Bool) (text : List ℕ)
     (to : SessionValue) : Type 0 where
   pub before : SessionValue
   pub lines : List ℕ
-  pub core : ℕ
+  pub pick : Pick
   pub outcome : Outcome
   pub steps_before : ran lines before
-  pub goes_on : run_check way before first ≡ Go core
-  pub step : IsStep before core outcome to
-  pub line : text ≡ lines ++ outcome_line core outcome
+  pub goes_on : run_check way before first ≡ Go pick
+  pub step : IsStep before pick outcome to
+  pub line : text ≡ lines ++ outcome_line pick.core outcome
 
 -- so many steps of a run lead from p to q, with these outcome lines
 abbrev pub IsRunOf : Way → ℕ → SessionValue → List ℕ → SessionValue → Type 0
@@ -218,7 +225,7 @@ pub record RunWhole (way : Way) (number : ℕ) (from : SessionValue) (text : Lis
   pub ran : IsRunOf way count from lines to
   pub end : ((count ≡ number) × (tail ≡ []))
       ⊎ ((count < number) × (tail ≡ run_ending to (run_check way to (count == 0)))
-      × ((core : ℕ) → run_check way to (count == 0) ≡ Go core → ⊥))
+      × ((pick : Pick) → run_check way to (count == 0) ≡ Go pick → ⊥))
   pub whole : text ≡ lines ++ tail
 
 -- ---- the answer of a command at p: its text, and what it leads to
@@ -226,18 +233,23 @@ pub record RunWhole (way : Way) (number : ℕ) (from : SessionValue) (text : Lis
 abbrev pub core_named : SessionValue → ℕ → Option ℕ
 core_named session core = if nat_lt core (cores_of session) then Some core else None
 
-abbrev pub step_by : SessionValue → Option ℕ → List ℕ → SessionValue → Type 0
+-- the pick of a core that is there
+abbrev pub pick_named : SessionValue → ℕ → Option Event → Option Pick
+pick_named session core event =
+    if nat_lt core (cores_of session) then Some (record { core = core; event = event }) else None
+
+abbrev pub step_by : SessionValue → Option Pick → List ℕ → SessionValue → Type 0
 step_by from None text to = (text ≡ refusal_line from.manner (NoSuchCore (cores_of from))) × (to ≡ from)
-step_by from (Some core) text to =
+step_by from (Some pick) text to =
     ((length from.board.history ≡ from.board.limit) × (text ≡ refusal_line from.manner LimitReached) × (to ≡ from))
-    ⊎ ((outcome : Outcome) × IsStep from core outcome to × (text ≡ outcome_line core outcome))
+    ⊎ ((outcome : Outcome) × IsStep from pick outcome to × (text ≡ outcome_line pick.core outcome))
 
-abbrev pub StepAnswer : SessionValue → ℕ → List ℕ → SessionValue → Type 0
-StepAnswer from core text to = step_by from (core_named from core) text to
+abbrev pub StepAnswer : SessionValue → ℕ → Option Event → List ℕ → SessionValue → Type 0
+StepAnswer from core event text to = step_by from (pick_named from core event) text to
 
--- the step of a core whose turn it is
-abbrev pub GoAnswer : SessionValue → ℕ → List ℕ → SessionValue → Type 0
-GoAnswer from core text to = (outcome : Outcome) × IsStep from core outcome to × (text ≡ outcome_line core outcome)
+-- the step of a pick whose turn it is
+abbrev pub GoAnswer : SessionValue → Pick → List ℕ → SessionValue → Type 0
+GoAnswer from pick text to = (outcome : Outcome) × IsStep from pick outcome to × (text ≡ outcome_line pick.core outcome)
 
 -- 1 to 100000 steps
 abbrev pub run_by : Bool → Way → ℕ → SessionValue → List ℕ → SessionValue → Type 0
@@ -252,7 +264,7 @@ RunAnswer way number from text to = run_by (is_run_length number) way number fro
 
 -- the line behind some steps of a run: that of one more step, or the one that a test ends the run with
 abbrev pub NextLine : RunCheck → SessionValue → List ℕ → SessionValue → Type 0
-NextLine (Go core) from line to = GoAnswer from core line to
+NextLine (Go pick) from line to = GoAnswer from pick line to
 NextLine AllStopped from line to = (line ≡ run_ending from AllStopped) × (to ≡ from)
 NextLine PlanEnded from line to = (line ≡ run_ending from PlanEnded) × (to ≡ from)
 NextLine (NoCore count) from line to = (line ≡ run_ending from (NoCore count)) × (to ≡ from)
@@ -414,7 +426,7 @@ TellsAnswer answer old new to result = (text : List ℕ) × answer text to × Wr
 
 -- what each command answers at p, and what it leads to
 abbrev pub Answers : Command → SessionValue → List ℕ → SessionValue → Type 0
-Answers (Step core) from text to = StepAnswer from core text to
+Answers (Step core event) from text to = StepAnswer from core event text to
 Answers (Run number) from text to = RunAnswer InTurn number from text to
 Answers (Next number) from text to = RunAnswer AlongPlan number from text to
 Answers (Back count) from text to = BackAnswer from count text to
@@ -435,7 +447,7 @@ Answers Quit from text to = (text ≡ bye_line) × (to ≡ from)
 abbrev pub AnswersBroken : Command → SessionValue → Device → Device → SessionValue → Type 0
 AnswersBroken (Run number) from old new to = RunAnswerBroken InTurn number from old new to
 AnswersBroken (Next number) from old new to = RunAnswerBroken AlongPlan number from old new to
-AnswersBroken (Step core) from old new to = AnswerStopped (Answers (Step core) from) old new to
+AnswersBroken (Step core event) from old new to = AnswerStopped (Answers (Step core event) from) old new to
 AnswersBroken (Back count) from old new to = AnswerStopped (Answers (Back count) from) old new to
 AnswersBroken (Break address) from old new to = AnswerStopped (Answers (Break address) from) old new to
 AnswersBroken (Clear address) from old new to = AnswerStopped (Answers (Clear address) from) old new to

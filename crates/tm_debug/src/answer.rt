@@ -16,6 +16,7 @@ use debug_command::{Manner, Range, Refusal, Symbol, refuse, write_labelled, writ
 use ia_text::page::{push, push_eight};
 use ia_text::text_line::{TextLine, push_number};
 use ia_text::{Out, WriteFault};
+use tm_model::{Event, Pick};
 use tm_reason::{Machine, Program, StepFault, write_core, write_dump, write_outcome};
 
 /// Tells that there is no core of a number.
@@ -50,16 +51,21 @@ pub fn core_of(state: &SessionState, core: u64) -> Option<u8>
     }
 }
 
-/// A step of a core.
-pub fn step<O: Out>(state: &mut SessionState, core: u64, out: &mut O) -> Result<(), WriteFault>
-    ensures { TellsAnswer (StepAnswer (value_of state.old) core) (O.device out.old) (O.device out.new)
+/// A step of a core, under an event or under none.
+pub fn step<O: Out>(
+    state: &mut SessionState,
+    core: u64,
+    event: Option<Event>,
+    out: &mut O,
+) -> Result<(), WriteFault>
+    ensures { TellsAnswer (StepAnswer (value_of state.old) core event) (O.device out.old) (O.device out.new)
         (value_of state.new) result }
 {
     let Some(core) = core_of(state, core) else {
         return refuse_core(state, out);
     };
     let manner = state.manner;
-    match state.step(core) {
+    match state.step(Pick { core, event }) {
         Ok(outcome) => write_outcome(core, &outcome, out),
         Err(StepFault::NoSuchCore) => refuse_core(state, out),
         Err(StepFault::LimitReached) => refuse(manner, Refusal::LimitReached, out),
@@ -112,7 +118,7 @@ pub fn end_run<O: Out>(state: &SessionState, check: RunCheck, out: &mut O) -> Re
         RunCheck::AtBreakpoint(core, address) => {
             write_break(state.told_labels(), core, address, out)?
         }
-        RunCheck::Go(_core) => out.put(b"")?,
+        RunCheck::Go(_pick) => out.put(b"")?,
     }
     Ok(())
 }

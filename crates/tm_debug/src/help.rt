@@ -12,7 +12,7 @@ fn lines() -> &'static [u8]
     ensures { result.now ≡ help_text }
 {
     b"\
-step C     one step of core C
+step C     one step of core C; Ci, Ce, Cs: under an interrupt, an eviction, a snoop
 run N      1 to 100000 steps, of each core in turn
 next N     the next 1 to 100000 steps of the schedule
 back N     takes the last N steps back

@@ -10,17 +10,18 @@ use crate::answer::end_run;
 use crate::state::{RunCheck, SessionState, Way};
 use debug_command::{Range, Refusal, refuse};
 use ia_text::{Out, WriteFault};
+use tm_model::Pick;
 use tm_reason::write_outcome;
 
-// The step of a core whose turn it is.
-fn go<O: Out>(state: &mut SessionState, core: u8, out: &mut O) -> Result<(), WriteFault>
-    requires exists { core < length state.old.board.program.entries }
+// The step of a pick whose turn it is.
+fn go<O: Out>(state: &mut SessionState, pick: Pick, out: &mut O) -> Result<(), WriteFault>
+    requires exists { pick.core < length state.old.board.program.entries }
     requires room { IsFull state.old.board → ⊥ }
-    ensures { TellsAnswer (GoAnswer (value_of state.old) core) (O.device out.old) (O.device out.new)
+    ensures { TellsAnswer (GoAnswer (value_of state.old) pick) (O.device out.old) (O.device out.new)
         (value_of state.new) result }
 {
-    match state.step(core) {
-        Ok(outcome) => write_outcome(core, &outcome, out),
+    match state.step(pick) {
+        Ok(outcome) => write_outcome(pick.core, &outcome, out),
         Err(_) => unreachable!(),
     }
 }
@@ -39,7 +40,7 @@ fn run_steps<O: Out>(
     'steps: for done in 0..count {
         let check = state.check_run(way, done == 0);
         match check {
-            RunCheck::Go(core) => go(state, core, out)?,
+            RunCheck::Go(pick) => go(state, pick, out)?,
             RunCheck::AllStopped
             | RunCheck::PlanEnded
             | RunCheck::Full
@@ -50,7 +51,7 @@ fn run_steps<O: Out>(
     Ok(())
 }
 
-/// So many steps, of the cores in turn that have not stopped or of those of the plan, or fewer where a test ends the run.
+/// So many steps, of the cores in turn that have not stopped or by the picks of the plan, or fewer where a test ends the run.
 pub fn run<O: Out>(
     state: &mut SessionState,
     way: Way,

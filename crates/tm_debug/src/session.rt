@@ -25,6 +25,7 @@ use std::alloc::Global;
 use std::fmt;
 use std::sync::Wait;
 use thiserror::Error;
+use tm_model::Pick;
 use tm_reason::Board;
 
 /// Why a session ended before its input did. Each gives the board back, after the steps that were made.
@@ -123,7 +124,7 @@ fn act<O: Out>(
     ensures memory { result ≡ Err Interruption.NoMemory → TakesMemory command }
 {
     match command {
-        Command::Step(core) => answer_result(step(state, core, out)),
+        Command::Step(core, event) => answer_result(step(state, core, event, out)),
         Command::Run(count) => answer_result(run(state, Way::InTurn, count, out)),
         Command::Next(count) => answer_result(run(state, Way::AlongPlan, count, out)),
         Command::Back(count) => back(alloc, state, count, out),
@@ -372,7 +373,7 @@ pub fn serve_in<W: Wait, I: In, O: Out>(
     rt: &W,
     alloc: Global,
     manner: Manner,
-    plan: Vec<u8>,
+    plan: Vec<Pick>,
     names: Names,
     board: Board,
     input: &mut I,

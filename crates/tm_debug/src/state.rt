@@ -2,14 +2,15 @@
 
 ghost use Rattle.std.specs.Prelude.{◌≡◌, ◌↔◌, ℕ, ◌+◌, ◌<◌, ◌≤◌, ◌^◌, ◌++◌, ◌∷◌, [], Err, IfOk, IfSome, OnErr, Some, is_some};
 ghost use Rattle.std.specs.Prelude.{length};
-ghost use Rattle.tm_reason.specs.TmHist.Board.{IsFull, stop_shown};
+ghost use Rattle.tm_reason.specs.TmHist.Board.{IsFull, IsOwedNext, SameBoard, stop_shown};
 ghost use Rattle.tm_reason.specs.TmHist.Machine.{shown_regs, shown_state};
-ghost use Rattle.tm_debug.specs.Session.{IsStep, core_check, is_midway, is_stopped, next_running, plan_check};
+ghost use Rattle.tm_debug.specs.Session.{IsStep, is_midway, is_stopped, next_running, pick_check, plan_check};
 ghost use Rattle.tm_debug.specs.Session.{run_check, running_from, start, start_in, told_labels, value_of};
 
 use arrayvec::ArrayVec;
 use debug_command::{Manner, Names, Symbol};
 use std::alloc::Global;
+use tm_model::Pick;
 use tm_reason::{Board, CoreState, Outcome, StepFault};
 
 /// The most breakpoints that are set at once.
@@ -20,7 +21,7 @@ pub const MOST_BREAKPOINTS: usize = 64;
 #[derive(Drop)]
 pub struct SessionState {
     pub manner: Manner,
-    pub plan: Vec<u8>,
+    pub plan: Vec<Pick>,
     pub names: Names,
     pub board: Board,
     pub breakpoints: ArrayVec<u32, MOST_BREAKPOINTS>,
@@ -32,7 +33,7 @@ pub struct SessionState {
 pub enum Way {
     /// The next one that has not stopped, round by round.
     InTurn,
-    /// The one that the plan has behind the steps that are made.
+    /// By the pick that the plan has behind the steps that are made.
     AlongPlan,
 }
 
@@ -49,8 +50,8 @@ pub enum RunCheck {
     Full,
     /// This core is at this breakpoint.
     AtBreakpoint(u8, u32),
-    /// This core steps.
-    Go(u8),
+    /// This pick's core steps.
+    Go(Pick),
 }
 
 /// How many cores there are.
@@ -93,9 +94,25 @@ fn running_from(board: &Board, core: u32, left: u8) -> Option<u8>
     }
 }
 
+// One step of a pick's core, under its event where it has one.
+fn step_by(board: &mut Board, pick: Pick) -> Result<Outcome, StepFault>
+    ensures none { result ≡ Err StepFault.NoSuchCore ↔ (length board.old.program.entries ≤ pick.core) }
+    ensures full { result ≡ Err StepFault.LimitReached
+        ↔ ((pick.core < length board.old.program.entries) × IsFull board.old) }
+    ensures same { SameBoard board.old board.new }
+    ensures ok { IfOk result (λ outcome. board.new.history ≡ board.old.history ++ (pick.core, outcome) ∷ []) }
+    ensures under { IfOk result (λ outcome. IsOwedNext pick.event board.old pick.core outcome) }
+    ensures err { OnErr result (board.new ≡ board.old) }
+{
+    match pick.event {
+        None => board.step(pick.core),
+        Some(event) => board.step_under(pick.core, event),
+    }
+}
+
 impl SessionState {
     /// A session's state before its first line.
-    pub fn new(manner: Manner, plan: Vec<u8>, names: Names, board: Board) -> SessionState
+    pub fn new(manner: Manner, plan: Vec<Pick>, names: Names, board: Board) -> SessionState
         ensures { value_of result ≡ start_in manner plan.items names.symbols.items names.labels.items board }
     {
         SessionState {
@@ -168,66 +185,66 @@ impl SessionState {
     #[tactic(auto, unfolding(crate::specs::Session::run_check))]
     pub fn check_run(&self, way: Way, first: bool) -> RunCheck
         ensures check { result ≡ run_check way (value_of self.now) first }
-        ensures room { (core : ℕ) → result ≡ RunCheck.Go core → (core < length self.now.board.program.entries)
+        ensures room { (go : Pick) → result ≡ RunCheck.Go go → (go.core < length self.now.board.program.entries)
             × (IsFull self.now.board → ⊥) }
     {
         match way {
             Way::InTurn => match self.next_running() {
-                Some(core) => self.check_core(core, first),
+                Some(core) => self.check_pick(Pick { core, event: None }, first),
                 None => RunCheck::AllStopped,
             },
             Way::AlongPlan => match self.plan.get(self.board.made() as usize) {
-                Some(core) => self.check_planned(*core, first),
+                Some(pick) => self.check_planned(*pick, first),
                 None => RunCheck::PlanEnded,
             },
         }
     }
 
-    // The tests before a step of a core that the plan has.
-    fn check_planned(&self, core: u8, first: bool) -> RunCheck
-        ensures check { result ≡ plan_check (Some core) first (value_of self.now) }
-        ensures room { (go : ℕ) → result ≡ RunCheck.Go go → (go < length self.now.board.program.entries)
+    // The tests before a step by a pick that the plan has.
+    fn check_planned(&self, pick: Pick, first: bool) -> RunCheck
+        ensures check { result ≡ plan_check (Some pick) first (value_of self.now) }
+        ensures room { (go : Pick) → result ≡ RunCheck.Go go → (go.core < length self.now.board.program.entries)
             × (IsFull self.now.board → ⊥) }
     {
         let count = core_count(&self.board);
-        if core < count {
-            self.check_core(core, first)
+        if pick.core < count {
+            self.check_pick(pick, first)
         } else {
             RunCheck::NoCore(count)
         }
     }
 
-    // The tests before a step of this core.
-    fn check_core(&self, core: u8, first: bool) -> RunCheck
-        requires exists { core < length self.now.board.machine.views }
-        requires known { core < length self.now.board.program.entries }
-        ensures check { result ≡ core_check core first (value_of self.now) }
-        ensures room { (go : ℕ) → result ≡ RunCheck.Go go → (go < length self.now.board.program.entries)
+    // The tests before a step by this pick.
+    fn check_pick(&self, pick: Pick, first: bool) -> RunCheck
+        requires exists { pick.core < length self.now.board.machine.views }
+        requires known { pick.core < length self.now.board.program.entries }
+        ensures check { result ≡ pick_check pick first (value_of self.now) }
+        ensures room { (go : Pick) → result ≡ RunCheck.Go go → (go.core < length self.now.board.program.entries)
             × (IsFull self.now.board → ⊥) }
     {
         if self.board.made() == self.board.limit() {
             return RunCheck::Full;
         }
-        let eip = self.eip(core);
-        if !first && !self.is_midway(core) && self.breakpoints.contains(&eip) {
-            RunCheck::AtBreakpoint(core, eip)
+        let eip = self.eip(pick.core);
+        if !first && !self.is_midway(pick.core) && self.breakpoints.contains(&eip) {
+            RunCheck::AtBreakpoint(pick.core, eip)
         } else {
-            RunCheck::Go(core)
+            RunCheck::Go(pick)
         }
     }
 
-    /// One step of a core.
-    pub fn step(&mut self, core: u8) -> Result<Outcome, StepFault>
-        ensures none { result ≡ Err StepFault.NoSuchCore ↔ (length self.old.board.program.entries ≤ core) }
+    /// One step of a pick's core, under its event where it has one.
+    pub fn step(&mut self, pick: Pick) -> Result<Outcome, StepFault>
+        ensures none { result ≡ Err StepFault.NoSuchCore ↔ (length self.old.board.program.entries ≤ pick.core) }
         ensures full { result ≡ Err StepFault.LimitReached ↔
-            ((core < length self.old.board.program.entries) × IsFull self.old.board) }
-        ensures ok { IfOk result (λ outcome. IsStep (value_of self.old) core outcome (value_of self.new)) }
+            ((pick.core < length self.old.board.program.entries) × IsFull self.old.board) }
+        ensures ok { IfOk result (λ outcome. IsStep (value_of self.old) pick outcome (value_of self.new)) }
         ensures err { OnErr result (value_of self.new ≡ value_of self.old) }
     {
         let _count = core_count(&self.board);
-        let outcome = self.board.step(core)?;
+        let outcome = step_by(&mut self.board, pick)?;
         self.board.is_run();
-        self.next = core + 1;
+        self.next = pick.core + 1;
         Ok(outcome)
     }
 }
