@@ -1,5 +1,6 @@
 pub mod Faults
 pub mod Gathering
+pub mod Owing
 pub mod Runs
 pub mod Schedules
 pub mod Setup

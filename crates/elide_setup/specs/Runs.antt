@@ -1,24 +1,48 @@
--- A machine that was run from a program's first state.
+-- A machine, or a board, that was run from a program's first state.
 use Rattle.std.specs.Prelude.{◌≡◌, ℕ, List, [], ◌∷◌, ◌++◌, Option, None, length}
+use Rattle.tm_model.specs.Runs.{IsOwedUnder}
+use Rattle.elide_setup.specs.Owing.{AreOwedUnder, history_made}
+use Rattle.tm_model.specs.declared.outcome.Outcome.{Outcome}
+use Rattle.tm_model.specs.declared.outcome.Pick.{Pick}
 use Rattle.elide_setup.specs.IaImage.Program.{ProgramValue as Program}
 use Rattle.elide_setup.specs.TmCore.Limits.{Limits}
-use Rattle.elide_setup.specs.TmCore.Theorem.{IsRun, SameMachine, ShownMachine as Machine, machine_setting}
-use Rattle.elide_setup.specs.TmModel.Outcome.{Outcome}
+use Rattle.elide_setup.specs.TmCore.Theorem.{IsRun, SameMachine, ShownMachine as Machine, StandsFor, machine_setting}
+use Rattle.elide_setup.specs.TmHist.Board.{IsHistory, IsOwedNext, SameBoard, ShownBoard as Board, board_setting}
 use Rattle.elide_setup.specs.TmModel.Setting.{program_setting}
 use Rattle.elide_setup.specs.TmModel.State.{State, opening_state}
 
--- a step of a core: whatever run the machine was of, it is of that run with the step behind it
-pub record IsMachineStep (before : Machine) (core : ℕ) (outcome : Outcome) (after : Machine) : Type 0 where
+-- a step by a pick: whatever run the machine was of, it is of that run with the step behind it, and the outcome is the
+-- one that is owed under the pick's event
+pub record IsMachineStep (before : Machine) (pick : Pick) (outcome : Outcome) (after : Machine) : Type 0 where
   pub same : SameMachine before after
   pub goes_on :
-      (start : Machine) (state : State) (doomed : ℕ → Option ℕ) (steps : List (ℕ × Outcome)) →
-      IsRun start before state doomed steps → IsRun start after state doomed (steps ++ (core, outcome) ∷ [])
+      (start : Machine) (state : State) (doomed : ℕ → Option ℕ) (history : List (ℕ × Outcome)) →
+      IsRun start before state doomed history →
+      IsRun start after state doomed (history ++ (pick.core, outcome) ∷ [])
+  pub under :
+      (state : State) (doomed : ℕ → Option ℕ) → StandsFor before state doomed →
+      IsOwedUnder pick.event (machine_setting before) state doomed pick.core outcome
 
--- the history is a run by the rules from the program's opening state, each outcome the owed one, and the machine stands
--- for its end
-pub record IsRunOf (program : Program) (limits : Limits) (history : List (ℕ × Outcome)) (machine : Machine)
+-- the steps, each a pick and its outcome, are a run by the rules from the program's opening state, each outcome the one
+-- that is owed under its pick's event, and the machine stands for its end
+pub record IsRunOf (program : Program) (limits : Limits) (steps : List (Pick × Outcome)) (machine : Machine)
     : Type 0 where
   pub start : Machine
   pub rules : machine_setting start ≡ program_setting program limits.read_lines limits.write_lines
   pub cores : length start.views ≡ length program.entries
-  pub is_run : IsRun start machine (opening_state program) (λ _. None) history
+  pub is_run : IsRun start machine (opening_state program) (λ _. None) (history_made steps)
+  pub under : AreOwedUnder (machine_setting start) (opening_state program) (λ _. None) steps
+
+-- the same of a step of a board, which is one more step of its history
+pub record IsBoardStep (before : Board) (pick : Pick) (outcome : Outcome) (after : Board) : Type 0 where
+  pub same : SameBoard before after
+  pub history : after.history ≡ before.history ++ (pick.core, outcome) ∷ []
+  pub under : IsOwedNext pick.event before pick.core outcome
+  pub was : IsHistory before
+  pub law : IsHistory after
+
+-- the board's history is that of these steps, each a pick and its outcome, and each outcome is owed under its pick's
+-- event
+pub record HasMade (board : Board) (steps : List (Pick × Outcome)) : Type 0 where
+  pub history : board.history ≡ history_made steps
+  pub under : AreOwedUnder (board_setting board) (opening_state board.program) (λ _. None) steps

@@ -1,9 +1,10 @@
 -- Steps that are made one after another.
-use Rattle.std.specs.Prelude.{◌≡◌, ℕ, List, [], ◌∷◌}
-use Rattle.elide_setup.specs.TmModel.Outcome.{Outcome}
+use Rattle.std.specs.Prelude.{◌≡◌, List, [], ◌∷◌}
+use Rattle.tm_model.specs.declared.outcome.Outcome.{Outcome}
+use Rattle.tm_model.specs.declared.outcome.Pick.{Pick}
 
--- these steps, each a core and its outcome, lead from one state of what makes them to another
-abbrev pub Leads : {Maker : Type 0} → (Maker → ℕ → Outcome → Maker → Type 0)
-    → Maker → List (ℕ × Outcome) → Maker → Type 0
+-- these steps, each a pick and its outcome, lead from one state of what makes them to another
+abbrev pub Leads : {Maker : Type 0} → (Maker → Pick → Outcome → Maker → Type 0) → Maker → List (Pick × Outcome)
+    → Maker → Type 0
 Leads takes before [] after = after ≡ before
-Leads takes before (step ∷ steps) after = (next : _) × takes before step.0 step.1 next × Leads takes next steps after
+Leads takes before (made ∷ steps) after = (next : _) × takes before made.0 made.1 next × Leads takes next steps after

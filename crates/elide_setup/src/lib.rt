@@ -33,8 +33,9 @@ pub use recorded::{record, record_path};
 pub use shown::{ShownMemory, show, shown_memory};
 pub use terminals::Terminals;
 pub use tm_hist::{
-    AbortReason, Board, BoardFault, CoreState, Counts, Kind, Limits, Machine, MachineFault,
-    Outcome, Reach, RunFault, Serial, StepFault, Stop, stop_text, write_outcome,
+    AbortReason, Board, BoardFault, CoreState, Counts, Interference, Kind, Limits, Machine,
+    MachineFault, Outcome, Pick, Reach, RunFault, Serial, StepFault, Stop, interference_text,
+    stop_text, write_outcome,
 };
 pub use told::{push_back, push_front};
 pub use walk::StepMaker;

@@ -1,6 +1,7 @@
 //! What the commands that make a machine begin with.
 
 ghost use Rattle.std.specs.Prelude.{◌≡◌, ◌≤◌, ℕ, [], IfOk, List, length};
+ghost use Rattle.tm_model.specs.declared.outcome.Pick.{Pick};
 ghost use Rattle.tm_hist.specs.Board.{IsNew};
 ghost use Rattle.elide_program.specs.Parts.{AreParts};
 ghost use Rattle.elide_program.specs.declared.file.ProgramFile.{ProgramFile};
@@ -80,8 +81,8 @@ pub fn scheduled<P: Paths>(
     paths: &mut P,
 ) -> Result<(Setup, Course), Refusal>
     ensures setup { IfOk result (λ r. IsAsked (P.content paths.old machine.now.file.now) machine.now r.0) }
-    ensures course { IfOk result (λ r. (cores : List ℕ) → AreOf r.1 cores →
-        AreAsked (P.content paths.old) schedule.now cores) }
+    ensures course { IfOk result (λ r. (picks : List Pick) → AreOf r.1 picks →
+        AreAsked (P.content paths.old) schedule.now picks) }
 {
     let settings = Settings::read(machine)?;
     let plan = Plan::read(alloc, schedule)?;
@@ -99,8 +100,8 @@ pub fn planned<P: Paths>(
     paths: &mut P,
 ) -> Result<(Setup, Course), Refusal>
     ensures setup { IfOk result (λ r. IsSetup file.now settings.now r.0) }
-    ensures course { IfOk result (λ r. (cores : List ℕ) → AreOf r.1 cores →
-        ArePlanned (P.content paths.old) plan.entry cores) }
+    ensures course { IfOk result (λ r. (picks : List Pick) → AreOf r.1 picks →
+        ArePlanned (P.content paths.old) plan.entry picks) }
 {
     let starts = file.starts(alloc, settings)?;
     let parts = MemoryParts::of_file(alloc, settings, file)?;

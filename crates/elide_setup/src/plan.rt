@@ -1,6 +1,7 @@
 //! Where a command's schedule comes from.
 
 ghost use Rattle.std.specs.Prelude.{◌≡◌, ℕ, IfOk, IfSome, List, Ok, Option};
+ghost use Rattle.tm_model.specs.declared.outcome.Pick.{Pick};
 ghost use Rattle.tm_schedule.specs.Schedule.{schedule_of};
 ghost use Rattle.elide_setup.specs.Schedules.{AreAsked, AreOf, ArePlanned};
 
@@ -8,6 +9,7 @@ use crate::fault::{Fault, Refusal};
 use elide_args::ScheduleOptions;
 use elide_program::{MOST_BYTES, Paths, ProgramFault, ReadFault, number_of};
 use std::alloc::Global;
+use tm_model::Pick;
 use tm_pick::Picker;
 use tm_schedule::{ScheduleFault, read_schedule, read_steps};
 
@@ -18,7 +20,7 @@ const MOST_STEPS: u32 = 1_000_000;
 #[derive(Drop)]
 pub enum Plan<'a> {
     /// `--steps`.
-    Steps(Vec<u8>),
+    Steps(Vec<Pick>),
     /// `--schedule`, with the path.
     File(&'a str),
     /// `--in-turn` or `--random`.
@@ -28,8 +30,8 @@ pub enum Plan<'a> {
 /// A schedule of core steps that was read, or is drawn.
 #[derive(Drop)]
 pub enum Course {
-    /// The core numbers of the steps.
-    Listed(Vec<u8>),
+    /// The steps, each the number of a core and the event that it comes under, or none.
+    Listed(Vec<Pick>),
     /// Steps that are drawn one by one.
     Drawn(Drawn),
 }
@@ -37,8 +39,8 @@ pub enum Course {
 impl<'a> Plan<'a> {
     /// Reads `--steps`, `--schedule`, `--in-turn` or `--random`, of which exactly one is given.
     pub fn read(alloc: Global, options: &ScheduleOptions<'a>) -> Result<Plan<'a>, Refusal>
-        ensures { IfOk result (λ plan. (content : List ℕ → Option (List ℕ)) (cores : List ℕ) →
-            ArePlanned content plan cores → AreAsked content options.now cores) }
+        ensures { IfOk result (λ plan. (content : List ℕ → Option (List ℕ)) (picks : List Pick) →
+            ArePlanned content plan picks → AreAsked content options.now picks) }
     {
         let given = (options.steps, options.path, options.in_turn, options.random);
         match given {
@@ -60,8 +62,8 @@ impl<'a> Plan<'a> {
 
     /// The steps.
     pub fn course<P: Paths>(self, alloc: Global, paths: &mut P) -> Result<Course, Refusal>
-        ensures { IfOk result (λ course. (cores : List ℕ) → AreOf course cores →
-            ArePlanned (P.content paths.old) self.entry cores) }
+        ensures { IfOk result (λ course. (picks : List Pick) → AreOf course picks →
+            ArePlanned (P.content paths.old) self.entry picks) }
     {
         match self {
             Plan::Steps(steps) => Ok(Course::Listed(steps)),
@@ -125,9 +127,9 @@ fn text_of<P: Paths>(path: &str, paths: &mut P) -> Result<Vec<u8>, Fault>
     }
 }
 
-// The core numbers of a schedule text.
-fn steps_of(alloc: Global, text: &[u8]) -> Result<Vec<u8>, Refusal>
-    ensures { IfOk result (λ cores. schedule_of text.now ≡ Ok cores.items) }
+// The steps of a schedule text.
+fn steps_of(alloc: Global, text: &[u8]) -> Result<Vec<Pick>, Refusal>
+    ensures { IfOk result (λ picks. schedule_of text.now ≡ Ok picks.items) }
 {
     match read_schedule(alloc, text) {
         Ok(steps) => Ok(steps),

@@ -7,6 +7,7 @@ use crate::gathered::Gathered;
 use crate::lent::Lent;
 use elide_program::{Paths, Text};
 use ia_text::{Out, WriteFault};
+use tm_model::Pick;
 use tm_schedule::write_schedule;
 
 /// The path that `--record` gives, which is not that of the program.
@@ -23,20 +24,20 @@ pub fn record_path<'a, P: Paths>(
     }
 }
 
-/// Writes the schedule of these cores to a file, where there is a path.
-pub fn record<P: Paths>(path: Option<&str>, cores: &[u8], paths: &mut P) -> Result<(), Refusal> {
+/// Writes the schedule of these steps to a file, where there is a path.
+pub fn record<P: Paths>(path: Option<&str>, picks: &[Pick], paths: &mut P) -> Result<(), Refusal> {
     let Some(path) = path else {
         return Ok(());
     };
-    match paths.write(path, &Schedule(cores)) {
+    match paths.write(path, &Schedule(picks)) {
         Ok(()) => Ok(()),
         Err(_) => Err(Refusal::Fault(Fault::Output)),
     }
 }
 
-// The text of a schedule of these cores.
+// The text of a schedule of these steps.
 #[derive(Clone, Copy)]
-struct Schedule<'a>(&'a [u8]);
+struct Schedule<'a>(&'a [Pick]);
 
 impl Text for Schedule<'_> {
     fn write_to<O: Out>(&self, out: &mut O) -> Result<(), WriteFault> {

@@ -1,5 +1,6 @@
-use Rattle.std.proofs.Common.{◌≡◌, ℕ, List, subst}
+use Rattle.std.proofs.Common.{ℕ, List, subst}
 use Rattle.std.proofs.lemmas.Result.{IfOk-weaker}
+use Rattle.tm_model.specs.declared.outcome.Pick.{Pick}
 use Rattle.elide_program.specs.ProgramFile.{IsFile}
 use Rattle.elide_setup.proofs.Schedules.{planned_before}
 use Rattle.elide_setup.specs.Schedules.{AreAsked, AreOf, ArePlanned}
@@ -17,7 +18,7 @@ returns-clause-setup g c =
 
 pub returns-clause-course : goal.returns-clause-course
 returns-clause-course g c =
-    IfOk-weaker c.planned.result (λ (r : Setup × Course). (cores : List ℕ) → AreOf r.1 cores → ArePlanned (g.P.Paths.content c.read_file.new.paths) c.in_ok-plan.plan cores)
-    (λ (r : Setup × Course). (cores : List ℕ) → AreOf r.1 cores → AreAsked (g.P.Paths.content c.args.paths.now) c.args.schedule.now cores)
-    (λ r is cores of. c.in_ok-plan.ensures (g.P.Paths.content c.args.paths.now) cores (planned_before (g.P.Paths.content c.args.paths.now) (g.P.Paths.content c.read_file.new.paths) c.in_ok-plan.plan cores c.read_file.ensures.kept (is cores of)))
+    IfOk-weaker c.planned.result (λ (r : Setup × Course). (picks : List Pick) → AreOf r.1 picks → ArePlanned (g.P.Paths.content c.read_file.new.paths) c.in_ok-plan.plan picks)
+    (λ (r : Setup × Course). (picks : List Pick) → AreOf r.1 picks → AreAsked (g.P.Paths.content c.args.paths.now) c.args.schedule.now picks)
+    (λ r is picks of. c.in_ok-plan.ensures (g.P.Paths.content c.args.paths.now) picks (planned_before (g.P.Paths.content c.args.paths.now) (g.P.Paths.content c.read_file.new.paths) c.in_ok-plan.plan picks c.read_file.ensures.kept (is picks of)))
     c.planned.ensures.course

@@ -1,6 +1,7 @@
-use Rattle.std.proofs.Common.{◌≡◌, ℕ, List, length, take}
-use Rattle.elide_setup.specs.Schedules.{cores_of}
-use Rattle.elide_setup.specs.TmModel.Outcome.{Outcome}
+use Rattle.std.proofs.Common.{◌≡◌, List, length, take}
+use Rattle.tm_model.specs.declared.outcome.Outcome.{Outcome}
+use Rattle.tm_model.specs.declared.outcome.Pick.{Pick}
+use Rattle.elide_setup.specs.Schedules.{picks_made}
 use Rattle.elide_setup.specs.Walks.{Leads}
 use Rattle.elide_setup.proofs.walk.walk_list.Given as goal
 
@@ -8,5 +9,5 @@ use Rattle.elide_setup.proofs.walk.walk_list.Given as goal
 abbrev pub invariant-loop-index : goal.invariant-loop-index
 invariant-loop-index g l = record {
   end : l.index-end ≡ length l.steps;
-  made : (made : List (ℕ × Outcome)) × (cores_of made ≡ take l.index l.steps) × Leads g.S.StepMaker.takes l.initial.maker made l.maker;
+  made : (made : List (Pick × Outcome)) × (picks_made made ≡ take l.index l.steps) × Leads g.S.StepMaker.takes l.initial.maker made l.maker;
 }

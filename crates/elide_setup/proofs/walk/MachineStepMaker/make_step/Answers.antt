@@ -1,0 +1,13 @@
+use Rattle.std.proofs.Common.{None, Some}
+use Rattle.elide_setup.proofs.Runs.{machine_step}
+use Rattle.elide_setup.proofs.walk.MachineStepMaker.make_step.Goals as goal
+
+pub returns-in-None : goal.returns-in-None
+returns-in-None c =
+    machine_step None c.args.self.now c.step.new.self c.args.pick c.step.result c.told.result c.in-None.is c.step.ensures.same
+    c.step.ensures.ok c.step.ensures.run c.told.ensures
+
+pub returns-in-Some : goal.returns-in-Some
+returns-in-Some c =
+    machine_step (Some c.in-Some.event) c.args.self.now c.step_under.new.self c.args.pick c.step_under.result c.told-in-Some.result
+    c.in-Some.is c.step_under.ensures.same c.step_under.ensures.ok c.step_under.ensures.run c.told-in-Some.ensures
