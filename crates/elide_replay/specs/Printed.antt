@@ -3,13 +3,16 @@
 use Rattle.std.specs.Prelude.{◌≡◌, ℕ, false, List, [], ◌++◌, Option}
 use Rattle.std.specs.Io.KnownBytes.{Appends}
 use Rattle.elide_args.specs.declared.subcommand.ReplayOptions.{ReplayOptions}
-use Rattle.elide_setup.specs.Schedules.{AreAsked}
+use Rattle.tm_model.specs.declared.outcome.Outcome.{Outcome}
+use Rattle.tm_model.specs.declared.outcome.Pick.{Pick}
+use Rattle.elide_setup.specs.Schedules.{AreAsked, picks_made}
 use Rattle.elide_setup.specs.Setup.{IsAsked}
 use Rattle.elide_setup.specs.Shown.{IsShownOf, shown_text}
 use Rattle.elide_setup.specs.TmHist.Board.{IsHistory, ShownBoard as Board}
 use Rattle.elide_setup.specs.declared.machine.Setup.{Setup}
 use Rattle.elide_setup.specs.declared.shown.ShownMemory.{ShownMemory}
-use Rattle.elide_replay.specs.Replayed.{IsBoardOf, cores_stepped}
+use Rattle.elide_setup.specs.Runs.{HasMade}
+use Rattle.elide_replay.specs.Replayed.{IsBoardOf}
 use Rattle.elide_replay.specs.Told.{agreement_text}
 use Rattle.elide_replay.specs.declared.agreement.Agreement.TheVariants.{Agrees}
 
@@ -31,5 +34,7 @@ pub record IsPrinted (content : List ℕ → Option (List ℕ)) (options : Repla
   pub asked : IsAsked (content options.machine.file.now) options.machine setup
   pub board : Board
   pub made : IsBoardOf setup board
-  pub steps : AreAsked content options.schedule (cores_stepped board)
+  pub steps : List (Pick × Outcome)
+  pub stepped : HasMade board steps
+  pub scheduled : AreAsked content options.schedule (picks_made steps)
   pub told : IsTold setup options board before after

@@ -1,31 +1,30 @@
 //! `elide replay`.
 
-ghost use Rattle.std.specs.Prelude.{◌≡◌, ◌↔◌, ◌++◌, ◌∷◌, ℕ, [], IfOk, List, None, OnOk, false};
+ghost use Rattle.std.specs.Prelude.{◌≡◌, ◌↔◌, ◌++◌, IfOk, List, None, false, max};
 ghost use Rattle.ia_text.specs.Writing.{Wrote};
-ghost use Rattle.elide_setup.specs.Schedules.{AreAsked, AreOf};
+ghost use Rattle.tm_model.specs.declared.outcome.Outcome.{Outcome};
+ghost use Rattle.tm_model.specs.declared.outcome.Pick.{Pick};
+ghost use Rattle.elide_setup.specs.Schedules.{AreAsked, AreOf, picks_made};
 ghost use Rattle.elide_setup.specs.Setup.{IsAsked};
 ghost use Rattle.elide_setup.specs.Shown.{shown_text};
 ghost use Rattle.elide_replay.specs.Printed.{IsPrinted, IsTold};
-ghost use Rattle.elide_replay.specs.Replayed.{IsBoardOf, IsReplayed, cores_stepped};
+ghost use Rattle.elide_replay.specs.Replayed.{IsBoardOf};
+ghost use Rattle.elide_setup.specs.Runs.{HasMade};
 ghost use Rattle.elide_replay.specs.Told.{agreement_text};
 ghost use Rattle.elide_why.specs.ElideSetup.Shown.{IsWhole};
-ghost use Rattle.elide_why.specs.TmHist.Board.{SameBoard};
+ghost use Rattle.elide_why.specs.TmHist.Board.{IsNew};
 ghost use Rattle.elide_why.specs.TmHist.Replay.{Replays};
 
 use crate::agreement::{Agreement, agreement_of};
 use elide_args::ReplayOptions;
 use elide_places::Places;
 use elide_why::{
-    Board, Course, Drawn, Fault, Gathered, Paths, Progress, Refusal, RunFault, Serial, Setup,
-    ShownMemory, record, record_path, scheduled, scheduled_places, show, shown_memory,
-    tell_history,
+    Board, Course, Fault, Gathered, Paths, Progress, Refusal, RunFault, Serial, Setup, ShownMemory,
+    record, record_path, scheduled, scheduled_places, show, shown_memory, tell_history,
 };
 use ia_text::Out;
 use std::alloc::Global;
-use tm_pick::Going;
-
-/// After how many steps it is told how far a run is.
-const PORTION: u64 = 65536;
+use tm_model::Pick;
 
 /// Runs a schedule on a board, and its history again on one memory; prints the aborts with their reasons where they are
 /// asked for, the state, what is asked for of memory, and whether both ended alike, which they always do: a board's history replays.
@@ -43,9 +42,7 @@ pub fn replay<P: Paths, O: Out + Drop, G: Progress>(
 {
     let path = record_path(options.record, options.machine.file, paths)?;
     let (setup, course, places) = begun(alloc, options, paths)?;
-    let made = board_of(alloc, &setup, course, progress);
-    progress.end();
-    let board = made?;
+    let board = board_of(alloc, &setup, &course, progress)?;
     compared(
         alloc,
         &setup,
@@ -59,19 +56,31 @@ pub fn replay<P: Paths, O: Out + Drop, G: Progress>(
     )
 }
 
-// A board after the steps of a schedule.
+// A board after the steps of a schedule, for which it has just the room.
 fn board_of<G: Progress>(
     alloc: Global,
     setup: &Setup,
-    course: Course,
+    course: &Course,
     progress: &mut G,
 ) -> Result<Board, Refusal>
     ensures made { IfOk result (IsBoardOf setup.now) }
-    ensures steps { IfOk result (λ board. AreOf course (cores_stepped board)) }
+    ensures steps { IfOk result (λ board. (steps : List (Pick × Outcome)) × HasMade board steps
+        × AreOf course.now (picks_made steps)) }
 {
-    match course {
-        Course::Listed(steps) => replayed(alloc, setup, steps.as_slice(), progress),
-        Course::Drawn(drawn) => drawn_board(alloc, setup, drawn, progress),
+    let mut board = opened(alloc, setup, course.most())?;
+    course.check_cores(board.cores())?;
+    let cores = board.cores();
+    course.walk(alloc, cores, false, &mut board, progress)?;
+    Ok(board)
+}
+
+// A board before its first step, with room for so many, and for one at least.
+fn opened(alloc: Global, setup: &Setup, most: u64) -> Result<Board, Refusal>
+    ensures { IfOk result (λ board. IsNew setup.now.program setup.now.limits (max most 1) board) }
+{
+    match Board::new(alloc, &setup.program, setup.limits, most.max(1)) {
+        Ok(board) => Ok(board),
+        Err(fault) => Err(Refusal::Fault(Fault::Board(fault))),
     }
 }
 
@@ -96,7 +105,7 @@ fn compared<P: Paths, O: Out + Drop, G: Progress>(
     let memory = shown_memory(board.machine().view(), &setup.parts, sums)?;
     let serial = again(alloc, board)?;
     if path.is_some() {
-        record(path, cores_of(alloc, board)?.as_slice(), paths)?;
+        record(path, picks_of(alloc, board)?.as_slice(), paths)?;
     }
     let mut page = Gathered::new(out);
     if let Some(places) = places {
@@ -121,8 +130,8 @@ fn begun<P: Paths>(
     paths: &mut P,
 ) -> Result<(Setup, Course, Option<Places>), Refusal>
     ensures setup { IfOk result (λ r. IsAsked (P.content paths.old options.now.machine.file.now) options.now.machine r.0) }
-    ensures course { IfOk result (λ r. (cores : List ℕ) → AreOf r.1 cores →
-        AreAsked (P.content paths.old) options.now.schedule cores) }
+    ensures course { IfOk result (λ r. (picks : List Pick) → AreOf r.1 picks →
+        AreAsked (P.content paths.old) options.now.schedule picks) }
     ensures places { IfOk result (λ r. options.now.explains ≡ false → r.2 ≡ None) }
 {
     if options.explains {
@@ -176,96 +185,16 @@ fn text_of(agreement: Agreement) -> &'static [u8]
     }
 }
 
-// A board after these steps.
-fn replayed<G: Progress>(
-    alloc: Global,
-    setup: &Setup,
-    steps: &[u8],
-    progress: &mut G,
-) -> Result<Board, Refusal>
-    ensures { IfOk result (λ board. IsReplayed setup.now steps.now board) }
-{
-    let limit = (steps.len() as u64).max(1);
-    let board = Board::new(alloc, &setup.program, setup.limits, limit);
-    let mut board = board.map_err(Fault::Board)?;
-    step_all(&mut board, steps, progress)?;
-    Ok(board)
-}
-
-// A board after the steps that are drawn, until all cores have stopped or the limit is reached.
-fn drawn_board<G: Progress>(
-    alloc: Global,
-    setup: &Setup,
-    drawn: Drawn,
-    progress: &mut G,
-) -> Result<Board, Refusal>
-    ensures { IfOk result (IsBoardOf setup.now) }
-{
-    let board = Board::new(alloc, &setup.program, setup.limits, u64::from(drawn.most));
-    let mut board = board.map_err(Fault::Board)?;
-    let mut going = Going::all(board.cores());
-    let mut picker = drawn.picker();
-    for _ in 0..drawn.most {
-        if going.is_empty() {
-            break;
-        }
-        tell_made(&board, u64::from(drawn.most), progress);
-        let core = picker.next(&going, false);
-        step(&mut board, core)?;
-        if board.is_stopped(core) {
-            going.remove(core);
-        }
-    }
-    Ok(board)
-}
-
-// The core of each step of a board.
-fn cores_of(alloc: Global, board: &Board) -> Result<Vec<u8>, Refusal> {
-    let mut cores = Vec::new(alloc);
+// The pick of each step of a board: an event that aborted nothing is left out.
+fn picks_of(alloc: Global, board: &Board) -> Result<Vec<Pick>, Refusal> {
+    let mut picks = Vec::new(alloc);
     let history = board.history();
     for index in 0..history.len() {
-        if let Some((core, _outcome)) = history.get(index) {
-            if cores.push(core).is_err() {
+        if let Some(pick) = history.pick_at(index) {
+            if picks.push(pick).is_err() {
                 return Err(Refusal::Fault(Fault::Run(RunFault::NoMemory)));
             }
         }
     }
-    Ok(cores)
-}
-
-// Tells how many steps of at most so many a board has made, now and then.
-#[inline(always)]
-fn tell_made<G: Progress>(board: &Board, most: u64, progress: &mut G) {
-    let made = board.made();
-    if made % PORTION == 0 {
-        progress.tell(made, most, "steps");
-    }
-}
-
-// One step of each core of the list, none where a number is no core's.
-fn step_all<G: Progress>(board: &mut Board, steps: &[u8], progress: &mut G) -> Result<(), Refusal>
-    ensures same { SameBoard board.old board.new }
-    ensures stepped { OnOk result (cores_stepped board.new ≡ cores_stepped board.old ++ steps.now) }
-{
-    let cores = board.cores();
-    if steps.iter().any(|core| *core >= cores) {
-        return Err(Refusal::Fault(Fault::Run(RunFault::NoSuchCore)));
-    }
-    for core in steps {
-        tell_made(board, steps.len() as u64, progress);
-        step(board, *core)?;
-    }
-    Ok(())
-}
-
-// One step of a core.
-#[inline(always)]
-fn step(board: &mut Board, core: u8) -> Result<(), Refusal>
-    ensures same { SameBoard board.old board.new }
-    ensures stepped { OnOk result (cores_stepped board.new ≡ cores_stepped board.old ++ core ∷ []) }
-{
-    match board.step(core) {
-        Ok(_outcome) => Ok(()),
-        Err(fault) => Err(Refusal::Fault(Fault::Step(fault))),
-    }
+    Ok(picks)
 }

@@ -11,7 +11,7 @@ pub kept_before : (content : List ℕ → Option (List ℕ)) (options : RunOptio
     Keeps first begun → IsRunAsAsked content options setup machine begun ended → IsRunAsAsked content options setup machine first ended
 kept_before content options setup machine first begun ended kept run = record {
   asked = run.asked;
-  history = run.history;
+  made = run.made;
   steps = run.steps;
   ran = run.ran;
   lines = run.lines;

@@ -5,23 +5,24 @@ use Rattle.std.specs.Io.KnownBytes.{Appends}
 use Rattle.std.specs.List.{flat_map}
 use Rattle.elide_args.specs.declared.subcommand.RunOptions.{RunOptions}
 use Rattle.elide_setup.specs.Runs.{IsRunOf}
-use Rattle.elide_setup.specs.Schedules.{AreAsked, cores_of}
+use Rattle.tm_model.specs.declared.outcome.Outcome.{Outcome}
+use Rattle.tm_model.specs.declared.outcome.Pick.{Pick}
+use Rattle.elide_setup.specs.Schedules.{AreAsked, picks_made}
 use Rattle.elide_setup.specs.Setup.{IsAsked}
 use Rattle.elide_setup.specs.Shown.{IsShownOf, shown_text}
 use Rattle.elide_setup.specs.TmCore.Theorem.{ShownMachine as Machine}
 use Rattle.elide_setup.specs.TmHist.Lines.{outcome_line}
-use Rattle.elide_setup.specs.TmModel.Outcome.{Outcome}
 use Rattle.elide_setup.specs.declared.machine.Setup.{Setup}
 use Rattle.elide_setup.specs.declared.shown.ShownMemory.{ShownMemory}
 use Rattle.elide_run.specs.Halting.{asked_ending, asked_lines}
 use Rattle.elide_run.specs.declared.halting.Ending.{Ending}
 
 -- the lines of outcomes
-abbrev pub outcome_lines : List (ℕ × Outcome) → List ℕ
-outcome_lines steps = flat_map (λ step. outcome_line step.0 step.1) steps
+abbrev pub outcome_lines : List (Pick × Outcome) → List ℕ
+outcome_lines steps = flat_map (λ made. outcome_line made.0.core made.1) steps
 
 -- where they are asked for
-abbrev pub trace_text : Bool → List (ℕ × Outcome) → List ℕ
+abbrev pub trace_text : Bool → List (Pick × Outcome) → List ℕ
 trace_text traces steps = if traces then outcome_lines steps else []
 
 -- the machine is that of the options and of what FILE's content is read as, run by the rules along their schedule, and
@@ -29,11 +30,11 @@ trace_text traces steps = if traces then outcome_lines steps else []
 pub record IsRunAsAsked (content : List ℕ → Option (List ℕ)) (options : RunOptions) (setup : Setup) (machine : Machine)
     (before after : Option (List ℕ)) : Type 0 where
   pub asked : IsAsked (content options.machine.file.now) options.machine setup
-  pub history : List (ℕ × Outcome)
-  pub steps : AreAsked content options.schedule (cores_of history)
-  pub ran : IsRunOf setup.program setup.limits history machine
+  pub made : List (Pick × Outcome)
+  pub steps : AreAsked content options.schedule (picks_made made)
+  pub ran : IsRunOf setup.program setup.limits made machine
   pub lines : List ℕ
-  pub traced : options.explains ≡ false → lines ≡ trace_text options.traces history
+  pub traced : options.explains ≡ false → lines ≡ trace_text options.traces made
   pub wrote : Appends before after lines
 
 -- the state and what is asked for of memory was written, and below it, where it is expected that all cores stop, the

@@ -3,8 +3,9 @@
 ghost use Rattle.std.specs.Prelude.{◌≡◌, ℕ, IfOk, List, true};
 ghost use Rattle.ia_text.specs.Writing.{Wrote};
 ghost use Rattle.elide_setup.specs.Runs.{IsMachineStep, IsRunOf};
-ghost use Rattle.elide_setup.specs.Schedules.{AreOf, cores_of};
-ghost use Rattle.elide_setup.specs.TmModel.Outcome.{Outcome};
+ghost use Rattle.elide_setup.specs.Schedules.{AreOf, picks_made};
+ghost use Rattle.tm_model.specs.declared.outcome.Outcome.{Outcome};
+ghost use Rattle.tm_model.specs.declared.outcome.Pick.{Pick};
 ghost use Rattle.elide_run.specs.Printed.{IsRunAsAsked};
 
 use crate::opening::machine_of;
@@ -15,6 +16,7 @@ use elide_why::{
 };
 use ia_text::Out;
 use std::alloc::Global;
+use tm_model::Pick;
 
 /// Makes a run's steps, and prints the line of each abort with its reason, and the other outcomes where they are asked
 /// for; writes the schedule where there is a path.
@@ -60,8 +62,8 @@ fn stepped<T: StepTeller + Drop, P: Paths, O: Out + Drop, G: Progress>(
     page: Gathered<O>,
     progress: &mut G,
 ) -> Result<(Machine, Gathered<O>), Refusal>
-    ensures { IfOk result (λ r. (history : List (ℕ × Outcome)) × AreOf course.now (cores_of history)
-        × IsRunOf setup.now.program setup.now.limits history r.0 × (text : List ℕ)
+    ensures { IfOk result (λ r. (made : List (Pick × Outcome)) × AreOf course.now (picks_made made)
+        × IsRunOf setup.now.program setup.now.limits made r.0 × (text : List ℕ)
         × Wrote (⟦<Gathered<O> as Out>⟧.device page) (⟦<Gathered<O> as Out>⟧.device r.1) text) }
 {
     let machine = machine_of(alloc, setup, course)?;
@@ -82,10 +84,10 @@ trait StepTeller {
     fn tell_step<O: Out>(
         &mut self,
         machine: &mut Machine,
-        core: u8,
+        pick: Pick,
         out: &mut O,
     ) -> Result<Outcome, Refusal>
-        ensures step { IfOk result (λ outcome. IsMachineStep machine.old core outcome machine.new) }
+        ensures step { IfOk result (λ outcome. IsMachineStep machine.old pick outcome machine.new) }
         ensures told { IfOk result (λ _. (text : List ℕ) × Wrote (O.device out.old) (O.device out.new) text) };
 }
 
@@ -93,10 +95,10 @@ impl StepTeller for Teller<'_> {
     fn tell_step<O: Out>(
         &mut self,
         machine: &mut Machine,
-        core: u8,
+        pick: Pick,
         out: &mut O,
     ) -> Result<Outcome, Refusal> {
-        self.step(machine, core, out)
+        self.step(machine, pick, out)
     }
 }
 
@@ -109,12 +111,12 @@ struct Telling<T, O> {
 }
 
 impl<T: StepTeller, O: Out> StepMaker for Telling<T, O> {
-    ghost takes = { λ before core outcome after. IsMachineStep before.machine core outcome after.machine
+    ghost takes = { λ before pick outcome after. IsMachineStep before.machine pick outcome after.machine
         × (text : List ℕ)
         × Wrote (⟦<Gathered<O> as Out>⟧.device before.page) (⟦<Gathered<O> as Out>⟧.device after.page) text };
 
-    fn make_step(&mut self, core: u8) -> Result<Outcome, Refusal> {
+    fn make_step(&mut self, pick: Pick) -> Result<Outcome, Refusal> {
         self.teller
-            .tell_step(&mut self.machine, core, &mut self.page)
+            .tell_step(&mut self.machine, pick, &mut self.page)
     }
 }

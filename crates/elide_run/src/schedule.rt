@@ -3,9 +3,10 @@
 ghost use Rattle.std.specs.Prelude.{◌≡◌, ℕ, IfOk, List, false};
 ghost use Rattle.ia_text.specs.Writing.{Wrote};
 ghost use Rattle.elide_setup.specs.Runs.{IsMachineStep, IsRunOf};
-ghost use Rattle.elide_setup.specs.Schedules.{AreOf, cores_of};
+ghost use Rattle.elide_setup.specs.Schedules.{AreOf, picks_made};
 ghost use Rattle.elide_setup.specs.TmHist.Lines.{outcome_line};
-ghost use Rattle.elide_setup.specs.TmModel.Outcome.{Outcome};
+ghost use Rattle.tm_model.specs.declared.outcome.Outcome.{Outcome};
+ghost use Rattle.tm_model.specs.declared.outcome.Pick.{Pick};
 ghost use Rattle.elide_run.specs.Printed.{IsPrinted, IsRunAsAsked, IsTold, trace_text};
 
 use crate::explained::run_explained;
@@ -18,6 +19,7 @@ use elide_why::{
 };
 use ia_text::Out;
 use std::alloc::Global;
+use tm_model::Pick;
 
 /// Runs a schedule of core steps, and prints the outcomes where they are asked for, the reasons of the aborts where these
 /// are, the state, and what is asked for of memory; and where it is expected that all cores stop, those that did not. Answers whether
@@ -75,10 +77,10 @@ fn stepped<P: Paths, O: Out + Drop, G: Progress>(
     page: Gathered<O>,
     progress: &mut G,
 ) -> Result<(Machine, Gathered<O>), Refusal>
-    ensures { IfOk result (λ r. (history : List (ℕ × Outcome)) × AreOf course.now (cores_of history)
-        × IsRunOf setup.now.program setup.now.limits history r.0
+    ensures { IfOk result (λ r. (made : List (Pick × Outcome)) × AreOf course.now (picks_made made)
+        × IsRunOf setup.now.program setup.now.limits made r.0
         × Wrote (⟦<Gathered<O> as Out>⟧.device page) (⟦<Gathered<O> as Out>⟧.device r.1)
-        (trace_text options.now.traces history)) }
+        (trace_text options.now.traces made)) }
 {
     let mut machine = machine_of(alloc, setup, course)?;
     let cores = machine.cores();
@@ -100,13 +102,13 @@ struct Tracing<O> {
 }
 
 impl<O: Out> StepMaker for Tracing<O> {
-    ghost takes = { λ before core outcome after. IsMachineStep before.machine core outcome after.machine
+    ghost takes = { λ before pick outcome after. IsMachineStep before.machine pick outcome after.machine
         × Wrote (⟦<Gathered<O> as Out>⟧.device before.page) (⟦<Gathered<O> as Out>⟧.device after.page)
-        (outcome_line core outcome) };
+        (outcome_line pick.core outcome) };
 
-    fn make_step(&mut self, core: u8) -> Result<Outcome, Refusal> {
-        let outcome = self.machine.make_step(core)?;
-        write_outcome(core, &outcome, &mut self.page)?;
+    fn make_step(&mut self, pick: Pick) -> Result<Outcome, Refusal> {
+        let outcome = self.machine.make_step(pick)?;
+        write_outcome(pick.core, &outcome, &mut self.page)?;
         Ok(outcome)
     }
 }
