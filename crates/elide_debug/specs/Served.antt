@@ -4,6 +4,7 @@ use Rattle.ia_text.specs.Writing.{Device}
 use Rattle.debug_command.specs.declared.manner.Manner.{Manner}
 use Rattle.debug_command.specs.declared.manner.Manner.TheVariants.{Plain, Spoken}
 use Rattle.debug_command.specs.declared.symbol.Symbol.{Symbol}
+use Rattle.tm_model.specs.declared.outcome.Pick.{Pick}
 use Rattle.elide_session.specs.TmDebug.Serving.{BehindPrompt, ServesInput}
 use Rattle.elide_session.specs.TmDebug.Session.{start_in}
 use Rattle.elide_session.specs.TmHist.Board.{ShownBoard as Board}
@@ -21,12 +22,13 @@ pub record IsServed (options : SessionOptions) (terminals : Terminals) (content 
     (old new : Device) : Type 0 where
   pub first : Board
   pub last : Board
-  pub plan : List ℕ
+  pub plan : List Pick
   pub planned : is_scheduled options.schedule ≡ false → plan ≡ []
   pub symbols : List Symbol
   pub opened : IsOpened content options.machine first symbols
   pub labels : List Symbol
   pub manner : Manner
   pub speaks : manner ≡ manner_at terminals
-  pub answers : BehindPrompt manner old
+  pub answers :
+      BehindPrompt manner old
       (λ begun. ServesInput input left (start_in manner plan symbols labels first) begun new last)

@@ -24,6 +24,7 @@ use std::alloc::{AllocError, Global};
 use symbols::{labels_of, symbols_of};
 pub use tm_debug::{In, Manner, serve_in};
 use tm_debug::{Board, Names, SessionFault};
+use tm_model::Pick;
 
 /// How many steps a session can make.
 const MOST_STEPS: u64 = 1_000_000;
@@ -33,8 +34,8 @@ const MOST_STEPS: u64 = 1_000_000;
 pub struct Opening {
     /// The board of a machine before its first step, with room for 1,000,000 of them.
     pub board: Board,
-    /// The core of each step of the schedule: none, where no schedule is asked for.
-    pub plan: Vec<u8>,
+    /// The picks of the schedule: none, where no schedule is asked for.
+    pub plan: Vec<Pick>,
     /// The symbols of the program, and its labels, where they are wanted.
     pub names: Names,
 }
@@ -78,8 +79,8 @@ pub fn session_fault(fault: &SessionFault) -> Fault
     }
 }
 
-// Whether a schedule is asked for. A limit alone is refused where the schedule is read.
-fn is_scheduled(schedule: &ScheduleOptions<'_>) -> bool
+/// Whether a schedule is asked for, which may have no steps. A limit alone is refused where the schedule is read.
+pub fn is_scheduled(schedule: &ScheduleOptions<'_>) -> bool
     ensures { result ≡ is_scheduled schedule.now }
 {
     schedule.steps.is_some()
@@ -129,8 +130,8 @@ fn names_of(
     Ok(Names { symbols, labels })
 }
 
-// The core of each step of a schedule: of one that is drawn, as a run on a machine of its own draws it.
-fn plan_of(alloc: Global, setup: &Setup, course: Course) -> Result<Vec<u8>, Refusal> {
+// The picks of a schedule: of one that is drawn, as a run on a machine of its own draws it.
+fn plan_of(alloc: Global, setup: &Setup, course: Course) -> Result<Vec<Pick>, Refusal> {
     match course {
         Course::Listed(steps) => Ok(steps),
         drawn => {
