@@ -22,9 +22,10 @@ use elide_checks::{
     record, record_path,
 };
 use ia_text::Out;
-use std::alloc::Global;
+use std::alloc::{AllocError, Global};
 use std::thread::Threads;
 use tm_hunt::{Failure, Found, Search, Trial, shorten, usual_length};
+use tm_model::Pick;
 use tm_pick::Plan;
 
 /// What a search came to.
@@ -57,9 +58,22 @@ pub fn hunt<R: Threads + Sync + AllocGlobal, P: Paths, O: Out + Drop, G: Progres
     progress.end();
     let (search, before) = made?;
     if let Some(found) = &search.found {
-        record(path, found.failure.cores.as_slice(), paths)?;
+        let picks = picks_of(rt.alloc(), found.failure.cores.as_slice())?;
+        record(path, picks.as_slice(), paths)?;
     }
     tell(options, &search, before, out)
+}
+
+// The steps of these cores, none under an event.
+fn picks_of(alloc: Global, cores: &[u8]) -> Result<Vec<Pick>, AllocError> {
+    let mut picks = Vec::with_capacity(alloc, cores.len())?;
+    for core in cores {
+        picks.push(Pick {
+            core: *core,
+            event: None,
+        })?;
+    }
+    Ok(picks)
 }
 
 // Prints what a search came to.

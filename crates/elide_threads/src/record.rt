@@ -3,31 +3,32 @@
 use elide_setup::{Board, Fault, Gathered, Lent, Paths, Refusal, Text};
 use ia_text::{Out, WriteFault};
 use std::alloc::{AllocError, Global};
+use tm_model::Pick;
 use tm_schedule::write_schedule;
 
 /// The schedule that comes about, and the path of the file that it is for. Its memory is taken before the first step.
 #[derive(Drop)]
 pub struct Record<'a> {
     path: &'a str,
-    cores: Vec<u8>,
+    picks: Vec<Pick>,
 }
 
 impl<'a> Record<'a> {
     /// Room for all the steps that a board can make.
     pub fn reserve(alloc: Global, path: &'a str, board: &Board) -> Result<Record<'a>, AllocError> {
-        let cores = Vec::with_capacity(alloc, board.limit() as usize)?;
-        Ok(Record { path, cores })
+        let picks = Vec::with_capacity(alloc, board.limit() as usize)?;
+        Ok(Record { path, picks })
     }
 
     /// Writes the schedule of a board's steps.
     pub fn write<P: Paths>(mut self, board: &Board, paths: &mut P) -> Result<(), Refusal> {
         let history = board.history();
         for index in 0..history.len() {
-            if let Some((core, _outcome)) = history.get(index) {
-                self.cores.push(core).map_err(|_| AllocError)?;
+            if let Some(pick) = history.pick_at(index) {
+                self.picks.push(pick).map_err(|_| AllocError)?;
             }
         }
-        let schedule = Schedule(self.cores.as_slice());
+        let schedule = Schedule(self.picks.as_slice());
         match paths.write(self.path, &schedule) {
             Ok(()) => Ok(()),
             Err(_) => Err(Refusal::Fault(Fault::Output)),
@@ -35,9 +36,9 @@ impl<'a> Record<'a> {
     }
 }
 
-// The text of a schedule of these cores.
+// The text of a schedule of these steps.
 #[derive(Clone, Copy)]
-struct Schedule<'a>(&'a [u8]);
+struct Schedule<'a>(&'a [Pick]);
 
 impl Text for Schedule<'_> {
     fn write_to<O: Out>(&self, out: &mut O) -> Result<(), WriteFault> {
