@@ -110,7 +110,8 @@ fn advise_steps<O: Out>(schedule: &ScheduleOptions<'_>, page: &mut Page<'_, O>) 
 // What is wrong with a list of steps.
 fn advise_list<O: Out>(list: &str, page: &mut Page<'_, O>) -> fmt::Result {
     for (index, character) in list.chars().enumerate() {
-        if !character.is_ascii_digit() && !character.is_ascii_whitespace() {
+        let stands_in_a_step = character.is_ascii_digit() || matches!(character, 'i' | 'e' | 's');
+        if !stands_in_a_step && !character.is_ascii_whitespace() {
             let column = index.saturating_add(1);
             return writeln!(
                 page,
@@ -118,7 +119,10 @@ fn advise_list<O: Out>(list: &str, page: &mut Page<'_, O>) -> fmt::Result {
             );
         }
     }
-    writeln!(page, "--steps takes core numbers of 0 to 255")
+    writeln!(
+        page,
+        "--steps takes core numbers of 0 to 255, and i, e or s behind those under an event"
+    )
 }
 
 // What is wrong with a list of entries.

@@ -35,8 +35,9 @@ pub fn advise_core<P: Paths, O: Out>(
         return Ok(());
     };
     let cores = cores_of(machine);
-    for (index, core) in steps.as_slice().iter().enumerate() {
-        if u32::from(*core) >= cores {
+    for (index, pick) in steps.as_slice().iter().enumerate() {
+        let core = pick.core;
+        if u32::from(core) >= cores {
             let step = index.saturating_add(1);
             return writeln!(page, "step {step} names core {core} of {cores}");
         }
@@ -59,11 +60,12 @@ pub fn advise_schedule<P: Paths, O: Out>(
     };
     match fault {
         ScheduleFault::BadSchedule(1) => {
-            let meaning = "the first line is 'schedule 1' or 'schedule 2'";
+            let meaning = "the first line is 'schedule 1', 'schedule 2' or 'schedule 3'";
             write_line(path, 1, meaning, paths, page)
         }
         ScheduleFault::BadSchedule(line) => {
-            let meaning = "core numbers of 0 to 255 between spaces; below 'schedule 2' also c*n";
+            let meaning =
+                "core numbers of 0 to 255 between spaces; below 'schedule 2' also c*n, below 'schedule 3' ci, ce, cs too";
             write_line(path, line, meaning, paths, page)
         }
         ScheduleFault::TooManySteps(line) => {

@@ -20,7 +20,7 @@ fn program_line<'a>(alloc: Global) -> Result<Command<'a>, AllocError> {
             .about(
                 "Simulates a multicore IA-32 machine with Intel Restricted Transactional Memory.",
             )
-            .version("0.2.0")
+            .version("0.3.0")
             .bin_name("elide")?
             .no_binary_name(true)
             .subcommand_required(true)

@@ -111,13 +111,13 @@ pub const SHOW_VALUE: OptionText = OptionText {
 pub const STEPS: OptionText = OptionText {
     name: "steps",
     form: Form::Value("LIST"),
-    help: "The schedule: core numbers, as \"0 1 0 1\"",
+    help: "The schedule: core numbers, as \"0 1 0 1\"; 0i, 0e, 0s: under an interrupt, an eviction, a snoop",
 };
 
 pub const SCHEDULE: OptionText = OptionText {
     name: "schedule",
     form: Form::Value("PATH"),
-    help: "The schedule: a file whose first line is `schedule 1` or `schedule 2`",
+    help: "The schedule: a file whose first line is `schedule 1`, `schedule 2` or `schedule 3`",
 };
 
 pub const TRACE: OptionText = OptionText {

@@ -143,8 +143,8 @@ const HISTORY: &str = "\
     Example: a board for 16,777,216 steps in a process of 50 MB
 52 BadSchedule
     From this line on the file is no schedule text.
-    To do: the first line is `schedule 1` or `schedule 2`, the others are core numbers, in the second form also c*n; see
-    `Schedules` in docs/FORMATS.md.
+    To do: the first line is `schedule 1`, `schedule 2` or `schedule 3`, the others are core numbers, from the second form
+    on also c*n, in the third also ci, ce and cs; see `Schedules` in docs/FORMATS.md.
     Example: 0,1 in place of 0 1
 53 NotARun
     Of the library's `serial`: a history is no run of the program. `replay` never tells it: a board's history is one.
