@@ -3,7 +3,8 @@
 use Rattle.std.specs.Prelude.{◌≡◌, ◌≢◌, ℕ, ◌<◌, ◌==◌, ◌||◌, Bool, true, false, ◌⊎◌, List, [], ◌∷◌, ◌++◌, length, All}
 use Rattle.std.specs.Prelude.{Some, None}
 use Rattle.gdb_packet.specs.declared.heard.Heard.{Heard}
-use Rattle.gdb_packet.specs.declared.heard.Heard.TheVariants.{Nothing, Packet, Damaged, TooLong, Interrupt, Received, Resend}
+use Rattle.gdb_packet.specs.declared.heard.Heard.TheVariants.{Nothing, Packet, Damaged, TooLong, Interrupt}
+use Rattle.gdb_packet.specs.declared.heard.Heard.TheVariants.{Received, Resend}
 use Rattle.gdb_packet.specs.declared.heard.Heard.TheVariants.{Stray}
 use Rattle.gdb_packet.specs.declared.reader.Place.{Place}
 use Rattle.gdb_packet.specs.declared.reader.Place.TheVariants.{Outside, Text, Checksum, LastDigit}

@@ -83,7 +83,7 @@ fn steps_under_events_are_read(rt: HostRuntime) -> Result<(), ScheduleFault> {
     Ok(())
 }
 
-// No event stands in the first two forms, no other letter in the third, and no run in a list of steps.
+// No event stands in the first two forms, and no other letter in the third.
 #[test]
 fn no_steps(rt: HostRuntime) {
     let refused = [
@@ -123,6 +123,10 @@ fn no_steps(rt: HostRuntime) {
             Err(told) => assert_eq!(rt; told, *fault),
         }
     }
+}
+
+#[test]
+fn no_run_in_a_list(rt: HostRuntime) {
     match read_steps(rt.alloc(), b"0i*2") {
         Ok(_picks) => assert!(rt; false, "a run is read in a list of steps"),
         Err(told) => assert_eq!(rt; told, ScheduleFault::BadSchedule(1)),

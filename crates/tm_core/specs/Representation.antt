@@ -78,8 +78,8 @@ cpu_at cpus number = slice_index_or cpus number no_cpu
 abbrev pub cpu_views : Content → List Cpu → ℕ → View
 cpu_views content cpus number = cpu_view content number (cpu_at cpus number)
 
--- a view, with the order and the number of the lines of the buffer, the slots that these lines hold there, and the slots
--- that the sets tell of lines
+-- a view, with the order and the number of the lines of the buffer, the slots that these lines hold there, and the
+-- slots that the sets tell of lines
 pub record KeptCore : Type 0 where
   pub view : View
   pub order : List ℕ

@@ -84,8 +84,8 @@ pub record IsRun (start now : ShownMachine) (state : State) (doomed : Doomed) (h
 
 -- ---- several steps at once
 
--- from each state that the machine stands for it takes these steps, none an abort from outside of the program, so that a
--- run goes on with them; no core that has stopped goes on
+-- from each state that the machine stands for it takes these steps, none an abort from outside of the program, so that
+-- a run goes on with them; no core that has stopped goes on
 pub record TakesAll (before after : ShownMachine) (history : List (ℕ × Outcome)) : Type 0 where
   pub same : SameMachine before after
   pub tells : TellNoAbort history

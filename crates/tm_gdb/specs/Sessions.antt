@@ -5,7 +5,8 @@ use Rattle.gdb_command.specs.declared.command.Command.TheVariants as command
 use Rattle.gdb_command.specs.declared.command.Question.TheVariants as question
 use Rattle.gdb_command.specs.Commands.{known_command}
 use Rattle.gdb_packet.specs.declared.heard.Heard.{Heard}
-use Rattle.gdb_packet.specs.declared.heard.Heard.TheVariants.{Nothing, Packet, Damaged, TooLong, Interrupt, Received, Resend}
+use Rattle.gdb_packet.specs.declared.heard.Heard.TheVariants.{Nothing, Packet, Damaged, TooLong, Interrupt}
+use Rattle.gdb_packet.specs.declared.heard.Heard.TheVariants.{Received, Resend}
 use Rattle.gdb_packet.specs.declared.heard.Heard.TheVariants.{Stray}
 use Rattle.gdb_packet.specs.declared.reader.Reader.{Reader}
 use Rattle.gdb_packet.specs.Packet.{framed}
@@ -33,8 +34,8 @@ pub record IsAnswered (packet : List ℕ) (wanted : Bool) (target : Target) (new
   pub answers : Answers command target new text
   pub wrote : Wrote before after (acknowledgement wanted ++ reply_text command text)
 
--- what is done of what was heard: a packet is answered, one that was damaged or is too long is refused by a -, and of all
--- else the board stays as it is
+-- what is done of what was heard: a packet is answered, one that was damaged or is too long is refused by a -, and of
+-- all else the board stays as it is
 abbrev pub IsDone : Heard → Bool → Target → ShownBoard → Device → Device → Type 0
 IsDone (Packet bytes) wanted target new before after = IsAnswered bytes.items wanted target new before after
 IsDone Damaged wanted target new before after = (new ≡ target.board) × Wrote before after (45 ∷ [])

@@ -14,8 +14,8 @@ use Rattle.tm_why.specs.Watched.{Told, hit_in, hit_on}
 abbrev pub AreStanding : Doomed → List Told → Type 0
 AreStanding doomed steps = (core : ℕ) → is_some (doomed core) ≡ is_some (hit_in core steps)
 
--- where it is so, it is so behind each step, under an event or under none, that is owed and of which the hits were told:
--- so from a run's begin on, where no core is doomed and no step was told
+-- where it is so, it is so behind each step, under an event or under none, that is owed and of which the hits were
+-- told: so from a run's begin on, where no core is doomed and no step was told
 abbrev pub HitsStand : Type 0
 HitsStand =
     (event : Option Event) (setting : Setting) (state : State) (doomed : Doomed) (asked : Asked) (earlier : List Told) →
