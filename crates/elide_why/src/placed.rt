@@ -1,6 +1,7 @@
 //! What a command that tells of the places of its source begins with.
 
-ghost use Rattle.std.specs.Prelude.{ℕ, IfOk, List};
+ghost use Rattle.std.specs.Prelude.{IfOk, List};
+ghost use Rattle.tm_model.specs.declared.outcome.Pick.{Pick};
 ghost use Rattle.elide_setup.specs.ElideProgram.ProgramFile.{IsFile};
 ghost use Rattle.elide_setup.specs.ElideProgram.ProgramFileType.{ProgramFile};
 ghost use Rattle.elide_setup.specs.Schedules.{AreAsked, AreOf, ArePlanned};
@@ -20,8 +21,8 @@ pub fn scheduled_places<P: Paths>(
     paths: &mut P,
 ) -> Result<(Setup, Course, Places), Refusal>
     ensures setup { IfOk result (λ r. IsAsked (P.content paths.old machine.now.file.now) machine.now r.0) }
-    ensures course { IfOk result (λ r. (cores : List ℕ) → AreOf r.1 cores →
-        AreAsked (P.content paths.old) schedule.now cores) }
+    ensures course { IfOk result (λ r. (picks : List Pick) → AreOf r.1 picks →
+        AreAsked (P.content paths.old) schedule.now picks) }
 {
     let settings = Settings::read(machine)?;
     let plan = Plan::read(alloc, schedule)?;
@@ -40,8 +41,8 @@ fn places_of_text<P: Paths>(
     paths: &mut P,
 ) -> Result<(Setup, Course, Places), Refusal>
     ensures setup { IfOk result (λ r. (file : ProgramFile) × IsFile text.now file × IsSetup file settings.now r.0) }
-    ensures course { IfOk result (λ r. (cores : List ℕ) → AreOf r.1 cores →
-        ArePlanned (P.content paths.old) plan.entry cores) }
+    ensures course { IfOk result (λ r. (picks : List Pick) → AreOf r.1 picks →
+        ArePlanned (P.content paths.old) plan.entry picks) }
 {
     let file = ProgramFile::read(alloc, text)?;
     let (setup, course) = planned(alloc, settings, plan, &file, paths)?;
