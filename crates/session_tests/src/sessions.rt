@@ -14,7 +14,7 @@ use tm_debug::{
     CommandName, FromReader, In, MOST_BREAKPOINTS, Manner, Names, Range, Refusal, SessionFault,
     serve, serve_in,
 };
-use tm_hist::Board;
+use tm_hist::{Board, Event, Interference, Pick};
 
 const LIMITS: Limits = Limits {
     read_lines: 512,
@@ -40,12 +40,22 @@ fn no_names(alloc: Global) -> Names {
     }
 }
 
+// A step of a core under no event.
+fn plain(core: u8) -> Pick {
+    Pick { core, event: None }
+}
+
 // A command refuses such a schedule before the session.
 #[test]
 fn a_plan_ends_at_a_core_that_there_is_not(rt: HostRuntime) {
     let mut input = FromReader::new(Cursor::new(b"next 4\nnext 2\nnext 3\n".as_slice()));
     let mut out = ToVec::new(Vec::new(rt.alloc()));
-    let plan = Vec::from_slice(rt.alloc(), &[0, 1, 1, 0, 9]).expect(&rt, "memory");
+    let interrupted = Pick {
+        core: 0,
+        event: Some(Event::Abort(Interference::Interrupt)),
+    };
+    let steps = [plain(0), plain(1), plain(1), interrupted, plain(9)];
+    let plan = Vec::from_slice(rt.alloc(), &steps).expect(&rt, "memory");
     let board = serve_in(
         &rt,
         rt.alloc(),
@@ -60,7 +70,7 @@ fn a_plan_ends_at_a_core_that_there_is_not(rt: HostRuntime) {
     assert_eq!(rt; board.made(), 4);
     assert_eq!(rt;
         out.bytes.as_slice(),
-        b"0 begun\n1 begun\n1 inside\n0 inside\nerror 72\nerror 72\nbye\n".as_slice()
+        b"0 begun\n1 begun\n1 inside\n0 aborted 00000000 interrupt\nerror 72\nerror 72\nbye\n".as_slice()
     );
 }
 
