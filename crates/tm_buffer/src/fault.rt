@@ -19,7 +19,7 @@ impl Full {
     }
 }
 
-/// There is no memory for the buffer's slots.
+/// There is no memory for the buffer.
 #[derive(Clone, Copy, PartialEq, Eq, Debug, Drop, Error)]
 #[error("NoMemory")]
 pub struct NoMemory;

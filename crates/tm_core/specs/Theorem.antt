@@ -1,7 +1,7 @@
 -- What a machine promises. It stands for a state of one flat memory with its doomed cores, and so it does after each
 -- step: the step is one of that memory, on which each committed transaction ran alone at its XEND (SDM volume 1,
 -- 16.2.1), with the outcome that is owed. What each of these words means stands in tm_model.
-use Rattle.std.specs.Prelude.{◌≡◌, ℕ, zero, suc, ◌<◌, List, [], ◌∷◌, ◌++◌, length, slice_index_or, Option, Some, None}
+use Rattle.std.specs.Prelude.{◌≡◌, ℕ, zero, suc, ◌<◌, List, [], ◌∷◌, ◌++◌, All, length, slice_index_or, Option, Some, None}
 use Rattle.tm_model.specs.IaImage.Program.{ProgramValue as Program}
 use Rattle.tm_rule.specs.declared.kinds.Stop.{Stop}
 use Rattle.tm_sets.specs.declared.interface.Kind.{Kind}
@@ -63,7 +63,7 @@ pub record TakesStepUnder (event : Option Event) (before after : ShownMachine) (
 abbrev pub TakesStep : ShownMachine → ShownMachine → State → Doomed → ℕ → Outcome → Type 0
 TakesStep before after state doomed number outcome = TakesStepUnder None before after state doomed number outcome
 
--- the same of a history: the steps, each a core and its outcome
+-- the same of a history, the steps, each a core and its outcome, under the events that its outcomes tell of
 pub record TakesSteps (before after : ShownMachine) (state : State) (doomed : Doomed) (history : List (ℕ × Outcome))
     : Type 0 where
   pub are_owed : AreOwed (machine_setting before) state doomed history
@@ -84,6 +84,11 @@ pub record IsRun (start now : ShownMachine) (state : State) (doomed : Doomed) (h
 
 -- ---- several steps at once
 
+-- no core that has stopped goes on
+abbrev pub StayStopped : ShownMachine → ShownMachine → Type 0
+StayStopped before after = (other : ℕ) (stop : Stop) → other < length before.views →
+    (view_at before other).mode ≡ AtStop stop → (view_at after other).mode ≡ AtStop stop
+
 -- from each state that the machine stands for it takes these steps, none an abort from outside of the program, so that
 -- a run goes on with them; no core that has stopped goes on
 pub record TakesAll (before after : ShownMachine) (history : List (ℕ × Outcome)) : Type 0 where
@@ -93,8 +98,13 @@ pub record TakesAll (before after : ShownMachine) (history : List (ℕ × Outcom
       TakesSteps before after state doomed history
   pub runs : (start : ShownMachine) (state : State) (doomed : Doomed) (earlier : List (ℕ × Outcome)) →
       IsRun start before state doomed earlier → IsRun start after state doomed (earlier ++ history)
-  pub stops : (other : ℕ) (stop : Stop) → other < length before.views →
-      (view_at before other).mode ≡ AtStop stop → (view_at after other).mode ≡ AtStop stop
+  pub stops : StayStopped before after
+
+-- so many steps of the core of this number alone
+abbrev pub TakesAlone : ShownMachine → ShownMachine → ℕ → ℕ → Type 0
+TakesAlone before after number count =
+    (history : List (ℕ × Outcome)) × (length history ≡ count) × All (λ (made : ℕ × Outcome). made.0 ≡ number) history
+    × TakesAll before after history
 
 -- so many instructions outside of transactions
 abbrev pub plain_steps : ℕ → ℕ → List (ℕ × Outcome)

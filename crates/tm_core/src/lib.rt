@@ -19,7 +19,9 @@
 //! `Machine::transact` makes the steps of a whole transaction as one, where no other core steps between: its instructions
 //! run on registers alone, and its stores go to memory at its XEND. Its proof goes by the isolated body of `tm_model`, which
 //! is what it runs (`specs/AtOnce.antt`). `Machine::steps_on_registers` makes as many steps outside of transactions as touch
-//! no memory, which no other core sees.
+//! no memory, which no other core sees. `Machine::steps_alone` makes steps of any kind of one core, one behind the other, as
+//! one call: in place where no other core sees them (`specs/InPlace.antt`), and else as the two calls above and as
+//! `Machine::step`.
 //!
 //! Stands on `tm_rule` (one instruction), `tm_status`, `tm_sets` (read and write sets), `tm_buffer` (a transaction's
 //! bytes) and `ia_image` (programs). Memory is asked for only where a machine is made and by the answers of `run` and
@@ -37,6 +39,7 @@ mod explain_laws;
 mod explain_reach;
 mod explain_reason;
 mod fault;
+mod in_place;
 mod laws;
 mod limits;
 mod machine;
@@ -46,6 +49,7 @@ mod opening;
 mod seen;
 mod start;
 mod step;
+mod steps_alone;
 mod touches;
 mod transact;
 mod transaction;
