@@ -1,25 +1,35 @@
-//! Schedules that nobody writes down: which core steps next, in turn or by chance.
+//! Schedules that nobody writes down: which core steps next, in turn or by chance, and under which event.
 //!
-//! A [`Picker`] picks the core of one step after another, among those that have not stopped ([`Going`]). What it picks
-//! is a function of the numbers that it was made from and of what it was told of the cores, so that a run by chance is
-//! the same on every machine. Its chance is xoshiro256++ of the crate `rand_xoshiro`, seeded by SplitMix64. Takes no
-//! memory.
+//! A [`Picker`] picks one step after another: a core, among those that have not stopped ([`Going`]), and the event that
+//! its step comes under, where it was put under [`Events`]. What it picks is a function of the numbers that it was made
+//! from and of what it was told of the cores, so that a run by chance is the same on every machine. Its chance is
+//! xoshiro256++ of the crate `rand_xoshiro`, seeded by SplitMix64; an [`Interferer`] draws the events from a generator
+//! of their own. Takes no memory.
 //!
-//! Promised: a pick is one of the cores that have not stopped. Stands on `ia_image` and `tm_core` for the instruction
+//! Promised: a pick's core is one that has not stopped; its event is of the kinds that were asked for, and it has none
+//! where none were. Stands on `ia_image` and `tm_core` for the instruction
 //! that a core is at.
 #![tactic(auto)]
 
 mod bursts;
 mod chance;
+mod events;
 mod front;
 mod going;
+mod interferer;
+mod kinds;
+mod lot;
+mod manner;
 mod method;
 mod picker;
 mod priorities;
 mod tail;
 mod waiting;
 
+pub use events::Events;
 pub use going::Going;
+pub use interferer::Interferer;
+pub use kinds::Kinds;
 pub use method::{Method, Plan};
 pub use picker::Picker;
 pub use waiting::is_waiting;

@@ -1,8 +1,11 @@
 //! How the steps of a run by chance are drawn.
 
-ghost use Rattle.std.specs.Prelude.{◌≤◌};
+ghost use Rattle.std.specs.Prelude.{◌≡◌, ◌≤◌};
+ghost use Rattle.tm_pick.specs.Drawn.{AreDrawn};
+ghost use Rattle.tm_pick.specs.Kinds.{no_kinds};
 
 use crate::chance::Chance;
+use crate::events::Events;
 use crate::picker::Picker;
 
 /// How the core of each step is drawn.
@@ -27,13 +30,25 @@ pub struct Plan {
     pub method: Method,
     /// How many steps a run takes, about: up to where priorities fall.
     pub length: u32,
+    /// Which events its steps come under.
+    pub events: Events,
 }
 
 impl Plan {
-    /// What picks the cores of the run of this number, for a machine of so many cores: a function of the plan and the
-    /// two.
+    /// What picks the steps of the run of this number, for a machine of so many cores: a function of the plan and the
+    /// two. Its cores are drawn from the same numbers whatever its events are.
     pub fn run(self, run: u32, cores: u8) -> Picker<'static>
         requires { cores ≤ 64 }
+        ensures { AreDrawn self.events result }
+    {
+        self.cores_of_run(run, cores)
+            .under(self.events.of_run(self.seed, run))
+    }
+
+    // What picks the cores of the run of this number.
+    fn cores_of_run(self, run: u32, cores: u8) -> Picker<'static>
+        requires { cores ≤ 64 }
+        ensures { result ≡ no_kinds }
     {
         let chance = Chance::of_run(self.seed, run);
         match self.method.of_run(run) {

@@ -1,77 +1,83 @@
-//! What picks the core of each step.
+//! What picks each step.
 
-ghost use Rattle.std.specs.Prelude.{◌<◌, ◌≤◌, Contains, length};
+ghost use Rattle.std.specs.Prelude.{◌≡◌, ◌<◌, ◌≤◌, Contains, None, length};
+ghost use Rattle.tm_pick.specs.Kinds.{AreAmong, AreOfKinds, IsOfKinds, no_kinds};
+ghost use Rattle.tm_pick.specs.Sources.{both_kinds, kinds_listed};
+ghost use Rattle.tm_pick.specs.declared.kinds.Kinds.{Kinds};
 
-use crate::bursts::{Bursts, any};
+use crate::bursts::Bursts;
 use crate::chance::Chance;
 use crate::front::Front;
 use crate::going::Going;
+use crate::interferer::Interferer;
+use crate::kinds::Kinds;
+use crate::manner::Manner;
 use crate::priorities::Priorities;
+use std::marker::Model;
+use tm_model::{Event, Pick};
 
-/// What picks the core of one step after another.
+/// What picks one step after another: its core, and the event that it comes under, if any. Contracts see the kinds of
+/// the events that may come.
 #[derive(Drop)]
 pub struct Picker<'a> {
     manner: Manner<'a>,
+    interferer: Interferer,
 }
 
-// How the cores are picked.
-#[derive(Drop)]
-enum Manner<'a> {
-    // Round by round, from this core on.
-    InTurn(u8),
-    // Each core as likely as another.
-    Uniform(Chance),
-    // Bursts of random length.
-    Bursts(Bursts),
-    // By random priorities.
-    Priorities(Priorities),
-    // A list, and then one core after another to its end.
-    Front(Front<'a>),
+impl<'a> Model for Picker<'a> {
+    ghost use Rattle.tm_pick.specs.Sources.{both_kinds, kinds_listed};
+    ghost use Rattle.tm_pick.specs.declared.kinds.Kinds.{Kinds};
+
+    ghost Value = { Kinds };
+
+    ghost view = { λ picker. both_kinds (kinds_listed picker.manner) picker.interferer };
 }
 
 impl<'a> Picker<'a> {
     /// Round by round, from core 0 on.
-    pub fn in_turn() -> Picker<'a> {
-        Picker {
-            manner: Manner::InTurn(0),
-        }
+    pub fn in_turn() -> Picker<'a>
+        ensures { result ≡ no_kinds }
+    {
+        Picker::of_manner(Manner::InTurn(0))
     }
 
     /// Each core as likely as another, by this seed.
-    pub fn random(seed: u32) -> Picker<'a> {
+    pub fn random(seed: u32) -> Picker<'a>
+        ensures { result ≡ no_kinds }
+    {
         Picker::uniform(Chance::of_run(seed, 0))
     }
 
     /// The steps of a list, of which those of cores that have stopped are left out; and behind them one core after
-    /// another to its end, the core of the last step first.
-    pub fn front(steps: &'a [u8]) -> Picker<'a> {
-        Picker {
-            manner: Manner::Front(Front::new(steps)),
-        }
+    /// another to its end, the core of the last step first, under no events.
+    #[tactic(auto, using(crate::proofs::OfKinds::listed_among))]
+    pub fn front(steps: &'a [Pick]) -> Picker<'a>
+        ensures { (kinds : Kinds) → AreOfKinds kinds steps.now → AreAmong result kinds }
+    {
+        Picker::of_manner(Manner::Front(Front::new(steps)))
     }
 
     // Each core as likely as another.
-    pub(crate) fn uniform(chance: Chance) -> Picker<'a> {
-        Picker {
-            manner: Manner::Uniform(chance),
-        }
+    pub(crate) fn uniform(chance: Chance) -> Picker<'a>
+        ensures { result ≡ no_kinds }
+    {
+        Picker::of_manner(Manner::Uniform(chance))
     }
 
     // Bursts of random length.
-    pub(crate) fn bursts(chance: Chance) -> Picker<'a> {
-        Picker {
-            manner: Manner::Bursts(Bursts::new(chance)),
-        }
+    pub(crate) fn bursts(chance: Chance) -> Picker<'a>
+        ensures { result ≡ no_kinds }
+    {
+        Picker::of_manner(Manner::Bursts(Bursts::new(chance)))
     }
 
     // By random priorities of so many cores, in a run that takes about so many steps.
     pub(crate) fn priorities(chance: Chance, cores: u8, length: u32) -> Picker<'a>
         requires { cores ≤ 64 }
+        ensures { result ≡ no_kinds }
     {
         let going = Going::all(cores);
-        Picker {
-            manner: Manner::Priorities(Priorities::new(chance, &going, length)),
-        }
+        Picker::of_manner(Manner::Priorities(Priorities::new(chance, &going, length)))
     }
 
     /// Whether it makes a difference to it that a core waits.
@@ -79,22 +85,55 @@ impl<'a> Picker<'a> {
         matches!(self.manner, Manner::Priorities(_) | Manner::Front(_))
     }
 
-    /// The core of the next step, among those that have not stopped. It is told whether the core of the step before is
-    /// at a PAUSE ([`crate::is_waiting`]), where it heeds that.
-    pub fn next(&mut self, going: &Going, waits: bool) -> u8
-        requires { 0 < length going.now }
-        ensures { Contains going.now result }
+    // Picks in this manner, under no events but those of its list.
+    #[tactic(auto, using(crate::proofs::OfKinds::list_alone))]
+    fn of_manner(manner: Manner<'a>) -> Picker<'a>
+        ensures { result ≡ kinds_listed manner.entry }
     {
-        match &mut self.manner {
-            Manner::InTurn(next) => {
-                let core = going.from(*next);
-                *next = core.saturating_add(1);
-                core
-            }
-            Manner::Uniform(chance) => any(chance, going),
-            Manner::Bursts(bursts) => bursts.next(going),
-            Manner::Priorities(priorities) => priorities.next(going, waits),
-            Manner::Front(front) => front.next(going, waits),
+        Picker {
+            manner,
+            interferer: Interferer::never(),
         }
+    }
+
+    /// The same picks, under these events besides those of its list.
+    #[tactic(auto, using(crate::proofs::OfKinds::draw_alone))]
+    pub fn under(self, interferer: Interferer) -> Picker<'a>
+        ensures { self.entry ≡ no_kinds → result ≡ interferer }
+    {
+        Picker {
+            manner: self.manner,
+            interferer,
+        }
+    }
+
+    /// The next step: a core that has not stopped, and its event, if any. It is told whether the core of the step
+    /// before is at a PAUSE ([`crate::is_waiting`]), where it heeds that.
+    pub fn next(&mut self, going: &Going, waits: bool) -> Pick
+        requires { 0 < length going.now }
+        ensures core { Contains going.now result.core }
+        ensures event { IsOfKinds self.old result.event }
+        ensures never { self.old ≡ no_kinds → result.event ≡ None }
+        ensures same { self.new ≡ self.old }
+    {
+        let drawn = self.interferer.next();
+        let pick = self.manner.next(going, waits);
+        Pick {
+            core: pick.core,
+            event: first_of(pick.event, drawn),
+        }
+    }
+}
+
+// The event of a list, or else the one that was drawn.
+#[inline(always)]
+#[tactic(auto, using(crate::proofs::OfKinds::of_left, crate::proofs::OfKinds::of_right))]
+fn first_of(listed: Option<Event>, drawn: Option<Event>) -> Option<Event>
+    ensures { (kinds others : Kinds) → IsOfKinds kinds listed → IsOfKinds others drawn →
+        IsOfKinds (both_kinds kinds others) result }
+{
+    match listed {
+        Some(event) => Some(event),
+        None => drawn,
     }
 }

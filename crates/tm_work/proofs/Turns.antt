@@ -38,7 +38,7 @@ All_one : {X : Type 0} (P : X → Type 0) (x : X) → P x → All P (x ∷ [])
 All_one P x h zero d below = h
 All_one P x h (suc k) d below = absurd (omega arith)
 
-part_next : (given b b' : ShownBoard) (c : ℕ) (r : Receipt) → GoesOn given b → IsStepMade b b' c r → new_part given b' ≡ new_part given b ++ (c, r.outcome) ∷ []
+pub part_next : (given b b' : ShownBoard) (c : ℕ) (r : Receipt) → GoesOn given b → IsStepMade b b' c r → new_part given b' ≡ new_part given b ++ (c, r.outcome) ∷ []
 part_next given b b' c r g made = ap (λ l. drop (length given.history) l) made.history ∙ part_more given.history b.history ((c, r.outcome) ∷ []) g.history
 
 goes_on_step : (given b b' : ShownBoard) (c : ℕ) (r : Receipt) → GoesOn given b → IsStepMade b b' c r → GoesOn given b'
@@ -248,6 +248,7 @@ steps_made b b' c n m last ended s room few none some ends = record {
   steps = λ given ledger a was. fits_steps given b b' c n a.goes_on s room m (a.lines c m was) few;
   later = λ given ledger a was going. later_steps given b b' c n a.goes_on s room m last (a.lines c m was) going some;
   same = none;
+  alone = λ given g. (pairs_behind b b', part_steps given b b' c n g s room, s.alone);
 }
 
 pub last_before : (given b : ShownBoard) (ledger : List Progress) (c : ℕ) (m : Progress) (n : ℕ) → LedgerAgrees given b ledger → slice_get ledger c ≡ Some m → n ≡ length b.history → IfSome m.last (λ q. q.index < n)

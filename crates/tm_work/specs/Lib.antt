@@ -1,4 +1,5 @@
 pub mod Bursts
+pub mod Events
 pub mod Faults
 pub mod Opening
 pub mod Seats

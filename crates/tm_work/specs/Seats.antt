@@ -1,9 +1,13 @@
--- What seats know of a board, and when a ledger of that agrees with the board (docs/MACHINE.md, "Threads").
+-- What seats know of a board, and when a ledger of that agrees with the board (docs/CLAIMS.md, "Histories and
+-- workers").
 use Rattle.std.specs.Prelude.{◌≡◌, ◌≢◌, ◌⊎◌, ⊤, ℕ, ◌+◌, ◌<◌, ◌≤◌, ◌==◌, Bool, true, false, List, [], ◌∷◌, ◌++◌, length}
 use Rattle.std.specs.Prelude.{All, count_by, drop, Option, Some, None, IfSome, slice_get, slice_set}
 use Rattle.tm_hist.specs.TmModel.Outcome.{Outcome}
 use Rattle.tm_hist.specs.TmModel.Outcome.TheVariants.{Idle}
 use Rattle.tm_hist.specs.Board.{ShownBoard, SameBoard, IsStopped, IsFull}
+use Rattle.tm_hist.specs.TmModel.Runs.{TellNoAbort}
+use Rattle.tm_pick.specs.declared.events.Events.{Events}
+use Rattle.tm_work.specs.Events.{TellDrawn}
 use Rattle.tm_work.specs.declared.progress.Progress.{Progress}
 use Rattle.tm_work.specs.declared.progress.Receipt.{Receipt}
 
@@ -44,6 +48,10 @@ pub record GoesOn (given board : ShownBoard) : Type 0 where
   pub same : SameBoard given board
   pub history : board.history ≡ given.history ++ new_part given board
   pub none_idle : All (λ (step : ℕ × Outcome). step.1 ≢ Idle) (new_part given board)
+
+-- each abort from outside of the program in the new part of the history is one that these events may come to
+abbrev pub IsDisturbed : Events → ShownBoard → ShownBoard → Type 0
+IsDisturbed events given board = TellDrawn events (new_part given board)
 
 -- the receipt is of a step of this core in the new part of the history
 abbrev pub IsReceipt : ShownBoard → ShownBoard → ℕ → Receipt → Type 0
@@ -91,8 +99,9 @@ IsLater before None = ⊥
 IsLater None (Some now) = ⊤
 IsLater (Some before) (Some now) = before.index < now.index
 
--- so many steps of this core led from one board to the other, and its progress from the one to the other: in any ledger
--- that agrees with the first board and has the first progress of this core, the second one agrees with the second board
+-- so many steps of this core led from one board to the other, none of them aborted from outside of the program, and its
+-- progress from the one to the other: in any ledger that agrees with the first board and has the first progress of this
+-- core, the second one agrees with the second board
 pub record AreStepsMade (before after : ShownBoard) (core : ℕ) (was now : Progress) (made : ℕ) : Type 0 where
   pub agrees : (given : ShownBoard) (ledger : List Progress) → LedgerAgrees given before ledger →
       slice_get ledger core ≡ Some was → LedgerAgrees given after (slice_set ledger core now)
@@ -101,6 +110,8 @@ pub record AreStepsMade (before after : ShownBoard) (core : ℕ) (was now : Prog
   pub later : (given : ShownBoard) (ledger : List Progress) → LedgerAgrees given before ledger →
       slice_get ledger core ≡ Some was → 0 < made → IsLater was.last now.last
   pub same : made ≡ 0 → now.last ≡ was.last
+  pub alone : (given : ShownBoard) → GoesOn given before → (part : List (ℕ × Outcome))
+      × (new_part given after ≡ new_part given before ++ part) × TellNoAbort part
 
 -- no seat had a turn
 abbrev pub HaveNoProgress : List Progress → Type 0

@@ -1,9 +1,12 @@
 //! The desk that threads share.
 
 ghost use Rattle.std.specs.Prelude.{◌≡◌, ◌≢◌, ◌+◌, ◌<◌, ◌≤◌, true, ◌++◌, ◌∷◌, [], length, All, IfOk, IfErr, IfSome, IfNone};
+ghost use Rattle.std.specs.Prelude.{None};
 ghost use Rattle.tm_hist.specs.TmModel.Outcome.{Outcome};
+ghost use Rattle.tm_hist.specs.TmModel.Runs.{event_told};
 ghost use Rattle.tm_hist.specs.Board.{IsHistory};
-ghost use Rattle.tm_work.specs.Seats.{AreSeats, GoesOn, IsLater, SeatTells};
+ghost use Rattle.tm_pick.specs.Drawn.{AreDrawn};
+ghost use Rattle.tm_work.specs.Seats.{AreSeats, GoesOn, IsDisturbed, IsLater, SeatTells};
 ghost use Rattle.tm_work.specs.Seats.{no_progress, seat_with, progress_after_step, progress_at_end};
 ghost use Rattle.tm_work.specs.Faults.{board_in, IsNoMemory};
 
@@ -18,6 +21,7 @@ use std::collections::VecDeque;
 use std::sync::{MutexGuard, Wait};
 use tm_hist::Board;
 use tm_ledger::Ledger;
+use tm_pick::Interferer;
 
 // So many steps of all seats wait for the lock itself, which goes from one thread to the next once they sleep for it: a short
 // program is run in turns.
@@ -60,10 +64,11 @@ impl<J: DeskIdentity> Desk<J> {
         ensures core { seat.new.core ≡ seat.old.core }
         ensures some { IfSome result (λ r. seat.new.progress ≡ progress_after_step seat.old.progress r) }
         ensures going { IfSome result (λ r. r.outcome ≢ Outcome.Idle) }
+        ensures alone { IfSome result (λ r. event_told r.outcome ≡ None) }
         ensures later { IfSome result (λ r. IfSome seat.old.progress.last (λ q. q.index < r.index)) }
         ensures none { IfNone result (seat.new.progress ≡ progress_at_end seat.old.progress) }
     {
-        self.state.lock(rt).turn(seat)
+        self.state.lock(rt).turn(seat, None)
     }
 
     /// Up to so many turns of the seat's core under one lock, and how many steps they made: fewer only where the core
@@ -78,6 +83,26 @@ impl<J: DeskIdentity> Desk<J> {
         ensures all { result ≡ most → seat.new.progress.ended ≡ seat.old.progress.ended }
     {
         self.held_for(rt, seat).turns(seat, most)
+    }
+
+    /// Up to so many turns of the seat's core under one lock, each under the event that comes with it, and how many steps they
+    /// made: fewer only where the core stopped or the history is full. Without events it is `turns`.
+    pub fn turns_under(
+        &self,
+        rt: &impl Wait,
+        seat: &mut Seat<J>,
+        most: u32,
+        events: &mut Interferer,
+    ) -> u32
+        requires events { AreDrawn J.events events.old }
+        ensures kinds { events.new ≡ events.old }
+        ensures core { seat.new.core ≡ seat.old.core }
+        ensures most { result ≤ most }
+        ensures steps { seat.new.progress.steps ≡ seat.old.progress.steps + result }
+        ensures fewer { result < most → seat.new.progress.ended ≡ true }
+        ensures all { result ≡ most → seat.new.progress.ended ≡ seat.old.progress.ended }
+    {
+        self.held_for(rt, seat).turns_under(seat, most, events)
     }
 
     // The board, held for a burst of this seat.
@@ -95,10 +120,12 @@ impl<J: DeskIdentity> Desk<J> {
     }
 
     /// The board, with what the seats' turns made of it. Its history goes on from the one that the board had when the
-    /// desk was opened, its machine is the run of it, each outcome is the owed one, and what these seats say is so. Of a
-    /// core whose seat is not handed in, no contract says how many of the steps are its own.
+    /// desk was opened, its machine is the run of it, each outcome is the owed one, each abort from outside of the program is
+    /// of the events that turns may come under, and what these seats say is so. Of a core whose seat is not handed in, no
+    /// contract says how many of the steps are its own.
     pub fn close(self, seats: Vec<Seat<J>>) -> Board
         ensures goes_on { GoesOn J.given result }
+        ensures events { IsDisturbed J.events J.given result }
         ensures run { IsHistory result }
         ensures seats { All (SeatTells J.given result) seats.items }
     {
@@ -110,6 +137,7 @@ impl<J: DeskIdentity> Desk<J> {
     // The same of seats in two lists.
     pub(crate) fn close_both(self, seats: Vec<Seat<J>>, others: VecDeque<Seat<J>>) -> Board
         ensures goes_on { GoesOn J.given result }
+        ensures events { IsDisturbed J.events J.given result }
         ensures run { IsHistory result }
         ensures seats { All (SeatTells J.given result) seats.items }
         ensures others { All (SeatTells J.given result) others.items }

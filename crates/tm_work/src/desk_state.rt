@@ -1,17 +1,24 @@
 //! What lies under the desk's lock.
 
-ghost use Rattle.std.specs.Prelude.{◌≡◌, ◌≢◌, ◌+◌, ◌<◌, ◌≤◌, ◌⊎◌, true, length, All, IfSome, IfNone};
+ghost use Rattle.std.specs.Prelude.{◌≡◌, ◌≢◌, ◌↔◌, ◌+◌, ◌<◌, ◌≤◌, ◌⊎◌, ℕ, true, [], ◌∷◌, ◌++◌, length, All};
+ghost use Rattle.std.specs.Prelude.{Err, IfOk, IfSome, IfNone};
 ghost use Rattle.tm_hist.specs.TmModel.Outcome.{Outcome};
-ghost use Rattle.tm_hist.specs.Board.{IsFull, IsHistory, IsStopped};
-ghost use Rattle.tm_work.specs.Seats.{AreStepsMade, GoesOn, HaveNoProgress, IsLast, IsLater, IsStepMade, SeatTells, Tells};
-ghost use Rattle.tm_work.specs.Seats.{progress_after_step, progress_at_end};
+ghost use Rattle.tm_hist.specs.Board.{IsFull, IsHistory, IsStopped, SameBoard};
+ghost use Rattle.tm_hist.specs.declared.board.StepFault.{StepFault};
+ghost use Rattle.tm_pick.specs.Drawn.{AreDrawn};
+ghost use Rattle.tm_pick.specs.Kinds.{IsOfKinds};
+ghost use Rattle.tm_pick.specs.declared.kinds.Kinds.{Kinds};
+ghost use Rattle.tm_work.specs.Events.{TellsOf};
+ghost use Rattle.tm_work.specs.Seats.{AreStepsMade, GoesOn, HaveNoProgress, IsDisturbed, IsLast, IsLater, IsStepMade};
+ghost use Rattle.tm_work.specs.Seats.{SeatTells, Tells, progress_after_step, progress_at_end};
 
 use crate::progress::{Progress, Receipt};
 use crate::seat::{DeskIdentity, Seat};
 use std::collections::VecDeque;
 use std::marker::Model;
-use tm_hist::Board;
+use tm_hist::{Board, Event, Outcome, StepFault};
 use tm_ledger::Ledger;
+use tm_pick::Interferer;
 
 /// The board, with a ledger of what each seat knows of it.
 #[derive(Drop)]
@@ -27,7 +34,7 @@ impl<J: DeskIdentity> Model for DeskState<J> {
     ghost use Rattle.tm_hist.specs.contracts.board.Board.{the_row as board_row};
     ghost use Rattle.tm_work.specs.declared.progress.Progress.{Progress};
     ghost use Rattle.tm_work.specs.contracts.progress.Progress.{the_row as progress_row};
-    ghost use Rattle.tm_work.specs.Seats.{LedgerAgrees};
+    ghost use Rattle.tm_work.specs.Seats.{IsDisturbed, LedgerAgrees};
 
     ghost Value = { ShownBoard × List Progress };
 
@@ -35,7 +42,7 @@ impl<J: DeskIdentity> Model for DeskState<J> {
 
     ghost view = { λ h. (h.board, h.ledger) };
 
-    ghost invariant = { λ h. LedgerAgrees J.given h.board h.ledger };
+    ghost invariant = { λ h. LedgerAgrees J.given h.board h.ledger × IsDisturbed J.events J.given h.board };
 }
 
 impl<J: DeskIdentity> DeskState<J> {
@@ -50,6 +57,7 @@ impl<J: DeskIdentity> DeskState<J> {
     pub(crate) fn into_board(self) -> Board
         ensures is { result ≡ self.0 }
         ensures goes_on { GoesOn J.given result }
+        ensures events { IsDisturbed J.events J.given result }
         ensures run { IsHistory result }
     {
         let DeskState { board, ledger: _ } = self;
@@ -57,16 +65,18 @@ impl<J: DeskIdentity> DeskState<J> {
         board
     }
 
-    // A step of the seat's core, or a look where there is none to make.
-    pub(crate) fn turn(&mut self, seat: &mut Seat<J>) -> Option<Receipt>
+    // A step of the seat's core under this event, or under none; or a look where there is none to make.
+    pub(crate) fn turn(&mut self, seat: &mut Seat<J>, event: Option<Event>) -> Option<Receipt>
+        requires event { (kinds : Kinds) × AreDrawn J.events kinds × IsOfKinds kinds event }
         ensures core { seat.new.core ≡ seat.old.core }
         ensures some { IfSome result (λ r. seat.new.progress ≡ progress_after_step seat.old.progress r) }
         ensures going { IfSome result (λ r. r.outcome ≢ Outcome.Idle) }
+        ensures told { IfSome result (λ r. TellsOf event r.outcome) }
         ensures later { IfSome result (λ r. IfSome seat.old.progress.last (λ q. q.index < r.index)) }
         ensures none { IfNone result (seat.new.progress ≡ progress_at_end seat.old.progress) }
     {
         let DeskState { board, ledger } = self;
-        let Some(receipt) = try_step(board, seat.core()) else {
+        let Some(receipt) = try_step(board, seat.core(), event) else {
             let progress = Progress {
                 steps: seat.steps(),
                 last: seat.last(),
@@ -101,6 +111,39 @@ impl<J: DeskIdentity> DeskState<J> {
         let mut progress = seat.progress();
         let made = make_steps(board, seat.core(), &mut progress, most);
         seat.note(ledger, progress);
+        made
+    }
+
+    // Up to so many turns of a seat, each under the event that comes with it.
+    pub(crate) fn turns_under(
+        &mut self,
+        seat: &mut Seat<J>,
+        most: u32,
+        events: &mut Interferer,
+    ) -> u32
+        requires events { AreDrawn J.events events.old }
+        ensures kinds { events.new ≡ events.old }
+        ensures core { seat.new.core ≡ seat.old.core }
+        ensures most { result ≤ most }
+        ensures steps { seat.new.progress.steps ≡ seat.old.progress.steps + result }
+        ensures fewer { result < most → seat.new.progress.ended ≡ true }
+        ensures all { result ≡ most → seat.new.progress.ended ≡ seat.old.progress.ended }
+    {
+        let mut made = 0;
+        while made < most {
+            let (quiet, event) = events.steps_before(most - made);
+            let steps = self.turns(seat, quiet);
+            made += steps;
+            if steps < quiet {
+                return made;
+            }
+            if event.is_some() {
+                if self.turn(seat, event).is_none() {
+                    return made;
+                }
+                made += 1;
+            }
+        }
         made
     }
 
@@ -173,10 +216,12 @@ fn last_of(board: &Board, made: u32, before: Option<Receipt>) -> Option<Receipt>
     Some(Receipt { index, outcome })
 }
 
-// One step of the core, and its receipt. There is none where the core is stopped or the history full.
-fn try_step(board: &mut Board, core: u8) -> Option<Receipt>
+// One step of the core under this event, or under none, and its receipt. There is none where the core is stopped or the
+// history full.
+fn try_step(board: &mut Board, core: u8, event: Option<Event>) -> Option<Receipt>
     requires { core < length board.old.program.entries }
     ensures some { IfSome result (λ r. IsStepMade board.old board.new core r) }
+    ensures told { IfSome result (λ r. TellsOf event r.outcome) }
     ensures none { IfNone result ((board.new ≡ board.old) × (IsStopped board.old core ⊎ IsFull board.old)) }
 {
     if board.is_stopped(core) {
@@ -186,11 +231,28 @@ fn try_step(board: &mut Board, core: u8) -> Option<Receipt>
     if index == board.limit() {
         return None;
     }
-    let Ok(outcome) = board.step(core) else {
+    let Ok(outcome) = step_of(board, core, event) else {
         unreachable!()
     };
     Some(Receipt {
         index: index as usize,
         outcome,
     })
+}
+
+// A step of the core under this event, or under none.
+fn step_of(board: &mut Board, core: u8, event: Option<Event>) -> Result<Outcome, StepFault>
+    ensures none { result ≡ Err StepFault.NoSuchCore ↔ (length board.old.program.entries ≤ core) }
+    ensures full { result ≡ Err StepFault.LimitReached
+        ↔ ((core < length board.old.program.entries) × IsFull board.old) }
+    ensures same { SameBoard board.old board.new }
+    ensures ok { IfOk result (λ outcome. board.new.history ≡ board.old.history ++ (core, outcome) ∷ []) }
+    ensures stops { (other : ℕ) → IsStopped board.old other → IsStopped board.new other }
+    ensures idle { IfOk result (λ outcome. (outcome ≡ Outcome.Idle) ↔ IsStopped board.old core) }
+    ensures told { IfOk result (λ outcome. TellsOf event outcome) }
+{
+    match event {
+        None => board.step(core),
+        Some(event) => board.step_under(core, event),
+    }
 }

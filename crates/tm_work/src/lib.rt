@@ -3,11 +3,12 @@
 //! The steps of a seat, one (`Desk::turn`) or several (`Desk::turns`), are made under the desk's one lock. So the
 //! history of the board is a list of whole steps in one order, whatever the threads did. Promised: the board that comes
 //! back is the run of its history, each outcome the owed one, and what each seat and each report says of its core is
-//! so. `run_workers` and `run_steadily` start a worker a core. No clause says which thread comes first, or that a turn
-//! returns.
+//! so; each abort from outside of the program is of the kinds of the plan, and without events there is none.
+//! `run_workers` and `run_steadily` start a worker a core. No clause says which thread comes first, that a turn returns,
+//! or that an event comes.
 //!
-//! It stands on `tm_hist` (boards and their histories) and on `tm_ledger` (what a worker knows of its own line while
-//! others write theirs).
+//! It stands on `tm_hist` (boards and their histories), on `tm_ledger` (what a worker knows of its own line while others
+//! write theirs) and on `tm_pick` (which events come).
 #![tactic(auto)]
 
 mod desk;
@@ -18,6 +19,7 @@ mod manner;
 mod meeting;
 mod opening;
 mod patient;
+mod plan;
 mod progress;
 mod seat;
 mod watch;
@@ -28,6 +30,7 @@ pub use fault::WorkFault;
 pub use gate::Gate;
 pub use manner::Burst;
 pub use opening::Opening;
+pub use plan::EventPlan;
 pub use progress::{Progress, Receipt};
 pub use seat::{DeskIdentity, Seat};
 pub use watch::Watch;

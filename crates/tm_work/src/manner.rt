@@ -1,12 +1,15 @@
 //! How a worker makes its steps.
 
 ghost use Rattle.std.specs.Prelude.{◌≡◌, ◌<◌};
+ghost use Rattle.tm_pick.specs.declared.events.Events.{Events};
+ghost use Rattle.tm_pick.specs.declared.events.Events.TheVariants.{Never};
 ghost use Rattle.tm_work.specs.Bursts.{IsBurst};
 ghost use Rattle.tm_work.specs.Workers.{IsDone};
 
 use crate::desk::Desk;
 use crate::gate::Gate;
 use crate::meeting::Meeting;
+use crate::plan::EventPlan;
 use crate::seat::{DeskIdentity, Seat};
 use crate::watch::Watch;
 use std::sync::Wait;
@@ -16,6 +19,9 @@ const PORTION: u32 = 4096;
 
 /// What the worker of a seat does until its budget is used or its core makes no further step.
 pub(crate) trait Manner: Sync {
+    // What draws the events that come with the turns.
+    ghost events: { Self → Events };
+
     // The seat comes back with what its turns came to.
     fn work<J: DeskIdentity, R: Wait>(
         &self,
@@ -24,7 +30,8 @@ pub(crate) trait Manner: Sync {
         seat: Seat<J>,
         budget: u32,
     ) -> Seat<J>
-        requires { seat.progress.steps ≡ 0 }
+        requires fresh { seat.progress.steps ≡ 0 }
+        requires events { J.events ≡ events self.now }
         ensures { IsDone seat.core budget result };
 
     // The stack of this core's thread in bytes, where it is not to be the system's own size.
@@ -41,6 +48,8 @@ pub(crate) struct Gated<'a, G: Gate> {
 }
 
 impl<'a, G: Gate> Manner for Gated<'a, G> {
+    ghost events = { λ _. Never };
+
     fn work<J: DeskIdentity, R: Wait>(
         &self,
         rt: &R,
@@ -91,19 +100,23 @@ impl Burst {
     }
 }
 
-/// Several steps under one lock, and a meeting with the other workers before the first ones. A watch hears of them now and
-/// then.
+/// Several steps under one lock, each under the event that a plan has for it, and a meeting with the other workers before
+/// the first ones. A watch hears of them now and then.
 #[derive(Drop)]
 pub(crate) struct Steady<'a, W: Watch> {
     burst: Burst,
+    plan: EventPlan,
     meeting: Meeting,
     watch: &'a W,
 }
 
 impl<'a, W: Watch> Steady<'a, W> {
-    pub(crate) fn new(burst: Burst, workers: usize, watch: &'a W) -> Steady<'a, W> {
+    pub(crate) fn new(burst: Burst, plan: EventPlan, workers: usize, watch: &'a W) -> Steady<'a, W>
+        ensures { result.plan ≡ plan }
+    {
         Steady {
             burst,
+            plan,
             meeting: Meeting::new(workers),
             watch,
         }
@@ -117,16 +130,18 @@ impl<'a, W: Watch> Steady<'a, W> {
         seat: Seat<J>,
         budget: u32,
     ) -> Seat<J>
-        requires { seat.progress.steps ≡ 0 }
+        requires fresh { seat.progress.steps ≡ 0 }
+        requires events { J.events ≡ self.now.plan.events }
         ensures { IsDone seat.core budget result }
     {
         let mut seat = seat;
+        let mut events = self.plan.of_core(seat.core());
         let mut left = budget;
         let mut due = budget.saturating_sub(PORTION);
         while left > 0 {
             self.meeting.meet();
             let most = self.burst.next(budget - left).min(left);
-            if desk.turns(rt, &mut seat, most) < most {
+            if desk.turns_under(rt, &mut seat, most, &mut events) < most {
                 return seat;
             }
             left -= most;
@@ -147,6 +162,8 @@ impl<'a, W: Watch> Steady<'a, W> {
 }
 
 impl<'a, W: Watch + Sync> Manner for Steady<'a, W> {
+    ghost events = { λ steady. steady.plan.events };
+
     fn work<J: DeskIdentity, R: Wait>(
         &self,
         rt: &R,

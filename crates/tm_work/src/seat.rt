@@ -7,17 +7,24 @@ use crate::progress::{Progress, Receipt};
 use std::marker::{Brand, Model};
 use tm_ledger::{Ledger, LedgerIdentity, Token};
 
-/// Which desk it is, and the board that the desk was given. Each call of a function generic in it picks both.
+/// Which desk it is, the board that the desk was given, and the events that turns at it may come under. Each call of a
+/// function generic in it picks all three.
 pub trait DeskIdentity: LedgerIdentity {
     ghost use Rattle.tm_hist.specs.Board.{ShownBoard};
+    ghost use Rattle.tm_pick.specs.declared.events.Events.{Events};
 
     ghost given: { ShownBoard };
+
+    ghost events: { Events };
 }
 
 impl DeskIdentity for Brand {
+    ghost use Rattle.tm_pick.specs.declared.events.Events.TheVariants.{Never};
     ghost use Rattle.tm_work.specs.Opening.{no_board};
 
     ghost given = { no_board };
+
+    ghost events = { Never };
 }
 
 /// One core's place at the desk. Contracts see it as the core and what its turns came to.

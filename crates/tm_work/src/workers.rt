@@ -2,15 +2,18 @@
 
 ghost use Rattle.std.specs.Prelude.{◌≡◌, ◌<◌, ◌≤◌, ◌+◌, [], ℕ, length, IfOk, IfErr, Some, slice_get, slice_index};
 ghost use Rattle.std.specs.Prelude.{vec_capacity, vec_len, IfNone, IfSome};
-ghost use Rattle.tm_work.specs.Seats.{SeatProgress};
+ghost use Rattle.tm_hist.specs.TmModel.Runs.{TellNoAbort};
+ghost use Rattle.tm_work.specs.Events.{TellDrawn};
+ghost use Rattle.tm_work.specs.Seats.{IsDisturbed, SeatProgress, new_part};
 ghost use Rattle.tm_work.specs.Workers.{IsDone, EachDone, AreLeft, IsReport};
-ghost use Rattle.tm_work.specs.Faults.{IsFault};
+ghost use Rattle.tm_work.specs.Faults.{IsFault, board_in};
 
 use crate::desk::Desk;
 use crate::fault::WorkFault;
 use crate::gate::Gate;
 use crate::manner::{Burst, Gated, Manner, Steady};
 use crate::opening::Opening;
+use crate::plan::EventPlan;
 use crate::seat::{DeskIdentity, Seat};
 use crate::watch::Watch;
 use core::thread::Stack;
@@ -52,7 +55,8 @@ type Handles<J> = Vec<PromisedHandle<Seat<J>, Job>>;
 ///
 /// [`WorkFault::NoMemory`] (61): no worker was started, and the board is as it was. [`WorkFault::SpawnRefused`] (60):
 /// the workers of the cores below this one ran by these rules, and those of the cores above it made no step. Nor did
-/// this core; but no contract says so, since its seat is gone with the thread that was not made.
+/// this core; but no contract says so, since its seat is gone with the thread that was not made. No step is aborted from
+/// outside of the program.
 pub fn run_workers<G: Gate, R: Threads + Wait + Sync>(
     rt: &R,
     alloc: Global,
@@ -63,6 +67,8 @@ pub fn run_workers<G: Gate, R: Threads + Wait + Sync>(
     requires { length budgets.now ≡ length board.program.entries }
     ensures report { IfOk result (λ r. IsReport board budgets.now r.board r.steps.items) }
     ensures fault { IfErr result (λ e. IsFault board budgets.now e) }
+    ensures alone { IfOk result (λ r. TellNoAbort (new_part board r.board)) }
+    ensures fault_alone { IfErr result (λ e. TellNoAbort (new_part board (board_in e))) }
 {
     let opening = Opening::new(alloc, board)?;
     run_at::<Brand, Gated<'_, G>, R>(rt, alloc, opening, budgets, &Gated { gate })
@@ -70,22 +76,26 @@ pub fn run_workers<G: Gate, R: Threads + Wait + Sync>(
 
 /// The same without a gate, and with several steps under one lock: [`Desk::turns`] in place of turns one by one, as many
 /// at a time as the burst says. Before its first bursts each worker waits a while for the others, so that they make
-/// these side by side. While they work, the watch hears now and then how long the history is; of a worker with few steps it
-/// hears nothing.
+/// these side by side. Each step comes under the event that the plan has for it, a function of the plan, the core and the
+/// number of the core's steps before; without events none is aborted from outside of the program. While they work, the watch
+/// hears now and then how long the history is; of a worker with few steps it hears nothing.
 pub fn run_steadily<W: Watch + Sync, R: Threads + Wait + Sync>(
     rt: &R,
     alloc: Global,
     board: Board,
     budgets: &[u32],
     burst: Burst,
+    plan: EventPlan,
     watch: &W,
 ) -> Result<Report, WorkFault>
     requires { length budgets.now ≡ length board.program.entries }
     ensures report { IfOk result (λ r. IsReport board budgets.now r.board r.steps.items) }
     ensures fault { IfErr result (λ e. IsFault board budgets.now e) }
+    ensures events { IfOk result (λ r. TellDrawn plan.events (new_part board r.board)) }
+    ensures fault_events { IfErr result (λ e. TellDrawn plan.events (new_part board (board_in e))) }
 {
     let opening = Opening::new(alloc, board)?;
-    let manner = Steady::new(burst, budgets.len(), watch);
+    let manner = Steady::new(burst, plan, budgets.len(), watch);
     run_at::<Brand, Steady<'_, W>, R>(rt, alloc, opening, budgets, &manner)
 }
 
@@ -98,9 +108,12 @@ fn run_at<J: DeskIdentity + Send + Sync, M: Manner, R: Threads + Wait + Sync>(
 ) -> Result<Report, WorkFault>
     requires name { opening.table ≡ J.table }
     requires given { opening.given ≡ J.given }
+    requires events { J.events ≡ M.events manner.now }
     requires budgets { length budgets.now ≡ length opening.given.program.entries }
     ensures report { IfOk result (λ r. IsReport opening.given budgets.now r.board r.steps.items) }
     ensures fault { IfErr result (λ e. IsFault opening.given budgets.now e) }
+    ensures events { IfOk result (λ r. IsDisturbed J.events opening.given r.board) }
+    ensures fault_events { IfErr result (λ e. IsDisturbed J.events opening.given (board_in e)) }
 {
     let count = budgets.len();
     let Ok(handles) = Vec::with_capacity(alloc, count) else {
@@ -137,6 +150,7 @@ fn serve<'x, J: DeskIdentity + Send + Sync, M: Manner, R: Threads + Wait + Sync>
     handles: Handles<J>,
     done: Vec<Seat<J>>,
 ) -> (Vec<Seat<J>>, Option<VecDeque<Seat<J>>>)
+    requires events { J.events ≡ M.events manner.now }
     requires seats { AreLeft seats.items 0 (length budgets.now) }
     requires handles { (handles.items ≡ []) × (length budgets.now ≤ vec_capacity handles) }
     requires done { (done.items ≡ []) × (length budgets.now ≤ vec_capacity done) }
@@ -149,6 +163,7 @@ fn serve<'x, J: DeskIdentity + Send + Sync, M: Manner, R: Threads + Wait + Sync>
         thread::scope_env(),
         rt,
         |scope| -> (Vec<Seat<J>>, Option<VecDeque<Seat<J>>>)
+            requires events { J.events ≡ M.events manner.now }
             requires seats { AreLeft seats.items 0 (length budgets.now) }
             requires handles { (handles.items ≡ []) × (length budgets.now ≤ vec_capacity handles) }
             requires done { (done.items ≡ []) × (length budgets.now ≤ vec_capacity done) }
@@ -178,6 +193,7 @@ fn start_all<'s, E: 's, J: DeskIdentity + Send + Sync + 's, M: Manner + 's, R: W
     seats: VecDeque<Seat<J>>,
     handles: &mut Handles<J>,
 ) -> Option<VecDeque<Seat<J>>>
+    requires events { J.events ≡ M.events manner.now }
     requires seats { AreLeft seats.items 0 (length budgets.now) }
     requires handles { (handles.old.items ≡ []) × (length budgets.now ≤ vec_capacity handles.old) }
     ensures jobs { (core : ℕ) (handle : _) → slice_get handles.new.items core ≡ Some handle
@@ -196,7 +212,8 @@ fn start_all<'s, E: 's, J: DeskIdentity + Send + Sync + 's, M: Manner + 's, R: W
             budget: budgets[core],
         };
         let work = move || -> Seat<J>
-            requires { seat.progress.steps ≡ 0 }
+            requires fresh { seat.progress.steps ≡ 0 }
+            requires events { J.events ≡ M.events manner.now }
             ensures { IsDone seat.core job.budget result }
         { manner.work(rt, desk, seat, job.budget) };
         let stack = match manner.stack_bytes(job.core) {

@@ -11,16 +11,23 @@ use std::sync::atomic::{AtomicU64, Ordering};
 use std::test::*;
 use std::thread;
 use std::thread::Threads;
-use tm_core::{Limits, Outcome};
+use tm_core::{Interference, Limits, Outcome, Stop};
 use tm_hist::Board;
+use tm_pick::{Events, Kinds};
 use tm_work::{
-    Burst, Desk, DeskIdentity, Gate, Opening, Report, Seat, Watch, WorkFault, run_steadily,
-    run_workers,
+    Burst, Desk, DeskIdentity, EventPlan, Gate, Opening, Report, Seat, Watch, WorkFault,
+    run_steadily, run_workers,
 };
 
 const LIMITS: Limits = Limits {
     read_lines: 512,
     write_lines: 512,
+};
+
+// Workers that are left alone.
+const NO_EVENTS: EventPlan = EventPlan {
+    events: Events::Never,
+    seed: 1,
 };
 
 // The most looks at a word before a wait counts as too long.
@@ -495,7 +502,7 @@ fn three_steady_workers<R: Threads + Wait + Abort + Sync>(
 ) -> Result<(), Fail> {
     let board = board_of(alloc, &SPINS, &[0x100, 0x100, 0x100], 1000)?;
     let listener = Listener::new();
-    match run_steadily(rt, alloc, board, &[700, 30, 0], burst, &listener) {
+    match run_steadily(rt, alloc, board, &[700, 30, 0], burst, NO_EVENTS, &listener) {
         Ok(report) => {
             assert_eq!(rt; listener.calls.load(Ordering::SeqCst), 0);
             assert_eq!(rt; report.steps.as_slice(), [700, 30, 0].as_slice());
@@ -536,7 +543,15 @@ fn steps_a_lock(rt: HostRuntime) -> Result<(), Fail> {
 fn steady_workers_stop(rt: HostRuntime) -> Result<(), Fail> {
     let board = board_of(rt.alloc(), &[0xf4], &[0x100, 0x100], 100)?;
     let listener = Listener::new();
-    let Ok(report) = run_steadily(&rt, rt.alloc(), board, &[5, 5], Burst::Varying, &listener) else {
+    let Ok(report) = run_steadily(
+        &rt,
+        rt.alloc(),
+        board,
+        &[5, 5],
+        Burst::Varying,
+        NO_EVENTS,
+        &listener,
+    ) else {
         return Err("a report".into());
     };
     assert_eq!(rt; report.steps.as_slice(), [1, 1].as_slice());
@@ -553,12 +568,45 @@ fn steady_workers_fill_the_history(rt: HostRuntime) -> Result<(), Fail> {
         board,
         &[100, 100],
         Burst::Varying,
+        NO_EVENTS,
         &listener,
     ) else {
         return Err("a report".into());
     };
     assert_eq!(rt; report.board.made(), 100);
     assert_eq!(rt; sum_of(report.steps.as_slice()), 100);
+    Ok(())
+}
+
+// Each step comes under an interrupt, so that the transaction is aborted at its first instruction, and its fallback path is
+// run, which nothing else reaches.
+#[test]
+fn events_reach_the_fallback_path(rt: HostRuntime) -> Result<(), Fail> {
+    let board = board_of(rt.alloc(), &INCREMENT, &[0x100], 100)?;
+    let listener = Listener::new();
+    let plan = EventPlan {
+        events: Events::Rate {
+            one_in: 1,
+            kinds: Kinds::only(Interference::Interrupt),
+        },
+        seed: 1,
+    };
+    let Ok(report) = run_steadily(
+        &rt,
+        rt.alloc(),
+        board,
+        &[10],
+        Burst::Varying,
+        plan,
+        &listener,
+    ) else {
+        return Err("a report".into());
+    };
+    assert_eq!(rt; report.steps.as_slice(), [3].as_slice());
+    let history = report.board.history();
+    assert!(rt; history.get(0) == Some((0, Outcome::Begun)));
+    assert!(rt; history.get(1) == Some((0, Outcome::AbortedBy(Interference::Interrupt, 0))));
+    assert!(rt; history.get(2) == Some((0, Outcome::Stopped(Stop::Halt))));
     Ok(())
 }
 
@@ -570,7 +618,15 @@ fn two_watched_workers<R: Threads + Wait + Abort + Sync>(
 ) -> Result<(), Fail> {
     let board = board_of(alloc, &SPINS, &[0x100, 0x100], 40000)?;
     let listener = Listener::new();
-    let Ok(report) = run_steadily(rt, alloc, board, &[20000, 20000], burst, &listener) else {
+    let Ok(report) = run_steadily(
+        rt,
+        alloc,
+        board,
+        &[20000, 20000],
+        burst,
+        NO_EVENTS,
+        &listener,
+    ) else {
         return Err("a report".into());
     };
     assert_eq!(rt; report.steps.as_slice(), [20000, 20000].as_slice());
@@ -602,6 +658,7 @@ fn a_watch_hears_of_the_whole_history(rt: HostRuntime) -> Result<(), Fail> {
         board,
         &[20000],
         Burst::Fixed(20000),
+        NO_EVENTS,
         &listener,
     ) else {
         return Err("a report".into());

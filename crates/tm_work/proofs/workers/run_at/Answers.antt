@@ -1,9 +1,12 @@
 use Rattle.std.proofs.Common.{List, ◌≡◌, ◌+◌, ◌<◌, length, sym, ap, ◌∙◌, subst, arith, rules}
-use Rattle.std.specs.Prelude.{vec_len}
+use Rattle.std.proofs.lemmas.Result.{IfErr-weaker}
+use Rattle.std.specs.Prelude.{IfErr, vec_len}
 use Rattle.tm_hist.specs.Board.{ShownBoard}
-use Rattle.tm_work.specs.Seats.{AreSeats, SeatProgress}
+use Rattle.tm_work.specs.Faults.{board_in}
+use Rattle.tm_work.specs.Seats.{AreSeats, IsDisturbed, SeatProgress}
 use Rattle.tm_work.specs.Workers.{IsReport, IsRefused, AreLeft}
 use Rattle.tm_work.proofs.Counts.{all_left, report_of, refused_of, none_of, some_of}
+use Rattle.tm_work.proofs.Disturbed.{fresh_disturbed}
 use Rattle.tm_work.proofs.workers.run_at.Goals as goal
 
 pub serve-done-requires-clause-seats : goal.serve-done-requires-clause-seats
@@ -40,3 +43,12 @@ returns-in-Some-clause-fault g c =
     let less = rest.0 in
     subst (λ (y : ShownBoard). IsRefused y budgets c.len-core.result c.close_both.result) (sym c.requires.given)
     (refused_of g.J.DeskIdentity.given c.close_both.result budgets done.items left.items c.len-core.result (c.len-core.ensures ∙ done_len) b.goes_on b.run b.seats b.others v.done (omega (arith, less, done_len)) (subst (λ k. AreLeft left.items (k + 1) (length budgets)) done_len rest.1))
+
+pub returns-in_err-desk-clause-fault_events : goal.returns-in_err-desk-clause-fault_events
+returns-in_err-desk-clause-fault_events g c =
+    let fault = c.in_err-desk.field-0.0 in
+    let events = g.J.DeskIdentity.events in
+    let given = c.args.opening.given in
+    let is : IfErr c.from_residual.result (λ e. e ≡ fault) = search rules in
+    IfErr-weaker c.from_residual.result (λ e. e ≡ fault) (λ e. IsDisturbed events given (board_in e))
+    (λ e same. fresh_disturbed events given (board_in e) (ap board_in same ∙ c.in_err-desk.ensures.refused.1 ∙ sym c.requires.given)) is

@@ -4,4 +4,4 @@ abbrev pub ghosts-run_at-J-LedgerIdentity : goal.ghosts-run_at-J-LedgerIdentity
 ghosts-run_at-J-LedgerIdentity g a = record { table = a.opening.table }
 
 abbrev pub ghosts-run_at-J-DeskIdentity : goal.ghosts-run_at-J-DeskIdentity
-ghosts-run_at-J-DeskIdentity g a = record { given = a.opening.given }
+ghosts-run_at-J-DeskIdentity g a = record { given = a.opening.given; events = a.manner.now.plan.events }

@@ -10,7 +10,7 @@ spawn_scoped_with-requires-clause-runs g c κs within =
     let i = c.loop-core.invariant in
     let split = c.pop_front.ensures.items ∙ ap (λ o. option_to_list o ++ c.pop_front.new.self.items) c.in-Some.is in
     let n = left_next c.loop-core.seats.items c.pop_front.new.self.items c.in-Some.seat _ _ i.seats split in
-    ap (λ s. s.progress.steps) n.0
+    (ap (λ s. s.progress.steps) n.0, c.requires.events)
 
 pub loop-core-preserved : goal.loop-core-preserved
 loop-core-preserved g c =

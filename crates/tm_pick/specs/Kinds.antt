@@ -1,0 +1,31 @@
+-- The kinds of the events of a run.
+use Rattle.std.specs.Prelude.{◌≡◌, ⊤, Bool, true, false, List, All, Option, Some, None}
+use Rattle.tm_model.specs.declared.outcome.Event.{Event}
+use Rattle.tm_model.specs.declared.outcome.Event.TheVariants.{Abort}
+use Rattle.tm_model.specs.declared.outcome.Interference.{Interference}
+use Rattle.tm_model.specs.declared.outcome.Interference.TheVariants.{Interrupt, Eviction, Snoop}
+use Rattle.tm_model.specs.declared.outcome.Pick.{Pick}
+use Rattle.tm_pick.specs.declared.kinds.Kinds.{Kinds}
+
+-- none
+abbrev pub no_kinds : Kinds
+no_kinds = record { interrupt = false; eviction = false; snoop = false }
+
+-- whether this one is among them
+abbrev pub has_kind : Kinds → Interference → Bool
+has_kind kinds Interrupt = kinds.interrupt
+has_kind kinds Eviction = kinds.eviction
+has_kind kinds Snoop = kinds.snoop
+
+-- an event of one of them, or none
+abbrev pub IsOfKinds : Kinds → Option Event → Type 0
+IsOfKinds kinds None = ⊤
+IsOfKinds kinds (Some (Abort by)) = has_kind kinds by ≡ true
+
+-- steps under such events
+abbrev pub AreOfKinds : Kinds → List Pick → Type 0
+AreOfKinds kinds picks = All (λ (pick : Pick). IsOfKinds kinds pick.event) picks
+
+-- each of the first ones is one of the second ones
+abbrev pub AreAmong : Kinds → Kinds → Type 0
+AreAmong kinds others = (by : Interference) → has_kind kinds by ≡ true → has_kind others by ≡ true

@@ -1,0 +1,5 @@
+pub mod Kinds
+pub mod Drawn
+pub mod Listed
+pub mod Lots
+pub mod Sources

@@ -1,0 +1,55 @@
+//! How the events of a run are drawn.
+
+ghost use Rattle.tm_pick.specs.Drawn.{AreDrawn};
+
+use crate::chance::Chance;
+use crate::interferer::Interferer;
+use crate::kinds::Kinds;
+use tm_model::Interference;
+
+/// Among how many rates a run draws its own: 1, 1/2, 1/4 and so on, down to 1/64.
+const RATES: u32 = 7;
+
+/// The events of the steps of a run by chance: aborts from outside of the program (SDM volume 1, 16.3.8).
+#[derive(Clone, Copy, PartialEq, Eq)]
+pub enum Events {
+    /// None.
+    Never,
+    /// One step in so many comes under an event, by chance.
+    Rate {
+        /// In how many, 1 to 65,536; 1 is each step, and 0 is as 1.
+        one_in: u32,
+        /// Of which kinds, each as likely as another.
+        kinds: Kinds,
+    },
+    /// Each run draws its rate, of 1, 1/2, 1/4 and so on down to 1/64, and its kinds: one of the three, or all of them.
+    Draw,
+}
+
+impl Events {
+    /// The events of the run of this number: a function of the seed and the number, by a generator of their own. So the
+    /// cores of a run are drawn from the same numbers with events as without.
+    pub fn of_run(self, seed: u32, run: u32) -> Interferer
+        ensures { AreDrawn self result }
+    {
+        match self {
+            Events::Never => Interferer::never(),
+            Events::Rate { one_in, kinds } => {
+                Interferer::new(Chance::of_events(seed, run), one_in.max(1), kinds)
+            }
+            Events::Draw => drawn(Chance::of_events(seed, run)),
+        }
+    }
+}
+
+// Events whose rate and kinds are drawn.
+fn drawn(mut chance: Chance) -> Interferer {
+    let one_in = 1 << chance.below(RATES);
+    let kinds = match chance.below(4) {
+        0 => Kinds::only(Interference::Interrupt),
+        1 => Kinds::only(Interference::Eviction),
+        2 => Kinds::only(Interference::Snoop),
+        _ => Kinds::ALL,
+    };
+    Interferer::new(chance, one_in, kinds)
+}

@@ -1,0 +1,129 @@
+-- What steps tell of events.
+use Rattle.std.proofs.Common.{◌≡◌, ℕ, List, [], ◌∷◌, ◌++◌, false, Option, Some, None, refl, sym, ap, subst, ⊎_elim, inl, inr}
+use Rattle.std.proofs.Math.Seq.{drop-length}
+use Rattle.std.proofs.lemmas.List.Elements.{All-append, All-cons, All-nil, All-weaker}
+use Rattle.tm_hist.specs.Board.{ShownBoard, TellsAsShown}
+use Rattle.tm_hist.specs.TmModel.CoreState.{CoreState}
+use Rattle.tm_hist.specs.TmModel.CoreState.TheVariants as state
+use Rattle.tm_hist.specs.TmModel.Event.{Event}
+use Rattle.tm_hist.specs.TmModel.Event.TheVariants as event
+use Rattle.tm_hist.specs.TmModel.Interference.TheVariants.{Interrupt, Eviction, Snoop}
+use Rattle.tm_hist.specs.TmModel.Outcome.{Outcome}
+use Rattle.tm_hist.specs.TmModel.Outcome.TheVariants.{Aborted, AbortedBy, Begun, Committed, Idle, Inside, Loaded, Plain, Stopped}
+use Rattle.tm_hist.specs.TmModel.Runs.{TellNoAbort, event_told, is_aborted_by}
+use Rattle.tm_pick.specs.Drawn.{AreDrawn}
+use Rattle.tm_pick.specs.Kinds.{IsOfKinds, no_kinds}
+use Rattle.tm_pick.specs.declared.events.Events.{Events}
+use Rattle.tm_pick.specs.declared.events.Events.TheVariants.{Never, Rate, Draw}
+use Rattle.tm_pick.specs.declared.kinds.Kinds.{Kinds}
+use Rattle.tm_work.specs.Events.{TellDrawn, TellsOf}
+use Rattle.tm_work.specs.Seats.{AreStepsMade, GoesOn, IsDisturbed, IsStepMade, new_part}
+use Rattle.tm_work.specs.declared.progress.Progress.{Progress}
+use Rattle.tm_work.specs.declared.progress.Receipt.{Receipt}
+use Rattle.tm_work.proofs.Turns.{part_next}
+
+-- ---- one outcome
+
+none_told : (o : Outcome) → is_aborted_by o ≡ false → event_told o ≡ None
+none_told (AbortedBy by status) h = absurd (cc)
+none_told (Aborted status) h = refl
+none_told Plain h = refl
+none_told Loaded h = refl
+none_told (Stopped stop) h = refl
+none_told Idle h = refl
+none_told Begun h = refl
+none_told Inside h = refl
+none_told Committed h = refl
+
+not_aborted : (o : Outcome) → event_told o ≡ None → is_aborted_by o ≡ false
+not_aborted (AbortedBy by status) h = absurd (cc)
+not_aborted (Aborted status) h = refl
+not_aborted Plain h = refl
+not_aborted Loaded h = refl
+not_aborted (Stopped stop) h = refl
+not_aborted Idle h = refl
+not_aborted Begun h = refl
+not_aborted Inside h = refl
+not_aborted Committed h = refl
+
+-- a step under an event tells of that one, or of none
+pub told_of : (e : Event) (shown : CoreState) (o : Outcome) → TellsAsShown e shown o → TellsOf (Some e) o
+told_of (event.Abort by) (state.Open depth) o h = inr (ap event_told h)
+told_of (event.Abort by) state.Running o h = inl h
+told_of (event.Abort by) state.Mid o h = inl h
+told_of (event.Abort by) (state.Condemned depth) o h = inl h
+told_of (event.Abort by) (state.Stopped why) o h = inl h
+
+-- the same of one under none
+pub told_none : (o : Outcome) → TellsOf None o → event_told o ≡ None
+told_none o h = ⊎_elim (λ (e : event_told o ≡ None). e) (λ (e : event_told o ≡ None). e) h
+
+no_kind_comes : (e : Option Event) → IsOfKinds no_kinds e → e ≡ None
+no_kind_comes None h = refl
+no_kind_comes (Some (event.Abort Interrupt)) h = absurd (cc)
+no_kind_comes (Some (event.Abort Eviction)) h = absurd (cc)
+no_kind_comes (Some (event.Abort Snoop)) h = absurd (cc)
+
+-- events have kinds
+pub some_kinds : (events : Events) → (kinds : Kinds) × AreDrawn events kinds
+some_kinds Never = (no_kinds, refl)
+some_kinds (Rate one_in kinds) = (kinds, refl)
+some_kinds Draw = (no_kinds, tt)
+
+-- ---- lists of steps
+
+abbrev Untold : ℕ × Outcome → Type 0
+Untold step = is_aborted_by step.1 ≡ false
+
+abbrev OfKinds : Kinds → ℕ × Outcome → Type 0
+OfKinds kinds step = IsOfKinds kinds (event_told step.1)
+
+drawn_nil : (events : Events) → TellDrawn events []
+drawn_nil Never = All-nil Untold
+drawn_nil (Rate one_in kinds) = All-nil (OfKinds kinds)
+drawn_nil Draw = tt
+
+drawn_append : (events : Events) (xs ys : List (ℕ × Outcome)) → TellDrawn events xs → TellDrawn events ys → TellDrawn events (xs ++ ys)
+drawn_append Never xs ys first then = All-append Untold xs ys first then
+drawn_append (Rate one_in kinds) xs ys first then = All-append (OfKinds kinds) xs ys first then
+drawn_append Draw xs ys first then = tt
+
+drawn_alone : (events : Events) (xs : List (ℕ × Outcome)) → TellNoAbort xs → TellDrawn events xs
+drawn_alone Never xs h = h
+drawn_alone (Rate one_in kinds) xs h = All-weaker Untold (OfKinds kinds) (λ x e. subst (IsOfKinds kinds) (sym (none_told x.1 e)) tt) xs h
+drawn_alone Draw xs h = tt
+
+drawn_one : (events : Events) (kinds : Kinds) (e : Option Event) (c : ℕ) (o : Outcome) → AreDrawn events kinds → IsOfKinds kinds e → TellsOf e o → TellDrawn events ((c, o) ∷ [])
+drawn_one Never kinds e c o drawn of told =
+    let none : e ≡ None = no_kind_comes e (subst (λ (k : Kinds). IsOfKinds k e) drawn of) in
+    All-cons Untold (c, o) [] (not_aborted o (told_none o (subst (λ (x : Option Event). TellsOf x o) none told))) (All-nil Untold)
+drawn_one (Rate one_in asked) kinds e c o drawn of told =
+    let is : IsOfKinds asked e = subst (λ (k : Kinds). IsOfKinds k e) drawn of in
+    All-cons (OfKinds asked) (c, o) []
+    (⊎_elim
+    (λ (none : event_told o ≡ None). subst (IsOfKinds asked) (sym none) tt)
+    (λ (same : event_told o ≡ e). subst (IsOfKinds asked) (sym same) is)
+    told)
+    (All-nil (OfKinds asked))
+drawn_one Draw kinds e c o drawn of told = tt
+
+-- ---- boards
+
+-- the board given has no new part
+pub fresh_disturbed : (events : Events) (given b : ShownBoard) → b ≡ given → IsDisturbed events given b
+fresh_disturbed events given b same =
+    subst (λ (y : ShownBoard). IsDisturbed events given y) (sym same)
+    (subst (λ l. TellDrawn events l) (sym (drop-length given.history)) (drawn_nil events))
+
+-- more steps without events
+pub alone_disturbed : (events : Events) (given b b' : ShownBoard) (c : ℕ) (was now : Progress) (made : ℕ) → GoesOn given b → AreStepsMade b b' c was now made → IsDisturbed events given b → IsDisturbed events given b'
+alone_disturbed events given b b' c was now made g steps before =
+    let more = steps.alone given g in
+    subst (λ l. TellDrawn events l) (sym more.1) (drawn_append events (new_part given b) more.0 before (drawn_alone events more.0 more.2))
+
+-- one more step, under an event or under none
+pub step_disturbed : (events : Events) (kinds : Kinds) (e : Option Event) (given b b' : ShownBoard) (c : ℕ) (r : Receipt) → GoesOn given b → IsStepMade b b' c r → AreDrawn events kinds → IsOfKinds kinds e → TellsOf e r.outcome
+    → IsDisturbed events given b → IsDisturbed events given b'
+step_disturbed events kinds e given b b' c r g made drawn of told was =
+    subst (λ l. TellDrawn events l) (sym (part_next given b b' c r g made))
+    (drawn_append events (new_part given b) ((c, r.outcome) ∷ []) was (drawn_one events kinds e c r.outcome drawn of told))
