@@ -1,2 +1,4 @@
 pub mod Ending
 pub mod Passing
+pub mod Told
+pub mod KeptKinds

@@ -4,7 +4,11 @@ use Rattle.tm_core.specs.Machine.{bad_limits}
 use Rattle.tm_hist.specs.Board.{bad_limit}
 use Rattle.tm_hist.specs.declared.board.BoardFault.{BoardFault}
 use Rattle.tm_hist.specs.declared.board.BoardFault.TheVariants.{BadLimit, BadLimits, NoMachine, NoMemory as NoHistory}
-use Rattle.tm_hunt.specs.Hunt.{Fails, HavePassed, Passes}
+use Rattle.tm_model.specs.declared.outcome.Pick.{Pick}
+use Rattle.tm_pick.specs.Kinds.{AreOfKinds}
+use Rattle.tm_pick.specs.declared.events.Events.{Events}
+use Rattle.tm_pick.specs.declared.kinds.Kinds.{Kinds}
+use Rattle.tm_hunt.specs.Hunt.{AreUnder, Fails, HavePassed, Passes}
 use Rattle.tm_hunt.specs.declared.attempt.Attempt.{Attempt}
 use Rattle.tm_hunt.specs.declared.attempt.Attempt.TheVariants.{Ended, Cut, Failed}
 use Rattle.tm_hunt.specs.declared.attempt.Failure.{Failure}
@@ -27,24 +31,27 @@ IsRefusal trial NoMemory = ⊤
 
 -- the failure is one
 abbrev pub IsFailure : Trial → Failure → Type 0
-IsFailure trial failure = Fails trial failure.cores.items failure.check
+IsFailure trial failure = Fails trial failure.picks.items failure.check
 
--- some run violates no check
-abbrev pub SomePasses : Trial → Type 0
-SomePasses trial = (cores : List ℕ) × Passes trial cores
+-- some run under events of these kinds violates no check
+abbrev pub SomePasses : Trial → Kinds → Type 0
+SomePasses trial kinds = (picks : List Pick) × Passes trial picks × AreOfKinds kinds picks
 
-abbrev pub IsAttempt : Trial → Attempt → Type 0
-IsAttempt trial Ended = SomePasses trial
-IsAttempt trial Cut = SomePasses trial
-IsAttempt trial (Failed failure) = IsFailure trial failure
+-- what a run under events of these kinds came to
+abbrev pub IsAttempt : Trial → Kinds → Attempt → Type 0
+IsAttempt trial kinds Ended = SomePasses trial kinds
+IsAttempt trial kinds Cut = SomePasses trial kinds
+IsAttempt trial kinds (Failed failure) = IsFailure trial failure × AreOfKinds kinds failure.picks.items
 
 -- the first run that failed, of runs below an end; or all passed
-abbrev pub IsFirst : Trial → ℕ → ℕ → ℕ → Option Found → Type 0
-IsFirst trial first end passed None = first ≤ end → first + passed ≡ end
-IsFirst trial first end passed (Some found) =
-    IsFailure trial found.failure × (first + passed ≡ found.run) × (found.run < end)
+abbrev pub IsFirst : Trial → Events → ℕ → ℕ → ℕ → Option Found → Type 0
+IsFirst trial events first end passed None = first ≤ end → first + passed ≡ end
+IsFirst trial events first end passed (Some found) =
+    IsFailure trial found.failure × AreUnder events found.failure.picks.items
+    × (first + passed ≡ found.run) × (found.run < end)
 
--- a search over the runs from a first one up to an end: the runs before the one that failed were made, and passed
-pub record IsSearch (trial : Trial) (first end : ℕ) (search : Search) : Type 0 where
-  pub passed : HavePassed trial (search.ended + search.cut)
-  pub found : IsFirst trial first end (search.ended + search.cut) search.found
+-- a search over the runs from a first one up to an end, under these events: the runs before the one that failed were
+-- made, and passed
+pub record IsSearch (trial : Trial) (events : Events) (first end : ℕ) (search : Search) : Type 0 where
+  pub passed : HavePassed trial events (search.ended + search.cut)
+  pub found : IsFirst trial events first end (search.ended + search.cut) search.found

@@ -1,7 +1,13 @@
 -- What a search for a failing schedule comes to.
-use Rattle.std.specs.Prelude.{◌≡◌, ◌⊎◌, ℕ, List, All, length, map}
+use Rattle.std.specs.Prelude.{◌≡◌, ◌⊎◌, ℕ, List, All, length}
+use Rattle.tm_model.specs.declared.outcome.Pick.{Pick}
+use Rattle.tm_hist.specs.TmModel.Runs.{picks_of}
 use Rattle.tm_hist.specs.Board.{IsFull, IsHistory, ShownBoard as Board}
 use Rattle.tm_check.specs.Checks.{HasEnded, IsViolatedAt, NoneViolated}
+use Rattle.tm_pick.specs.Drawn.{AreDrawn}
+use Rattle.tm_pick.specs.Kinds.{AreOfKinds}
+use Rattle.tm_pick.specs.declared.events.Events.{Events}
+use Rattle.tm_pick.specs.declared.kinds.Kinds.{Kinds}
 use Rattle.tm_hunt.specs.declared.trial.Trial.{Trial}
 
 -- a board of what is tried: its program, its limits, and at most so many steps
@@ -10,16 +16,16 @@ pub record IsTrialOf (trial : Trial) (board : Board) : Type 0 where
   pub limits : board.limits ≡ trial.limits
   pub most : board.limit ≡ trial.most
 
--- the board after exactly these steps from the program's opening state
-pub record RunsTo (trial : Trial) (cores : List ℕ) (board : Board) : Type 0 where
+-- the board after exactly these steps from the program's opening state: the events are those that aborted a transaction
+pub record RunsTo (trial : Trial) (picks : List Pick) (board : Board) : Type 0 where
   pub of_trial : IsTrialOf trial board
-  pub steps : map (λ step. step.0) board.history ≡ cores
+  pub steps : picks_of board.history ≡ picks
   pub is_run : IsHistory board
 
 -- the run of this schedule violates the check with this index
-pub record Fails (trial : Trial) (cores : List ℕ) (check : ℕ) : Type 0 where
+pub record Fails (trial : Trial) (picks : List Pick) (check : ℕ) : Type 0 where
   pub board : Board
-  pub run : RunsTo trial cores board
+  pub run : RunsTo trial picks board
   pub violates : IsViolatedAt board trial.checks.now check
 
 -- some check is violated
@@ -31,14 +37,18 @@ abbrev pub IsOver : Trial → Board → Type 0
 IsOver trial board = (HasEnded board ⊎ IsFull board) ⊎ SomeViolated trial board
 
 -- the run of this schedule comes to its end, and violates none
-pub record Passes (trial : Trial) (cores : List ℕ) : Type 0 where
+pub record Passes (trial : Trial) (picks : List Pick) : Type 0 where
   pub board : Board
-  pub run : RunsTo trial cores board
+  pub run : RunsTo trial picks board
   pub is_over : HasEnded board ⊎ IsFull board
   pub keeps : NoneViolated board trial.checks.now
 
--- there are so many runs, which may be alike, and each violates no check
-pub record HavePassed (trial : Trial) (count : ℕ) : Type 0 where
-  pub schedules : List (List ℕ)
+-- the events of a schedule are such as these runs come under: of their kinds, and none where they have none
+abbrev pub AreUnder : Events → List Pick → Type 0
+AreUnder events picks = (kinds : Kinds) × AreDrawn events kinds × AreOfKinds kinds picks
+
+-- there are so many runs under these events, which may be alike, and each violates no check
+pub record HavePassed (trial : Trial) (events : Events) (count : ℕ) : Type 0 where
+  pub schedules : List (List Pick)
   pub counted : length schedules ≡ count
-  pub each : All (Passes trial) schedules
+  pub each : All (λ (picks : List Pick). Passes trial picks × AreUnder events picks) schedules

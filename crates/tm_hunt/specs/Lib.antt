@@ -1,3 +1,4 @@
 pub mod Hunt
 pub mod Attempts
 pub mod Cost
+pub mod Kept

@@ -1,10 +1,13 @@
 //! Runs, and whether they failed.
 
-ghost use Rattle.std.specs.Prelude.{◌≡◌, ◌≤◌, IfErr, IfOk, map};
+ghost use Rattle.std.specs.Prelude.{◌≡◌, ◌≤◌, IfErr, IfOk};
+ghost use Rattle.tm_hist.specs.TmModel.Runs.{picks_of};
 ghost use Rattle.tm_hist.specs.History.{pairs_of};
 ghost use Rattle.tm_hunt.specs.declared.attempt.HuntFault.TheVariants.{Board as OfBoard, NoMemory};
 ghost use Rattle.tm_hunt.specs.Attempts.{IsAttempt, IsRefusal};
 ghost use Rattle.tm_hunt.specs.Hunt.{IsOver, IsTrialOf};
+ghost use Rattle.tm_pick.specs.Kinds.{AreOfKinds};
+ghost use Rattle.tm_pick.specs.declared.kinds.Kinds.{Kinds};
 
 use crate::one_run::run;
 use crate::trial::Trial;
@@ -12,6 +15,7 @@ use std::alloc::{AllocError, Global};
 use thiserror::Error;
 use tm_check::{first_violated, has_ended};
 use tm_hist::{Board, BoardFault, History};
+use tm_model::Pick;
 use tm_pick::Picker;
 
 /// Why a search was not made to its end.
@@ -44,8 +48,8 @@ impl From<AllocError> for HuntFault {
 /// A run that violates a check.
 #[derive(Debug, Drop)]
 pub struct Failure {
-    /// The core of each step.
-    pub cores: Vec<u8>,
+    /// The picks of its steps: a core each, and the event that aborted its transaction, if any.
+    pub picks: Vec<Pick>,
     /// The index of the first check that it violates.
     pub check: usize,
 }
@@ -67,7 +71,7 @@ pub fn try_run(
     trial: &Trial<'_>,
     picker: &mut Picker<'_>,
 ) -> Result<Attempt, HuntFault>
-    ensures ok { IfOk result (IsAttempt trial.now) }
+    ensures ok { IfOk result (IsAttempt trial.now picker.old) }
     ensures err { IfErr result (IsRefusal trial.now) }
 {
     let board = run(alloc, trial, picker)?;
@@ -87,28 +91,28 @@ pub fn usual_length(alloc: Global, trial: &Trial<'_>) -> Result<u32, HuntFault>
 fn judged(alloc: Global, trial: &Trial<'_>, board: &Board) -> Result<Attempt, HuntFault>
     requires of_trial { IsTrialOf trial.now board.now }
     requires over { IsOver trial.now board.now }
-    ensures ok { IfOk result (IsAttempt trial.now) }
+    ensures ok { (kinds : Kinds) → AreOfKinds kinds (picks_of board.now.history) →
+        IfOk result (IsAttempt trial.now kinds) }
     ensures err { IfErr result (IsRefusal trial.now) }
 {
     board.is_run();
     match first_violated(trial.checks, board) {
         Some(check) => {
-            let cores = cores_of(alloc, board.history())?;
-            Ok(Attempt::Failed(Failure { cores, check }))
+            let picks = picks_made(alloc, board.history())?;
+            Ok(Attempt::Failed(Failure { picks, check }))
         }
         None if has_ended(board) => Ok(Attempt::Ended),
         None => Ok(Attempt::Cut),
     }
 }
 
-// The core of each step.
-fn cores_of(alloc: Global, history: History<'_>) -> Result<Vec<u8>, AllocError>
-    ensures { IfOk result (λ cores. cores.items ≡ map (λ step. step.0) (pairs_of history.entry)) }
+// The picks of the steps.
+fn picks_made(alloc: Global, history: History<'_>) -> Result<Vec<Pick>, AllocError>
+    ensures { IfOk result (λ picks. picks.items ≡ picks_of (pairs_of history.entry)) }
 {
-    let mut cores = Vec::with_capacity(alloc, history.len())?;
+    let mut picks = Vec::with_capacity(alloc, history.len())?;
     for index in 0..history.len() {
-        let (core, _outcome) = history.get(index).unwrap();
-        cores.push(core)?;
+        picks.push(history.pick_at(index).unwrap())?;
     }
-    Ok(cores)
+    Ok(picks)
 }

@@ -1,31 +1,48 @@
 //! How simple a schedule is.
 
 ghost use Rattle.std.specs.Prelude.{◌≡◌, length};
-ghost use Rattle.tm_hunt.specs.Cost.{cost_of, switches_of};
+ghost use Rattle.tm_hunt.specs.Cost.{cost_of, events_in, switches_of};
+
+use tm_model::Pick;
 
 /// How often the core changes from one step to the next.
-pub fn switches(steps: &[u8]) -> usize
+pub fn switches(steps: &[Pick]) -> usize
     ensures { result ≡ switches_of steps.now }
 {
     let Some((first, rest)) = steps.split_first() else {
         return 0;
     };
-    let mut last = *first;
+    let mut last = first.core;
     let mut left = rest;
     let mut count = 0;
-    'steps: while let Some((core, behind)) = left.split_first() {
-        if *core != last {
+    'steps: while let Some((pick, behind)) = left.split_first() {
+        if pick.core != last {
             count += 1;
         }
-        last = *core;
+        last = pick.core;
         left = behind;
     }
     count
 }
 
-/// How simple a schedule is: its steps, and four times its switches.
-pub fn cost(steps: &[u8]) -> u128
+/// How many steps come under an event.
+pub fn events(steps: &[Pick]) -> usize
+    ensures { result ≡ events_in steps.now }
+{
+    let mut left = steps;
+    let mut count = 0;
+    'steps: while let Some((pick, behind)) = left.split_first() {
+        if pick.event.is_some() {
+            count += 1;
+        }
+        left = behind;
+    }
+    count
+}
+
+/// How simple a schedule is: its steps, four times its switches, and four times its events.
+pub fn cost(steps: &[Pick]) -> u128
     ensures { result ≡ cost_of steps.now }
 {
-    steps.len() as u128 + 4 * switches(steps) as u128
+    steps.len() as u128 + 4 * switches(steps) as u128 + 4 * events(steps) as u128
 }

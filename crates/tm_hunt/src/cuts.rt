@@ -1,19 +1,29 @@
-//! Schedules from which steps are cut. Nothing is promised of them: what they come to is tried.
+//! Schedules from which steps or events are cut. What they come to is tried; promised is that their events are of the
+//! kinds that were there.
+
+ghost use Rattle.std.specs.Prelude.{IfOk, IfSome};
+ghost use Rattle.tm_hunt.specs.Kept.{KeepsKinds};
 
 use std::alloc::{AllocError, Global};
+use tm_model::Pick;
 
 /// The first steps of a list.
-pub fn front_of(alloc: Global, steps: &[u8], count: usize) -> Result<Vec<u8>, AllocError> {
+#[tactic(auto, using(crate::proofs::KeptKinds::keeps_front))]
+pub fn front_of(alloc: Global, steps: &[Pick], count: usize) -> Result<Vec<Pick>, AllocError>
+    ensures { IfOk result (λ front. KeepsKinds steps.now front.items) }
+{
     Vec::from_slice(alloc, &steps[..count.min(steps.len())])
 }
 
 /// The steps without those from an index up to another one.
 pub fn without(
     alloc: Global,
-    steps: &[u8],
+    steps: &[Pick],
     start: usize,
     end: usize,
-) -> Result<Vec<u8>, AllocError> {
+) -> Result<Vec<Pick>, AllocError>
+    ensures { IfOk result (λ left. KeepsKinds steps.now left.items) }
+{
     let mut left = Vec::with_capacity(alloc, steps.len())?;
     left.extend_from_slice(part(steps, 0, start))?;
     left.extend_from_slice(part(steps, end, steps.len()))?;
@@ -21,7 +31,10 @@ pub fn without(
 }
 
 // The steps from an index up to another one, none where they are not there.
-fn part(steps: &[u8], start: usize, end: usize) -> &[u8] {
+#[tactic(auto, using(crate::proofs::KeptKinds::keeps_part, crate::proofs::KeptKinds::keeps_none))]
+fn part(steps: &[Pick], start: usize, end: usize) -> &[Pick]
+    ensures { KeepsKinds steps.now result.now }
+{
     let end = end.min(steps.len());
     if start >= end {
         return &[];
@@ -30,9 +43,9 @@ fn part(steps: &[u8], start: usize, end: usize) -> &[u8] {
 }
 
 /// Where the steps of one core side by side end that begin at an index.
-pub fn burst_end(steps: &[u8], start: usize) -> usize {
+pub fn burst_end(steps: &[Pick], start: usize) -> usize {
     for index in start..steps.len() {
-        if steps[index] != steps[start] {
+        if steps[index].core != steps[start].core {
             return index;
         }
     }
@@ -40,7 +53,9 @@ pub fn burst_end(steps: &[u8], start: usize) -> usize {
 }
 
 /// The steps with the next burst of the core at an index moved behind its burst there, where it has a next one.
-pub fn joined(alloc: Global, steps: &[u8], start: usize) -> Result<Option<Vec<u8>>, AllocError> {
+pub fn joined(alloc: Global, steps: &[Pick], start: usize) -> Result<Option<Vec<Pick>>, AllocError>
+    ensures { IfOk result (λ found. IfSome found (λ moved. KeepsKinds steps.now moved.items)) }
+{
     let end = burst_end(steps, start);
     let Some(next) = next_burst(steps, start, end) else {
         return Ok(None);
@@ -55,11 +70,40 @@ pub fn joined(alloc: Global, steps: &[u8], start: usize) -> Result<Option<Vec<u8
 }
 
 // Where the core at an index steps again, from another index on.
-fn next_burst(steps: &[u8], start: usize, from: usize) -> Option<usize> {
+fn next_burst(steps: &[Pick], start: usize, from: usize) -> Option<usize> {
     for index in from..steps.len() {
-        if start < steps.len() && steps[index] == steps[start] {
+        if start < steps.len() && steps[index].core == steps[start].core {
             return Some(index);
         }
     }
     None
+}
+
+/// Where the last step before an index stands that comes under an event.
+pub fn last_event(steps: &[Pick], end: usize) -> Option<usize> {
+    let mut last = None;
+    for index in 0..end.min(steps.len()) {
+        if steps[index].event.is_some() {
+            last = Some(index);
+        }
+    }
+    last
+}
+
+/// The steps without the event of the one at an index.
+#[tactic(auto, using(crate::proofs::KeptKinds::keeps_all))]
+pub fn without_event(alloc: Global, steps: &[Pick], index: usize) -> Result<Vec<Pick>, AllocError>
+    ensures { IfOk result (λ left. KeepsKinds steps.now left.items) }
+{
+    let Some(pick) = steps.get(index) else {
+        return Vec::from_slice(alloc, steps);
+    };
+    let mut left = Vec::with_capacity(alloc, steps.len())?;
+    left.extend_from_slice(part(steps, 0, index))?;
+    left.push(Pick {
+        core: pick.core,
+        event: None,
+    })?;
+    left.extend_from_slice(part(steps, index.saturating_add(1), steps.len()))?;
+    Ok(left)
 }

@@ -1,9 +1,10 @@
 //! The search for a schedule that breaks a program.
 //!
-//! A [`Trial`] is a program with checks (`tm_check`) on the end of its runs. [`first_failing`] makes runs by chance ([`tm_pick`])
-//! until one violates a check, and [`shorten`] finds a shorter schedule that violates the same check. Promised: a
-//! schedule that is answered, run from the program's opening state, violates the check that it is answered with; and
-//! there are as many runs as are counted, which may be alike, that violate none. The words for it stand in
+//! A [`Trial`] is a program with checks (`tm_check`) on the end of its runs. [`first_failing`] makes runs by chance
+//! ([`tm_pick`]) under the events of their plan, until one violates a check, and [`shorten`] finds a shorter schedule that
+//! violates the same check. Promised: a schedule that is answered, run from the program's opening state, violates the
+//! check that it is answered with; there are as many runs as are counted, which may be alike, that violate none; and all
+//! of them come under events of the plan's kinds alone, under none where it has none. The words for it stand in
 //! `specs/Hunt.antt`, over the boards of `tm_hist`, whose machine is the run of their history.
 #![tactic(auto)]
 
@@ -16,7 +17,7 @@ mod shortening;
 mod trial;
 
 pub use attempt::{Failure, HuntFault, usual_length};
-pub use cost::switches;
+pub use cost::{events, switches};
 pub use searching::{Found, Search, first_failing};
 pub use shortening::shorten;
 pub use trial::Trial;

@@ -1,7 +1,11 @@
 //! One run.
 
-ghost use Rattle.std.specs.Prelude.{◌≡◌, ◌<◌, ◌+◌, All, IfErr, IfOk, IfSome, IsNone, IsTrue, length};
+ghost use Rattle.std.specs.Prelude.{◌≡◌, ◌<◌, ◌+◌, ◌++◌, ◌∷◌, ◌⊎◌, [], All, IfErr, IfOk, IfSome, IsNone, IsTrue};
+ghost use Rattle.std.specs.Prelude.{None, Some, length};
 ghost use Rattle.tm_hist.specs.Board.{SameBoard};
+ghost use Rattle.tm_hist.specs.TmModel.Runs.{event_told, picks_of};
+ghost use Rattle.tm_pick.specs.Kinds.{AreOfKinds, IsOfKinds};
+ghost use Rattle.tm_pick.specs.declared.kinds.Kinds.{Kinds};
 ghost use Rattle.tm_hunt.specs.Attempts.{IsBoardRefusal};
 ghost use Rattle.tm_check.specs.Checks.{HasEnded};
 ghost use Rattle.tm_hunt.specs.Hunt.{IsOver, IsTrialOf, SomeViolated};
@@ -11,6 +15,7 @@ use std::alloc::Global;
 use tm_check::{Check, first_violated, has_ended};
 use tm_core::{Outcome, Stop};
 use tm_hist::{Board, BoardFault};
+use tm_model::{Event, Pick};
 use tm_pick::{Going, Picker, is_waiting};
 
 /// The board of a trial after the steps that are picked: until each core has stopped, or one for a reason that is
@@ -18,6 +23,7 @@ use tm_pick::{Going, Picker, is_waiting};
 pub fn run(alloc: Global, trial: &Trial<'_>, picker: &mut Picker<'_>) -> Result<Board, BoardFault>
     ensures ok { IfOk result (IsTrialOf trial.now) }
     ensures over { IfOk result (IsOver trial.now) }
+    ensures kinds { IfOk result (λ board. AreOfKinds picker.old (picks_of board.history)) }
     ensures err { IfErr result (IsBoardRefusal trial.now) }
 {
     let mut board = Board::new(alloc, trial.program, trial.limits, u64::from(trial.most))?;
@@ -26,9 +32,12 @@ pub fn run(alloc: Global, trial: &Trial<'_>, picker: &mut Picker<'_>) -> Result<
 }
 
 // Makes the steps that are picked.
+#[tactic(auto, using(crate::proofs::Told::none_made))]
 fn step_all(trial: &Trial<'_>, picker: &mut Picker<'_>, board: &mut Board)
+    requires new { board.old.history ≡ [] }
     ensures same { SameBoard board.old board.new }
     ensures over { IsOver trial.now board.new }
+    ensures kinds { AreOfKinds picker.old (picks_of board.new.history) }
 {
     let mut going = all_cores(board);
     let mut last = 0;
@@ -38,8 +47,9 @@ fn step_all(trial: &Trial<'_>, picker: &mut Picker<'_>, board: &mut Board)
         };
         going = left;
         let waits = picker.heeds_waiting() && is_waiting(trial.program, board.machine(), last);
-        last = picker.next(&going, waits);
-        if step_one(trial, board, &mut going, last) {
+        let pick = picker.next(&going, waits);
+        last = pick.core;
+        if step_one(trial, board, &mut going, pick) {
             return;
         }
     }
@@ -70,22 +80,67 @@ fn left_of(going: Going, board: &Board) -> Option<Going>
     Some(all_cores(board))
 }
 
-// Makes the step of a core, and takes it out where it stops. Whether a check is violated now.
-fn step_one(trial: &Trial<'_>, board: &mut Board, going: &mut Going, core: u8) -> bool
+// Makes the step of a pick, and takes its core out where it stops. Whether a check is violated now.
+#[tactic(auto, using(crate::proofs::Told::step_of))]
+fn step_one(trial: &Trial<'_>, board: &mut Board, going: &mut Going, pick: Pick) -> bool
     requires below { All (λ core. core < length board.old.program.entries) going.old }
-    requires is_core { core < length board.old.program.entries }
+    requires is_core { pick.core < length board.old.program.entries }
     requires room { length board.old.history < board.old.limit }
     ensures same { SameBoard board.old board.new }
     ensures below { All (λ core. core < length board.old.program.entries) going.new }
     ensures one_more { length board.new.history ≡ length board.old.history + 1 }
+    ensures kinds { (kinds : Kinds) → IsOfKinds kinds pick.event → AreOfKinds kinds (picks_of board.old.history) →
+        AreOfKinds kinds (picks_of board.new.history) }
     ensures violated { IsTrue result → SomeViolated trial.now board.new }
 {
-    match board.step(core) {
-        Ok(Outcome::Stopped(why)) => {
-            going.remove(core);
+    match make_step(board, pick) {
+        Outcome::Stopped(why) => {
+            going.remove(pick.core);
             is_checked(trial.checks, why) && first_violated(trial.checks, board).is_some()
         }
-        Ok(_) => false,
+        _ => false,
+    }
+}
+
+// Makes the step of a pick, under its event if it has one. What it comes to tells of that event or of none.
+fn make_step(board: &mut Board, pick: Pick) -> Outcome
+    requires is_core { pick.core < length board.old.program.entries }
+    requires room { length board.old.history < board.old.limit }
+    ensures same { SameBoard board.old board.new }
+    ensures made { board.new.history ≡ board.old.history ++ (pick.core, result) ∷ [] }
+    ensures told { (event_told result ≡ None) ⊎ (event_told result ≡ pick.event) }
+{
+    match pick.event {
+        None => step_alone(board, pick.core),
+        Some(event) => step_under(board, pick.core, event),
+    }
+}
+
+// The same under no event.
+fn step_alone(board: &mut Board, core: u8) -> Outcome
+    requires is_core { core < length board.old.program.entries }
+    requires room { length board.old.history < board.old.limit }
+    ensures same { SameBoard board.old board.new }
+    ensures made { board.new.history ≡ board.old.history ++ (core, result) ∷ [] }
+    ensures told { event_told result ≡ None }
+{
+    match board.step(core) {
+        Ok(outcome) => outcome,
+        Err(_) => unreachable!(),
+    }
+}
+
+// The same under this event.
+#[tactic(auto, using(crate::proofs::Told::told_as_shown))]
+fn step_under(board: &mut Board, core: u8, event: Event) -> Outcome
+    requires is_core { core < length board.old.program.entries }
+    requires room { length board.old.history < board.old.limit }
+    ensures same { SameBoard board.old board.new }
+    ensures made { board.new.history ≡ board.old.history ++ (core, result) ∷ [] }
+    ensures told { (event_told result ≡ None) ⊎ (event_told result ≡ Some event) }
+{
+    match board.step_under(core, event) {
+        Ok(outcome) => outcome,
         Err(_) => unreachable!(),
     }
 }

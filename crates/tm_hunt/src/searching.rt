@@ -28,7 +28,8 @@ pub struct Search {
     pub cut: u32,
 }
 
-/// Makes the runs of these numbers, from the first one up to the end, until one violates a check.
+/// Makes the runs of these numbers, from the first one up to the end, until one violates a check. They come under the
+/// events of the plan, and under none where it has none.
 pub fn first_failing(
     alloc: Global,
     trial: &Trial<'_>,
@@ -36,7 +37,7 @@ pub fn first_failing(
     first: u32,
     end: u32,
 ) -> Result<Search, HuntFault>
-    ensures ok { IfOk result (IsSearch trial.now first end) }
+    ensures ok { IfOk result (IsSearch trial.now plan.events first end) }
     ensures err { IfErr result (IsRefusal trial.now) }
 {
     let cores = trial.program.cores();

@@ -1,79 +1,125 @@
 //! A shorter schedule that fails.
 
-ghost use Rattle.std.specs.Prelude.{◌≡◌, ◌≤◌, IfErr};
+ghost use Rattle.std.specs.Prelude.{◌≡◌, ◌≤◌, IfErr, IfOk, IfSome};
 ghost use Rattle.tm_hunt.specs.Attempts.{IsFailure, IsRefusal};
 ghost use Rattle.tm_hunt.specs.Cost.{cost_of};
+ghost use Rattle.tm_hunt.specs.Kept.{KeepKinds, KeepsKinds};
 
 use crate::attempt::{Attempt, Failure, HuntFault, try_run};
 use crate::cost::cost;
-use crate::cuts::{burst_end, front_of, joined, without};
+use crate::cuts::{burst_end, front_of, joined, last_event, without, without_event};
 use crate::trial::Trial;
 use std::alloc::Global;
+use tm_model::Pick;
 use tm_pick::Picker;
 
 /// The most tries of each of the ways to make a schedule shorter.
 const MOST_TRIES: u32 = 4096;
 
 /// Makes a failing schedule shorter, which fails then by the same check: its shortest front, with which the run fails
-/// where the cores then run to their ends one after another; then the front without some of its bursts and some of its
-/// steps (delta debugging, after Zeller and Hildebrandt, IEEE TSE 2002); then with bursts of one core side by side.
-/// Each is tried, and kept where it fails and is no less simple: in steps and four times the switches.
+/// where the cores then run to their ends one after another; then the front without some of its events; then without
+/// some of its bursts and some of its steps (delta debugging, after Zeller and Hildebrandt, IEEE TSE 2002); then with
+/// bursts of one core side by side. Each is tried, and kept where it fails and is no less simple: in steps, four times
+/// the switches and four times the events. No event is there that was not.
 ///
 /// Where memory is refused, the schedule is the shortest that was found till then.
+#[tactic(auto, using(crate::proofs::KeptKinds::keeps_all))]
 pub fn shorten(alloc: Global, trial: &Trial<'_>, best: &mut Failure) -> Result<(), HuntFault>
     requires { IsFailure trial.now best.old }
     ensures fails { IsFailure trial.now best.new }
     ensures same { best.new.check ≡ best.old.check }
-    ensures simpler { cost_of best.new.cores.items ≤ cost_of best.old.cores.items }
+    ensures simpler { cost_of best.new.picks.items ≤ cost_of best.old.picks.items }
+    ensures kinds { KeepsKinds best.old.picks.items best.new.picks.items }
     ensures err { IfErr result (IsRefusal trial.now) }
 {
-    let mut front = Vec::from_slice(alloc, best.cores.as_slice())?;
-    cut_behind(alloc, trial, &mut front, best)?;
-    cut_bursts(alloc, trial, &mut front, best)?;
-    cut_steps(alloc, trial, &mut front, best)?;
-    join_bursts(alloc, trial, &mut front, best)?;
-    cut_steps(alloc, trial, &mut front, best)
+    let mut front = Vec::from_slice(alloc, best.picks.as_slice())?;
+    shorten_front(alloc, trial, &mut front, best)
 }
 
-// Tries another front, and takes it where it fails.
-fn try_front(
+// Makes the front of a schedule shorter.
+#[tactic(auto, using(crate::proofs::KeptKinds::keep_more))]
+fn shorten_front(
     alloc: Global,
     trial: &Trial<'_>,
-    front: &mut Vec<u8>,
-    other: Vec<u8>,
-    best: &mut Failure,
-) -> Result<bool, HuntFault>
-    requires { IsFailure trial.now best.old }
-    ensures fails { IsFailure trial.now best.new }
-    ensures same { best.new.check ≡ best.old.check }
-    ensures simpler { cost_of best.new.cores.items ≤ cost_of best.old.cores.items }
-    ensures err { IfErr result (IsRefusal trial.now) }
-{
-    let Attempt::Failed(failure) = try_run(alloc, trial, &mut Picker::front(other.as_slice()))?
-    else {
-        return Ok(false);
-    };
-    if failure.check != best.check {
-        return Ok(false);
-    }
-    if cost(failure.cores.as_slice()) <= cost(best.cores.as_slice()) {
-        *best = failure;
-    }
-    *front = other;
-    Ok(true)
-}
-
-// Cuts steps from the end, by halves.
-fn cut_behind(
-    alloc: Global,
-    trial: &Trial<'_>,
-    front: &mut Vec<u8>,
+    front: &mut Vec<Pick>,
     best: &mut Failure,
 ) -> Result<(), HuntFault>
     requires { IsFailure trial.now best.old }
     ensures fails { IsFailure trial.now best.new }
     ensures same { best.new.check ≡ best.old.check }
-    ensures simpler { cost_of best.new.cores.items ≤ cost_of best.old.cores.items }
+    ensures simpler { cost_of best.new.picks.items ≤ cost_of best.old.picks.items }
+    ensures kinds { KeepKinds front.old.items best.old.picks.items front.new.items best.new.picks.items }
+    ensures err { IfErr result (IsRefusal trial.now) }
+{
+    cut_behind(alloc, trial, front, best)?;
+    cut_events(alloc, trial, front, best)?;
+    cut_bursts(alloc, trial, front, best)?;
+    cut_steps(alloc, trial, front, best)?;
+    join_bursts(alloc, trial, front, best)?;
+    cut_steps(alloc, trial, front, best)
+}
+
+// What the run of a front comes to, where it fails.
+fn failure_of(
+    alloc: Global,
+    trial: &Trial<'_>,
+    front: &[Pick],
+) -> Result<Option<Failure>, HuntFault>
+    ensures fails { IfOk result (λ found. IfSome found (IsFailure trial.now)) }
+    ensures kinds { IfOk result (λ found. IfSome found (λ failure. KeepsKinds front.now failure.picks.items)) }
+    ensures err { IfErr result (IsRefusal trial.now) }
+{
+    match try_run(alloc, trial, &mut Picker::front(front))? {
+        Attempt::Failed(failure) => Ok(Some(failure)),
+        Attempt::Ended | Attempt::Cut => Ok(None),
+    }
+}
+
+// Tries another front, and takes it where it fails.
+#[tactic(auto, using(crate::proofs::KeptKinds::trying))]
+fn try_front(
+    alloc: Global,
+    trial: &Trial<'_>,
+    front: &mut Vec<Pick>,
+    other: Vec<Pick>,
+    best: &mut Failure,
+) -> Result<bool, HuntFault>
+    requires fails { IsFailure trial.now best.old }
+    requires kinds { KeepsKinds front.old.items other.items }
+    ensures fails { IsFailure trial.now best.new }
+    ensures same { best.new.check ≡ best.old.check }
+    ensures simpler { cost_of best.new.picks.items ≤ cost_of best.old.picks.items }
+    ensures kinds { KeepKinds front.old.items best.old.picks.items front.new.items best.new.picks.items }
+    ensures err { IfErr result (IsRefusal trial.now) }
+{
+    let Some(failure) = failure_of(alloc, trial, other.as_slice())? else {
+        return Ok(false);
+    };
+    if failure.check != best.check {
+        return Ok(false);
+    }
+    if cost(failure.picks.as_slice()) > cost(best.picks.as_slice()) {
+        *front = other;
+        return Ok(true);
+    }
+    *best = failure;
+    *front = other;
+    Ok(true)
+}
+
+// Cuts steps from the end, by halves.
+#[tactic(auto, using(crate::proofs::KeptKinds::keep_same, crate::proofs::KeptKinds::keep_more))]
+fn cut_behind(
+    alloc: Global,
+    trial: &Trial<'_>,
+    front: &mut Vec<Pick>,
+    best: &mut Failure,
+) -> Result<(), HuntFault>
+    requires { IsFailure trial.now best.old }
+    ensures fails { IsFailure trial.now best.new }
+    ensures same { best.new.check ≡ best.old.check }
+    ensures simpler { cost_of best.new.picks.items ≤ cost_of best.old.picks.items }
+    ensures kinds { KeepKinds front.old.items best.old.picks.items front.new.items best.new.picks.items }
     ensures err { IfErr result (IsRefusal trial.now) }
 {
     let mut low = 0;
@@ -91,17 +137,46 @@ fn cut_behind(
     Ok(())
 }
 
-// Leaves out bursts, one at a time.
-fn cut_bursts(
+// Leaves out events, one at a time, the last first.
+#[tactic(auto, using(crate::proofs::KeptKinds::keep_same, crate::proofs::KeptKinds::keep_more))]
+fn cut_events(
     alloc: Global,
     trial: &Trial<'_>,
-    front: &mut Vec<u8>,
+    front: &mut Vec<Pick>,
     best: &mut Failure,
 ) -> Result<(), HuntFault>
     requires { IsFailure trial.now best.old }
     ensures fails { IsFailure trial.now best.new }
     ensures same { best.new.check ≡ best.old.check }
-    ensures simpler { cost_of best.new.cores.items ≤ cost_of best.old.cores.items }
+    ensures simpler { cost_of best.new.picks.items ≤ cost_of best.old.picks.items }
+    ensures kinds { KeepKinds front.old.items best.old.picks.items front.new.items best.new.picks.items }
+    ensures err { IfErr result (IsRefusal trial.now) }
+{
+    let mut end = front.len();
+    'tries: for _ in 0..MOST_TRIES {
+        let Some(at) = last_event(front.as_slice(), end) else {
+            return Ok(());
+        };
+        let other = without_event(alloc, front.as_slice(), at)?;
+        let _fails = try_front(alloc, trial, front, other, best)?;
+        end = at;
+    }
+    Ok(())
+}
+
+// Leaves out bursts, one at a time.
+#[tactic(auto, using(crate::proofs::KeptKinds::keep_same, crate::proofs::KeptKinds::keep_more))]
+fn cut_bursts(
+    alloc: Global,
+    trial: &Trial<'_>,
+    front: &mut Vec<Pick>,
+    best: &mut Failure,
+) -> Result<(), HuntFault>
+    requires { IsFailure trial.now best.old }
+    ensures fails { IsFailure trial.now best.new }
+    ensures same { best.new.check ≡ best.old.check }
+    ensures simpler { cost_of best.new.picks.items ≤ cost_of best.old.picks.items }
+    ensures kinds { KeepKinds front.old.items best.old.picks.items front.new.items best.new.picks.items }
     ensures err { IfErr result (IsRefusal trial.now) }
 {
     let mut at = 0;
@@ -119,16 +194,18 @@ fn cut_bursts(
 }
 
 // Leaves out steps: halves, quarters and so on, and single steps until none can be left out.
+#[tactic(auto, using(crate::proofs::KeptKinds::keep_same, crate::proofs::KeptKinds::keep_more))]
 fn cut_steps(
     alloc: Global,
     trial: &Trial<'_>,
-    front: &mut Vec<u8>,
+    front: &mut Vec<Pick>,
     best: &mut Failure,
 ) -> Result<(), HuntFault>
     requires { IsFailure trial.now best.old }
     ensures fails { IsFailure trial.now best.new }
     ensures same { best.new.check ≡ best.old.check }
-    ensures simpler { cost_of best.new.cores.items ≤ cost_of best.old.cores.items }
+    ensures simpler { cost_of best.new.picks.items ≤ cost_of best.old.picks.items }
+    ensures kinds { KeepKinds front.old.items best.old.picks.items front.new.items best.new.picks.items }
     ensures err { IfErr result (IsRefusal trial.now) }
 {
     let mut size = front.len() / 2;
@@ -154,26 +231,46 @@ fn cut_steps(
     Ok(())
 }
 
+// Moves the next burst of the core at an index behind its burst there.
+#[tactic(auto, using(crate::proofs::KeptKinds::keep_same))]
+fn join_at(
+    alloc: Global,
+    trial: &Trial<'_>,
+    front: &mut Vec<Pick>,
+    at: usize,
+    best: &mut Failure,
+) -> Result<bool, HuntFault>
+    requires { IsFailure trial.now best.old }
+    ensures fails { IsFailure trial.now best.new }
+    ensures same { best.new.check ≡ best.old.check }
+    ensures simpler { cost_of best.new.picks.items ≤ cost_of best.old.picks.items }
+    ensures kinds { KeepKinds front.old.items best.old.picks.items front.new.items best.new.picks.items }
+    ensures err { IfErr result (IsRefusal trial.now) }
+{
+    let Some(other) = joined(alloc, front.as_slice(), at)? else {
+        return Ok(false);
+    };
+    try_front(alloc, trial, front, other, best)
+}
+
 // Moves bursts of one core side by side.
+#[tactic(auto, using(crate::proofs::KeptKinds::keep_same, crate::proofs::KeptKinds::keep_more))]
 fn join_bursts(
     alloc: Global,
     trial: &Trial<'_>,
-    front: &mut Vec<u8>,
+    front: &mut Vec<Pick>,
     best: &mut Failure,
 ) -> Result<(), HuntFault>
     requires { IsFailure trial.now best.old }
     ensures fails { IsFailure trial.now best.new }
     ensures same { best.new.check ≡ best.old.check }
-    ensures simpler { cost_of best.new.cores.items ≤ cost_of best.old.cores.items }
+    ensures simpler { cost_of best.new.picks.items ≤ cost_of best.old.picks.items }
+    ensures kinds { KeepKinds front.old.items best.old.picks.items front.new.items best.new.picks.items }
     ensures err { IfErr result (IsRefusal trial.now) }
 {
     let mut at = 0;
     'tries: for _ in 0..MOST_TRIES {
-        let is_joined = match joined(alloc, front.as_slice(), at)? {
-            Some(other) => try_front(alloc, trial, front, other, best)?,
-            None => false,
-        };
-        if !is_joined {
+        if !join_at(alloc, trial, front, at, best)? {
             at = burst_end(front.as_slice(), at);
         }
         if at >= front.len() {

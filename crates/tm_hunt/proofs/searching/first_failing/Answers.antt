@@ -5,13 +5,32 @@ use Rattle.tm_hunt.proofs.searching.first_failing.Goals.{in-Ended, in-Cut}
 use Rattle.tm_hunt.proofs.searching.first_failing.Goals as goal
 
 pub runs-init : goal.runs-init
-runs-init c = record { passed = none_passed c.args.trial.now; counted = omega arith }
+runs-init c = record { passed = none_passed c.args.trial.now c.args.plan.events; counted = omega arith }
 
 pub runs-preserved : goal.runs-preserved
 runs-preserved c =
+    let trial = c.args.trial.now in
+    let events = c.args.plan.events in
+    let before = c.runs.invariant in
+    let passed = c.runs.ended + c.runs.cut in
+    let next = c.match-branch-2.ended + c.match-branch-2.cut in
     elim c.match-branch-2.branch [
-      | in-Ended w ↦ let a = w.ended-is in let b = w.cut-is in let i = c.runs.invariant in
-          record { passed = one_more c.args.trial.now (c.runs.ended + c.runs.cut) (c.match-branch-2.ended + c.match-branch-2.cut) (omega arith) i.passed (subst (IsAttempt c.args.trial.now) w.in-Ended.is c.in_ok-try_run.ensures.ok); counted = omega arith }
-      | in-Cut w ↦ let a = w.ended-is in let b = w.cut-is in let i = c.runs.invariant in
-          record { passed = one_more c.args.trial.now (c.runs.ended + c.runs.cut) (c.match-branch-2.ended + c.match-branch-2.cut) (omega arith) i.passed (subst (IsAttempt c.args.trial.now) w.in-Cut.is c.in_ok-try_run.ensures.ok); counted = omega arith }
+      | in-Ended w ↦
+          let ended = w.ended-is in
+          let cut = w.cut-is in
+          record {
+            passed =
+                one_more trial events c.run.result passed next (omega arith) c.run.ensures before.passed
+                (subst (IsAttempt trial c.run.result) w.in-Ended.is c.in_ok-try_run.ensures.ok);
+            counted = omega arith;
+          }
+      | in-Cut w ↦
+          let ended = w.ended-is in
+          let cut = w.cut-is in
+          record {
+            passed =
+                one_more trial events c.run.result passed next (omega arith) c.run.ensures before.passed
+                (subst (IsAttempt trial c.run.result) w.in-Cut.is c.in_ok-try_run.ensures.ok);
+            counted = omega arith;
+          }
     ]

@@ -1,0 +1,19 @@
+use Rattle.std.proofs.Common.{List, [], ◌∷◌, None}
+use Rattle.tm_model.specs.declared.outcome.Pick.{Pick}
+use Rattle.tm_hunt.proofs.KeptKinds.{keeps_empty, keeps_more, keeps_plain}
+use Rattle.tm_hunt.proofs.cuts.without_event.Goals as goal
+
+pub returns : goal.returns
+returns c =
+    let steps : List Pick = c.args.steps.now in
+    let none : List Pick = c.in_ok-left.left.items in
+    let one : List Pick = c.extend_from_slice.new.self.items in
+    let two : List Pick = c.push.new.self.items in
+    let three : List Pick = c.extend_from_slice-2.new.self.items in
+    let core = c.in-Some.pick.now.core in
+    keeps_more steps two c.part-2.result.now three c.in_ok-extend_from_slice-2.ensures.items
+    (keeps_more steps one (record { core = core; event = None } ∷ []) two c.in_ok-push.ensures.items
+    (keeps_more steps none c.part.result.now one c.in_ok-extend_from_slice.ensures.items
+    (keeps_empty steps none c.in_ok-left.ensures.items) c.part.ensures)
+    (keeps_plain steps core))
+    c.part-2.ensures
