@@ -8,13 +8,16 @@ use Rattle.tm_rule.specs.declared.kinds.OutsideResult.TheVariants.{Goes, Begins,
 use Rattle.tm_rule.specs.declared.kinds.Stop.{Stop}
 use Rattle.std.proofs.lemmas.Bool.{false≢true}
 use Rattle.tm_model.specs.Isolated.{Body, isolated_body}
+use Rattle.tm_model.specs.Owed.{owed_under}
 use Rattle.tm_model.specs.Setting.{Setting}
 use Rattle.tm_model.specs.Shown.{View, view_inside, view_midway, view_of, view_of_body, view_outside}
 use Rattle.tm_model.specs.State.{Closed, Core, Halted, Midway, Opened}
+use Rattle.tm_model.specs.declared.outcome.Event.{Event}
+use Rattle.tm_model.specs.declared.outcome.Event.TheVariants as event
 use Rattle.tm_model.specs.declared.outcome.CoreState.{CoreState}
 use Rattle.tm_model.specs.declared.outcome.CoreState.TheVariants.{Running, Mid, Open, Condemned, Stopped as AtStop}
 use Rattle.tm_outcomes.specs.Outcomes.{regs_of}
-use Rattle.tm_outcomes.specs.Places.{detail_of, has_detail, has_stopped}
+use Rattle.tm_outcomes.specs.Places.{detail_of, has_detail, has_stopped, is_open}
 
 -- what is shown of a core, by what a place knows of it
 abbrev pub view_from : Setting → List ℕ → CoreState → Regs → ℕ → Option View
@@ -136,3 +139,17 @@ stopped_is setting memory (Halted regs stop) (Some depth) view e halted = absurd
 stopped_is setting memory (Closed regs) doom view e halted = absurd (let h : Closed regs ≡ Halted halted.0 halted.1.0 = halted.1.1 in cc)
 stopped_is setting memory (Midway regs value) doom view e halted = absurd (let h : Midway regs value ≡ Halted halted.0 halted.1.0 = halted.1.1 in cc)
 stopped_is setting memory (Opened regs steps) doom view e halted = absurd (let h : Opened regs steps ≡ Halted halted.0 halted.1.0 = halted.1.1 in cc)
+
+-- ---- cores that no event aborts
+
+-- what a core owes under an event is what it owes under none, where it is in no transaction or is doomed
+pub same_under : (by : Event) (setting : Setting) (memory : List ℕ) (core : Core) (doom : Option ℕ) (view : View) →
+    view_of setting memory core doom ≡ Some view → is_open view.mode ≡ false →
+    owed_under (Some by) setting memory core doom ≡ owed_under None setting memory core doom
+same_under (event.Abort by) setting memory (Opened regs steps) None view e closed =
+    let known = base_inside regs (isolated_body setting regs memory steps) view e in
+    absurd (false≢true (sym closed ∙ ap is_open known.1.1))
+same_under (event.Abort by) setting memory (Opened regs steps) (Some depth) view e closed = refl
+same_under (event.Abort by) setting memory (Closed regs) doom view e closed = refl
+same_under (event.Abort by) setting memory (Midway regs value) doom view e closed = refl
+same_under (event.Abort by) setting memory (Halted regs stop) doom view e closed = refl

@@ -1,15 +1,20 @@
 -- Nodes, and the situations that their schedules lead to.
-use Rattle.std.proofs.Common.{◌≡◌, ℕ, ◌<◌, List, Some, length, sym, ap, ◌∙◌, subst, arith}
+use Rattle.std.proofs.Common.{◌≡◌, ℕ, ◌<◌, List, Some, false, length, sym, ap, ◌∙◌, subst, arith}
+use Rattle.std.specs.Prelude.{option_map}
 use Rattle.tm_core.specs.Theorem.{ShownMachine, StandsFor, machine_setting, view_at}
 use Rattle.tm_model.specs.Setting.{Setting}
 use Rattle.tm_model.specs.Shown.{view_of}
-use Rattle.tm_outcomes.specs.Nodes.{AreSame, LeadsTo, schedule_at}
+use Rattle.tm_model.specs.Steps.{step}
+use Rattle.tm_model.specs.declared.outcome.Event.{Event}
+use Rattle.tm_model.specs.declared.outcome.Outcome.{Outcome}
+use Rattle.tm_model.specs.declared.outcome.Pick.{Pick}
+use Rattle.tm_outcomes.specs.Nodes.{AreSame, IsUntouched, LeadsTo, schedule_at}
 use Rattle.tm_outcomes.specs.Outcomes.{trial_setting}
-use Rattle.tm_outcomes.specs.Places.{AreAlike, IsAt}
-use Rattle.tm_outcomes.specs.Schedules.{Situation}
+use Rattle.tm_outcomes.specs.Places.{AreAlike, IsAt, is_open}
+use Rattle.tm_outcomes.specs.Schedules.{Situation, with_state}
 use Rattle.tm_outcomes.specs.declared.place.Place.{Place}
 use Rattle.tm_outcomes.specs.declared.trial.Trial.{Trial}
-use Rattle.tm_outcomes.proofs.Alike.{same_views}
+use Rattle.tm_outcomes.proofs.Alike.{same_under, same_views}
 use Rattle.tm_outcomes.proofs.Somes.{same_in}
 
 -- what a machine shows, under the rules of its trial
@@ -29,7 +34,7 @@ stands_by machine setting now rules memory count each = record {
 }
 
 -- a machine at a node's end stands for what the node leads to
-pub stands_leads : (trial : Trial) (schedules : List (List ℕ)) (index : ℕ) (place : Place) (now : Situation) → index < length schedules →
+pub stands_leads : (trial : Trial) (schedules : List (List Pick)) (index : ℕ) (place : Place) (now : Situation) → index < length schedules →
     IsAt trial place (schedule_at schedules index) → StandsFor place.machine now.state now.doomed → LeadsTo trial schedules index now
 stands_leads trial schedules index place now within at stands = record {
   within = within;
@@ -47,7 +52,7 @@ stands_leads trial schedules index place now within at stands = record {
 }
 
 -- and for all that it leads to
-pub leads_stands : (trial : Trial) (schedules : List (List ℕ)) (index : ℕ) (place : Place) (now : Situation) →
+pub leads_stands : (trial : Trial) (schedules : List (List Pick)) (index : ℕ) (place : Place) (now : Situation) →
     IsAt trial place (schedule_at schedules index) → LeadsTo trial schedules index now → StandsFor place.machine now.state now.doomed
 leads_stands trial schedules index place now at leads =
     let end : at.now ≡ leads.end = same_in (sym at.is_run ∙ leads.is_run) in
@@ -58,7 +63,7 @@ leads_stands trial schedules index place now at leads =
     ∙ shows place.machine (trial_setting trial) at.now at.rules at.stands core below)
 
 -- places that are alike stand for the same
-pub alike_stands : (trial : Trial) (a b : Place) (s t : List ℕ) (now : Situation) → IsAt trial a s → IsAt trial b t → AreAlike a b →
+pub alike_stands : (trial : Trial) (a b : Place) (s t : List Pick) (now : Situation) → IsAt trial a s → IsAt trial b t → AreAlike a b →
     StandsFor a.machine now.state now.doomed → StandsFor b.machine now.state now.doomed
 alike_stands trial a b s t now at other alike stands =
     let setting : Setting = trial_setting trial in
@@ -76,3 +81,15 @@ alike_stands trial a b s t now at other alike stands =
     (view_at a.machine core) (view_at b.machine core)
     (shows a.machine setting at.now at.rules at.stands core here) theirs one.mode one.base
     (λ counts. sym (at.details core entry) ∙ (one.detail counts ∙ other.details core entry))))
+
+-- the step of a core that no event aborts is under each what it is under none
+pub untouched_at : (trial : Trial) (schedules : List (List Pick)) (index : ℕ) (place : Place) (core : ℕ) →
+    core < length trial.program.now.entries → IsAt trial place (schedule_at schedules index) →
+    is_open (view_at place.machine core).mode ≡ false → IsUntouched trial schedules index core
+untouched_at trial schedules index place core is_core at closed = λ now leads by.
+    let setting : Setting = trial_setting trial in
+    let stands = leads_stands trial schedules index place now at leads in
+    let below : core < length place.machine.views = (let count = at.count in omega arith) in
+    ap (λ (o : Outcome). option_map (with_state setting now core o) (step setting now.state core o))
+    (same_under by setting now.state.memory (now.state.cores core) (now.doomed core) (view_at place.machine core)
+    (shows place.machine setting now at.rules stands core below) closed)

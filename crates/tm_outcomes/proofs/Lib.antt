@@ -6,5 +6,6 @@ pub mod Leads
 pub mod Tables
 pub mod Trees
 pub mod Follows
+pub mod Grown
 pub mod Complete
 pub mod Underway

@@ -7,31 +7,36 @@ use Rattle.tm_model.specs.Setting.{Setting}
 use Rattle.tm_model.specs.State.{Core, State}
 use Rattle.tm_model.specs.Steps.{Change, after_step_of, state_with, step}
 use Rattle.tm_model.specs.declared.outcome.Outcome.{Outcome}
-use Rattle.tm_outcomes.specs.Schedules.{Situation, after_core, after_schedule, with_state}
+use Rattle.tm_model.specs.declared.outcome.Pick.{Pick}
+use Rattle.tm_outcomes.specs.Schedules.{Situation, after_pick, after_schedule, with_state}
 
--- a step that is owed under no event and allowed is the next step
-pub owed_is_next : (setting : Setting) (now : Situation) (core : ℕ) (outcome : Outcome) (next : State) →
-    IsOwedUnder None setting now.state now.doomed core outcome → step setting now.state core outcome ≡ Some next →
-    after_core setting now core ≡ Some (with_state setting now core outcome next)
-owed_is_next setting now core outcome next owed is_step =
-    subst (λ (o : Outcome). option_map (with_state setting now core o) (step setting now.state core o) ≡ Some (with_state setting now core outcome next)) owed
-    (ap (option_map (with_state setting now core outcome)) is_step)
+-- a step that is owed under a pick's event, and allowed, is the pick's
+pub owed_is_next : (setting : Setting) (now : Situation) (pick : Pick) (outcome : Outcome) (next : State) →
+    IsOwedUnder pick.event setting now.state now.doomed pick.core outcome →
+    step setting now.state pick.core outcome ≡ Some next →
+    after_pick setting now pick ≡ Some (with_state setting now pick.core outcome next)
+owed_is_next setting now pick outcome next owed is_step =
+    subst (λ (o : Outcome). option_map (with_state setting now pick.core o) (step setting now.state pick.core o)
+    ≡ Some (with_state setting now pick.core outcome next)) owed
+    (ap (option_map (with_state setting now pick.core outcome)) is_step)
 
 under : (o : Option Situation) (f g : Situation → Option Situation) (now next : Situation) →
     ((middle : Situation) → f middle ≡ Some now → g middle ≡ Some next) → option_and_then f o ≡ Some now → option_and_then g o ≡ Some next
 under None f g now next goes e = cc
 under (Some middle) f g now next goes e = goes middle e
 
-pub one_more : (setting : Setting) (start : Situation) (cores : List ℕ) (now next : Situation) (core : ℕ) →
-    after_schedule setting start cores ≡ Some now → after_core setting now core ≡ Some next →
-    after_schedule setting start (cores ++ core ∷ []) ≡ Some next
-one_more setting start [] now next core e is_next =
+pub one_more : (setting : Setting) (start : Situation) (picks : List Pick) (now next : Situation) (pick : Pick) →
+    after_schedule setting start picks ≡ Some now → after_pick setting now pick ≡ Some next →
+    after_schedule setting start (picks ++ pick ∷ []) ≡ Some next
+one_more setting start [] now next pick e is_next =
     let same : start ≡ now = same_in e in
-    subst (λ (x : Situation). option_and_then (λ after. after_schedule setting after []) (after_core setting x core) ≡ Some next) (sym same)
+    subst (λ (x : Situation). option_and_then (λ after. after_schedule setting after []) (after_pick setting x pick)
+    ≡ Some next) (sym same)
     (ap (option_and_then (λ after. after_schedule setting after [])) is_next)
-one_more setting start (first ∷ cores) now next core e is_next =
-    under (after_core setting start first) (λ after. after_schedule setting after cores) (λ after. after_schedule setting after (cores ++ core ∷ [])) now next
-    (λ middle run. one_more setting middle cores now next core run is_next) e
+one_more setting start (first ∷ picks) now next pick e is_next =
+    under (after_pick setting start first) (λ after. after_schedule setting after picks)
+    (λ after. after_schedule setting after (picks ++ pick ∷ [])) now next
+    (λ middle run. one_more setting middle picks now next pick run is_next) e
 
 -- what a step changes
 pub record Changes (state next : State) (number : ℕ) (change : Change) : Type 0 where

@@ -5,13 +5,15 @@ use Rattle.std.proofs.Math.Seq.{get_or-append_seam}
 use Rattle.std.proofs.lemmas.Bool.{cases_lt}
 use Rattle.std.proofs.lemmas.List.{get_or_append_left}
 use Rattle.std.proofs.lemmas.List.Elements.{All-append, All-cons, All-nil}
-use Rattle.tm_outcomes.specs.Nodes.{IsTree, no_node, node_at, schedule_at}
+use Rattle.tm_model.specs.declared.outcome.Pick.{Pick}
+use Rattle.tm_outcomes.specs.Nodes.{IsPickOf, IsTree, no_node, node_at, schedule_at}
 use Rattle.tm_outcomes.specs.declared.nodes.Node.{Node}
+use Rattle.tm_outcomes.specs.declared.trial.Trial.{Trial}
 
-pub schedule_old : (schedules more : List (List ℕ)) (index : ℕ) → index < length schedules → schedule_at (schedules ++ more) index ≡ schedule_at schedules index
+pub schedule_old : (schedules more : List (List Pick)) (index : ℕ) → index < length schedules → schedule_at (schedules ++ more) index ≡ schedule_at schedules index
 schedule_old schedules more index below = get_or_append_left schedules more [] index below
 
-pub schedule_new : (schedules : List (List ℕ)) (schedule : List ℕ) (index : ℕ) → index ≡ length schedules → schedule_at (schedules ++ schedule ∷ []) index ≡ schedule
+pub schedule_new : (schedules : List (List Pick)) (schedule : List Pick) (index : ℕ) → index ≡ length schedules → schedule_at (schedules ++ schedule ∷ []) index ≡ schedule
 schedule_new schedules schedule index last =
     ap (schedule_at (schedules ++ schedule ∷ [])) last ∙ get_or-append_seam schedules schedule [] []
 
@@ -28,12 +30,13 @@ each P nodes node before here index below =
       | inr more ↦ here index (omega arith)
     ]
 
-pub grows : (count : ℕ) (nodes : List Node) (schedules : List (List ℕ)) (node : Node) → IsTree count nodes schedules → node.parent < length nodes → node.core < count →
-    IsTree count (nodes ++ node ∷ []) (schedules ++ (schedule_at schedules node.parent ++ node.core ∷ []) ∷ [])
-grows count nodes schedules node tree lower is_core =
-    let added : List ℕ = schedule_at schedules node.parent ++ node.core ∷ [] in
+pub grows : (trial : Trial) (nodes : List Node) (schedules : List (List Pick)) (node : Node) →
+    IsTree trial nodes schedules → node.parent < length nodes → IsPickOf trial node.pick →
+    IsTree trial (nodes ++ node ∷ []) (schedules ++ (schedule_at schedules node.parent ++ node.pick ∷ []) ∷ [])
+grows trial nodes schedules node tree lower is_pick =
+    let added : List Pick = schedule_at schedules node.parent ++ node.pick ∷ [] in
     let nodes_now : List Node = nodes ++ node ∷ [] in
-    let now : List (List ℕ) = schedules ++ added ∷ [] in
+    let now : List (List Pick) = schedules ++ added ∷ [] in
     let counted = tree.counted in
     let some = tree.some in
     let old : (index : ℕ) → index < length nodes → schedule_at now index ≡ schedule_at schedules index = λ index below. schedule_old schedules (added ∷ []) index (omega arith) in
@@ -47,36 +50,37 @@ grows count nodes schedules node tree lower is_core =
           (λ i less more. subst (λ (m : Node). m.parent < i) (sym (node_old i less)) (tree.lower i more less))
           (λ i last more. subst (λ (m : Node). m.parent < i) (sym (node_new nodes node i last)) (omega arith))
           index below positive;
-      longer = λ index positive below. each (λ i. 0 < i → schedule_at now i ≡ schedule_at now (node_at nodes_now i).parent ++ (node_at nodes_now i).core ∷ []) nodes node
+      longer = λ index positive below. each (λ i. 0 < i → schedule_at now i ≡ schedule_at now (node_at nodes_now i).parent ++ (node_at nodes_now i).pick ∷ []) nodes node
           (λ i less more.
           let up = tree.lower i more less in
-          subst (λ (m : Node). schedule_at now i ≡ schedule_at now m.parent ++ m.core ∷ []) (sym (node_old i less))
-          (old i less ∙ (tree.longer i more less ∙ ap (λ s. s ++ (node_at nodes i).core ∷ []) (sym (old (node_at nodes i).parent (omega arith))))))
+          subst (λ (m : Node). schedule_at now i ≡ schedule_at now m.parent ++ m.pick ∷ []) (sym (node_old i less))
+          (old i less ∙ (tree.longer i more less ∙ ap (λ s. s ++ (node_at nodes i).pick ∷ []) (sym (old (node_at nodes i).parent (omega arith))))))
           (λ i last more.
-          subst (λ (m : Node). schedule_at now i ≡ schedule_at now m.parent ++ m.core ∷ []) (sym (node_new nodes node i last))
-          (new i last ∙ ap (λ s. s ++ node.core ∷ []) (sym (old node.parent lower))))
+          subst (λ (m : Node). schedule_at now i ≡ schedule_at now m.parent ++ m.pick ∷ []) (sym (node_new nodes node i last))
+          (new i last ∙ ap (λ s. s ++ node.pick ∷ []) (sym (old node.parent lower))))
           index below positive;
       short = each (λ i. length (schedule_at now i) ≤ i) nodes node
-          (λ i less. subst (λ (s : List ℕ). length s ≤ i) (sym (old i less)) (tree.short i less))
-          (λ i last. subst (λ (s : List ℕ). length s ≤ i) (sym (new i last))
-          (let up = tree.short node.parent lower in let long : length added ≡ length (schedule_at schedules node.parent) + 1 = length-append (schedule_at schedules node.parent) (node.core ∷ []) in omega arith));
-      cores = each (λ i. All (λ core. core < count) (schedule_at now i)) nodes node
-          (λ i less. subst (λ (s : List ℕ). All (λ core. core < count) s) (sym (old i less)) (tree.cores i less))
-          (λ i last. subst (λ (s : List ℕ). All (λ core. core < count) s) (sym (new i last))
-          (All-append (λ core. core < count) (schedule_at schedules node.parent) (node.core ∷ []) (tree.cores node.parent lower)
-          (All-cons (λ core. core < count) node.core [] is_core (All-nil (λ core. core < count)))));
+          (λ i less. subst (λ (s : List Pick). length s ≤ i) (sym (old i less)) (tree.short i less))
+          (λ i last. subst (λ (s : List Pick). length s ≤ i) (sym (new i last))
+          (let up = tree.short node.parent lower in let long : length added ≡ length (schedule_at schedules node.parent) + 1 = length-append (schedule_at schedules node.parent) (node.pick ∷ []) in omega arith));
+      picks = each (λ i. All (IsPickOf trial) (schedule_at now i)) nodes node
+          (λ i less. subst (λ (s : List Pick). All (IsPickOf trial) s) (sym (old i less)) (tree.picks i less))
+          (λ i last. subst (λ (s : List Pick). All (IsPickOf trial) s) (sym (new i last))
+          (All-append (IsPickOf trial) (schedule_at schedules node.parent) (node.pick ∷ []) (tree.picks node.parent lower)
+          (All-cons (IsPickOf trial) node.pick [] is_pick (All-nil (IsPickOf trial)))));
     }
 
 only : (index : ℕ) → index < 1 → 0 ≡ index
 only index below = omega arith
 
-pub first_tree : (count : ℕ) (node : Node) → IsTree count (node ∷ []) ([] ∷ [])
-first_tree count node = record {
+pub first_tree : (trial : Trial) (node : Node) → IsTree trial (node ∷ []) ([] ∷ [])
+first_tree trial node = record {
   counted = refl;
   some = omega arith;
   root = refl;
   lower = λ index positive below. absurd (let same = only index below in omega arith);
   longer = λ index positive below. absurd (let same = only index below in omega arith);
   short = λ index below. subst (λ i. length (schedule_at ([] ∷ []) i) ≤ i) (only index below) (omega arith);
-  cores = λ index below. subst (λ i. All (λ core. core < count) (schedule_at ([] ∷ []) i)) (only index below) (All-nil (λ core. core < count));
+  picks = λ index below. subst (λ i. All (IsPickOf trial) (schedule_at ([] ∷ []) i)) (only index below)
+      (All-nil (IsPickOf trial));
 }

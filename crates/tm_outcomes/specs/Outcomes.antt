@@ -1,14 +1,18 @@
 -- What is shown of a state in which each core has stopped, and what a search over all schedules tells.
-use Rattle.std.specs.Prelude.{◌≡◌, ⊤, ◌⊎◌, ℕ, ◌+◌, ◌<◌, ◌≤◌, true, false, List, [], ◌∷◌, Some, All, length, map}
-use Rattle.std.specs.Prelude.{slice_index}
+use Rattle.std.specs.Prelude.{◌≡◌, ⊤, ◌⊎◌, ℕ, ◌+◌, ◌<◌, ◌≤◌, true, false, List, [], ◌∷◌, All, Contains, length, map}
+use Rattle.std.specs.Prelude.{Option, Some, None, slice_index}
 use Rattle.ia_word.specs.Operand.{operand_of}
 use Rattle.ia_word.specs.declared.width.Width.TheVariants.{D}
 use Rattle.tm_core.specs.Machine.{bad_limits}
 use Rattle.tm_model.specs.Access.{addresses_of, bytes_at}
 use Rattle.tm_model.specs.Setting.{Setting, program_setting}
 use Rattle.tm_model.specs.State.{Closed, Core, Halted, Midway, Opened, State}
+use Rattle.tm_model.specs.declared.outcome.Event.{Event}
+use Rattle.tm_model.specs.declared.outcome.Pick.{Pick}
 use Rattle.ia_regs.specs.declared.Regs.{Regs}
 use Rattle.tm_outcomes.specs.Schedules.{HasEnded, Situation, after_schedule, opening}
+use Rattle.tm_outcomes.specs.declared.trial.Events.{Events}
+use Rattle.tm_outcomes.specs.declared.trial.Events.TheVariants.{Never, May, Always}
 use Rattle.tm_outcomes.specs.declared.trial.Item.{Item}
 use Rattle.tm_outcomes.specs.declared.trial.Item.TheVariants.{Register, Memory}
 use Rattle.tm_outcomes.specs.declared.trial.Trial.{Trial}
@@ -39,6 +43,23 @@ IsThere trial (Memory address) = address + 4 ≤ trial.program.now.mem_size
 abbrev pub AreThere : Trial → Type 0
 AreThere trial = All (IsThere trial) trial.items.now
 
+-- ---- what is searched
+
+-- under none, or under one of these
+abbrev pub IsNoneOrOneOf : List Event → Option Event → Type 0
+IsNoneOrOneOf events None = ⊤
+IsNoneOrOneOf events (Some event) = Contains events event
+
+-- a step may come under this event, or under none
+abbrev pub IsAllowed : Events → Option Event → Type 0
+IsAllowed Never event = event ≡ None
+IsAllowed (May events) event = IsNoneOrOneOf events.now event
+IsAllowed (Always always) event = event ≡ Some always
+
+-- each step of a schedule
+abbrev pub AreAllowed : Trial → List Pick → Type 0
+AreAllowed trial schedule = All (λ pick. IsAllowed trial.events pick.event) schedule
+
 -- ---- outcomes
 
 abbrev pub trial_setting : Trial → Setting
@@ -47,8 +68,10 @@ trial_setting trial = program_setting trial.program.now trial.limits.read_lines 
 abbrev pub trial_opening : Trial → Situation
 trial_opening trial = opening trial.program.now
 
--- this schedule, run from the program's opening state, ends with each core stopped, and these values are shown then
-pub record IsOutcome (trial : Trial) (schedule values : List ℕ) : Type 0 where
+-- this schedule, whose steps come under what the trial says, ends with each core stopped where it is run from the
+-- program's opening state, and these values are shown then
+pub record IsOutcome (trial : Trial) (schedule : List Pick) (values : List ℕ) : Type 0 where
+  pub allowed : AreAllowed trial schedule
   pub end : Situation
   pub is_run : after_schedule (trial_setting trial) (trial_opening trial) schedule ≡ Some end
   pub has_ended : HasEnded end.state
@@ -67,13 +90,13 @@ abbrev pub AreDistinct : List Told → Type 0
 AreDistinct [] = ⊤
 AreDistinct (told ∷ all) = ¬ AreTold all told.values.items × AreDistinct all
 
--- No outcome is told that is not one, and none twice; and where the search was not cut, whatever the schedule and its
--- length, its outcome is told. It is cut at the limit on states alone.
+-- No outcome is told that is not one, and none twice; and where the search was not cut, whatever the schedule, its
+-- events and its length, its outcome is told. It is cut at the limit on states alone.
 pub record IsSearch (trial : Trial) (most : ℕ) (search : Search) : Type 0 where
   pub told : All (IsTold trial) search.outcomes.items
   pub once : AreDistinct search.outcomes.items
-  pub whole : search.is_cut ≡ false → (schedule values : List ℕ) → IsOutcome trial schedule values →
-      AreTold search.outcomes.items values
+  pub whole : search.is_cut ≡ false → (schedule : List Pick) (values : List ℕ) →
+      IsOutcome trial schedule values → AreTold search.outcomes.items values
   pub limit : search.is_cut ≡ true → search.states ≡ most
   pub few : search.states ≤ most
 

@@ -3,13 +3,14 @@ use Rattle.std.specs.Prelude.{◌≡◌, ℕ, suc, Bool, true, false, ◌+◌, �
 use Rattle.tm_core.specs.Theorem.{StandsFor, machine_setting, view_at}
 use Rattle.tm_model.specs.Setting.{Setting}
 use Rattle.tm_model.specs.State.{Closed, Core, Halted, Midway, Opened}
+use Rattle.tm_model.specs.declared.outcome.Pick.{Pick}
 use Rattle.tm_model.specs.declared.outcome.CoreState.{CoreState}
 use Rattle.tm_model.specs.declared.outcome.CoreState.TheVariants.{Running, Mid, Open, Condemned, Stopped as AtStop}
 use Rattle.tm_model.specs.declared.outcome.Outcome.{Outcome}
 use Rattle.tm_model.specs.declared.outcome.Outcome.TheVariants.{Plain, Loaded, Stopped, Idle, Begun, Inside}
 use Rattle.tm_model.specs.declared.outcome.Outcome.TheVariants.{Committed, Aborted, AbortedBy}
 use Rattle.tm_outcomes.specs.Outcomes.{trial_opening, trial_setting}
-use Rattle.tm_outcomes.specs.Schedules.{Situation, after_core, after_schedule}
+use Rattle.tm_outcomes.specs.Schedules.{Situation, after_pick, after_schedule}
 use Rattle.tm_outcomes.specs.declared.place.Place.{Place}
 use Rattle.tm_outcomes.specs.declared.trial.Trial.{Trial}
 
@@ -33,7 +34,7 @@ detail_after (Aborted status) detail value = 0
 detail_after (AbortedBy interference status) detail value = 0
 
 -- the machine stands for the end of this schedule, and the details are those of its cores
-pub record IsAt (trial : Trial) (place : Place) (schedule : List ℕ) : Type 0 where
+pub record IsAt (trial : Trial) (place : Place) (schedule : List Pick) : Type 0 where
   pub now : Situation
   pub is_run : after_schedule (trial_setting trial) (trial_opening trial) schedule ≡ Some now
   pub rules : machine_setting place.machine ≡ trial_setting trial
@@ -60,6 +61,14 @@ has_stopped Mid = false
 has_stopped (Open depth) = false
 has_stopped (Condemned depth) = false
 
+-- in a transaction that is not doomed, which an event aborts
+abbrev pub is_open : CoreState → Bool
+is_open (Open depth) = true
+is_open Running = false
+is_open Mid = false
+is_open (Condemned depth) = false
+is_open (AtStop stop) = false
+
 pub record IsCoreAlike (a b : Place) (core : ℕ) : Type 0 where
   pub mode : (view_at a.machine core).mode ≡ (view_at b.machine core).mode
   pub base : (view_at a.machine core).base ≡ (view_at b.machine core).base
@@ -71,12 +80,12 @@ pub record AreAlike (a b : Place) : Type 0 where
   pub count : length a.machine.views ≡ length b.machine.views
   pub each : (core : ℕ) → core < length a.machine.views → IsCoreAlike a b core
 
--- after the next step of this core, the machine stands for what follows
-pub record StandsAfter (setting : Setting) (after : Place) (core : ℕ) (now : Situation) : Type 0 where
+-- after this pick, the machine stands for what follows
+pub record StandsAfter (setting : Setting) (after : Place) (pick : Pick) (now : Situation) : Type 0 where
   pub next : Situation
-  pub is_next : after_core setting now core ≡ Some next
+  pub is_next : after_pick setting now pick ≡ Some next
   pub stands : StandsFor after.machine next.state next.doomed
 
-abbrev pub GoesTo : Setting → Place → Place → ℕ → Type 0
-GoesTo setting before after core =
-    (now : Situation) → StandsFor before.machine now.state now.doomed → StandsAfter setting after core now
+abbrev pub GoesTo : Setting → Place → Place → Pick → Type 0
+GoesTo setting before after pick =
+    (now : Situation) → StandsFor before.machine now.state now.doomed → StandsAfter setting after pick now

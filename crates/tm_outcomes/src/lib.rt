@@ -22,4 +22,5 @@ mod trial;
 pub use fault::SearchFault;
 pub use searching::{Search, outcomes};
 pub use table::Told;
-pub use trial::{Item, Trial};
+pub use tm_model::{Event, Interference, Pick};
+pub use trial::{Events, Item, Trial};

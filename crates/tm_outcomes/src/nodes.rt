@@ -1,22 +1,25 @@
 //! The states that were met.
 
-ghost use Rattle.std.specs.Prelude.{◌≡◌, ◌<◌, ◌≤◌, ◌^◌, ℕ, List, IfErr, IfOk, IfSome, length};
+ghost use Rattle.std.specs.Prelude.{◌≡◌, ◌<◌, ◌≤◌, ◌^◌, List, IfErr, IfOk, IfSome, length};
+ghost use Rattle.tm_model.specs.declared.outcome.Pick.{Pick};
 ghost use Rattle.tm_outcomes.specs.Nodes.{HaveSchedules, IsFound, IsTree, schedule_at};
 ghost use Rattle.tm_outcomes.specs.Outcomes.{IsRefusal};
 ghost use Rattle.tm_outcomes.specs.Places.{IsAt};
+ghost use Rattle.tm_outcomes.specs.declared.trial.Trial.{Trial};
 
 use crate::fault::SearchFault;
 use crate::place::{Place, replay};
 use crate::trial::Trial;
 use std::alloc::{AllocError, Global};
+use tm_model::Pick;
 
 /// A state: the last step of a schedule that leads there, and the node of the rest. The first is the opening state.
 #[derive(Clone, Copy, Debug)]
 pub struct Node {
     /// The node before the last step.
     pub parent: u32,
-    /// The core of the last step.
-    pub core: u8,
+    /// The last step.
+    pub pick: Pick,
     /// Equal for states that go on alike.
     pub digest: u64,
     /// The node before this one whose digest is the same.
@@ -24,21 +27,21 @@ pub struct Node {
 }
 
 /// The schedule of a node.
-pub fn schedule_of(alloc: Global, nodes: &[Node], index: usize) -> Result<Vec<u8>, AllocError>
+pub fn schedule_of(alloc: Global, nodes: &[Node], index: usize) -> Result<Vec<Pick>, AllocError>
     requires within { index < length nodes.now }
-    requires tree { (count : ℕ) × HaveSchedules count nodes.now }
-    ensures { IfOk result (λ schedule. (count : ℕ) (schedules : List (List ℕ)) → IsTree count nodes.now schedules →
+    requires tree { (trial : Trial) × HaveSchedules trial nodes.now }
+    ensures { IfOk result (λ schedule. (trial : Trial) (schedules : List (List Pick)) → IsTree trial nodes.now schedules →
         schedule.items ≡ schedule_at schedules index) }
 {
-    let mut cores = Vec::new(alloc);
+    let mut picks = Vec::new(alloc);
     let mut at = index;
     'steps: while at > 0 {
         let node = nodes[at];
-        cores.push(node.core)?;
+        picks.push(node.pick)?;
         at = node.parent as usize;
     }
-    cores.as_mut_slice().reverse();
-    Ok(cores)
+    picks.as_mut_slice().reverse();
+    Ok(picks)
 }
 
 /// The place of a node.
@@ -50,9 +53,8 @@ pub fn place_of(
 ) -> Result<Place, SearchFault>
     requires within { index < length nodes.now }
     requires few { length nodes.now < 2 ^ 32 }
-    requires tree { HaveSchedules (length trial.now.program.now.entries) nodes.now }
-    ensures ok { IfOk result (λ place. (schedules : List (List ℕ)) →
-        IsTree (length trial.now.program.now.entries) nodes.now schedules →
+    requires tree { HaveSchedules trial.now nodes.now }
+    ensures ok { IfOk result (λ place. (schedules : List (List Pick)) → IsTree trial.now nodes.now schedules →
         IsAt trial.now place (schedule_at schedules index)) }
     ensures err { IfErr result (IsRefusal trial.now) }
 {
@@ -70,8 +72,8 @@ pub fn find(
     place: &Place,
 ) -> Result<Option<usize>, SearchFault>
     requires few { length nodes.now < 2 ^ 32 }
-    requires tree { HaveSchedules (length trial.now.program.now.entries) nodes.now }
-    requires at { (schedule : List ℕ) × IsAt trial.now place.now schedule }
+    requires tree { HaveSchedules trial.now nodes.now }
+    requires at { (schedule : List Pick) × IsAt trial.now place.now schedule }
     ensures ok { IfOk result (λ found. IfSome found (IsFound trial.now nodes.now place.now)) }
     ensures err { IfErr result (IsRefusal trial.now) }
 {

@@ -1,12 +1,15 @@
 //! A machine at the end of a schedule.
 
-ghost use Rattle.std.specs.Prelude.{◌≡◌, ◌↔◌, ◌<◌, ◌≤◌, ◌+◌, ◌++◌, ◌∷◌, ◌^◌, [], ℕ, All, List, Option, Some, IfErr, IfOk, IsTrue};
+ghost use Rattle.std.specs.Prelude.{◌≡◌, ◌↔◌, ◌<◌, ◌≤◌, ◌+◌, ◌++◌, ◌∷◌, ◌^◌, [], ℕ, All, List, Option, Some, IfErr, IfOk, IsOk, IsTrue};
 ghost use Rattle.std.specs.Prelude.{length, map, slice_index};
-ghost use Rattle.tm_core.specs.Theorem.{StandsFor, view_at};
+ghost use Rattle.tm_core.specs.Theorem.{SameMachine, StandsFor, TakesStepUnder, view_at};
+ghost use Rattle.tm_model.specs.Conflicts.{Doomed};
 ghost use Rattle.tm_model.specs.State.{State};
 ghost use Rattle.tm_model.specs.Setting.{program_setting, value_at};
 ghost use Rattle.tm_outcomes.specs.Outcomes.{AreThere, IsRefusal, IsThere, trial_setting, value_of};
+ghost use Rattle.tm_model.specs.declared.outcome.Pick.{Pick};
 ghost use Rattle.tm_outcomes.specs.Places.{AreAlike, GoesTo, IsAt, IsCoreAlike, detail_after, has_detail, has_stopped};
+ghost use Rattle.tm_outcomes.specs.Places.{is_open};
 ghost use Rattle.tm_outcomes.specs.Schedules.{HasEnded, Situation};
 
 use crate::fault::SearchFault;
@@ -16,7 +19,8 @@ use ia_word::Width;
 use std::alloc::{AllocError, Global};
 use std::hash::{FoldHasher, Hasher};
 use tm_core::memory::{load, read};
-use tm_core::{CoreState, Machine, MachineFault, Outcome, Program};
+use tm_core::{CoreState, Machine, MachineFault, NoSuchCore, Outcome, Program};
+use tm_model::Pick;
 use tm_rule::{Code, fetch, load_at};
 
 /// A machine, and of each core what the machine does not show: the value that the first of two steps has loaded, or how
@@ -90,32 +94,45 @@ impl Place {
         }
     }
 
-    /// The next step of a core.
-    pub fn step(&mut self, trial: &Trial<'_>, core: u8)
-        requires core { core < length trial.now.program.now.entries }
-        requires at { (schedule : List ℕ) × (IsAt trial.now self.old schedule × (length schedule < 2 ^ 32)) }
-        ensures goes { GoesTo (trial_setting trial.now) self.old self.new core }
-        ensures at { (schedule : List ℕ) → IsAt trial.now self.old schedule →
-            IsAt trial.now self.new (schedule ++ core ∷ []) }
+    /// The next step of a pick's core, under its event.
+    pub fn step(&mut self, trial: &Trial<'_>, pick: Pick)
+        requires core { pick.core < length trial.now.program.now.entries }
+        requires at { (schedule : List Pick) × (IsAt trial.now self.old schedule × (length schedule < 2 ^ 32)) }
+        ensures goes { GoesTo (trial_setting trial.now) self.old self.new pick }
+        ensures at { (schedule : List Pick) → IsAt trial.now self.old schedule →
+            IsAt trial.now self.new (schedule ++ pick ∷ []) }
     {
-        let Ok(outcome) = self.machine.step(core) else {
+        let Ok(outcome) = step_by(&mut self.machine, pick) else {
             unreachable!();
         };
-        let detail = self.next_detail(trial, core, outcome);
-        self.details[usize::from(core)] = detail;
+        let detail = self.next_detail(trial, pick.core, outcome);
+        self.details[usize::from(pick.core)] = detail;
+    }
+}
+
+// The step of a pick.
+fn step_by(machine: &mut Machine, pick: Pick) -> Result<Outcome, NoSuchCore>
+    ensures exists { IsOk result ↔ (pick.core < length machine.old.views) }
+    ensures same { SameMachine machine.old machine.new }
+    ensures ok { IfOk result (λ outcome. (state : State) (doomed : Doomed) → StandsFor machine.old state doomed →
+        TakesStepUnder pick.event machine.old machine.new state doomed pick.core outcome) }
+{
+    match pick.event {
+        Some(event) => machine.step_under(pick.core, event),
+        None => machine.step(pick.core),
     }
 }
 
 /// The place at the end of a schedule.
-pub fn replay(alloc: Global, trial: &Trial<'_>, schedule: &[u8]) -> Result<Place, SearchFault>
-    requires cores { All (λ core. core < length trial.now.program.now.entries) schedule.now }
+pub fn replay(alloc: Global, trial: &Trial<'_>, schedule: &[Pick]) -> Result<Place, SearchFault>
+    requires cores { All (λ (pick : Pick). pick.core < length trial.now.program.now.entries) schedule.now }
     requires short { length schedule.now < 2 ^ 32 }
     ensures ok { IfOk result (λ place. IsAt trial.now place schedule.now) }
     ensures err { IfErr result (IsRefusal trial.now) }
 {
     let mut place = Place::opening(alloc, trial)?;
-    for core in schedule {
-        place.step(trial, *core);
+    for pick in schedule {
+        place.step(trial, *pick);
     }
     Ok(place)
 }
@@ -171,6 +188,17 @@ impl Place {
 }
 
 impl Place {
+    /// Whether a core is in a transaction that is not doomed.
+    pub fn is_open(&self, core: u8) -> bool
+        requires { core < length self.now.machine.views }
+        ensures { result ≡ is_open (view_at self.now.machine core).mode }
+    {
+        match self.machine.state(core) {
+            Ok(state) => matches!(state, CoreState::Open(_)),
+            Err(_) => unreachable!(),
+        }
+    }
+
     // Whether a core has stopped.
     fn has_stopped(&self, core: u8) -> bool
         requires { core < length self.now.machine.views }
@@ -198,7 +226,7 @@ impl Place {
     // The value of an item.
     fn value(&self, trial: &Trial<'_>, item: Item) -> u32
         requires is_there { IsThere trial.now item }
-        requires at { (schedule : List ℕ) × IsAt trial.now self.now schedule }
+        requires at { (schedule : List Pick) × IsAt trial.now self.now schedule }
         ensures { (now : Situation) → StandsFor self.now.machine now.state now.doomed →
             result ≡ value_of now.state item }
     {
@@ -214,7 +242,7 @@ impl Place {
     /// The value of each item.
     pub fn values(&self, alloc: Global, trial: &Trial<'_>) -> Result<Vec<u32>, AllocError>
         requires are_there { AreThere trial.now }
-        requires at { (schedule : List ℕ) × IsAt trial.now self.now schedule }
+        requires at { (schedule : List Pick) × IsAt trial.now self.now schedule }
         ensures { IfOk result (λ values. (now : Situation) → StandsFor self.now.machine now.state now.doomed →
             values.items ≡ map (value_of now.state) trial.now.items.now) }
     {

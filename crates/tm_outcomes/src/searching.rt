@@ -1,17 +1,22 @@
 //! The search.
 
 ghost use Rattle.std.specs.Prelude.{◌≡◌, ◌<◌, ◌≤◌, ◌+◌, ◌++◌, ◌∷◌, ◌^◌, [], ℕ, All, IfErr, IfOk, List, true, false, length};
-ghost use Rattle.tm_outcomes.specs.Nodes.{HasGrown, HaveSchedules, IsFollowed, IsShown, IsTree};
-ghost use Rattle.tm_outcomes.specs.Outcomes.{AreDistinct, AreThere, AreTold, IsRefusal, IsSearch, IsTold};
-ghost use Rattle.tm_outcomes.specs.Searching.{HaveDone, IsFollowedIn, IsUnderway};
+ghost use Rattle.std.specs.Prelude.{Option};
+ghost use Rattle.tm_model.specs.declared.outcome.Event.{Event};
+ghost use Rattle.tm_model.specs.declared.outcome.Pick.{Pick};
+ghost use Rattle.tm_outcomes.specs.Nodes.{HasGrown, HaveSchedules, IsFollowed, IsPickOf, IsShown, IsTree, IsUntouched};
+ghost use Rattle.tm_outcomes.specs.Outcomes.{AreDistinct, AreThere, AreTold, IsAllowed, IsNoneOrOneOf, IsRefusal, IsSearch};
+ghost use Rattle.tm_outcomes.specs.Outcomes.{IsTold};
+ghost use Rattle.tm_outcomes.specs.Searching.{HaveDone, IsFollowedIn, IsOneOf, IsThis, IsUnderway};
 
 use crate::fault::SearchFault;
 use crate::nodes::{Node, find, place_of, schedule_of};
 use crate::place::Place;
 use crate::table::{Told, take_up};
-use crate::trial::Trial;
+use crate::trial::{Events, Trial};
 use std::alloc::{AllocError, Global};
 use std::collections::HashMap;
+use tm_model::{Event, Pick};
 
 /// What a search came to.
 #[derive(Debug, Drop)]
@@ -41,6 +46,15 @@ pub enum Progress {
     IsCut,
 }
 
+/// What following a pick came to.
+#[derive(Clone, Copy, PartialEq, Eq, Debug)]
+pub struct Followed {
+    /// Whether the search goes on.
+    pub progress: Progress,
+    /// Whether the core was in a transaction that was not doomed. Where it was not, its step is the same under each event.
+    pub was_open: bool,
+}
+
 impl Searching {
     // The opening state.
     fn opening(alloc: Global, trial: &Trial<'_>) -> Result<Searching, SearchFault>
@@ -55,7 +69,10 @@ impl Searching {
         };
         search.add(Node {
             parent: 0,
-            core: 0,
+            pick: Pick {
+                core: 0,
+                event: None,
+            },
             digest,
             older: None,
         })?;
@@ -74,8 +91,128 @@ impl Searching {
         Ok(())
     }
 
-    // Takes up the state after the next step of a core, where it is new.
+    // Takes up the state after a pick, where it is new.
     fn follow(
+        &mut self,
+        alloc: Global,
+        trial: &Trial<'_>,
+        index: usize,
+        pick: Pick,
+        most: u32,
+    ) -> Result<Followed, SearchFault>
+        requires within { index < length self.old.nodes.items }
+        requires is_pick { IsPickOf trial.now pick }
+        requires few { length self.old.nodes.items ≤ most }
+        requires tree { HaveSchedules trial.now self.old.nodes.items }
+        ensures outcomes { self.new.outcomes ≡ self.old.outcomes }
+        ensures followed { IfOk result (λ r. r.progress ≡ Progress.GoesOn →
+            IsFollowedIn trial.now most self.old.nodes.items self.new.nodes.items index pick.core (IsThis pick.event)) }
+        ensures untouched { IfOk result (λ r. r.was_open ≡ false → (schedules : List (List Pick)) →
+            IsTree trial.now self.old.nodes.items schedules → IsUntouched trial.now schedules index pick.core) }
+        ensures cut { IfOk result (λ r. r.progress ≡ Progress.IsCut → length self.new.nodes.items ≡ most) }
+        ensures err { IfErr result (IsRefusal trial.now) }
+    {
+        let mut place = place_of(alloc, trial, self.nodes.as_slice(), index)?;
+        let was_open = place.is_open(pick.core);
+        place.step(trial, pick);
+        let digest = place.digest();
+        let newest = self.newest.get(&digest).copied();
+        if let Some(_known) = find(alloc, trial, self.nodes.as_slice(), newest, &place)? {
+            return Ok(Followed {
+                progress: Progress::GoesOn,
+                was_open,
+            });
+        }
+        if self.nodes.len() >= most as usize {
+            return Ok(Followed {
+                progress: Progress::IsCut,
+                was_open,
+            });
+        }
+        self.add(Node {
+            parent: index as u32,
+            pick,
+            digest,
+            older: newest,
+        })?;
+        Ok(Followed {
+            progress: Progress::GoesOn,
+            was_open,
+        })
+    }
+}
+
+impl Searching {
+    // Takes up the states after the next step of a core: one under each event of these.
+    fn follow_each(
+        &mut self,
+        alloc: Global,
+        trial: &Trial<'_>,
+        index: usize,
+        core: u8,
+        events: &[Event],
+        most: u32,
+    ) -> Result<Progress, SearchFault>
+        requires within { index < length self.old.nodes.items }
+        requires is_core { core < length trial.now.program.now.entries }
+        requires allowed { (event : Option Event) → IsNoneOrOneOf events.now event → IsAllowed trial.now.events event }
+        requires few { length self.old.nodes.items ≤ most }
+        requires tree { HaveSchedules trial.now self.old.nodes.items }
+        ensures outcomes { self.new.outcomes ≡ self.old.outcomes }
+        ensures followed { IfOk result (λ progress. progress ≡ Progress.GoesOn →
+            IsFollowedIn trial.now most self.old.nodes.items self.new.nodes.items index core (IsOneOf events.now)) }
+        ensures cut { IfOk result (λ progress. progress ≡ Progress.IsCut → length self.new.nodes.items ≡ most) }
+        ensures err { IfErr result (IsRefusal trial.now) }
+    {
+        for event in events {
+            let pick = Pick {
+                core,
+                event: Some(*event),
+            };
+            let followed = self.follow(alloc, trial, index, pick, most)?;
+            let Progress::GoesOn = followed.progress else {
+                return Ok(Progress::IsCut);
+            };
+        }
+        Ok(Progress::GoesOn)
+    }
+
+    // The same, and that under none. Where the core is in no transaction that an event aborts, its step is the same under
+    // each of them, and leads nowhere else.
+    fn follow_any(
+        &mut self,
+        alloc: Global,
+        trial: &Trial<'_>,
+        index: usize,
+        core: u8,
+        events: &[Event],
+        most: u32,
+    ) -> Result<Progress, SearchFault>
+        requires within { index < length self.old.nodes.items }
+        requires is_core { core < length trial.now.program.now.entries }
+        requires allowed { (event : Option Event) → IsNoneOrOneOf events.now event → IsAllowed trial.now.events event }
+        requires few { length self.old.nodes.items ≤ most }
+        requires tree { HaveSchedules trial.now self.old.nodes.items }
+        ensures outcomes { self.new.outcomes ≡ self.old.outcomes }
+        ensures followed { IfOk result (λ progress. progress ≡ Progress.GoesOn →
+            IsFollowedIn trial.now most self.old.nodes.items self.new.nodes.items index core
+            (IsNoneOrOneOf events.now)) }
+        ensures cut { IfOk result (λ progress. progress ≡ Progress.IsCut → length self.new.nodes.items ≡ most) }
+        ensures err { IfErr result (IsRefusal trial.now) }
+    {
+        let alone = Pick { core, event: None };
+        let followed = self.follow(alloc, trial, index, alone, most)?;
+        let Progress::GoesOn = followed.progress else {
+            return Ok(Progress::IsCut);
+        };
+        if !followed.was_open {
+            return Ok(Progress::GoesOn);
+        }
+        self.follow_each(alloc, trial, index, core, events, most)
+    }
+
+    // Takes up the states after the next step of a core, under all that the trial says.
+    fn follow_core(
         &mut self,
         alloc: Global,
         trial: &Trial<'_>,
@@ -86,30 +223,28 @@ impl Searching {
         requires within { index < length self.old.nodes.items }
         requires is_core { core < length trial.now.program.now.entries }
         requires few { length self.old.nodes.items ≤ most }
-        requires tree { HaveSchedules (length trial.now.program.now.entries) self.old.nodes.items }
+        requires tree { HaveSchedules trial.now self.old.nodes.items }
         ensures outcomes { self.new.outcomes ≡ self.old.outcomes }
         ensures followed { IfOk result (λ progress. progress ≡ Progress.GoesOn →
-            IsFollowedIn trial.now most self.old.nodes.items self.new.nodes.items index core) }
+            IsFollowedIn trial.now most self.old.nodes.items self.new.nodes.items index core
+            (IsAllowed trial.now.events)) }
         ensures cut { IfOk result (λ progress. progress ≡ Progress.IsCut → length self.new.nodes.items ≡ most) }
         ensures err { IfErr result (IsRefusal trial.now) }
     {
-        let mut place = place_of(alloc, trial, self.nodes.as_slice(), index)?;
-        place.step(trial, core);
-        let digest = place.digest();
-        let newest = self.newest.get(&digest).copied();
-        if let Some(_known) = find(alloc, trial, self.nodes.as_slice(), newest, &place)? {
-            return Ok(Progress::GoesOn);
+        match trial.events {
+            Events::Never => {
+                let alone = Pick { core, event: None };
+                Ok(self.follow(alloc, trial, index, alone, most)?.progress)
+            }
+            Events::May(events) => self.follow_any(alloc, trial, index, core, events, most),
+            Events::Always(event) => {
+                let under = Pick {
+                    core,
+                    event: Some(event),
+                };
+                Ok(self.follow(alloc, trial, index, under, most)?.progress)
+            }
         }
-        if self.nodes.len() >= most as usize {
-            return Ok(Progress::IsCut);
-        }
-        self.add(Node {
-            parent: index as u32,
-            core,
-            digest,
-            older: newest,
-        })?;
-        Ok(Progress::GoesOn)
     }
 }
 
@@ -118,7 +253,7 @@ impl Searching {
     fn show(&mut self, alloc: Global, trial: &Trial<'_>, index: usize) -> Result<(), SearchFault>
         requires within { index < length self.old.nodes.items }
         requires few { length self.old.nodes.items < 2 ^ 32 }
-        requires tree { HaveSchedules (length trial.now.program.now.entries) self.old.nodes.items }
+        requires tree { HaveSchedules trial.now self.old.nodes.items }
         requires there { AreThere trial.now }
         requires told { All (IsTold trial.now) self.old.outcomes.items }
         ensures nodes { self.new.nodes ≡ self.old.nodes }
@@ -126,8 +261,7 @@ impl Searching {
         ensures kept { IfOk result (λ _. (values : List ℕ) → AreTold self.old.outcomes.items values →
             AreTold self.new.outcomes.items values) }
         ensures once { IfOk result (λ _. AreDistinct self.old.outcomes.items → AreDistinct self.new.outcomes.items) }
-        ensures shown { IfOk result (λ _. (schedules : List (List ℕ)) →
-            IsTree (length trial.now.program.now.entries) self.old.nodes.items schedules →
+        ensures shown { IfOk result (λ _. (schedules : List (List Pick)) → IsTree trial.now self.old.nodes.items schedules →
             IsShown trial.now schedules self.new.outcomes.items index) }
         ensures err { IfErr result (IsRefusal trial.now) }
     {
@@ -141,7 +275,7 @@ impl Searching {
         Ok(())
     }
 
-    // Takes up what a state shows and the states after the next step of each core.
+    // Takes up what a state shows, and the states after the next step of each core.
     fn expand(
         &mut self,
         alloc: Global,
@@ -161,7 +295,7 @@ impl Searching {
     {
         self.show(alloc, trial, index)?;
         for core in 0..trial.program.cores() {
-            let Progress::GoesOn = self.follow(alloc, trial, index, core, most)? else {
+            let Progress::GoesOn = self.follow_core(alloc, trial, index, core, most)? else {
                 return Ok(Progress::IsCut);
             };
         }
@@ -184,7 +318,8 @@ impl Searching {
     }
 }
 
-/// Searches all schedules, breadth first, each state once, up to a limit on states: 1 or more.
+/// Searches all schedules whose steps come under what the trial says, breadth first, each state once, up to a limit on
+/// states: 1 or more.
 pub fn outcomes(alloc: Global, trial: &Trial<'_>, most: u32) -> Result<Search, SearchFault>
     requires there { AreThere trial.now }
     requires some { 1 ≤ most }

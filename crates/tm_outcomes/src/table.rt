@@ -5,14 +5,15 @@ ghost use Rattle.tm_outcomes.specs.Outcomes.{AreDistinct, AreTold, IsOutcome, Is
 
 use crate::trial::Trial;
 use std::alloc::AllocError;
+use tm_model::Pick;
 
 /// An outcome.
 #[derive(Debug, Drop)]
 pub struct Told {
     /// The value of each item.
     pub values: Vec<u32>,
-    /// The cores of the steps of a schedule that shows it: of those found, a shortest.
-    pub schedule: Vec<u8>,
+    /// The steps of a schedule that shows it: of those found, a shortest.
+    pub schedule: Vec<Pick>,
     /// How many states that were found show it.
     pub ends: u32,
 }
@@ -36,7 +37,7 @@ pub fn take_up(
     trial: &Trial<'_>,
     table: &mut Vec<Told>,
     values: Vec<u32>,
-    schedule: Vec<u8>,
+    schedule: Vec<Pick>,
 ) -> Result<(), AllocError>
     requires told { All (IsTold trial.now) table.old.items }
     requires outcome { IsOutcome trial.now schedule.items values.items }

@@ -4,6 +4,7 @@ ghost use Rattle.std.specs.Prelude.{◌↔◌, IsTrue};
 ghost use Rattle.tm_outcomes.specs.Outcomes.{AreThere, IsThere};
 
 use tm_core::{Limits, Program};
+use tm_model::Event;
 
 /// A part of what an outcome shows.
 #[derive(Clone, Copy, PartialEq, Eq, Debug)]
@@ -14,7 +15,18 @@ pub enum Item {
     Memory(u32),
 }
 
-/// A program, and what is shown of it where each core has stopped.
+/// What the steps of a trial's schedules come under.
+#[derive(Clone, Copy, Debug)]
+pub enum Events<'a> {
+    /// Each step comes under no event.
+    Never,
+    /// Each step comes under none, or under one of these.
+    May(&'a [Event]),
+    /// Each step comes under this one.
+    Always(Event),
+}
+
+/// A program, what its steps come under, and what is shown of it where each core has stopped.
 #[derive(Clone, Copy)]
 pub struct Trial<'a> {
     /// The program.
@@ -23,6 +35,8 @@ pub struct Trial<'a> {
     pub limits: Limits,
     /// What is shown, in order.
     pub items: &'a [Item],
+    /// What each step comes under.
+    pub events: Events<'a>,
 }
 
 impl Trial<'_> {

@@ -1,11 +1,12 @@
 use Rattle.std.proofs.Common.{◌≡◌, ◌<◌, ℕ, List, [], ◌∷◌, ◌++◌, length, take, drop, sym, ap, ◌∙◌, arith, append_assoc}
 use Rattle.std.specs.Prelude.{reverse}
 use Rattle.std.proofs.lemmas.List.{append-nil, drop_all, length-reverse, reverse-append, take_all}
+use Rattle.tm_model.specs.declared.outcome.Pick.{Pick}
 use Rattle.tm_outcomes.specs.Nodes.{node_at, schedule_at}
 use Rattle.tm_outcomes.proofs.nodes.schedule_of.Goals as goal
 
 -- what was lent comes back whole
-whole : (len : ℕ) (xs ys : List ℕ) → ys ≡ reverse xs → len ≡ length xs → take len (ys ++ drop (length ys) xs) ≡ reverse xs
+whole : (len : ℕ) (xs ys : List Pick) → ys ≡ reverse xs → len ≡ length xs → take len (ys ++ drop (length ys) xs) ≡ reverse xs
 whole len xs ys turned same =
     let long : length ys ≡ length xs = ap length turned ∙ length-reverse xs in
     ap (λ zs. take len (ys ++ zs)) (drop_all (length ys) xs (omega arith))
@@ -16,23 +17,23 @@ steps-preserved c =
     let at = c.steps.at in
     let nodes = c.args.nodes.now in
     let node = node_at nodes at in
-    let cores = c.steps.cores.items in
+    let picks = c.steps.picks.items in
     let within : at < length nodes = c.steps.invariant.within in
     let positive : 0 < at = c.steps-test.true in
     let lower = c.requires.tree.1.1.lower at positive within in
     record {
       within = omega arith;
-      so_far = λ count schedules tree.
+      so_far = λ trial schedules tree.
           let before = schedule_at schedules node.parent in
-          c.steps.invariant.so_far count schedules tree
-          ∙ (ap (λ s. s ++ reverse cores) (tree.longer at positive within)
-          ∙ (append_assoc before (node.core ∷ []) (reverse cores)
-          ∙ ap (λ r. before ++ r) (sym (ap reverse c.in_ok-push.ensures.items ∙ reverse-append cores (node.core ∷ [])))));
+          c.steps.invariant.so_far trial schedules tree
+          ∙ (ap (λ s. s ++ reverse picks) (tree.longer at positive within)
+          ∙ (append_assoc before (node.pick ∷ []) (reverse picks)
+          ∙ ap (λ r. before ++ r) (sym (ap reverse c.in_ok-push.ensures.items ∙ reverse-append picks (node.pick ∷ [])))));
     }
 
 pub returns : goal.returns
-returns c = λ count schedules tree.
-    let cores = c.steps.cores.items in
+returns c = λ trial schedules tree.
+    let picks = c.steps.picks.items in
     let end : c.steps.at ≡ 0 = (let e = c.steps-test.false in omega arith) in
-    whole c.steps.cores.len cores c.reverse.new.self (c.reverse.ensures.after ∙ ap reverse c.as_mut_slice.ensures.value) (omega (arith, c.steps.cores.ok.0))
-    ∙ sym (c.steps.invariant.so_far count schedules tree ∙ ap (λ s. s ++ reverse cores) (ap (schedule_at schedules) end ∙ tree.root))
+    whole c.steps.picks.len picks c.reverse.new.self (c.reverse.ensures.after ∙ ap reverse c.as_mut_slice.ensures.value) (omega (arith, c.steps.picks.ok.0))
+    ∙ sym (c.steps.invariant.so_far trial schedules tree ∙ ap (λ s. s ++ reverse picks) (ap (schedule_at schedules) end ∙ tree.root))

@@ -2,5 +2,5 @@ use Rattle.std.proofs.Common.{take}
 use Rattle.tm_outcomes.specs.Places.{IsAt}
 use Rattle.tm_outcomes.proofs.place.replay.Given as goal
 
-abbrev pub invariant-loop-core : goal.invariant-loop-core
-invariant-loop-core l = IsAt l.trial l.place (take l.core-index l.schedule)
+abbrev pub invariant-loop-pick : goal.invariant-loop-pick
+invariant-loop-pick l = IsAt l.trial l.place (take l.pick-index l.schedule)

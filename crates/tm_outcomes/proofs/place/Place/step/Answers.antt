@@ -6,7 +6,7 @@ use Rattle.tm_core.specs.Theorem.{machine_setting, view_at}
 use Rattle.tm_model.specs.Setting.{Setting, value_at}
 use Rattle.tm_outcomes.specs.Outcomes.{regs_of, trial_opening, trial_setting}
 use Rattle.tm_outcomes.specs.Places.{detail_after, detail_of}
-use Rattle.tm_outcomes.specs.Schedules.{after_core, with_state}
+use Rattle.tm_outcomes.specs.Schedules.{after_pick, with_state}
 use Rattle.tm_outcomes.proofs.Alike.{base_is}
 use Rattle.tm_outcomes.proofs.Details.{details_next, few_next, own_detail}
 use Rattle.tm_outcomes.proofs.Runs.{one_more, owed_is_next}
@@ -15,12 +15,13 @@ use Rattle.tm_outcomes.proofs.place.Place.step.Goals as goal
 pub returns-clause-goes : goal.returns-clause-goes
 returns-clause-goes c = λ now stands.
     let old = c.args.self.now.machine in
+    let pick = c.args.pick in
     let t = c.in-Ok.ensures.ok now.state now.doomed stands in
-    let next = with_state (machine_setting old) now c.args.core c.in-Ok.outcome t.next in
+    let next = with_state (machine_setting old) now pick.core c.in-Ok.outcome t.next in
     record {
       next = next;
-      is_next = subst (λ (s : Setting). after_core s now c.args.core ≡ Some next) c.requires.at.1.0.rules
-          (owed_is_next (machine_setting old) now c.args.core c.in-Ok.outcome t.next t.is_owed t.is_step);
+      is_next = subst (λ (s : Setting). after_pick s now pick ≡ Some next) c.requires.at.1.0.rules
+          (owed_is_next (machine_setting old) now pick c.in-Ok.outcome t.next t.is_owed t.is_step);
       stands = t.stands;
     }
 
@@ -28,8 +29,9 @@ pub returns-clause-at : goal.returns-clause-at
 returns-clause-at c = λ schedule at.
     let trial = c.args.trial.now in
     let old = c.args.self.now.machine in
-    let new = c.step.new.self in
-    let core = c.args.core in
+    let new = c.step_by.new.machine in
+    let pick = c.args.pick in
+    let core = pick.core in
     let outcome = c.in-Ok.outcome in
     let details = c.args.self.now.details.items in
     let t = c.in-Ok.ensures.ok at.now.state at.now.doomed at.stands in
@@ -47,20 +49,20 @@ returns-clause-at c = λ schedule at.
     ∙ (ap (λ m. detail_after outcome (detail_of (at.now.state.cores core)) (value_at setting (regs_of (t.next.cores core)) m)) t.stands.same_memory
     ∙ sym (own_detail setting at.now.state t.next core outcome stepped)))) in
     let entries = length trial.program.now.entries in
-    let longer : length (schedule ++ core ∷ []) ≡ size + 1 = length-append schedule (core ∷ []) in
+    let longer : length (schedule ++ pick ∷ []) ≡ size + 1 = length-append schedule (pick ∷ []) in
     let index : core ≡ c.from.result = omega arith in
     record {
       now = next;
-      is_run = one_more setting (trial_opening trial) schedule at.now next core at.is_run
-          (subst (λ (s : Setting). after_core s at.now core ≡ Some next) at.rules
-          (owed_is_next (machine_setting old) at.now core outcome t.next t.is_owed t.is_step));
+      is_run = one_more setting (trial_opening trial) schedule at.now next pick at.is_run
+          (subst (λ (s : Setting). after_pick s at.now pick ≡ Some next) at.rules
+          (owed_is_next (machine_setting old) at.now pick outcome t.next t.is_owed t.is_step));
       rules = c.in-Ok.ensures.same.rules ∙ at.rules;
       count = c.in-Ok.ensures.same.cores ∙ at.count;
       stands = t.stands;
       details_count = length-set details c.from.result detail ∙ at.details_count;
       details = subst (λ (n : ℕ). (other : ℕ) → other < entries → get_or (set details n detail) other 0 ≡ detail_of (t.next.cores other)) index
           (details_next setting at.now.state t.next core entries outcome details detail stepped (omega arith) at.details_count at.details own);
-      few = λ other within. subst (λ n. get_or (set details n detail) other 0 ≤ 4294967296 + length (schedule ++ core ∷ [])) index
+      few = λ other within. subst (λ n. get_or (set details n detail) other 0 ≤ 4294967296 + length (schedule ++ pick ∷ [])) index
           (subst (λ n. get_or (set details core detail) other 0 ≤ 4294967296 + n) (sym longer)
           (let below = few_next core entries (4294967296 + size) detail details (omega arith) at.details_count at.few
           (let most = c.next_detail-detail.ensures.few size (at.few core (omega arith)) in omega arith) other within in omega arith));

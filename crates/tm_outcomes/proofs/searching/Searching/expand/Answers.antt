@@ -9,8 +9,8 @@ loop-core-init c =
 
 pub loop-core-preserved : goal.loop-core-preserved
 loop-core-preserved c =
-    goes_on c.args.trial.now c.args.most c.args.index c.loop-core.core c.loop-core.self c.follow.new.self (sym (ap (λ v. v.items) c.in_ok-follow.ensures.outcomes))
-    (c.in_ok-follow.ensures.followed c.in-GoesOn.is) c.loop-core.invariant
+    goes_on c.args.trial.now c.args.most c.args.index c.loop-core.core c.loop-core.self c.follow_core.new.self (sym (ap (λ v. v.items) c.in_ok-follow_core.ensures.outcomes))
+    (c.in_ok-follow_core.ensures.followed c.in-GoesOn.is) c.loop-core.invariant
 
 pub returns-clause-goes_on : goal.returns-clause-goes_on
 returns-clause-goes_on c = λ _.

@@ -1,0 +1,186 @@
+-- A node whose core's steps are followed under several events, one after another.
+use Rattle.std.proofs.Common.{◌≡◌, ◌⊎◌, inl, inr, ℕ, ◌+◌, ◌<◌, ◌≤◌, List, [], ◌∷◌, ◌++◌, Option, Some, None, Result, length, get_or}
+use Rattle.std.proofs.Common.{take, take_all, append_assoc, refl, sym, ap, ◌∙◌, subst, arith, length-append}
+use Rattle.std.proofs.lemmas.List.{append-nil, take_more}
+use Rattle.std.proofs.lemmas.List.Elements.{Contains-push_cases}
+use Rattle.std.proofs.lemmas.Result.{IfOk-weaker}
+use Rattle.std.specs.Result.{IfOk}
+use Rattle.tm_model.specs.declared.outcome.Event.{Event}
+use Rattle.tm_model.specs.declared.outcome.Pick.{Pick}
+use Rattle.tm_outcomes.specs.Nodes.{HasGrown, HaveSchedules, IsFollowed, IsTree, IsUntouched}
+use Rattle.tm_outcomes.specs.Outcomes.{IsNoneOrOneOf}
+use Rattle.tm_outcomes.specs.Searching.{Grows, IsFollowedIn, IsOneOf, IsThis}
+use Rattle.tm_outcomes.specs.declared.fault.SearchFault.{SearchFault}
+use Rattle.tm_outcomes.specs.declared.nodes.Node.{Node}
+use Rattle.tm_outcomes.specs.declared.searching.Progress.{Progress}
+use Rattle.tm_outcomes.specs.declared.searching.Progress.TheVariants.{GoesOn}
+use Rattle.tm_outcomes.specs.declared.trial.Trial.{Trial}
+use Rattle.tm_outcomes.proofs.Follows.{followed_grown, untouched_grown}
+
+-- a pick that is followed, by its core and its event
+pub under_this : (trial : Trial) (schedules : List (List Pick)) (index : ℕ) (pick : Pick) →
+    IsFollowed trial schedules index pick → (event : Option Event) → IsThis pick.event event →
+    IsFollowed trial schedules index (record { core = pick.core; event = event })
+under_this trial schedules index pick followed event is =
+    subst (λ (e : Option Event). IsFollowed trial schedules index (record { core = pick.core; event = e })) (sym is) followed
+
+-- none of no events
+none_of : (event : Option Event) → IsOneOf [] event → ⊥
+none_of None is = is
+none_of (Some event) is = (let below = is.1 in omega arith)
+
+-- one of these and another
+either_of : (events : List Event) (event : Event) (one : Option Event) → IsOneOf (events ++ event ∷ []) one →
+    IsOneOf events one ⊎ IsThis (Some event) one
+either_of events event None is = elim is [ ]
+either_of events event (Some one) is = elim (Contains-push_cases events event one is) [
+  | inl before ↦ inl before
+  | inr same ↦ inr (ap Some (sym same))
+]
+
+module _ (trial : Trial) (most index core : ℕ) where
+  -- the tree is there still, and the node in it
+  pub has_tree : (before after : List Node) (under : Option Event → Type 0) →
+      IsFollowedIn trial most before after index core under → HaveSchedules trial before → HaveSchedules trial after
+  has_tree before after under followed tree =
+      let step = followed.grows tree.0 tree.1 in
+      (step.grown, step.has_grown.tree)
+
+  pub has_node : (before after : List Node) (under : Option Event → Type 0) →
+      IsFollowedIn trial most before after index core under → HaveSchedules trial before → index < length before →
+      index < length after
+  has_node before after under followed tree within =
+      let step = followed.grows tree.0 tree.1 in
+      let counted = tree.1.counted in
+      let now = step.has_grown.tree.counted in
+      let long = ap (λ (g : List (List Pick)). length g) step.has_grown.grown in
+      let sum = length-append tree.0 step.has_grown.more in
+      omega arith
+
+  -- under no event so far
+  pub nothing_yet : (nodes : List Node) → length nodes ≤ most →
+      IsFollowedIn trial most nodes nodes index core (IsOneOf [])
+  nothing_yet nodes few = record {
+    few = few;
+    grows = λ schedules tree. record {
+      grown = schedules;
+      has_grown = record { tree = tree; more = []; grown = sym (append-nil schedules) };
+      followed = λ event is. absurd (none_of event is);
+    };
+  }
+
+  -- under fewer events
+  pub under_fewer : (before after : List Node) (under fewer : Option Event → Type 0) →
+      ((event : Option Event) → fewer event → under event) → IsFollowedIn trial most before after index core under →
+      IsFollowedIn trial most before after index core fewer
+  under_fewer before after under fewer among followed = record {
+    few = followed.few;
+    grows = λ schedules tree.
+        let step = followed.grows schedules tree in
+        record {
+          grown = step.grown;
+          has_grown = step.has_grown;
+          followed = λ event is. step.followed event (among event is);
+        };
+  }
+
+  -- under the ones, and then under the others
+  pub then_under : (before middle after : List Node) (first second : Option Event → Type 0) → index < length before →
+      IsFollowedIn trial most before middle index core first →
+      IsFollowedIn trial most middle after index core second →
+      IsFollowedIn trial most before after index core (λ event. first event ⊎ second event)
+  then_under before middle after first second within one other = record {
+    few = other.few;
+    grows = λ schedules tree.
+        let begun = one.grows schedules tree in
+        let ended = other.grows begun.grown begun.has_grown.tree in
+        let more = ended.has_grown.more in
+        let counted = tree.counted in
+        let long = ap (λ (g : List (List Pick)). length g) begun.has_grown.grown in
+        let sum = length-append schedules begun.has_grown.more in
+        let here : index < length begun.grown = omega arith in
+        record {
+          grown = ended.grown;
+          has_grown = record {
+            tree = ended.has_grown.tree;
+            more = begun.has_grown.more ++ more;
+            grown = ended.has_grown.grown
+                ∙ (ap (λ (g : List (List Pick)). g ++ more) begun.has_grown.grown
+                ∙ append_assoc schedules begun.has_grown.more more);
+          };
+          followed = λ event is. elim is [
+            | inl earlier ↦
+                let pick : Pick = record { core = core; event = event } in
+                subst (λ (g : List (List Pick)). IsFollowed trial g index pick) (sym ended.has_grown.grown)
+                (followed_grown trial begun.grown more index pick here (begun.followed event earlier))
+            | inr later ↦ ended.followed event later
+          ];
+        };
+  }
+
+  -- under one event more of a list
+  pub next_of : (before middle after : List Node) (events : List Event) (at : ℕ) (default : Event) →
+      index < length before → at < length events →
+      IsFollowedIn trial most before middle index core (IsOneOf (take at events)) →
+      IsFollowedIn trial most middle after index core (IsThis (Some (get_or events at default))) →
+      IsFollowedIn trial most before after index core (IsOneOf (take (at + 1) events))
+  next_of before middle after events at default within below so_far next =
+      let event = get_or events at default in
+      let Among : Option Event → Type 0 = λ one. IsOneOf (take at events) one ⊎ IsThis (Some event) one in
+      under_fewer before after Among (IsOneOf (take (at + 1) events))
+      (λ one is. either_of (take at events) event one
+      (subst (λ (es : List Event). IsOneOf es one) (take_more events at default below) is))
+      (then_under before middle after (IsOneOf (take at events)) (IsThis (Some event)) within so_far next)
+
+  -- under none, and under each event of a list
+  pub none_and_each : (before middle after : List Node) (events : List Event) → index < length before →
+      IsFollowedIn trial most before middle index core (IsThis None) →
+      IsFollowedIn trial most middle after index core (IsOneOf events) →
+      IsFollowedIn trial most before after index core (IsNoneOrOneOf events)
+  none_and_each before middle after events within alone each =
+      under_fewer before after (λ one. IsThis None one ⊎ IsOneOf events one) (IsNoneOrOneOf events)
+      (λ one. none_or_one one) (then_under before middle after (IsThis None) (IsOneOf events) within alone each)
+    where
+      none_or_one : (one : Option Event) → IsNoneOrOneOf events one → IsThis None one ⊎ IsOneOf events one
+      none_or_one None is = inl refl
+      none_or_one (Some one) is = inr is
+
+  -- where no event makes another step, what was followed under none was followed under each
+  pub none_for_each : (before after : List Node) (events : List Event) → index < length before →
+      ((schedules : List (List Pick)) → IsTree trial before schedules → IsUntouched trial schedules index core) →
+      IsFollowedIn trial most before after index core (IsThis None) →
+      IsFollowedIn trial most before after index core (IsNoneOrOneOf events)
+  none_for_each before after events within untouched alone = record {
+    few = alone.few;
+    grows = λ schedules tree.
+        let step = alone.grows schedules tree in
+        let counted = tree.counted in
+        let same : IsUntouched trial step.grown index core =
+        subst (λ (g : List (List Pick)). IsUntouched trial g index core) (sym step.has_grown.grown)
+        (untouched_grown trial schedules step.has_grown.more index core (omega arith) (untouched schedules tree)) in
+        record {
+          grown = step.grown;
+          has_grown = step.has_grown;
+          followed = λ event is. alike step.grown same (step.followed None refl) event;
+        };
+  }
+    where
+      alike : (schedules : List (List Pick)) → IsUntouched trial schedules index core →
+          IsFollowed trial schedules index (record { core = core; event = None }) → (event : Option Event) →
+          IsFollowed trial schedules index (record { core = core; event = event })
+      alike schedules same followed None = followed
+      alike schedules same followed (Some event) = λ now leads.
+          let step = followed now leads in
+          record {
+            next = step.next;
+            is_next = same now leads event ∙ step.is_next;
+            index = step.index;
+            leads = step.leads;
+          }
+
+-- a search that goes on has done the one, and so the other
+pub does : (done more : Type 0) → (done → more) → (r : Result Progress SearchFault) →
+    IfOk r (λ progress. progress ≡ GoesOn → done) → IfOk r (λ progress. progress ≡ GoesOn → more)
+does done more so r goes =
+    IfOk-weaker r (λ (progress : Progress). progress ≡ GoesOn → done)
+    (λ (progress : Progress). progress ≡ GoesOn → more) (λ (progress : Progress) is on. so (is on)) goes

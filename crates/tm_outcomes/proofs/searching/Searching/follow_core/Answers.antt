@@ -1,0 +1,38 @@
+use Rattle.std.proofs.Common.{Some, None, sym, subst}
+use Rattle.tm_outcomes.specs.Outcomes.{IsAllowed, IsNoneOrOneOf}
+use Rattle.tm_outcomes.specs.Searching.{IsFollowedIn, IsThis}
+use Rattle.tm_outcomes.specs.declared.trial.Events.{Events}
+use Rattle.tm_outcomes.specs.declared.trial.Events.TheVariants.{Never, Always}
+use Rattle.tm_outcomes.proofs.Grown.{does, under_fewer}
+use Rattle.tm_outcomes.proofs.searching.Searching.follow_core.Goals as goal
+
+pub returns-in_ok-follow-in-Never-clause-followed : goal.returns-in_ok-follow-in-Never-clause-followed
+returns-in_ok-follow-in-Never-clause-followed c = λ on.
+    let trial = c.args.trial.now in
+    let before = c.args.self.now.nodes.items in
+    let after = c.follow.new.self.nodes.items in
+    subst (λ (events : Events). IsFollowedIn trial c.args.most before after c.args.index c.args.core (IsAllowed events))
+    (sym c.in-Never.is)
+    (under_fewer trial c.args.most c.args.index c.args.core before after (IsThis None) (IsAllowed Never)
+    (λ event is. is) (c.in_ok-follow-in-Never.ensures.followed on))
+
+pub returns-in-May-clause-followed : goal.returns-in-May-clause-followed
+returns-in-May-clause-followed c =
+    let trial = c.args.trial.now in
+    let before = c.args.self.now.nodes.items in
+    let after = c.follow_any.new.self.nodes.items in
+    does (IsFollowedIn trial c.args.most before after c.args.index c.args.core (IsNoneOrOneOf c.in-May.events.now))
+    (IsFollowedIn trial c.args.most before after c.args.index c.args.core (IsAllowed trial.events))
+    (λ all. subst (λ (events : Events). IsFollowedIn trial c.args.most before after c.args.index c.args.core
+    (IsAllowed events)) (sym c.in-May.is) all)
+    c.follow_any.result c.follow_any.ensures.followed
+
+pub returns-in_ok-follow-in-Always-clause-followed : goal.returns-in_ok-follow-in-Always-clause-followed
+returns-in_ok-follow-in-Always-clause-followed c = λ on.
+    let trial = c.args.trial.now in
+    let before = c.args.self.now.nodes.items in
+    let after = c.follow-in-Always.new.self.nodes.items in
+    subst (λ (events : Events). IsFollowedIn trial c.args.most before after c.args.index c.args.core (IsAllowed events))
+    (sym c.in-Always.is)
+    (under_fewer trial c.args.most c.args.index c.args.core before after (IsThis (Some c.in-Always.event))
+    (IsAllowed (Always c.in-Always.event)) (λ event is. is) (c.in_ok-follow-in-Always.ensures.followed on))

@@ -1,0 +1,15 @@
+use Rattle.std.proofs.Common.{◌≡◌, ◌<◌, ◌≤◌, length, take}
+use Rattle.tm_outcomes.specs.Nodes.{HaveSchedules}
+use Rattle.tm_outcomes.specs.Searching.{IsFollowedIn, IsOneOf}
+use Rattle.tm_outcomes.proofs.searching.Searching.follow_each.Given as goal
+
+-- the steps under the events so far are followed
+abbrev pub invariant-loop-event : goal.invariant-loop-event
+invariant-loop-event l = record {
+  within : l.index < length l.self.nodes.items;
+  few : length l.self.nodes.items ≤ l.most;
+  tree : HaveSchedules l.trial l.self.nodes.items;
+  outcomes : l.self.outcomes ≡ l.initial.self.outcomes;
+  followed : IsFollowedIn l.trial l.most l.initial.self.nodes.items l.self.nodes.items l.index l.core
+      (IsOneOf (take l.event-index l.events));
+}
