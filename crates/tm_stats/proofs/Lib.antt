@@ -3,3 +3,4 @@ pub mod Hits
 pub mod OneMore
 pub mod Same
 pub mod Told
+mod Spreads

@@ -4,3 +4,4 @@ pub mod Causes
 pub mod Counts
 pub mod Conflicts
 pub mod OpenBytes
+pub mod Spread
