@@ -6,7 +6,7 @@ from sources import lines_of
 
 # The bytes that one process of a check takes.
 ROOM = 2_000_000_000
-# How many lines one processor proves a minute, as measured (docs/PROOFS.md).
+# How many lines one processor proves a minute, as measured for a first build (docs/PROOFS.md, "Times").
 LINES_A_MINUTE = 600
 
 

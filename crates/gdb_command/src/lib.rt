@@ -1,7 +1,9 @@
 //! The commands of gdb's remote serial protocol, as packets tell them.
 //!
-//! Promised: the numbers, spans and parts of a packet are read as `specs/` says. Each packet is a question, a move or a
-//! setting, and one that is none of those known is the question `Unknown`. Stands on `hex`; takes no memory.
+//! Promised: what [`read_command`] tells of a packet is what its letters write, by `IsToldBy` of `specs/Commands`: of
+//! the letters `? g p m T D k G P M X s c b H Z z`, and of `vCont` with its actions. [`Actions::of`] gives the leftmost
+//! action that names a thread, else the leftmost one without a thread. Each other packet is a question, of which nothing
+//! more is promised. Stands on `hex` and on `tm_model` (events); takes no memory.
 #![tactic(auto)]
 
 mod command;
@@ -10,6 +12,11 @@ mod number;
 mod parts;
 mod query;
 mod read;
+mod resume;
+mod settings;
 
-pub use command::{Command, Monitor, Move, Point, PointKind, Question, Setting, Span};
+pub use command::{
+    Action, Actions, Command, MOST_ACTIONS, Monitor, Move, Point, PointKind, Question, Setting,
+    Span, ThreadAction,
+};
 pub use read::read_command;

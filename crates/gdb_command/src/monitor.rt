@@ -4,12 +4,13 @@ ghost use Rattle.std.specs.Prelude.{◌<◌, IfSome};
 
 use crate::command::Monitor;
 use crate::parts::split_at;
+use tm_model::Interference;
 
 // The most bytes of such a command that are read.
 const MOST_BYTES: usize = 64;
 
-/// What the hex digits of a command of `monitor` ask: `why`, `sets`, or `history` with a decimal number, 10 where there is
-/// none.
+/// What the hex digits of a command of `monitor` ask: `help`, `why`, `sets`, `history` with a decimal number, 10 where
+/// there is none, or `event` with the name of one.
 pub fn monitor_in(digits: &[u8]) -> Monitor {
     let mut bytes = [0; MOST_BYTES];
     let count = digits.len() / 2;
@@ -17,7 +18,9 @@ pub fn monitor_in(digits: &[u8]) -> Monitor {
         return Monitor::Other;
     }
     let (word, argument) = split_at(b' ', &bytes[..count]);
-    if word == b"why".as_slice() {
+    if word == b"help".as_slice() {
+        Monitor::Help
+    } else if word == b"why".as_slice() {
         Monitor::Why
     } else if word == b"sets".as_slice() {
         Monitor::Sets
@@ -26,6 +29,21 @@ pub fn monitor_in(digits: &[u8]) -> Monitor {
             Some(number) => Monitor::History(number),
             None => Monitor::Other,
         }
+    } else if word == b"event".as_slice() {
+        event_in(argument)
+    } else {
+        Monitor::Other
+    }
+}
+
+// The event of a name.
+fn event_in(name: &[u8]) -> Monitor {
+    if name == b"interrupt".as_slice() {
+        Monitor::Event(Interference::Interrupt)
+    } else if name == b"eviction".as_slice() {
+        Monitor::Event(Interference::Eviction)
+    } else if name == b"snoop".as_slice() {
+        Monitor::Event(Interference::Snoop)
     } else {
         Monitor::Other
     }

@@ -4,7 +4,8 @@ ghost use Rattle.std.specs.Prelude.{◌≡◌, ◌==◌};
 ghost use Rattle.std.specs.List.{position};
 ghost use Rattle.gdb_command.specs.Parts.{first_part, other_parts};
 
-fn place_of(separator: u8, text: &[u8]) -> Option<usize>
+/// Where the first separator stands, if there is one.
+pub fn place_of(separator: u8, text: &[u8]) -> Option<usize>
     ensures { result ≡ position (λ byte. byte == separator) text.now }
 {
     text.iter().position(|byte| *byte == separator)

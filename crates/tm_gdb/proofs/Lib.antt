@@ -1,1 +1,3 @@
-pub mod Turns
+pub mod Served
+pub mod Retraced
+pub mod Runs

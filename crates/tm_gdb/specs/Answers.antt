@@ -1,70 +1,130 @@
--- What a command tells and what it does to the board (gdb manual, appendix E.2, "Packets").
-use Rattle.std.specs.Prelude.{◌≡◌, ℕ, ◌-◌, ◌==◌, if◌then◌else◌, List, Option, Some, None, codes, length, nat_le, nat_lt}
+-- What a command tells and what it does to the target (gdb manual, appendix E.2, "Packets").
+use Rattle.std.specs.Prelude.{◌≡◌, ℕ, ◌+◌, ◌==◌, if◌then◌else◌, List, [], ◌∷◌, ◌++◌, Option, Some, None, codes, is_some}
+use Rattle.std.specs.Prelude.{nat_lt}
+use Rattle.hex.specs.Hex.{encode_lower}
 use Rattle.gdb_command.specs.declared.command.Command.{Command}
 use Rattle.gdb_command.specs.declared.command.Command.TheVariants as command
+use Rattle.gdb_command.specs.declared.command.Monitor.TheVariants as monitor
 use Rattle.gdb_command.specs.declared.command.Move.{Move}
 use Rattle.gdb_command.specs.declared.command.Move.TheVariants as move
+use Rattle.gdb_command.specs.declared.command.Point.{Point}
+use Rattle.gdb_command.specs.declared.command.PointKind.{PointKind}
+use Rattle.gdb_command.specs.declared.command.PointKind.TheVariants as point
 use Rattle.gdb_command.specs.declared.command.Question.{Question}
 use Rattle.gdb_command.specs.declared.command.Question.TheVariants as question
+use Rattle.gdb_command.specs.declared.command.Setting.{Setting}
+use Rattle.gdb_command.specs.declared.command.Setting.TheVariants as setting
+use Rattle.gdb_command.specs.declared.command.Span.{Span}
 use Rattle.gdb_target.specs.declared.shown.CoreShown.{CoreShown}
 use Rattle.gdb_target.specs.Memory.{memory_text}
 use Rattle.gdb_target.specs.Registers.{register_of, register_text, registers_text}
 use Rattle.gdb_target.specs.Shown.{IsShown}
-use Rattle.tm_debug.specs.TmBack.Back.{IsFirst}
-use Rattle.tm_debug.specs.TmHist.Board.{IsFull, ShownBoard}
-use Rattle.tm_gdb.specs.declared.target.Target.{Target}
-use Rattle.tm_gdb.specs.Moves.{GoesOn, IsOneMore}
-
-abbrev pub cores_of : Target → ℕ
-cores_of target = length target.board.program.entries
-
--- the selected core, and the first where the board has it not
-abbrev pub core_of : Target → ℕ
-core_of target = if nat_lt target.selected (cores_of target) then target.selected else 0
-
--- the core of a thread: 1 is the first core's, 0 the selected one's
-abbrev pub thread_core : Target → ℕ → Option ℕ
-thread_core target thread =
-    if thread == 0 then Some (core_of target)
-    else if nat_le thread (cores_of target) then Some (thread - 1)
-    else None
+use Rattle.tm_model.specs.declared.outcome.Event.TheVariants as event
+use Rattle.tm_gdb.specs.Back.{RunsBack, StepsBack}
+use Rattle.tm_gdb.specs.Moves.{Continues, Resumes, StepsAlone, selected_goers}
+use Rattle.tm_gdb.specs.Points.{set_break, set_watch, unset_break, unset_watch}
+use Rattle.tm_gdb.specs.Stops.{stop_text}
+use Rattle.tm_gdb.specs.Values.{TargetValue, core_of, moved_core, thread_core}
 
 -- all registers of the selected core
-abbrev pub TellsRegisters : Target → List ℕ → Type 0
+abbrev pub TellsRegisters : TargetValue → List ℕ → Type 0
 TellsRegisters target text =
     (shown : CoreShown) × IsShown target.board (core_of target) shown × (text ≡ registers_text shown)
 
 -- one of them, and E01 for a number that none has
-abbrev pub TellsRegister : Target → ℕ → List ℕ → Type 0
+abbrev pub TellsRegister : TargetValue → ℕ → List ℕ → Type 0
 TellsRegister target number text =
     (shown : CoreShown) × IsShown target.board (core_of target) shown
     × (text ≡ (if nat_lt number 38 then register_text (register_of shown number) else codes "E01"))
 
 -- memory as the selected core sees it
-abbrev pub TellsMemory : Target → ℕ → ℕ → List ℕ → Type 0
+abbrev pub TellsMemory : TargetValue → ℕ → ℕ → List ℕ → Type 0
 TellsMemory target at count text = text ≡ memory_text target.board.machine (core_of target) at count
 
--- what is promised of the texts that tell of the board
-abbrev pub Tells : Question → Target → List ℕ → Type 0
+-- that something was done, or was not
+abbrev pub done_text : {A : Type 0} → Option A → List ℕ
+done_text (Some done) = codes "OK"
+done_text None = codes "E01"
+
+-- the selected thread, which is 1 for the first core
+abbrev pub thread_text : TargetValue → List ℕ
+thread_text target = codes "QC" ++ encode_lower ((core_of target + 1) ∷ [])
+
+-- what is promised of the texts that tell of the target, and of those that accept and refuse
+abbrev pub Tells : Question → TargetValue → List ℕ → Type 0
+Tells question.Status target text = text ≡ stop_text target.stop (core_of target)
+Tells question.CurrentThread target text = text ≡ thread_text target
+Tells (question.IsAlive thread) target text = text ≡ done_text (thread_core target thread)
 Tells question.Registers target text = TellsRegisters target text
 Tells (question.Register number) target text = TellsRegister target number text
 Tells (question.Memory span) target text = TellsMemory target span.at span.count text
+Tells question.NoAcknowledgements target text = text ≡ codes "OK"
+Tells question.Detach target text = text ≡ codes "OK"
+Tells question.KillAnswered target text = text ≡ codes "OK"
+Tells question.WriteRegisters target text = text ≡ codes "E.read-only"
+Tells question.WriteMemory target text = text ≡ codes "E01"
+Tells question.Malformed target text = text ≡ codes "E01"
+Tells question.Unknown target text = text ≡ []
+Tells question.Kill target text = text ≡ []
 Tells _ target text = Unit {0}
 
--- one step of this core, and none where the history is full
-abbrev pub MakesStep : Option ℕ → ShownBoard → ShownBoard → Type 0
-MakesStep None old new = new ≡ old
-MakesStep (Some core) old new = (IsFull old → new ≡ old) × ((IsFull old → ⊥) → IsOneMore old new core)
+-- a question changes nothing, but that `monitor event` names the event that the next step comes under
+abbrev pub asked_of : Question → TargetValue → TargetValue
+asked_of (question.Monitor (monitor.Event by)) target = record target { event = Some (event.Abort by) }
+asked_of _ target = target
 
--- what a move does to the board
-abbrev pub Moves : Move → Target → ShownBoard → Type 0
-Moves (move.Step thread) target new = MakesStep (thread_core target thread) target.board new
-Moves move.Continue target new = GoesOn target.plan.items target.board new
-Moves move.StepBack target new = IsFirst target.board (length target.board.history - 1) new
-Moves move.ContinueBack target new = (count : ℕ) × IsFirst target.board count new
+-- what a move does
+abbrev pub Moves : Move → TargetValue → TargetValue → Type 0
+Moves (move.Resume actions) from to = Resumes actions from to
+Moves move.StepSelected from to = StepsAlone (moved_core from) from to
+Moves move.ContinueSelected from to = Continues (selected_goers from.for_moves from) from to
+Moves move.StepBack from to = StepsBack (moved_core from) from to
+Moves move.ContinueBack from to = RunsBack from to
 
--- what a command does and tells: moves alone change the board
-abbrev pub Answers : Command → Target → ShownBoard → List ℕ → Type 0
-Answers (command.Ask asked) target new text = (new ≡ target.board) × Tells asked target text
-Answers (command.Move moved) target new text = Moves moved target new
-Answers (command.Set setting) target new text = new ≡ target.board
+-- a target with other breakpoints, or watchpoints; as it was where they cannot be set
+abbrev pub with_breaks : TargetValue → Option (List ℕ) → TargetValue
+with_breaks target None = target
+with_breaks target (Some breaks) = record target { breaks = breaks }
+
+abbrev pub with_watches : TargetValue → Option (List Span) → TargetValue
+with_watches target None = target
+with_watches target (Some watches) = record target { watches = watches }
+
+abbrev pub InsertsAt : PointKind → Span → TargetValue → TargetValue → List ℕ → Type 0
+InsertsAt point.Break span from to text =
+    (to ≡ with_breaks from (set_break from.breaks span.at)) × (text ≡ done_text (set_break from.breaks span.at))
+InsertsAt point.Watch span from to text =
+    (to ≡ with_watches from (set_watch from.watches span)) × (text ≡ done_text (set_watch from.watches span))
+
+abbrev pub removed : PointKind → Span → TargetValue → TargetValue
+removed point.Break span target = record target { breaks = unset_break target.breaks span.at }
+removed point.Watch span target = record target { watches = unset_watch target.watches span }
+
+-- the target in which a thread is selected, the same for one that there is not
+abbrev pub selecting : Option ℕ → TargetValue → TargetValue
+selecting None target = target
+selecting (Some core) target = record target { selected = core }
+
+-- the same of moves, which are of no one thread after 0
+abbrev pub moving : Option ℕ → TargetValue → TargetValue
+moving None target = target
+moving (Some core) target = record target { for_moves = Some core }
+
+abbrev pub ChoosesForMoves : ℕ → TargetValue → TargetValue → List ℕ → Type 0
+ChoosesForMoves thread from to text =
+    (to ≡ (if thread == 0 then record from { for_moves = None } else moving (thread_core from thread) from))
+    × (text ≡ done_text (thread_core from thread))
+
+-- what a setting does, and whether it could
+abbrev pub Sets : Setting → TargetValue → TargetValue → List ℕ → Type 0
+Sets (setting.Select thread) from to text =
+    (to ≡ selecting (thread_core from thread) from) × (text ≡ done_text (thread_core from thread))
+Sets (setting.SelectForMoves thread) from to text = ChoosesForMoves thread from to text
+Sets (setting.Insert place) from to text = InsertsAt place.kind place.span from to text
+Sets (setting.Remove place) from to text = (to ≡ removed place.kind place.span from) × (text ≡ codes "OK")
+
+-- what a command does and tells; a move is answered by why the target stands then, and at which core
+abbrev pub Answers : Command → TargetValue → List ℕ → TargetValue → Type 0
+Answers (command.Ask asked) from text to = (to ≡ asked_of asked from) × Tells asked from text
+Answers (command.Move moved) from text to = Moves moved from to × (text ≡ stop_text to.stop (core_of to))
+Answers (command.Set setting) from text to = Sets setting from to text

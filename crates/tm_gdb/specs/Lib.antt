@@ -1,4 +1,9 @@
-pub mod Moves
+pub mod Values
 pub mod Stops
+pub mod Points
+pub mod Moves
+pub mod Back
 pub mod Answers
 pub mod Sessions
+pub mod States
+pub mod Serving

@@ -1,18 +1,23 @@
 //! The answer to a command.
 
-ghost use Rattle.std.specs.Prelude.{◌≡◌, ◌≤◌, [], OnErr, OnOk, length};
-ghost use Rattle.tm_debug.specs.TmHist.Board.{SameBoard};
-ghost use Rattle.tm_gdb.specs.Answers.{Answers, MakesStep, Moves, Tells, thread_core};
+ghost use Rattle.std.specs.Prelude.{◌≡◌, ◌≤◌, [], OnErr, OnOk, codes, false, length, true};
+ghost use Rattle.tm_hist.specs.Board.{SameBoard};
+ghost use Rattle.tm_gdb.specs.Answers.{Answers, ChoosesForMoves, InsertsAt, Moves, Sets, Tells, asked_of, done_text};
+ghost use Rattle.tm_gdb.specs.Answers.{removed};
+ghost use Rattle.tm_gdb.specs.Answers.{selecting, thread_text};
+ghost use Rattle.tm_gdb.specs.Stops.{stop_text};
+ghost use Rattle.tm_gdb.specs.Values.{core_of, thread_core, value_of};
 
 use crate::monitor::monitor_text;
-use crate::stop::{Stop, push_stop};
+use crate::stop::push_stop;
 use crate::target::Target;
 use crate::tell::{tell_description, tell_memory, tell_register, tell_registers, tell_threads};
-use gdb_command::{Command, Move, Question, Setting};
+use gdb_command::{Command, Monitor, Move, Point, PointKind, Question, Setting, Span};
 use gdb_packet::Bytes;
 use gdb_target::{push_thread, push_threads};
 use ia_text::page::push;
 use std::alloc::{AllocError, Global};
+use tm_model::Event;
 
 // What the target can do.
 fn features() -> &'static [u8]
@@ -25,6 +30,8 @@ vContSupported+;swbreak+;ReverseStep+;ReverseContinue+"
 // That something was done, or was not.
 fn push_done(row: &mut Bytes, done: bool)
     requires { row.old.items ≡ [] }
+    ensures done { done ≡ true → row.new.items ≡ codes "OK" }
+    ensures refused { done ≡ false → row.new.items ≡ codes "E01" }
 {
     if done {
         push(row, b"OK");
@@ -33,30 +40,47 @@ fn push_done(row: &mut Bytes, done: bool)
     }
 }
 
+// That there is a thread, or is not.
+fn push_found(row: &mut Bytes, found: Option<u8>)
+    requires { row.old.items ≡ [] }
+    ensures { row.new.items ≡ done_text found }
+{
+    match found {
+        Some(_) => push(row, b"OK"),
+        None => push(row, b"E01"),
+    }
+}
+
+// The selected thread.
+fn tell_thread(target: &Target, row: &mut Bytes)
+    requires { row.old.items ≡ [] }
+    ensures { row.new.items ≡ thread_text (value_of target.now) }
+{
+    push(row, b"QC");
+    push_thread(row, target.core());
+}
+
 // Tells what is asked of the target. `AllocError`, where there was no memory for it.
 fn tell(alloc: Global, target: &Target, asked: Question, row: &mut Bytes) -> Result<(), AllocError>
     requires { row.old.items ≡ [] }
-    ensures { OnOk result (Tells asked target.now row.new.items) }
+    ensures { OnOk result (Tells asked (value_of target.now) row.new.items) }
 {
     match asked {
         Question::Supported => push(row, features()),
         Question::NoAcknowledgements => push(row, b"OK"),
         Question::Status => push_stop(row, target.stop, target.core()),
-        Question::CurrentThread => {
-            push(row, b"QC");
-            push_thread(row, target.core());
-        }
+        Question::CurrentThread => tell_thread(target, row),
         Question::Attached => push(row, b"1"),
         Question::Description(span) => tell_description(span, row),
         Question::Threads(span) => tell_threads(target, span, row),
         Question::FirstThreads => push_threads(row, target.board.cores()),
         Question::MoreThreads => push(row, b"l"),
-        Question::IsAlive(thread) => push_done(row, target.thread_core(thread).is_some()),
-        Question::SelectForMoves => push(row, b"OK"),
+        Question::IsAlive(thread) => push_found(row, target.thread_core(thread)),
         Question::Registers => tell_registers(target, row),
         Question::Register(number) => tell_register(target, number, row),
         Question::Memory(span) => tell_memory(target, span, row),
-        Question::Write => push(row, b"E01"),
+        Question::WriteRegisters => push(row, b"E.read-only"),
+        Question::WriteMemory => push(row, b"E01"),
         Question::Moves => push(row, b"vCont;c;C;s;S"),
         Question::Monitor(asked) => monitor_text(alloc, target, asked)?.push(row),
         Question::Detach => push(row, b"OK"),
@@ -68,104 +92,176 @@ fn tell(alloc: Global, target: &Target, asked: Question, row: &mut Bytes) -> Res
     Ok(())
 }
 
-// One step of a thread, and why the target then stands; nothing for a thread that there is not.
-fn make_step(target: &mut Target, thread: u32) -> Option<Stop>
-    ensures made { MakesStep (thread_core target.old thread) target.old.board target.new.board }
+// What a question changes: `monitor event` names the event of the next step.
+fn note(target: &mut Target, asked: Question)
+    ensures value { value_of target.new ≡ asked_of asked (value_of target.old) }
     ensures same { SameBoard target.old.board target.new.board }
 {
-    match target.thread_core(thread) {
-        Some(core) => Some(target.step(core)),
-        None => None,
+    if let Question::Monitor(Monitor::Event(by)) = asked {
+        target.event = Some(Event::Abort(by));
     }
 }
 
-// Moves the target, and tells why it then stands; nothing for a thread that there is not. `AllocError`, where there was no
-// memory for the board of the first steps: then it is as before.
-fn make_move(alloc: Global, target: &mut Target, asked: Move) -> Result<Option<Stop>, AllocError>
-    ensures ok { OnOk result (Moves asked target.old target.new.board) }
-    ensures err { OnErr result (target.new.board ≡ target.old.board) }
-    ensures same { SameBoard target.old.board target.new.board }
-{
-    match asked {
-        Move::Step(thread) => Ok(make_step(target, thread)),
-        Move::Continue => Ok(Some(target.go_on())),
-        Move::StepBack => match target.step_back(alloc) {
-            Ok(stop) => Ok(Some(stop)),
-            Err(_) => Err(AllocError),
-        },
-        Move::ContinueBack => match target.go_back(alloc) {
-            Ok(stop) => Ok(Some(stop)),
-            Err(_) => Err(AllocError),
-        },
-    }
-}
-
-// Tells why the target stands after a move.
-fn tell_move(target: &mut Target, stop: Option<Stop>, row: &mut Bytes)
-    requires { row.old.items ≡ [] }
-    ensures { target.new.board ≡ target.old.board }
-{
-    match stop {
-        Some(stop) => {
-            target.stop = stop;
-            push_stop(row, stop, target.core());
-        }
-        None => push(row, b"E01"),
-    }
-}
-
-// Selects the core of a thread, and none for thread 0; false for a thread that there is not.
-fn select(target: &mut Target, thread: u32) -> bool
-    ensures { target.new.board ≡ target.old.board }
-{
-    match target.thread_core(thread) {
-        Some(core) => {
-            target.selected = core;
-            true
-        }
-        None => false,
-    }
-}
-
-// Selects a core, or sets a point or takes it away. False where that cannot be.
-fn set(target: &mut Target, setting: Setting) -> bool
-    ensures { target.new.board ≡ target.old.board }
-{
-    match setting {
-        Setting::Select(thread) => select(target, thread),
-        Setting::Insert(point) => target.points.insert(point),
-        Setting::Remove(point) => {
-            target.points.remove(point);
-            true
-        }
-    }
-}
-
-/// Does what a command says, and adds its answer, which is empty for a command that is not known. `AllocError`, where there
-/// was no memory for the board of the first steps or for the lines of a set: then the board is as before.
-pub fn carry_out(
+// Answers a question.
+fn ask(
     alloc: Global,
     target: &mut Target,
-    command: Command,
+    asked: Question,
     row: &mut Bytes,
 ) -> Result<(), AllocError>
     requires { row.old.items ≡ [] }
-    ensures ok { OnOk result (Answers command target.old target.new.board row.new.items) }
-    ensures err { OnErr result (target.new.board ≡ target.old.board) }
+    ensures tells { OnOk result (Tells asked (value_of target.old) row.new.items) }
+    ensures ok { OnOk result (value_of target.new ≡ asked_of asked (value_of target.old)) }
+    ensures err { OnErr result (value_of target.new ≡ value_of target.old) }
+    ensures same { SameBoard target.old.board target.new.board }
+{
+    match tell(alloc, target, asked, row) {
+        Ok(()) => {
+            note(target, asked);
+            Ok(())
+        }
+        Err(fault) => Err(fault),
+    }
+}
+
+// Moves the target. `AllocError`, where there was no memory for the board of the first steps: then it is as before.
+fn make_move(alloc: Global, target: &mut Target, asked: &Move) -> Result<(), AllocError>
+    ensures ok { OnOk result (Moves asked.now (value_of target.old) (value_of target.new)) }
+    ensures err { OnErr result (value_of target.new ≡ value_of target.old) }
+    ensures same { SameBoard target.old.board target.new.board }
+{
+    match asked {
+        Move::Resume(actions) => {
+            target.resume(actions);
+            Ok(())
+        }
+        Move::StepSelected => {
+            target.step_selected();
+            Ok(())
+        }
+        Move::ContinueSelected => {
+            target.continue_selected();
+            Ok(())
+        }
+        Move::StepBack => target.step_back(alloc),
+        Move::ContinueBack => target.go_back(alloc),
+    }
+}
+
+// Moves the target, and tells why it stands then.
+fn carry(
+    alloc: Global,
+    target: &mut Target,
+    asked: &Move,
+    row: &mut Bytes,
+) -> Result<(), AllocError>
+    requires { row.old.items ≡ [] }
+    ensures ok { OnOk result (Moves asked.now (value_of target.old) (value_of target.new)) }
+    ensures text { OnOk result (row.new.items
+        ≡ stop_text (value_of target.new).stop (core_of (value_of target.new))) }
+    ensures err { OnErr result (value_of target.new ≡ value_of target.old) }
+    ensures same { SameBoard target.old.board target.new.board }
+{
+    match make_move(alloc, target, asked) {
+        Ok(()) => {
+            push_stop(row, target.stop, target.core());
+            Ok(())
+        }
+        Err(fault) => Err(fault),
+    }
+}
+
+// Selects the core of a thread, and none for a thread that there is not.
+fn select(target: &mut Target, found: Option<u8>)
+    ensures value { value_of target.new ≡ selecting found (value_of target.old) }
+    ensures same { SameBoard target.old.board target.new.board }
+{
+    if let Some(core) = found {
+        target.selected = core;
+    }
+}
+
+// Chooses the core of a thread for moves, and none in particular for thread 0.
+fn choose(target: &mut Target, thread: u32, row: &mut Bytes)
+    requires { row.old.items ≡ [] }
+    ensures chosen { ChoosesForMoves thread (value_of target.old) (value_of target.new) row.new.items }
+    ensures same { SameBoard target.old.board target.new.board }
+{
+    let found = target.thread_core(thread);
+    push_found(row, found);
+    if thread == 0 {
+        target.for_moves = None;
+    } else if found.is_some() {
+        target.for_moves = found;
+    }
+}
+
+fn insert(target: &mut Target, kind: PointKind, span: Span, row: &mut Bytes)
+    requires { row.old.items ≡ [] }
+    ensures set { InsertsAt kind span (value_of target.old) (value_of target.new) row.new.items }
+    ensures same { SameBoard target.old.board target.new.board }
+{
+    match kind {
+        PointKind::Break => {
+            let done = target.points.insert_break(span.at);
+            push_done(row, done);
+        }
+        PointKind::Watch => {
+            let done = target.points.insert_watch(span);
+            push_done(row, done);
+        }
+    }
+}
+
+fn remove(target: &mut Target, kind: PointKind, span: Span)
+    ensures value { value_of target.new ≡ removed kind span (value_of target.old) }
+    ensures same { SameBoard target.old.board target.new.board }
+{
+    match kind {
+        PointKind::Break => target.points.remove_break(span.at),
+        PointKind::Watch => target.points.remove_watch(span),
+    }
+}
+
+// Selects a core, or sets a point or takes it away, and tells whether that could be.
+fn set(target: &mut Target, setting: Setting, row: &mut Bytes)
+    requires { row.old.items ≡ [] }
+    ensures set { Sets setting (value_of target.old) (value_of target.new) row.new.items }
+    ensures same { SameBoard target.old.board target.new.board }
+{
+    match setting {
+        Setting::Select(thread) => {
+            let found = target.thread_core(thread);
+            push_found(row, found);
+            select(target, found);
+        }
+        Setting::SelectForMoves(thread) => choose(target, thread, row),
+        Setting::Insert(point) => insert(target, point.kind, point.span, row),
+        Setting::Remove(point) => {
+            remove(target, point.kind, point.span);
+            push(row, b"OK");
+        }
+    }
+}
+
+/// Does what a command says, and adds its answer, which is empty for a command that is not known. `AllocError`, where
+/// there was no memory for the board of the first steps or for the lines of a set: then the target is as before.
+pub fn carry_out(
+    alloc: Global,
+    target: &mut Target,
+    command: &Command,
+    row: &mut Bytes,
+) -> Result<(), AllocError>
+    requires { row.old.items ≡ [] }
+    ensures ok { OnOk result (Answers command.now (value_of target.old) row.new.items (value_of target.new)) }
+    ensures err { OnErr result (value_of target.new ≡ value_of target.old) }
     ensures same { SameBoard target.old.board target.new.board }
 {
     match command {
-        Command::Ask(asked) => tell(alloc, target, asked, row),
-        Command::Move(asked) => match make_move(alloc, target, asked) {
-            Ok(stop) => {
-                tell_move(target, stop, row);
-                Ok(())
-            }
-            Err(fault) => Err(fault),
-        },
+        Command::Ask(asked) => ask(alloc, target, *asked, row),
+        Command::Move(asked) => carry(alloc, target, asked, row),
         Command::Set(setting) => {
-            let done = set(target, setting);
-            push_done(row, done);
+            set(target, *setting, row);
             Ok(())
         }
     }

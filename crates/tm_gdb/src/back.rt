@@ -1,116 +1,262 @@
 //! Moves back.
 
-ghost use Rattle.std.specs.Prelude.{◌≡◌, ◌-◌, ℕ, OnErr, OnOk, length};
-ghost use Rattle.tm_debug.specs.TmBack.Back.{IsFirst};
+ghost use Rattle.std.specs.Prelude.{◌≡◌, ◌+◌, ◌<◌, ◌≤◌, ◌==◌, Err, IfNone, IfOk, IfSome, OnErr, OnOk, Some, false};
+ghost use Rattle.std.specs.Prelude.{length, true};
+ghost use Rattle.std.specs.List.{slice_get};
+ghost use Rattle.tm_back.specs.Back.{IsFirst};
+ghost use Rattle.tm_hist.specs.Board.{IsFull, IsHistory, IsOwedNext, SameBoard};
+ghost use Rattle.tm_hist.specs.History.{pairs_of};
+ghost use Rattle.tm_model.specs.declared.outcome.Outcome.{Outcome};
+ghost use Rattle.tm_gdb.specs.Back.{EndsBack, HasNoneFrom, IsAgain, IsLastOf, RunsBack, StepsBack, TakesStepBack};
+ghost use Rattle.tm_gdb.specs.Back.{back_told, excused_at, told_back, watch_or_step};
+ghost use Rattle.tm_model.specs.Runs.{picks_of};
+ghost use Rattle.tm_gdb.specs.Values.{moved_core, value_of};
 
-use crate::points::changed;
+use crate::moves::make;
+use crate::points::first_changed;
 use crate::stop::Stop;
 use crate::target::Target;
-use std::alloc::Global;
-use tm_debug::{BackFault, Board, first_steps};
+use crate::turns::core_count;
+use std::alloc::{AllocError, Global};
+use tm_debug::{Board, first_steps};
+use tm_hist::History;
+use tm_model::Pick;
 
-/// Where a run back ends: behind so many steps, at this core, and why.
+/// Where a run back ends: with so many steps still made, at this core, and why.
 #[derive(Clone, Copy, Debug)]
-struct Place {
-    made: u64,
-    core: u8,
-    stop: Stop,
+pub struct Place {
+    pub made: u64,
+    pub core: u8,
+    pub stop: Stop,
+}
+
+// Whether the step at a place of a history is a core's.
+fn is_own(history: History<'_>, place: usize, core: u8) -> bool
+    requires { place < length (pairs_of history) }
+    ensures own { result ≡ true → (outcome : Outcome)
+        × (slice_get (pairs_of history.entry) place ≡ Some (core, outcome)) }
+    ensures other { result ≡ false → (outcome : Outcome)
+        → slice_get (pairs_of history.entry) place ≡ Some (core, outcome) → ⊥ }
+{
+    match history.get(place) {
+        Some((own, _outcome)) => own == core,
+        None => false,
+    }
+}
+
+// The place of the last step of a core in a history.
+fn last_own(board: &Board, core: u8) -> Option<u64>
+    ensures some { IfSome result (IsLastOf core board.now.history) }
+    ensures none { IfNone result (HasNoneFrom core board.now.history 0) }
+{
+    let history = board.history();
+    let mut place = history.len();
+    'steps: while place > 0 {
+        if is_own(history, place - 1, core) {
+            return Some((place - 1) as u64);
+        }
+        place -= 1;
+    }
+    None
+}
+
+// The board of the first so many steps.
+fn first(alloc: Global, board: &Board, count: u64) -> Result<Board, AllocError>
+    ensures first { IfOk result (IsFirst board.now count) }
+    ensures law { IfOk result (λ first. IsHistory first) }
+{
+    match first_steps(alloc, board, count) {
+        Ok(first) => {
+            first.is_run();
+            Ok(first)
+        }
+        // A board that was made has limits within their ranges, and its history cores of its program: what is refused
+        // is memory.
+        Err(_) => Err(AllocError),
+    }
+}
+
+// A watchpoint whose bytes are others now.
+fn watch_or_step(changed: Option<u32>) -> Stop
+    ensures { result ≡ watch_or_step changed }
+{
+    match changed {
+        Some(address) => Stop::Watch(address),
+        None => Stop::Stepped,
+    }
+}
+
+// What ends a run back.
+fn watch_or_break(changed: Option<u32>, stands: bool) -> Option<Stop>
+    ensures { result ≡ told_back changed stands }
+{
+    match changed {
+        Some(address) => Some(Stop::Watch(address)),
+        None => if stands { Some(Stop::Break) } else { None },
+    }
+}
+
+// Who is excused where a run back ends.
+fn excused_at(core: u8, stop: Stop) -> Option<u8>
+    ensures { result ≡ excused_at core stop }
+{
+    match stop {
+        Stop::Break => Some(core),
+        Stop::Stepped | Stop::End | Stop::Begin | Stop::Watch(_) | Stop::Halted(_) => None,
+    }
+}
+
+// Makes the step of a history that is behind the steps of a board, whose own are the first of it.
+fn make_again(whole: &Board, board: &mut Board, pick: Pick, made: u64)
+    requires exists { pick.core < length whole.now.program.entries }
+    requires within { made < length whole.now.history }
+    requires pick { slice_get (picks_of whole.now.history) made ≡ Some pick }
+    requires law { IsHistory whole.now }
+    requires before { IsHistory board.old }
+    requires so_far { IsFirst whole.now made board.old }
+    ensures { IsAgain whole.now made pick.core board.old board.new }
+{
+    let _room = whole.made();
+    make(board, pick);
 }
 
 impl Target {
-    // The core that made the last step, and the selected one before the first.
-    fn last_core(&self) -> u8 {
-        let history = self.board.history();
-        if history.is_empty() {
-            return self.selected;
-        }
-        match history.get(history.len() - 1) {
-            Some((core, _outcome)) => core,
-            None => self.selected,
-        }
+    // Stands on the board before the last step of a core.
+    fn stand_before(&mut self, board: Board, core: u8, place: u64)
+        requires exists { core < length self.old.board.program.entries }
+        requires last { IsLastOf core self.old.board.history place }
+        requires first { IsFirst self.old.board place board }
+        requires law { IsHistory board }
+        ensures back { TakesStepBack core (value_of self.old) place (value_of self.new) }
+        ensures same { SameBoard self.old.board self.new.board }
+    {
+        let _cores = core_count(&self.board);
+        let sights = self.points.sights(self.board.machine(), core);
+        self.board = board;
+        let _cores = core_count(&self.board);
+        let changed = first_changed(sights.as_slice(), self.board.machine(), core);
+        self.selected = core;
+        self.excused = None;
+        self.stop = watch_or_step(changed);
     }
 
-    /// Takes the last step back, of whatever core.
-    pub fn step_back(&mut self, alloc: Global) -> Result<Stop, BackFault>
-        ensures ok { OnOk result (IsFirst self.old.board (length self.old.board.history - 1) self.new.board) }
-        ensures err { OnErr result (self.new.board ≡ self.old.board) }
-        ensures points { self.new.points ≡ self.old.points }
+    // Takes steps back up to the last one of a core.
+    fn take_back(&mut self, alloc: Global, core: u8, place: u64) -> Result<(), AllocError>
+        requires exists { core < length self.old.board.program.entries }
+        requires last { IsLastOf core self.old.board.history place }
+        ensures ok { OnOk result (TakesStepBack core (value_of self.old) place (value_of self.new)) }
+        ensures err { OnErr result (value_of self.new ≡ value_of self.old) }
+        ensures same { SameBoard self.old.board self.new.board }
     {
-        let core = self.last_core();
-        let made = self.board.made();
-        match first_steps(alloc, &self.board, made.saturating_sub(1)) {
+        match first(alloc, &self.board, place) {
             Ok(board) => {
-                self.board = board;
-                self.selected = core;
-                Ok(if made == 0 {
-                    Stop::Begin
-                } else {
-                    Stop::Stepped
-                })
+                self.stand_before(board, core, place);
+                Ok(())
             }
             Err(fault) => Err(fault),
         }
     }
 
-    // Makes the next step of the history once more. Why a run back ends before it, if it does.
-    fn again(&self, board: &mut Board, made: u64) -> Option<Place> {
-        let (core, _outcome) = self.board.history().get(made as usize)?;
-        let stops = self.points.stop(board.machine(), core);
-        let before = self.points.watched(board.machine(), core);
-        let _ = board.step(core);
-        let after = self.points.watched(board.machine(), core);
-        match changed(&before, &after) {
-            Some(index) => Some(Place {
-                made,
-                core,
-                stop: Stop::Watch(self.points.watch_address(index)),
-            }),
+    /// Takes steps back until one of the core of moves is gone, and none where it has made none.
+    pub fn step_back(&mut self, alloc: Global) -> Result<(), AllocError>
+        ensures ok { OnOk result (StepsBack (moved_core (value_of self.old)) (value_of self.old) (value_of self.new)) }
+        ensures err { OnErr result (value_of self.new ≡ value_of self.old) }
+        ensures same { SameBoard self.old.board self.new.board }
+    {
+        let core = self.moved_core();
+        match last_own(&self.board, core) {
+            Some(place) => self.take_back(alloc, core, place),
             None => {
-                if stops {
-                    Some(Place {
-                        made,
-                        core,
-                        stop: Stop::Break,
-                    })
-                } else {
-                    None
-                }
+                self.selected = core;
+                self.excused = None;
+                self.stop = Stop::Begin;
+                Ok(())
             }
+        }
+    }
+
+    // What ends a run back at the step of a core, which is made once more.
+    fn told_again(&self, board: &mut Board, pick: Pick, made: u64) -> Option<Stop>
+        requires exists { pick.core < length self.now.board.program.entries }
+        requires within { made < length self.now.board.history }
+        requires pick { slice_get (picks_of self.now.board.history) made ≡ Some pick }
+        requires law { IsHistory self.now.board }
+        requires before { IsHistory board.old }
+        requires so_far { IsFirst self.now.board made board.old }
+        ensures again { IsAgain self.now.board made pick.core board.old board.new }
+        ensures told { result ≡ back_told (value_of self.now) pick.core board.old board.new }
+    {
+        let _cores = core_count(board);
+        let stands = self.points.stands(board.machine(), pick.core);
+        let sights = self.points.sights(board.machine(), pick.core);
+        make_again(&self.board, board, pick, made);
+        let _cores = core_count(board);
+        let changed = first_changed(sights.as_slice(), board.machine(), pick.core);
+        watch_or_break(changed, stands)
+    }
+
+    // Where a run back ends behind one step more, which is made once more.
+    fn again(&self, board: &mut Board, made: u64, place: Place) -> Result<Place, AllocError>
+        requires within { made < length self.now.board.history }
+        requires law { IsHistory self.now.board }
+        requires before { IsHistory board.old }
+        requires so_far { IsFirst self.now.board made board.old }
+        requires ends { EndsBack (value_of self.now) made place }
+        ensures ends { IfOk result (EndsBack (value_of self.now) (made + 1)) }
+        ensures first { OnOk result (IsFirst self.now.board (made + 1) board.new) }
+        ensures law { OnOk result (IsHistory board.new) }
+    {
+        let Some(pick) = self.board.history().pick_at(made as usize) else {
+            unreachable!()
+        };
+        if pick.core >= core_count(&self.board) {
+            return Err(AllocError);
+        }
+        match self.told_again(board, pick, made) {
+            Some(stop) => Ok(Place {
+                made,
+                core: pick.core,
+                stop,
+            }),
+            None => Ok(place),
         }
     }
 
     // Where a run back ends: before the latest step that a point stops, or at the first.
-    fn last_place(&self, alloc: Global) -> Result<Place, BackFault> {
-        let mut board = first_steps(alloc, &self.board, 0)?;
+    fn last_place(&self, alloc: Global) -> Result<Place, AllocError>
+        ensures { IfOk result (EndsBack (value_of self.now) (length self.now.board.history)) }
+    {
+        self.board.is_run();
+        let mut board = first(alloc, &self.board, 0)?;
         let mut place = Place {
             made: 0,
-            core: 0,
+            core: self.moved_core(),
             stop: Stop::Begin,
         };
-        for made in 0..self.board.made() {
-            if let Some(later) = self.again(&mut board, made) {
-                place = later;
-            }
+        'steps: for made in 0..self.board.made() {
+            place = self.again(&mut board, made, place)?;
         }
         Ok(place)
     }
 
-    /// Takes steps back, to before the latest one whose core was at a breakpoint or saw a watchpoint change, and
-    /// all where there is none.
-    pub fn go_back(&mut self, alloc: Global) -> Result<Stop, BackFault>
-        ensures ok { OnOk result ((count : ℕ) × IsFirst self.old.board count self.new.board) }
-        ensures err { OnErr result (self.new.board ≡ self.old.board) }
-        ensures points { self.new.points ≡ self.old.points }
+    /// Takes steps back, the newest first, up to the first whose core stands at a breakpoint then or sees other bytes
+    /// at a watchpoint, and all where there is none.
+    pub fn go_back(&mut self, alloc: Global) -> Result<(), AllocError>
+        ensures ok { OnOk result (RunsBack (value_of self.old) (value_of self.new)) }
+        ensures err { OnErr result (value_of self.new ≡ value_of self.old) }
+        ensures same { SameBoard self.old.board self.new.board }
     {
         let place = match self.last_place(alloc) {
             Ok(place) => place,
             Err(fault) => return Err(fault),
         };
-        match first_steps(alloc, &self.board, place.made) {
+        match first(alloc, &self.board, place.made) {
             Ok(board) => {
                 self.board = board;
                 self.selected = place.core;
-                Ok(place.stop)
+                self.excused = excused_at(place.core, place.stop);
+                self.stop = place.stop;
+                Ok(())
             }
             Err(fault) => Err(fault),
         }

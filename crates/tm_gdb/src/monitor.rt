@@ -9,22 +9,52 @@ use ia_text::{Out, WriteFault};
 use itoa::Buffer;
 use std::alloc::{AllocError, Global};
 use tm_debug::{Kind, Machine, write_outcome};
+use tm_model::Interference;
 
-/// The text of a command of `monitor`, which ends where 8000 bytes are full. `AllocError`, where there was no memory for
-/// the lines of a set, or to make the history once more.
+/// The text of a command of `monitor`, which ends where 8000 bytes are full. `AllocError`, where there was no memory
+/// for the lines of a set, or to make the history once more.
 pub fn monitor_text(alloc: Global, target: &Target, asked: Monitor) -> Result<Text, AllocError> {
     let mut text = Text::new();
     match asked {
+        Monitor::Help => write_words(&mut text),
         Monitor::Why => write_reasons(alloc, &target.board, &mut text)?,
         Monitor::Sets => write_sets(alloc, target.board.machine(), &mut text)?,
         Monitor::History(count) => {
             let _ = write_history(target, count, &mut text);
         }
-        Monitor::Other => {
-            let _ = text.put(b"why, sets, history N\n");
+        Monitor::Event(by) => {
+            let _ = write_event(by, &mut text);
         }
+        Monitor::Other => write_words(&mut text),
     }
     Ok(text)
+}
+
+// The words that there are, one a line.
+fn write_words(text: &mut Text) {
+    let _ = text.put(
+        b"help             these lines\n\
+why              why the next step of a core is an abort, where it is one\n\
+sets             the lines that each core has read and written in its transaction\n\
+history N        the last N steps, 10 where N is left out\n\
+event KIND       the next step comes under an interrupt, an eviction or a snoop\n",
+    );
+}
+
+// The event that the next step comes under.
+fn write_event<O: Out>(by: Interference, out: &mut O) -> Result<(), WriteFault> {
+    out.put(b"the next step comes under: ")?;
+    out.put(event_name(by))?;
+    out.put(b"\n")?;
+    Ok(())
+}
+
+fn event_name(by: Interference) -> &'static [u8] {
+    match by {
+        Interference::Interrupt => b"interrupt",
+        Interference::Eviction => b"eviction",
+        Interference::Snoop => b"snoop",
+    }
 }
 
 // The lines of the sets of each core, by their addresses.

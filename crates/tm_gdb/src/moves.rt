@@ -1,144 +1,191 @@
-//! Moves forward.
+//! Steps of one core, and what `vCont`, `s` and `c` do.
 
-ghost use Rattle.std.specs.Prelude.{◌≡◌, ◌<◌, ◌⊎◌, [], IfSome, Some, length};
-ghost use Rattle.tm_debug.specs.TmHist.Board.{IsFull, SameBoard};
-ghost use Rattle.tm_gdb.specs.Moves.{GoesOn, IsOneMore, IsTurn, known_core, planned};
+ghost use Rattle.std.specs.Prelude.{◌≡◌, ◌↔◌, ◌++◌, ◌∷◌, [], ◌<◌, ◌≤◌, Err, IfOk, IfSome, OnErr, Some, length, true};
+ghost use Rattle.tm_hist.specs.Board.{IsFull, IsOwedNext, SameBoard};
+ghost use Rattle.tm_gdb.specs.Moves.{Continues, IsOneMore, IsStep, IsStepAlone, Resumes, StepsAlone, can_step};
+ghost use Rattle.tm_gdb.specs.Moves.{continues_by};
+ghost use Rattle.tm_gdb.specs.Moves.{excused_behind, goers_of, selected_goers, stepping_core, told_by};
+ghost use Rattle.tm_gdb.specs.Values.{cores_of, moved_core, value_of};
 
-use crate::points::changed;
-use crate::stop::Stop;
+use crate::points::first_changed;
+use crate::stop::{Stop, stop_of};
 use crate::target::Target;
-use tm_debug::StepFault;
+use crate::turns::{Goers, core_count, goers_of, is_stopped, stepping_from, steps};
+use gdb_command::Actions;
+use tm_debug::{Board, StepFault};
+use tm_model::{Outcome, Pick};
+
+// The step that a pick tells of.
+fn step_by(board: &mut Board, pick: Pick) -> Result<Outcome, StepFault>
+    ensures none { result ≡ Err StepFault.NoSuchCore ↔ (length board.old.program.entries ≤ pick.core) }
+    ensures full { result ≡ Err StepFault.LimitReached
+        ↔ ((pick.core < length board.old.program.entries) × IsFull board.old) }
+    ensures same { SameBoard board.old board.new }
+    ensures ok { IfOk result (λ outcome. board.new.history ≡ board.old.history ++ (pick.core, outcome) ∷ []) }
+    ensures owed { IfOk result (λ outcome. IsOwedNext pick.event board.old pick.core outcome) }
+    ensures err { OnErr result (board.new ≡ board.old) }
+{
+    match pick.event {
+        Some(event) => board.step_under(pick.core, event),
+        None => board.step(pick.core),
+    }
+}
+
+/// The step that a pick tells of, of a core that there is and for which there is room.
+pub fn make(board: &mut Board, pick: Pick) -> Outcome
+    requires exists { pick.core < length board.old.program.entries }
+    requires room { IsFull board.old → ⊥ }
+    ensures { IsOneMore pick.event board.old pick.core result board.new }
+{
+    match step_by(board, pick) {
+        Ok(outcome) => {
+            board.is_run();
+            outcome
+        }
+        Err(StepFault::NoSuchCore) => unreachable!(),
+        Err(StepFault::LimitReached) => unreachable!(),
+    }
+}
+
+// Who is excused behind the step of a core.
+fn excused_behind(excused: Option<u8>, core: u8) -> Option<u8>
+    ensures { result ≡ excused_behind excused core }
+{
+    match excused {
+        Some(held) => if held == core { None } else { Some(held) },
+        None => None,
+    }
+}
+
+// What a step tells.
+fn told_by(changed: Option<u32>, outcome: Outcome) -> Option<Stop>
+    ensures { result ≡ told_by changed outcome }
+{
+    match changed {
+        Some(address) => Some(Stop::Watch(address)),
+        None => stop_of(outcome),
+    }
+}
 
 impl Target {
-    /// One step of a core, and none where the history is full.
-    pub fn step(&mut self, core: u8) -> Stop
-        requires { core < length self.old.board.program.entries }
-        ensures full { IsFull self.old.board → self.new.board ≡ self.old.board }
-        ensures made { (IsFull self.old.board → ⊥) → IsOneMore self.old.board self.new.board core }
-        ensures either { (self.new.board ≡ self.old.board) ⊎ IsOneMore self.old.board self.new.board core }
-        ensures same { SameBoard self.old.board self.new.board }
-        ensures plan { self.new.plan ≡ self.old.plan }
-        ensures points { self.new.points ≡ self.old.points }
+    /// One step of a pick's core, and what it tells.
+    pub fn advance(&mut self, pick: Pick) -> Option<Stop>
+        requires exists { pick.core < length self.old.board.program.entries }
+        requires room { IsFull self.old.board → ⊥ }
+        ensures { IsStep (value_of self.old) pick result (value_of self.new) }
     {
-        self.selected = core;
-        let stood = self.board.is_stopped(core);
-        match self.board.step(core) {
-            Ok(_outcome) => { if stood { Stop::End } else { Stop::Stepped } }
-            Err(StepFault::LimitReached) => Stop::End,
-            Err(StepFault::NoSuchCore) => unreachable!(),
-        }
-    }
-
-    // The number behind that of the core that was stepped last.
-    fn turn(&self) -> u16
-        ensures { result < 257 }
-    {
-        let history = self.board.history();
-        if history.is_empty() {
-            return 0;
-        }
-        match history.get(history.len() - 1) {
-            Some((core, _outcome)) => u16::from(core) + 1,
-            None => 0,
-        }
-    }
-
-    // The core whose turn it is: the next that has not stopped.
-    fn next_in_turn(&self) -> Option<u8>
-        ensures { IfSome result (λ core. core < length self.now.board.program.entries) }
-    {
-        let cores = u16::from(self.board.cores());
-        let turn = self.turn();
-        for offset in 0..cores {
-            let core = ((turn + offset) % cores) as u8;
-            if !self.board.is_stopped(core) {
-                return Some(core);
-            }
-        }
-        None
-    }
-
-    // The core that the plan has behind the steps that are made.
-    fn next_of_plan(&self) -> Option<u8>
-        ensures exists { IfSome result (λ core. core < length self.now.board.program.entries) }
-        ensures planned { result ≡ planned self.now.plan.items self.now.board }
-    {
-        match self.plan.get(self.board.made() as usize) {
-            Some(core) => self.known(*core),
-            None => None,
-        }
-    }
-
-    // This core, where the board has it.
-    fn known(&self, core: u8) -> Option<u8>
-        ensures exists { IfSome result (λ core. core < length self.now.board.program.entries) }
-        ensures known { result ≡ known_core self.now.board (Some core) }
-    {
-        if core < self.board.cores() {
-            Some(core)
-        } else {
-            None
-        }
-    }
-
-    // The core of the next step of a continued run.
-    fn next_core(&self) -> Option<u8>
-        ensures exists { IfSome result (λ core. core < length self.now.board.program.entries) }
-        ensures turn { IfSome result (λ core. IsTurn self.now.plan.items self.now.board core) }
-    {
-        if self.plan.is_empty() {
-            self.next_in_turn()
-        } else {
-            self.next_of_plan()
-        }
-    }
-
-    // One step of a continued run, or why it ends.
-    fn go_step(&mut self, first: bool) -> Option<Stop>
-        ensures goes { GoesOn self.old.plan.items self.old.board self.new.board }
-        ensures plan { self.new.plan ≡ self.old.plan }
-        ensures points { self.new.points ≡ self.old.points }
-    {
-        let Some(core) = self.next_core() else {
-            return Some(Stop::End);
+        let _cores = core_count(&self.board);
+        let sights = self.points.sights(self.board.machine(), pick.core);
+        let under = Pick {
+            core: pick.core,
+            event: self.event.or(pick.event),
         };
-        if !first && self.points.stop(self.board.machine(), core) {
-            self.selected = core;
-            return Some(Stop::Break);
-        }
-        let before = self.points.watched(self.board.machine(), core);
-        let stop = self.take_turn(core);
-        let after = self.points.watched(self.board.machine(), core);
-        match (changed(&before, &after), stop) {
-            (Some(index), _) => Some(Stop::Watch(self.points.watch_address(index))),
-            (None, Stop::Stepped) => None,
-            (None, stop) => Some(stop),
-        }
+        let outcome = make(&mut self.board, under);
+        self.selected = pick.core;
+        self.excused = excused_behind(self.excused, pick.core);
+        self.event = None;
+        let _cores = core_count(&self.board);
+        let changed = first_changed(sights.as_slice(), self.board.machine(), pick.core);
+        told_by(changed, outcome)
     }
 
-    // The step of a core whose turn it is.
-    fn take_turn(&mut self, core: u8) -> Stop
+    // Whether a core can step: it has not stopped, and there is room for its step.
+    fn can_step(&self, core: u8) -> bool
+        requires { core < length self.now.board.machine.views }
+        ensures can { result ≡ can_step self.now.board core }
+    {
+        self.board.made() != self.board.limit() && !is_stopped(&self.board, core)
+    }
+
+    // One step of a core that can step.
+    fn step_once(&mut self, core: u8)
         requires exists { core < length self.old.board.program.entries }
-        requires turn { IsTurn self.old.plan.items self.old.board core }
-        ensures goes { GoesOn self.old.plan.items self.old.board self.new.board }
-        ensures plan { self.new.plan ≡ self.old.plan }
-        ensures points { self.new.points ≡ self.old.points }
+        requires can { can_step self.old.board core ≡ true }
+        ensures step { IsStepAlone core (value_of self.old) (value_of self.new) }
+        ensures same { SameBoard self.old.board self.new.board }
     {
-        self.step(core)
+        let told = self.advance(Pick { core, event: None });
+        self.excused = None;
+        self.stop = told.unwrap_or(Stop::Stepped);
     }
 
-    /// Steps along the plan, and of the cores in turn where there is none, until one is at a breakpoint, what it sees at a
-    /// watchpoint changes, the plan has ended or all cores have stopped, or the history is full. The first step is made also at a
-    /// breakpoint.
-    pub fn go_on(&mut self) -> Stop
-        ensures goes { GoesOn self.old.plan.items self.old.board self.new.board }
-        ensures points { self.new.points ≡ self.old.points }
+    /// One step of a core, and none where it has stopped or the history is full.
+    pub fn step_alone(&mut self, core: u8)
+        requires exists { core < length self.old.board.program.entries }
+        ensures step { StepsAlone core (value_of self.old) (value_of self.new) }
+        ensures same { SameBoard self.old.board self.new.board }
     {
-        'steps: for made in 0..self.board.limit() {
-            if let Some(stop) = self.go_step(made == 0) {
-                return stop;
-            }
+        let _cores = core_count(&self.board);
+        if self.can_step(core) {
+            self.step_once(core);
+        } else {
+            self.selected = core;
+            self.stop = Stop::End;
         }
-        Stop::End
+    }
+
+    // The core that is to step, if one is.
+    fn stepping_core(&self, actions: &Actions) -> Option<u8>
+        ensures core { result ≡ stepping_core actions.now (value_of self.now) }
+        ensures exists { IfSome result (λ core. core < length self.now.board.program.entries) }
+    {
+        let own = self.moved_core();
+        if steps(actions, own) {
+            Some(own)
+        } else {
+            stepping_from(actions, 0, core_count(&self.board))
+        }
+    }
+
+    // The cores that are to go on do.
+    fn continue_those(&mut self, actions: &Actions)
+        ensures run { continues_by (goers_of actions.now (cores_of (value_of self.old))) (value_of self.old)
+            (value_of self.new) }
+        ensures same { SameBoard self.old.board self.new.board }
+    {
+        match goers_of(actions, core_count(&self.board)) {
+            Some(goers) => self.go_on(&goers),
+            None => {}
+        }
+    }
+
+    /// What each thread is told to do: one core steps, if one is to, else those go on that are to.
+    pub fn resume(&mut self, actions: &Actions)
+        ensures moves { Resumes actions.now (value_of self.old) (value_of self.new) }
+        ensures same { SameBoard self.old.board self.new.board }
+    {
+        match self.stepping_core(actions) {
+            Some(core) => self.step_alone(core),
+            None => self.continue_those(actions),
+        }
+    }
+
+    // The cores that `c` lets go on.
+    fn selected_goers(&self) -> Goers
+        ensures { result ≡ selected_goers self.now.for_moves (value_of self.now) }
+    {
+        match self.for_moves {
+            Some(_) => Goers::One(self.moved_core()),
+            None => Goers::All,
+        }
+    }
+
+    /// All cores go on, or the one that was chosen for moves: `c`.
+    pub fn continue_selected(&mut self)
+        ensures moves { Continues (selected_goers self.old.for_moves (value_of self.old)) (value_of self.old)
+            (value_of self.new) }
+        ensures same { SameBoard self.old.board self.new.board }
+    {
+        let goers = self.selected_goers();
+        self.go_on(&goers);
+    }
+
+    /// One step of the core of moves: `s`.
+    pub fn step_selected(&mut self)
+        ensures moves { StepsAlone (moved_core (value_of self.old)) (value_of self.old) (value_of self.new) }
+        ensures same { SameBoard self.old.board self.new.board }
+    {
+        let core = self.moved_core();
+        self.step_alone(core);
     }
 }

@@ -1,12 +1,20 @@
 //! A session: bytes are read, and the packets among them answered.
 
-ghost use Rattle.std.specs.Prelude.{◌≡◌, ◌∷◌, ℕ, List, Err, IfErr, IfOk, OnErr, OnOk, []};
+ghost use Rattle.std.specs.Prelude.{◌≡◌, ◌∷◌, ◌++◌, ℕ, Bool, List, Err, IfErr, IfOk, IfSome, None, OnErr, OnOk, Some};
+ghost use Rattle.std.specs.Prelude.{[], not};
+ghost use Rattle.std.specs.Prelude.{false, option_to_list, true};
+ghost use Rattle.std.specs.Io.KnownBytes.{Keeps};
 ghost use Rattle.gdb_packet.specs.Packet.{framed};
+ghost use Rattle.gdb_packet.specs.Reading.{Hears, IsBehind};
 ghost use Rattle.ia_text.specs.Writing.{Rose, Wrote};
-ghost use Rattle.tm_debug.specs.TmHist.Board.{SameBoard};
+ghost use Rattle.tm_hist.specs.Board.{SameBoard};
 ghost use Rattle.tm_debug.specs.Faults.{session_board, session_code};
 ghost use Rattle.tm_gdb.specs.Answers.{Answers};
-ghost use Rattle.tm_gdb.specs.Sessions.{IsAnswered, IsHeard, acknowledgement, reply_text};
+ghost use Rattle.tm_gdb.specs.Serving.{FailsToRead, ServesInput, start};
+ghost use Rattle.tm_gdb.specs.Sessions.{IsAnswered, IsDone, acknowledgement, acknowledges_behind, again_text, is_end};
+ghost use Rattle.tm_gdb.specs.Sessions.{reply_text};
+ghost use Rattle.tm_gdb.specs.States.{IsHeard, session_value};
+ghost use Rattle.tm_gdb.specs.Values.{picks_in, start_with, value_of};
 
 use crate::answer::carry_out;
 use crate::target::Target;
@@ -16,6 +24,7 @@ use ia_text::{Failed, Out};
 use std::alloc::Global;
 use std::sync::Wait;
 use tm_debug::{Board, In, SessionFault};
+use tm_model::Pick;
 
 /// What ends a session before its input or gdb does.
 #[derive(Clone, Copy, PartialEq, Eq, Debug)]
@@ -42,7 +51,6 @@ pub struct Session {
 // Writes bytes.
 fn put<O: Out>(bytes: &[u8], out: &mut O) -> Result<(), Interruption>
     ensures wrote { OnOk result (Wrote (O.device out.old) (O.device out.new) bytes.now) }
-    ensures kept { OnOk result ((O.device out.new).failures ≡ (O.device out.old).failures) }
     ensures err { IfErr result (λ fault. fault ≡ Interruption.Write) }
     ensures rose { OnErr result (Rose (O.device out.old).failures (O.device out.new).failures) }
 {
@@ -65,8 +73,9 @@ fn put_packet<O: Out>(bytes: &Bytes, out: &mut O) -> Result<(), Interruption>
 }
 
 // Writes the answer to a command. `k` wants none: gdb goes without a word.
-fn put_reply<O: Out>(command: Command, answer: &Bytes, out: &mut O) -> Result<(), Interruption>
-    ensures wrote { OnOk result (Wrote (O.device out.old) (O.device out.new) (reply_text command answer.now.items)) }
+fn put_reply<O: Out>(command: &Command, answer: &Bytes, out: &mut O) -> Result<(), Interruption>
+    ensures wrote { OnOk result (Wrote (O.device out.old) (O.device out.new)
+        (reply_text command.now answer.now.items)) }
     ensures err { IfErr result (λ fault. fault ≡ Interruption.Write) }
     ensures rose { OnErr result (Rose (O.device out.old).failures (O.device out.new).failures) }
 {
@@ -78,8 +87,11 @@ fn put_reply<O: Out>(command: Command, answer: &Bytes, out: &mut O) -> Result<()
 
 // The next byte, or nothing at the end.
 fn next_byte<I: In>(input: &mut I) -> Result<Option<u8>, Interruption>
+    ensures byte { IfOk result (λ byte. (bytes : List ℕ) → I.remaining input.old ≡ Some bytes → (rest : List ℕ)
+        × (I.remaining input.new ≡ Some rest) × (bytes ≡ option_to_list byte ++ rest) × (byte ≡ None → rest ≡ [])) }
     ensures kept { OnOk result (I.failed input.new ≡ I.failed input.old) }
     ensures err { IfErr result (λ fault. fault ≡ Interruption.Read) }
+    ensures stays { OnErr result (Keeps (I.remaining input.old) (I.remaining input.new)) }
     ensures rose { OnErr result (Rose (I.failed input.old) (I.failed input.new)) }
 {
     let mut byte = [0];
@@ -90,7 +102,9 @@ fn next_byte<I: In>(input: &mut I) -> Result<Option<u8>, Interruption>
 }
 
 // Whether a command ends the session.
-fn ends(command: Command) -> bool {
+fn is_end(command: &Command) -> bool
+    ensures { result ≡ is_end command.now }
+{
     match command {
         Command::Ask(Question::Detach)
         | Command::Ask(Question::Kill)
@@ -99,9 +113,20 @@ fn ends(command: Command) -> bool {
     }
 }
 
+// Whether packets are acknowledged behind a command.
+fn acknowledges_behind(command: &Command, wanted: bool) -> bool
+    ensures { result ≡ acknowledges_behind command.now wanted }
+{
+    match command {
+        Command::Ask(Question::NoAcknowledgements) => false,
+        _ => wanted,
+    }
+}
+
 impl Session {
-    fn new(board: Board, plan: Vec<u8>) -> Session
-        ensures { result.target.board ≡ board }
+    fn new(board: Board, plan: Option<Vec<Pick>>) -> Session
+        ensures value { session_value result ≡ start board (picks_in plan) }
+        ensures reader { IsBehind [] result.reader }
     {
         Session {
             target: Target::new(board, plan),
@@ -115,19 +140,19 @@ impl Session {
     fn reply<O: Out>(
         &mut self,
         alloc: Global,
-        command: Command,
+        command: &Command,
         out: &mut O,
     ) -> Result<(), Interruption>
-        ensures ok { OnOk result ((text : List ℕ)
-            × Answers command self.old.target self.new.target.board text
-            × Wrote (O.device out.old) (O.device out.new) (reply_text command text)) }
+        ensures ok { OnOk result ((answer : List ℕ)
+            × Answers command.now (value_of self.old.target) answer (value_of self.new.target)
+            × ((session_value self.new).last ≡ Some answer)
+            × Wrote (O.device out.old) (O.device out.new) (reply_text command.now answer)) }
         ensures reader { self.new.reader ≡ self.old.reader }
+        ensures acknowledges { self.new.acknowledges ≡ self.old.acknowledges }
         ensures same { SameBoard self.old.target.board self.new.target.board }
         ensures read { result ≡ Err Interruption.Read → ⊥ }
         ensures rose { result ≡ Err Interruption.Write
             → Rose (O.device out.old).failures (O.device out.new).failures }
-        ensures memory { result ≡ Err Interruption.NoMemory
-            → (self.new.target.board ≡ self.old.target.board) × (O.device out.new ≡ O.device out.old) }
     {
         let mut row = Bytes::new();
         match carry_out(alloc, &mut self.target, command, &mut row) {
@@ -146,29 +171,26 @@ impl Session {
         packet: &[u8],
         out: &mut O,
     ) -> Result<bool, Interruption>
-        ensures answered { OnOk result (IsAnswered packet.now self.old.acknowledges self.old.target self.new.target.board
-            (O.device out.old) (O.device out.new)) }
+        ensures done { IfOk result (λ goes_on. (text : List ℕ)
+            × IsAnswered packet.now (session_value self.old) text (session_value self.new) goes_on
+            × Wrote (O.device out.old) (O.device out.new) text) }
         ensures reader { self.new.reader ≡ self.old.reader }
         ensures same { SameBoard self.old.target.board self.new.target.board }
-        ensures kept { OnOk result ((O.device out.new).failures ≡ (O.device out.old).failures) }
         ensures read { result ≡ Err Interruption.Read → ⊥ }
         ensures rose { result ≡ Err Interruption.Write
             → Rose (O.device out.old).failures (O.device out.new).failures }
     {
         let command = read_command(packet);
         self.acknowledge(out)?;
-        self.reply(alloc, command, out)?;
-        if command == Command::Ask(Question::NoAcknowledgements) {
-            self.acknowledges = false;
-        }
-        Ok(!ends(command))
+        self.reply(alloc, &command, out)?;
+        self.acknowledges = acknowledges_behind(&command, self.acknowledges);
+        Ok(!is_end(&command))
     }
 
     // Tells gdb that a packet was received, where it wants to know.
     fn acknowledge<O: Out>(&self, out: &mut O) -> Result<(), Interruption>
         ensures wrote { OnOk result (Wrote (O.device out.old) (O.device out.new)
             (acknowledgement self.now.acknowledges)) }
-        ensures kept { OnOk result ((O.device out.new).failures ≡ (O.device out.old).failures) }
         ensures err { IfErr result (λ fault. fault ≡ Interruption.Write) }
         ensures rose { OnErr result (Rose (O.device out.old).failures (O.device out.new).failures) }
     {
@@ -179,18 +201,34 @@ impl Session {
         }
     }
 
-    // Hears a byte, and tells whether the session goes on. A packet that was damaged or is too long is refused by a `-`.
-    // The target stands whenever a byte is heard, so that an interrupt stops nothing.
-    fn hear<O: Out>(&mut self, alloc: Global, byte: u8, out: &mut O) -> Result<bool, Interruption>
-        ensures heard { OnOk result (IsHeard byte self.old.reader self.new.reader self.old.acknowledges self.old.target
-            self.new.target.board (O.device out.old) (O.device out.new)) }
+    // Hears a byte.
+    fn hear_byte(&mut self, byte: u8) -> Heard
+        ensures hears { (since : List ℕ) → IsBehind since self.old.reader
+            → Hears (since ++ byte ∷ []) result self.new.reader }
+        ensures value { session_value self.new ≡ session_value self.old }
+    {
+        self.reader.hear(byte)
+    }
+
+    // Does what is to be done of what was heard, and tells whether the session goes on. A packet that was damaged or
+    // is too long is refused by a `-`. The target stands whenever a byte is heard, so that an interrupt stops
+    // nothing.
+    fn act<O: Out>(
+        &mut self,
+        alloc: Global,
+        heard: &Heard,
+        out: &mut O,
+    ) -> Result<bool, Interruption>
+        ensures done { IfOk result (λ goes_on. (text : List ℕ)
+            × IsDone heard.now (session_value self.old) text (session_value self.new) goes_on
+            × Wrote (O.device out.old) (O.device out.new) text) }
+        ensures reader { self.new.reader ≡ self.old.reader }
         ensures same { SameBoard self.old.target.board self.new.target.board }
-        ensures kept { OnOk result ((O.device out.new).failures ≡ (O.device out.old).failures) }
         ensures read { result ≡ Err Interruption.Read → ⊥ }
         ensures rose { result ≡ Err Interruption.Write
             → Rose (O.device out.old).failures (O.device out.new).failures }
     {
-        match self.reader.hear(byte) {
+        match heard {
             Heard::Packet(bytes) => self.respond(alloc, bytes.as_slice(), out),
             Heard::Damaged => refuse(out),
             Heard::TooLong => refuse(out),
@@ -202,9 +240,24 @@ impl Session {
         }
     }
 
+    // Hears a byte and does what is to be done of what it completes.
+    fn hear<O: Out>(&mut self, alloc: Global, byte: u8, out: &mut O) -> Result<bool, Interruption>
+        ensures heard { IfOk result (λ goes_on. IsHeard byte self.old.reader self.new.reader (session_value self.old)
+            (session_value self.new) goes_on (O.device out.old) (O.device out.new)) }
+        ensures same { SameBoard self.old.target.board self.new.target.board }
+        ensures read { result ≡ Err Interruption.Read → ⊥ }
+        ensures rose { result ≡ Err Interruption.Write
+            → Rose (O.device out.old).failures (O.device out.new).failures }
+    {
+        let heard = self.hear_byte(byte);
+        self.act(alloc, &heard, out)
+    }
+
     // Writes the last answer once more, if there was one.
     fn resend<O: Out>(&self, out: &mut O) -> Result<bool, Interruption>
-        ensures kept { OnOk result ((O.device out.new).failures ≡ (O.device out.old).failures) }
+        ensures wrote { OnOk result (Wrote (O.device out.old) (O.device out.new)
+            (again_text (session_value self.now).last)) }
+        ensures on { IfOk result (λ goes_on. goes_on ≡ true) }
         ensures err { IfErr result (λ fault. fault ≡ Interruption.Write) }
         ensures rose { OnErr result (Rose (O.device out.old).failures (O.device out.new).failures) }
     {
@@ -221,7 +274,7 @@ impl Session {
 // Tells gdb to send its packet once more.
 fn refuse<O: Out>(out: &mut O) -> Result<bool, Interruption>
     ensures wrote { OnOk result (Wrote (O.device out.old) (O.device out.new) (45 ∷ [])) }
-    ensures kept { OnOk result ((O.device out.new).failures ≡ (O.device out.old).failures) }
+    ensures on { IfOk result (λ goes_on. goes_on ≡ true) }
     ensures err { IfErr result (λ fault. fault ≡ Interruption.Write) }
     ensures rose { OnErr result (Rose (O.device out.old).failures (O.device out.new).failures) }
 {
@@ -239,8 +292,13 @@ fn serve_bytes<W: Wait, I: In, O: Out>(
     input: &mut I,
     out: &mut O,
 ) -> Result<(), Interruption>
+    requires { IsBehind [] session.old.reader }
+    ensures ok { OnOk result (ServesInput (I.remaining input.old) (I.remaining input.new) (session_value session.old)
+        (O.device out.old) (O.device out.new) session.new.target.board) }
     ensures same { SameBoard session.old.target.board session.new.target.board }
     ensures read { result ≡ Err Interruption.Read → Rose (I.failed input.old) (I.failed input.new) }
+    ensures read_packets { result ≡ Err Interruption.Read → FailsToRead (I.remaining input.old) (I.remaining input.new)
+        (session_value session.old) (O.device out.old) (O.device out.new) session.new.target.board }
     ensures write { result ≡ Err Interruption.Write
         → Rose (O.device out.old).failures (O.device out.new).failures }
 {
@@ -258,9 +316,9 @@ fn serve_bytes<W: Wait, I: In, O: Out>(
     unreachable!()
 }
 
-/// Answers the packets of an input with a board, up to gdb's `detach` or `kill` or the input's end, and gives the board
-/// back after the steps that were made. A continued run steps the cores of the plan, if that has steps, and else all in turn.
-/// Waits for its input only.
+/// Answers the packets of an input with a board, up to gdb's `detach` or `kill` or the input's end, and gives the
+/// board back after the steps that were made. A continued run of all cores goes along the schedule, each pick behind
+/// as many steps as stand before it; without one the cores go on in turn. Waits for its input only.
 ///
 /// A packet that was damaged or is too long is refused by a `-`, and other bytes between packets are not answered.
 /// [`SessionFault`] tells what ended the session before: a device that failed (76, 77), or want of memory for the board
@@ -269,13 +327,18 @@ pub fn serve<W: Wait, I: In, O: Out>(
     rt: &W,
     alloc: Global,
     board: Board,
-    plan: Vec<u8>,
+    plan: Option<Vec<Pick>>,
     input: &mut I,
     out: &mut O,
 ) -> Result<Board, SessionFault>
-    ensures ok { IfOk result (SameBoard board) }
+    ensures ok { IfOk result (ServesInput (I.remaining input.old) (I.remaining input.new) (start board (picks_in plan))
+        (O.device out.old) (O.device out.new)) }
+    ensures same { IfOk result (SameBoard board) }
     ensures fault { IfErr result (λ fault. SameBoard board (session_board fault)) }
     ensures read { IfErr result (λ fault. session_code fault ≡ 76 → Rose (I.failed input.old) (I.failed input.new)) }
+    ensures read_packets { IfErr result (λ fault. session_code fault ≡ 76
+        → FailsToRead (I.remaining input.old) (I.remaining input.new) (start board (picks_in plan)) (O.device out.old)
+        (O.device out.new) (session_board fault)) }
     ensures write { IfErr result (λ fault. session_code fault ≡ 77
         → Rose (O.device out.old).failures (O.device out.new).failures) }
 {

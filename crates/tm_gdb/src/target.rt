@@ -1,62 +1,90 @@
 //! A board that gdb looks at and moves.
 
 ghost use Rattle.std.specs.Prelude.{◌≡◌, ◌<◌, IfSome, length};
+ghost use Rattle.tm_gdb.specs.Values.{core_in, core_of, moved_core, picks_in, start_with, thread_core, value_of};
 
 use crate::points::Points;
 use crate::stop::Stop;
 use tm_debug::Board;
+use tm_model::{Event, Pick};
 
-/// A board, the cores that a continued run steps, the core that gdb selected, the points that it set, and why the board stands.
+/// A board, the schedule that it goes along, what gdb selected and set, and why it stands.
 #[derive(Drop)]
 pub struct Target {
     /// The board.
     pub board: Board,
-    /// The core of each step of the history as a continued run makes it. Without one the cores go on in turn.
-    pub plan: Vec<u8>,
-    /// The number of the core that was selected last.
+    /// The schedule that a continued run of all cores goes along, each pick behind as many steps as stand before it.
+    /// Without one the cores go on in turn.
+    pub plan: Option<Vec<Pick>>,
+    /// The core that questions are about.
     pub selected: u8,
-    /// The points.
+    /// The core that moves are of, where one was chosen for them.
+    pub for_moves: Option<u8>,
+    /// The breakpoints and watchpoints.
     pub points: Points,
+    /// The core that was last told as standing at a breakpoint, up to its next step.
+    pub excused: Option<u8>,
+    /// The event that the next step comes under.
+    pub event: Option<Event>,
     /// Why the board stands.
     pub stop: Stop,
 }
 
 impl Target {
-    ghost use Rattle.tm_gdb.specs.Answers.{core_of, thread_core};
-
-    /// A target whose first core is selected, without points. A continued run goes along the plan, if it has steps.
-    pub fn new(board: Board, plan: Vec<u8>) -> Target
-        ensures board { result.board ≡ board }
-        ensures plan { result.plan ≡ plan }
+    /// A target whose first core is selected, without points.
+    pub fn new(board: Board, plan: Option<Vec<Pick>>) -> Target
+        ensures { value_of result ≡ start_with board (picks_in plan) }
     {
         Target {
             board,
             plan,
             selected: 0,
+            for_moves: None,
             points: Points::new(),
+            excused: None,
+            event: None,
             stop: Stop::Stepped,
         }
     }
 
-    /// The selected core, which the board has.
-    pub fn core(&self) -> u8
-        ensures core { result ≡ core_of self.now }
+    // This core, and the first where the board has it not.
+    fn core_in(&self, core: u8) -> u8
+        ensures core { result ≡ core_in (value_of self.now) core }
         ensures views { result < length self.now.board.machine.views }
         ensures entries { result < length self.now.board.program.entries }
         ensures few { result < 64 }
     {
         // A machine has at least one core.
         let _some = self.board.machine().cores();
-        if self.selected < self.board.cores() {
-            self.selected
-        } else {
-            0
+        if core < self.board.cores() { core } else { 0 }
+    }
+
+    /// The core that questions are about, which the board has.
+    pub fn core(&self) -> u8
+        ensures core { result ≡ core_of (value_of self.now) }
+        ensures views { result < length self.now.board.machine.views }
+        ensures entries { result < length self.now.board.program.entries }
+        ensures few { result < 64 }
+    {
+        self.core_in(self.selected)
+    }
+
+    /// The core of moves: the one that was chosen for them, else the selected one.
+    pub fn moved_core(&self) -> u8
+        ensures core { result ≡ moved_core (value_of self.now) }
+        ensures views { result < length self.now.board.machine.views }
+        ensures entries { result < length self.now.board.program.entries }
+        ensures few { result < 64 }
+    {
+        match self.for_moves {
+            Some(core) => self.core_in(core),
+            None => self.core(),
         }
     }
 
     /// The core of a thread: 1 is the first core's, 0 the selected one's.
     pub fn thread_core(&self, thread: u32) -> Option<u8>
-        ensures core { result ≡ thread_core self.now thread }
+        ensures core { result ≡ thread_core (value_of self.now) thread }
         ensures exists { IfSome result (λ core. core < length self.now.board.program.entries) }
     {
         if thread == 0 {

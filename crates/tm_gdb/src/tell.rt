@@ -2,6 +2,7 @@
 
 ghost use Rattle.std.specs.Prelude.{◌≡◌, []};
 ghost use Rattle.tm_gdb.specs.Answers.{TellsMemory, TellsRegister, TellsRegisters};
+ghost use Rattle.tm_gdb.specs.Values.{value_of};
 
 use crate::target::Target;
 use gdb_command::Span;
@@ -15,7 +16,7 @@ use ia_text::page::push;
 /// All registers of the selected core: `g`.
 pub fn tell_registers(target: &Target, row: &mut Bytes)
     requires { row.old.items ≡ [] }
-    ensures { TellsRegisters target.now row.new.items }
+    ensures { TellsRegisters (value_of target.now) row.new.items }
 {
     push_registers(row, &CoreShown::of(&target.board, target.core()));
 }
@@ -23,7 +24,7 @@ pub fn tell_registers(target: &Target, row: &mut Bytes)
 /// One register of the selected core: `p`.
 pub fn tell_register(target: &Target, number: u32, row: &mut Bytes)
     requires { row.old.items ≡ [] }
-    ensures { TellsRegister target.now number row.new.items }
+    ensures { TellsRegister (value_of target.now) number row.new.items }
 {
     let shown = CoreShown::of(&target.board, target.core());
     if number < u32::from(REGISTERS) {
@@ -36,7 +37,7 @@ pub fn tell_register(target: &Target, number: u32, row: &mut Bytes)
 /// Memory as the selected core sees it: `m`.
 pub fn tell_memory(target: &Target, span: Span, row: &mut Bytes)
     requires { row.old.items ≡ [] }
-    ensures { TellsMemory target.now span.at span.count row.new.items }
+    ensures { TellsMemory (value_of target.now) span.at span.count row.new.items }
 {
     push_memory(
         row,

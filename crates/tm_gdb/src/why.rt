@@ -5,8 +5,8 @@ use itoa::Buffer;
 use std::alloc::{AllocError, Global};
 use tm_debug::{Board, reason_of, watched, write_reason};
 
-/// Writes of each core whose next step is an abort why it is one, which hit doomed its transaction, and when that began; steps are
-/// counted from 1. `AllocError`, where there was no memory to make the history once more.
+/// Writes of each core whose next step is an abort why it is one, which hit doomed its transaction, and when that
+/// began; steps are counted from 1. `AllocError`, where there was no memory to make the history once more.
 pub fn write_reasons<O: Out>(alloc: Global, board: &Board, out: &mut O) -> Result<(), AllocError> {
     let watch = watched(alloc, board)?;
     'cores: for core in 0..board.machine().cores() {
