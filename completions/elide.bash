@@ -5,15 +5,15 @@ _elide_options() {
     case $1 in
     asm) echo '--help --list --color' ;;
     dis) echo '--help --labels --color' ;;
-    run) echo '--help --cores --mem --entry --reads --writes --dump --show --steps --schedule --trace --why --expect-halt --in-turn --random --limit --record --color' ;;
-    threads) echo '--help --cores --mem --entry --reads --writes --dump --show --budget --burst --why --stats --json --record --color' ;;
-    replay) echo '--help --cores --mem --entry --reads --writes --dump --show --steps --schedule --why --in-turn --random --limit --record --color' ;;
-    debug) echo '--help --cores --mem --entry --reads --writes --dump --steps --schedule --in-turn --random --limit --color' ;;
-    gdb) echo '--help --cores --mem --entry --reads --writes --steps --schedule --in-turn --random --limit --color' ;;
-    hunt) echo '--help --cores --mem --entry --reads --writes --check --stop --expect-halt --runs --seed --method --limit --jobs --record --color' ;;
-    outcomes) echo '--help --cores --mem --entry --reads --writes --show --limit --color' ;;
-    stats) echo '--help --cores --mem --entry --reads --writes --steps --schedule --in-turn --random --limit --record --json --color' ;;
-    draw) echo '--help --cores --mem --entry --reads --writes --steps --schedule --in-turn --random --limit --record --from --to --core --color' ;;
+    run) echo '--help --cores --mem --entry --reads --writes --dump --show --steps --schedule --trace --why --expect-halt --in-turn --random --events --seed --limit --record --color' ;;
+    threads) echo '--help --cores --mem --entry --reads --writes --dump --show --budget --burst --events --seed --why --stats --json --record --color' ;;
+    replay) echo '--help --cores --mem --entry --reads --writes --dump --show --steps --schedule --why --in-turn --random --events --seed --limit --record --color' ;;
+    debug) echo '--help --cores --mem --entry --reads --writes --dump --steps --schedule --in-turn --random --events --seed --limit --color' ;;
+    gdb) echo '--help --cores --mem --entry --reads --writes --steps --schedule --in-turn --random --events --seed --limit --color' ;;
+    hunt) echo '--help --cores --mem --entry --reads --writes --check --stop --expect-halt --runs --seed --method --events --limit --jobs --record --color' ;;
+    outcomes) echo '--help --cores --mem --entry --reads --writes --show --events --limit --color' ;;
+    stats) echo '--help --cores --mem --entry --reads --writes --steps --schedule --in-turn --random --events --seed --limit --record --json --color' ;;
+    draw) echo '--help --cores --mem --entry --reads --writes --steps --schedule --in-turn --random --events --seed --limit --record --from --to --core --color' ;;
     explain) echo '--help --color' ;;
     esac
 }
@@ -55,6 +55,8 @@ _elide_value() {
     'run --show' | \
     'run --steps' | \
     'run --random' | \
+    'run --events' | \
+    'run --seed' | \
     'run --limit' | \
     'threads --cores' | \
     'threads --mem' | \
@@ -65,6 +67,8 @@ _elide_value() {
     'threads --show' | \
     'threads --budget' | \
     'threads --burst' | \
+    'threads --events' | \
+    'threads --seed' | \
     'replay --cores' | \
     'replay --mem' | \
     'replay --entry' | \
@@ -74,6 +78,8 @@ _elide_value() {
     'replay --show' | \
     'replay --steps' | \
     'replay --random' | \
+    'replay --events' | \
+    'replay --seed' | \
     'replay --limit' | \
     'debug --cores' | \
     'debug --mem' | \
@@ -83,6 +89,8 @@ _elide_value() {
     'debug --dump' | \
     'debug --steps' | \
     'debug --random' | \
+    'debug --events' | \
+    'debug --seed' | \
     'debug --limit' | \
     'gdb --cores' | \
     'gdb --mem' | \
@@ -91,6 +99,8 @@ _elide_value() {
     'gdb --writes' | \
     'gdb --steps' | \
     'gdb --random' | \
+    'gdb --events' | \
+    'gdb --seed' | \
     'gdb --limit' | \
     'hunt --cores' | \
     'hunt --mem' | \
@@ -101,6 +111,7 @@ _elide_value() {
     'hunt --stop' | \
     'hunt --runs' | \
     'hunt --seed' | \
+    'hunt --events' | \
     'hunt --limit' | \
     'hunt --jobs' | \
     'outcomes --cores' | \
@@ -109,6 +120,7 @@ _elide_value() {
     'outcomes --reads' | \
     'outcomes --writes' | \
     'outcomes --show' | \
+    'outcomes --events' | \
     'outcomes --limit' | \
     'stats --cores' | \
     'stats --mem' | \
@@ -117,6 +129,8 @@ _elide_value() {
     'stats --writes' | \
     'stats --steps' | \
     'stats --random' | \
+    'stats --events' | \
+    'stats --seed' | \
     'stats --limit' | \
     'draw --cores' | \
     'draw --mem' | \
@@ -125,6 +139,8 @@ _elide_value() {
     'draw --writes' | \
     'draw --steps' | \
     'draw --random' | \
+    'draw --events' | \
+    'draw --seed' | \
     'draw --limit' | \
     'draw --from' | \
     'draw --to' | \

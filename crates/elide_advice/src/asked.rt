@@ -76,6 +76,7 @@ fn own_number_text<'s>(subcommand: &'s Subcommand<'_>, name: &str) -> Option<&'s
     match (subcommand, name) {
         (Subcommand::Threads(options), "--budget") => options.budget,
         (Subcommand::Threads(options), "--burst") => options.burst,
+        (Subcommand::Threads(options), "--seed") => options.seed,
         (Subcommand::Hunt(options), "--seed") => options.seed,
         (Subcommand::Hunt(options), "--limit") => options.limit,
         (Subcommand::Hunt(options), "--jobs") => options.jobs,
@@ -84,6 +85,7 @@ fn own_number_text<'s>(subcommand: &'s Subcommand<'_>, name: &str) -> Option<&'s
         (Subcommand::Draw(options), "--to") => options.to,
         (other, "--limit") => schedule_of(other)?.limit,
         (other, "--random") => schedule_of(other)?.random,
+        (other, "--seed") => schedule_of(other)?.seed,
         _ => None,
     }
 }

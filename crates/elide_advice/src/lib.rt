@@ -8,6 +8,7 @@
 
 mod advice;
 mod asked;
+mod draws;
 mod excerpt;
 mod files;
 mod machine;

@@ -1,6 +1,7 @@
 //! Options that are misused.
 
 use crate::asked::{machine_of, number_text, schedule_of};
+use crate::draws::{advise_events, advise_seed};
 use crate::machine::cores_of;
 use crate::page::Page;
 use elide_args::{HuntOptions, ScheduleOptions, Subcommand};
@@ -41,6 +42,8 @@ pub fn advise_misuse<O: Out>(
             "--dump takes AT:BYTES, as 0x1000:4 or 'count:4'; AT is a sum of numbers and of the program's symbols"
         ),
         ("--record", _) => writeln!(page, "--record takes another path than FILE"),
+        ("--events", other) => advise_events(other, page),
+        ("--seed", other) => advise_seed_or_number(other, name, page),
         ("--json", _) => writeln!(page, "--json goes with --stats"),
         ("--color", _) => writeln!(page, "--color takes auto, always or never"),
         ("--core", _) => writeln!(page, "--core takes numbers of cores, each once, as 0,2"),
@@ -50,6 +53,18 @@ pub fn advise_misuse<O: Out>(
         ),
         (number, other) => advise_number(other, number, page),
     }
+}
+
+// What a seed goes with, or how its number is written.
+fn advise_seed_or_number<O: Out>(
+    subcommand: &Subcommand<'_>,
+    name: &str,
+    page: &mut Page<'_, O>,
+) -> fmt::Result {
+    if advise_seed(subcommand, page)? {
+        return Ok(());
+    }
+    advise_number(subcommand, name, page)
 }
 
 // How a number is written.

@@ -6,6 +6,7 @@ use Rattle.std.specs.Borrow.{Bor}
 use Rattle.clap.specs.Matches.{first_value, matched_of, one_text, raw_values}
 use Rattle.clap.specs.declared.parser.matches.Found.{Found}
 use Rattle.clap.specs.declared.parser.matches.MatchedArg.{MatchedArg}
+use Rattle.elide_args.specs.declared.hunt_options.HuntOptions.{HuntOptions}
 use Rattle.elide_args.specs.declared.subcommand.DrawOptions.{DrawOptions}
 use Rattle.elide_args.specs.declared.subcommand.MachineOptions.{MachineOptions}
 use Rattle.elide_args.specs.declared.subcommand.OutcomesOptions.{OutcomesOptions}
@@ -57,6 +58,8 @@ pub record IsSchedule (found : Found) (options : ScheduleOptions) : Type 0 where
   pub steps : first_value found (codes "steps") ≡ option_copied options.steps
   pub path : first_value found (codes "schedule") ≡ option_copied options.path
   pub random : first_value found (codes "random") ≡ option_copied options.random
+  pub events : first_value found (codes "events") ≡ option_copied options.events
+  pub seed : first_value found (codes "seed") ≡ option_copied options.seed
   pub limit : first_value found (codes "limit") ≡ option_copied options.limit
 
 pub record IsWork (found : Found) (options : ThreadsOptions) : Type 0 where
@@ -64,6 +67,8 @@ pub record IsWork (found : Found) (options : ThreadsOptions) : Type 0 where
   pub shown : IsShown found options.machine
   pub budget : first_value found (codes "budget") ≡ option_copied options.budget
   pub burst : first_value found (codes "burst") ≡ option_copied options.burst
+  pub events : first_value found (codes "events") ≡ option_copied options.events
+  pub seed : first_value found (codes "seed") ≡ option_copied options.seed
   pub explains : IsFlag found (codes "why") options.explains
   pub counts : IsFlag found (codes "stats") options.counts
   pub json : IsFlag found (codes "json") options.is_json
@@ -73,7 +78,22 @@ pub record IsSearch (found : Found) (options : OutcomesOptions) : Type 0 where
   pub machine : IsMachine found options.machine
   pub nothing : ShowsNothing options.machine
   pub show : first_value found (codes "show") ≡ option_copied options.show
+  pub events : first_value found (codes "events") ≡ option_copied options.events
   pub limit : first_value found (codes "limit") ≡ option_copied options.limit
+
+pub record IsHunt (found : Found) (options : HuntOptions) : Type 0 where
+  pub machine : IsMachine found options.machine
+  pub nothing : ShowsNothing options.machine
+  pub checks : texts_of options.checks.items ≡ values_of found (codes "check")
+  pub stops : texts_of options.stops.items ≡ values_of found (codes "stop")
+  pub halt : IsFlag found (codes "expect-halt") options.expects_halt
+  pub runs : first_value found (codes "runs") ≡ option_copied options.runs
+  pub seed : first_value found (codes "seed") ≡ option_copied options.seed
+  pub method : first_value found (codes "method") ≡ option_copied options.method
+  pub events : first_value found (codes "events") ≡ option_copied options.events
+  pub limit : first_value found (codes "limit") ≡ option_copied options.limit
+  pub jobs : first_value found (codes "jobs") ≡ option_copied options.jobs
+  pub path : first_value found (codes "record") ≡ option_copied options.«record»
 
 pub record IsCounting (found : Found) (options : StatsOptions) : Type 0 where
   pub machine : IsMachine found options.machine
@@ -111,7 +131,7 @@ Asks found name (Replay options) =
     × IsSchedule found options.schedule
 Asks found name (Debug options) = (name ≡ codes "debug") × IsSession found options
 Asks found name (Gdb options) = (name ≡ codes "gdb") × IsSession found options
-Asks found name (Hunt options) = (name ≡ codes "hunt") × IsMachine found options.machine × ShowsNothing options.machine
+Asks found name (Hunt options) = (name ≡ codes "hunt") × IsHunt found options
 Asks found name (Outcomes options) = (name ≡ codes "outcomes") × IsSearch found options
 Asks found name (Stats options) = (name ≡ codes "stats") × IsCounting found options
 Asks found name (Draw options) = (name ≡ codes "draw") × IsPicture found options

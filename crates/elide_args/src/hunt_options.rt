@@ -19,6 +19,8 @@ pub struct HuntOptions<'a> {
     pub seed: Option<&'a str>,
     /// `--method`: how the core of each step is drawn.
     pub method: Option<&'a str>,
+    /// `--events`: how the events are drawn that steps come under.
+    pub events: Option<&'a str>,
     /// `--limit`: the most steps of a run.
     pub limit: Option<&'a str>,
     /// `--jobs`: how many threads make runs.

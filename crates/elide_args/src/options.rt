@@ -150,6 +150,36 @@ pub const RANDOM: OptionText = OptionText {
     help: "The schedule: each core that has not stopped as likely as another",
 };
 
+pub const EVENTS: OptionText = OptionText {
+    name: "events",
+    form: Form::Value("1/N[:KINDS]"),
+    help: "Aborts from outside: one step in N comes under an event, `interrupt` or those of interrupt, eviction and snoop that are named; `1`: each step",
+};
+
+pub const EVENTS_OF_RUNS: OptionText = OptionText {
+    name: "events",
+    form: Form::Value("draw|1/N[:KINDS]"),
+    help: "Aborts from outside: `draw`, at a rate and of kinds that each run draws, or at one step in N, of interrupt, eviction and snoop",
+};
+
+pub const EVENTS_OF_ALL: OptionText = OptionText {
+    name: "events",
+    form: Form::Value("KINDS|always"),
+    help: "Aborts from outside: each of the kinds (interrupt, eviction, snoop) at each step of each transaction; `always`: each step under an interrupt",
+};
+
+pub const EVENT_SEED: OptionText = OptionText {
+    name: "seed",
+    form: Form::Value("SEED"),
+    help: "What --events are drawn from where there is no --random [default: 1]",
+};
+
+pub const EVENT_SEED_OF_CORES: OptionText = OptionText {
+    name: "seed",
+    form: Form::Value("SEED"),
+    help: "What --events are drawn from [default: 1]",
+};
+
 pub const LIMIT: OptionText = OptionText {
     name: "limit",
     form: Form::Value("N"),

@@ -84,6 +84,10 @@ pub struct ThreadsOptions<'a> {
     pub budget: Option<&'a str>,
     /// `--burst`: how many steps a core makes before another can come between.
     pub burst: Option<&'a str>,
+    /// `--events`: which steps come under an event from outside.
+    pub events: Option<&'a str>,
+    /// `--seed`: what the events are drawn from.
+    pub seed: Option<&'a str>,
     /// Whether the reason of each abort is printed.
     pub explains: bool,
     /// `--stats`: whether what the transactions came to is printed in place of the state.
@@ -130,6 +134,8 @@ pub struct OutcomesOptions<'a> {
     pub machine: MachineOptions<'a>,
     /// `--show`: what is shown of the state where all cores have stopped.
     pub show: Option<&'a str>,
+    /// `--events`: which events from outside steps come under.
+    pub events: Option<&'a str>,
     /// `--limit`: the most states.
     pub limit: Option<&'a str>,
 }
@@ -196,6 +202,10 @@ pub struct ScheduleOptions<'a> {
     pub in_turn: bool,
     /// `--random`: the seed of a schedule by chance.
     pub random: Option<&'a str>,
+    /// `--events`: which steps of a schedule that is no list come under an event from outside.
+    pub events: Option<&'a str>,
+    /// `--seed`: what the events of a schedule round by round are drawn from.
+    pub seed: Option<&'a str>,
     /// `--limit`: the most steps of a schedule that is no list.
     pub limit: Option<&'a str>,
 }

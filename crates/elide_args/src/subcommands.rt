@@ -2,9 +2,10 @@
 
 use crate::options::{
     BUDGET, BURST, CHECK, COLOR, CORE, CORES, COUNTS, COUNTS_JSON, DUMP, DUMP_READ, ENTRY,
-    EXPECT_HALT, FAULT, FILE, FROM, IN_TURN, JOBS, JSON, LABELS, LIMIT, LIST, MEM, METHOD,
-    OptionText, RANDOM, READS, RECORD, RECORD_FIRST, RUNS, SCHEDULE, SEED, SHOW, SHOW_VALUE,
-    SOURCE, STATES, STEPS, STOP, TO, TRACE, WHY, WRITES,
+    EVENT_SEED, EVENT_SEED_OF_CORES, EVENTS, EVENTS_OF_ALL, EVENTS_OF_RUNS, EXPECT_HALT, FAULT,
+    FILE, FROM, IN_TURN, JOBS, JSON, LABELS, LIMIT, LIST, MEM, METHOD, OptionText, RANDOM, READS,
+    RECORD, RECORD_FIRST, RUNS, SCHEDULE, SEED, SHOW, SHOW_VALUE, SOURCE, STATES, STEPS, STOP, TO,
+    TRACE, WHY, WRITES,
 };
 
 /// A subcommand.
@@ -59,6 +60,8 @@ const RUN: SubcommandText = SubcommandText {
         EXPECT_HALT,
         IN_TURN,
         RANDOM,
+        EVENTS,
+        EVENT_SEED,
         LIMIT,
         RECORD,
         COLOR,
@@ -80,6 +83,8 @@ const THREADS: SubcommandText = SubcommandText {
         SHOW_VALUE,
         BUDGET,
         BURST,
+        EVENTS,
+        EVENT_SEED_OF_CORES,
         WHY,
         COUNTS,
         COUNTS_JSON,
@@ -94,7 +99,7 @@ const REPLAY: SubcommandText = SubcommandText {
     example: "Example: elide replay examples/conflict.img --cores 2 --steps \"0 0 1 1 0 0 0 1\"",
     options: &[
         FILE, CORES, MEM, ENTRY, READS, WRITES, DUMP, SHOW_VALUE, STEPS, SCHEDULE, WHY, IN_TURN,
-        RANDOM, LIMIT, RECORD, COLOR,
+        RANDOM, EVENTS, EVENT_SEED, LIMIT, RECORD, COLOR,
     ],
 };
 
@@ -103,8 +108,8 @@ const DEBUG: SubcommandText = SubcommandText {
     about: "Answers commands that are read from standard input, of which `help` prints a list; goes along a schedule, and back",
     example: "Example: elide debug examples/conflict.img --cores 2 --random 7",
     options: &[
-        FILE, CORES, MEM, ENTRY, READS, WRITES, DUMP_READ, STEPS, SCHEDULE, IN_TURN, RANDOM, LIMIT,
-        COLOR,
+        FILE, CORES, MEM, ENTRY, READS, WRITES, DUMP_READ, STEPS, SCHEDULE, IN_TURN, RANDOM,
+        EVENTS, EVENT_SEED, LIMIT, COLOR,
     ],
 };
 
@@ -113,7 +118,8 @@ const GDB: SubcommandText = SubcommandText {
     about: "Speaks gdb's remote protocol on standard input and output: each core is a thread, and gdb goes back, too",
     example: "Example: gdb prog.elf -ex 'target remote | elide gdb prog.elf --cores 2'",
     options: &[
-        FILE, CORES, MEM, ENTRY, READS, WRITES, STEPS, SCHEDULE, IN_TURN, RANDOM, LIMIT, COLOR,
+        FILE, CORES, MEM, ENTRY, READS, WRITES, STEPS, SCHEDULE, IN_TURN, RANDOM, EVENTS,
+        EVENT_SEED, LIMIT, COLOR,
     ],
 };
 
@@ -134,6 +140,7 @@ const HUNT: SubcommandText = SubcommandText {
         RUNS,
         SEED,
         METHOD,
+        EVENTS_OF_RUNS,
         LIMIT,
         JOBS,
         RECORD,
@@ -145,7 +152,18 @@ const OUTCOMES: SubcommandText = SubcommandText {
     name: "outcomes",
     about: "Searches all schedules of a small program and prints each outcome",
     example: "Example: elide outcomes examples/litmus/store-buffering.asm --cores 2 --show 'eax@0 eax@1'",
-    options: &[FILE, CORES, MEM, ENTRY, READS, WRITES, SHOW, STATES, COLOR],
+    options: &[
+        FILE,
+        CORES,
+        MEM,
+        ENTRY,
+        READS,
+        WRITES,
+        SHOW,
+        EVENTS_OF_ALL,
+        STATES,
+        COLOR,
+    ],
 };
 
 const STATS: SubcommandText = SubcommandText {
@@ -153,8 +171,8 @@ const STATS: SubcommandText = SubcommandText {
     about: "Runs a schedule of core steps and prints what its transactions came to, by the place of their XBEGIN",
     example: "Example: elide stats examples/elision.asm --cores 4 --random 7",
     options: &[
-        FILE, CORES, MEM, ENTRY, READS, WRITES, STEPS, SCHEDULE, IN_TURN, RANDOM, LIMIT, RECORD,
-        JSON, COLOR,
+        FILE, CORES, MEM, ENTRY, READS, WRITES, STEPS, SCHEDULE, IN_TURN, RANDOM, EVENTS,
+        EVENT_SEED, LIMIT, RECORD, JSON, COLOR,
     ],
 };
 
@@ -163,8 +181,8 @@ const DRAW: SubcommandText = SubcommandText {
     about: "Runs a schedule of core steps and draws a timeline of it, as SVG",
     example: "Example: elide draw examples/elision.asm --cores 4 --random 7 --from 380 --to 560 > timeline.svg",
     options: &[
-        FILE, CORES, MEM, ENTRY, READS, WRITES, STEPS, SCHEDULE, IN_TURN, RANDOM, LIMIT, RECORD,
-        FROM, TO, CORE, COLOR,
+        FILE, CORES, MEM, ENTRY, READS, WRITES, STEPS, SCHEDULE, IN_TURN, RANDOM, EVENTS,
+        EVENT_SEED, LIMIT, RECORD, FROM, TO, CORE, COLOR,
     ],
 };
 

@@ -2,8 +2,8 @@
 
 ghost use Rattle.std.specs.Prelude.{◌≡◌, IfOk, IfSome, Some, codes};
 ghost use Rattle.clap.specs.Matches.{first_value, found_of};
-ghost use Rattle.elide_args.specs.Asked.{Asks, IsCounting, IsMachine, IsPicture, IsSchedule, IsSession, IsShown, IsWork};
-ghost use Rattle.elide_args.specs.Asked.{ShowsNothing, texts_of, values_of};
+ghost use Rattle.elide_args.specs.Asked.{Asks, IsCounting, IsHunt, IsMachine, IsPicture, IsSchedule, IsSession, IsShown};
+ghost use Rattle.elide_args.specs.Asked.{IsWork, ShowsNothing, texts_of, values_of};
 
 use crate::hunt_options::HuntOptions;
 use crate::line::command_line;
@@ -145,6 +145,7 @@ fn subcommand_named<'a>(
         "outcomes" => Some(Subcommand::Outcomes(OutcomesOptions {
             machine: machine_of(alloc, file, options),
             show: options.get_str("show"),
+            events: options.get_str("events"),
             limit: options.get_str("limit"),
         })),
         "stats" => Some(Subcommand::Stats(stats_of(alloc, file, options))),
@@ -157,7 +158,9 @@ fn subcommand_named<'a>(
 fn hunt_of<'a>(
     alloc: Global,
     options: &ArgMatches<'a>,
-) -> Result<Option<HuntOptions<'a>>, AllocError> {
+) -> Result<Option<HuntOptions<'a>>, AllocError>
+    ensures { IfOk result (λ hunt. IfSome hunt (IsHunt (found_of options.now))) }
+{
     let Some(file) = options.get_str("FILE") else {
         return Ok(None);
     };
@@ -169,6 +172,7 @@ fn hunt_of<'a>(
         runs: options.get_str("runs"),
         seed: options.get_str("seed"),
         method: options.get_str("method"),
+        events: options.get_str("events"),
         limit: options.get_str("limit"),
         jobs: options.get_str("jobs"),
         record: options.get_str("record"),
@@ -201,6 +205,8 @@ fn threads_of<'a>(
         machine: shown_machine_of(alloc, file, options)?,
         budget: options.get_str("budget"),
         burst: options.get_str("burst"),
+        events: options.get_str("events"),
+        seed: options.get_str("seed"),
         explains: options.get_flag("why"),
         counts: options.get_flag("stats"),
         is_json: options.get_flag("json"),
@@ -290,6 +296,8 @@ fn schedule_of<'a>(options: &ArgMatches<'a>) -> ScheduleOptions<'a>
         path: options.get_str("schedule"),
         in_turn: options.get_flag("in-turn"),
         random: options.get_str("random"),
+        events: options.get_str("events"),
+        seed: options.get_str("seed"),
         limit: options.get_str("limit"),
     }
 }

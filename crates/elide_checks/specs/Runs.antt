@@ -1,6 +1,11 @@
--- The runs that `--runs` says (docs/FORMATS.md, "Options of the command line").
-use Rattle.std.specs.Prelude.{◌≡◌, ◌≤◌, ◌⊎◌, ℕ, List, ◌++◌, codes, Option, Some, None}
+-- The runs that `--runs` says, and the events that `--events` says (docs/FORMATS.md, "Options of the command line").
+use Rattle.std.specs.Prelude.{◌≡◌, ◌≤◌, ◌⊎◌, ℕ, List, ◌++◌, codes, nat_eq, Option, Some, None}
+use Rattle.std.specs.Prelude.{if◌then◌else◌}
+use Rattle.std.specs.Cmp.Lexicographic.{pointwise}
 use Rattle.elide_setup.specs.ElideProgram.Settings.{word32}
+use Rattle.elide_setup.specs.Events.{events_said}
+use Rattle.tm_pick.specs.declared.events.Events.{Events}
+use Rattle.tm_pick.specs.declared.events.Events.TheVariants.{Never, Draw}
 
 -- the runs of the numbers from A to B - 1
 pub record AreBetween (text : List ℕ) (first end : ℕ) : Type 0 where
@@ -15,3 +20,9 @@ pub record AreBetween (text : List ℕ) (first end : ℕ) : Type 0 where
 abbrev pub AreRuns : Option (List ℕ) → ℕ → ℕ → Type 0
 AreRuns None first end = ⊥
 AreRuns (Some text) first end = ((first ≡ 0) × (word32 text ≡ Some end)) ⊎ AreBetween text first end
+
+-- the events of the runs: none where the option is not given, those that each run draws with `draw`, and else those of
+-- a rate
+abbrev pub events_asked : Option (List ℕ) → Option Events
+events_asked None = Some Never
+events_asked (Some text) = if pointwise nat_eq text (codes "draw") then Some Draw else events_said text

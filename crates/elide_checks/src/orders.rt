@@ -3,13 +3,13 @@
 ghost use Rattle.std.specs.Prelude.{◌≡◌, ◌≤◌, IfOk, Some};
 ghost use Rattle.std.specs.Option.{option_copied};
 ghost use Rattle.elide_setup.specs.ElideProgram.Settings.{number_said};
-ghost use Rattle.elide_checks.specs.Runs.{AreRuns};
+ghost use Rattle.elide_checks.specs.Runs.{AreRuns, events_asked};
 
 use crate::cut::cut;
 use elide_args::HuntOptions;
 use elide_setup::{Refusal, limit_of, number_of};
 use std::thread::{Threads, available_parallelism};
-use tm_pick::Method;
+use tm_pick::{Events, Method};
 
 /// The most threads.
 const MOST_JOBS: u32 = 1024;
@@ -21,6 +21,8 @@ pub struct Orders {
     pub seed: u32,
     /// How the core of each step is drawn.
     pub method: Method,
+    /// Which events the steps of a run come under.
+    pub events: Events,
     /// The most steps of a run.
     pub most: u32,
     /// The number of the first run.
@@ -35,16 +37,19 @@ impl Orders {
     /// Reads the options in the order in which their misuse is told.
     pub fn read<R: Threads>(rt: &R, options: &HuntOptions<'_>) -> Result<Orders, Refusal>
         ensures runs { IfOk result (λ orders. AreRuns (option_copied options.now.runs) orders.first orders.end) }
+        ensures events { IfOk result (λ orders. events_asked (option_copied options.now.events) ≡ Some orders.events) }
         ensures seed { IfOk result (λ orders. number_said (option_copied options.now.seed) ≡ Some orders.seed) }
     {
         let (first, end) = runs_of(options.runs)?;
         let seed = number_of(options.seed, "--seed")?;
         let method = method_of(options.method)?;
+        let events = events_of(options.events)?;
         let most = limit_of(options.limit)?;
         let jobs = jobs_of(rt, options.jobs)?;
         Ok(Orders {
             seed,
             method,
+            events,
             most,
             first,
             end,
@@ -80,6 +85,20 @@ fn method_of(text: Option<&str>) -> Result<Method, Refusal> {
         Some("bursts") => Ok(Method::Bursts),
         Some("pct") => Ok(Method::Priorities),
         _ => Err(Refusal::Usage("--method")),
+    }
+}
+
+// No events, those that each run draws, or those of a rate.
+fn events_of(text: Option<&str>) -> Result<Events, Refusal>
+    ensures { IfOk result (λ events. events_asked (option_copied text.entry) ≡ Some events) }
+{
+    let Some(text) = text else {
+        return Ok(Events::Never);
+    };
+    if text == "draw" {
+        Ok(Events::Draw)
+    } else {
+        elide_setup::events_of(text)
     }
 }
 

@@ -1,6 +1,6 @@
 //! A schedule, run twice: once to count its steps, where it is drawn step by step, and once to watch them.
 
-ghost use Rattle.elide_setup.specs.Runs.{IsMachineStep};
+ghost use Rattle.elide_setup.specs.Runs.{AreMachineSteps};
 
 use crate::watch::Watcher;
 use elide_setup::{
@@ -57,7 +57,7 @@ struct Counter {
 }
 
 impl StepMaker for Counter {
-    ghost takes = { λ before pick outcome after. IsMachineStep before.machine pick outcome after.machine };
+    ghost takes = { λ before steps after. AreMachineSteps before.machine steps after.machine };
 
     fn make_step(&mut self, pick: Pick) -> Result<Outcome, Refusal> {
         self.total = self.total.saturating_add(1);

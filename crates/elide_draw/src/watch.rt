@@ -1,7 +1,7 @@
 //! A step, and whom it hits.
 
 ghost use Rattle.std.specs.Prelude.{IfOk};
-ghost use Rattle.elide_setup.specs.Runs.{IsMachineStep};
+ghost use Rattle.elide_setup.specs.Runs.{AreMachineSteps, IsMachineStep};
 
 use elide_setup::{CoreState, Kind, Machine, Outcome, Pick, Refusal, StepMaker};
 use std::alloc::AllocError;
@@ -31,7 +31,7 @@ impl Watcher {
 }
 
 impl StepMaker for Watcher {
-    ghost takes = { λ before pick outcome after. IsMachineStep before.machine pick outcome after.machine };
+    ghost takes = { λ before steps after. AreMachineSteps before.machine steps after.machine };
 
     fn make_step(&mut self, pick: Pick) -> Result<Outcome, Refusal> {
         watch_step(&mut self.machine, pick, &mut self.timeline)

@@ -1,20 +1,50 @@
 -- The trial of a search that a call answers.
-use Rattle.std.proofs.Common.{◌≡◌, ℕ}
+use Rattle.std.proofs.Common.{◌≡◌, ◌+◌, ◌≤◌, ℕ, Option, Some, subst, sym}
 use Rattle.std.proofs.lemmas.Result.{IfOk-weaker}
 use Rattle.std.specs.Prelude.{IfOk, Result}
 use Rattle.elide_args.specs.declared.hunt_options.HuntOptions.{HuntOptions}
 use Rattle.elide_checks.specs.Checks.{AreChecks}
 use Rattle.elide_setup.specs.ElideProgram.ProgramFileType.{ProgramFile}
 use Rattle.elide_setup.specs.declared.machine.Setup.{Setup}
+use Rattle.tm_pick.specs.declared.events.Events.{Events}
+use Rattle.tm_hunt.specs.Attempts.{IsFailure, IsFirst, IsSearch}
+use Rattle.tm_hunt.specs.Cost.{cost_of}
+use Rattle.tm_hunt.specs.Hunt.{Fails}
+use Rattle.tm_hunt.specs.Kept.{KeepsKinds}
+use Rattle.tm_hunt.specs.declared.attempt.Failure.{Failure}
+use Rattle.tm_hunt.specs.declared.searching.Found.{Found}
 use Rattle.tm_hunt.specs.declared.searching.Search.{Search}
 use Rattle.tm_hunt.specs.declared.trial.Trial.{Trial}
-use Rattle.elide_hunt.specs.Printed.{IsHunted, IsTrialOf}
+use Rattle.elide_hunt.specs.Printed.{IsHunted, IsTrialOf, counts_of}
 use Rattle.elide_hunt.specs.declared.report.Counts.{Counts}
 
-pub with_trial : {E : Type 0} (trial : Trial) (file : ProgramFile) (options : HuntOptions) (setup : Setup) (first end : ℕ) (r : Result (Search × Counts) E) →
-    IfOk r (λ made. IsHunted trial first end made.1 made.0) →
+pub with_trial : {E : Type 0} (trial : Trial) (events : Events) (file : ProgramFile) (options : HuntOptions) (setup : Setup) (first end : ℕ) (r : Result (Search × Counts) E) →
+    IfOk r (λ made. IsHunted trial events first end made.1 made.0) →
     trial.program.now ≡ setup.program → trial.limits ≡ setup.limits → AreChecks file options trial.checks.now →
-    IfOk r (λ made. (t : Trial) × IsTrialOf file options setup t × IsHunted t first end made.1 made.0)
-with_trial trial file options setup first end r h program limits checks =
-    IfOk-weaker r (λ made. IsHunted trial first end made.1 made.0) (λ made. (t : Trial) × IsTrialOf file options setup t × IsHunted t first end made.1 made.0)
+    IfOk r (λ made. (t : Trial) × IsTrialOf file options setup t × IsHunted t events first end made.1 made.0)
+with_trial trial events file options setup first end r h program limits checks =
+    IfOk-weaker r (λ made. IsHunted trial events first end made.1 made.0) (λ made. (t : Trial) × IsTrialOf file options setup t × IsHunted t events first end made.1 made.0)
     (λ made hunted. (trial, record { program = program; limits = limits; checks = checks }, hunted)) h
+
+-- a search whose first failure was shortened
+pub shortened_hunt : (trial : Trial) (events : Events) (first end : ℕ) (before : Counts) (search : Search) (found : Found) (after : Failure) →
+    search.found ≡ Some found → IsSearch trial events first end search → before ≡ counts_of found.failure.picks.items →
+    IsFailure trial after → after.check ≡ found.failure.check → cost_of after.picks.items ≤ cost_of found.failure.picks.items →
+    KeepsKinds found.failure.picks.items after.picks.items →
+    IsHunted trial events first end before
+    (record { found = Some (record { run = found.run; failure = after }); ended = search.ended; cut = search.cut })
+shortened_hunt trial events first end before search found after is searched counted fails same simpler keeps =
+    let one : IsFirst trial events first end (search.ended + search.cut) (Some found) =
+    subst (λ (o : Option Found). IsFirst trial events first end (search.ended + search.cut) o) is searched.found in
+    record {
+      came_to = record {
+        passed = searched.passed;
+        found = (fails, (one.1.0, one.1.1, keeps one.1.0 one.1.2), one.2, one.3);
+      };
+      longer = record {
+        picks = found.failure.picks.items;
+        fails = subst (λ (check : ℕ). Fails trial found.failure.picks.items check) (sym same) one.0;
+        counted = counted;
+        simpler = simpler;
+      };
+    }

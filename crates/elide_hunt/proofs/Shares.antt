@@ -3,11 +3,13 @@ use Rattle.std.proofs.Common.{rules, ◌≡◌, ℕ, ◌+◌, ◌-◌, ◌*◌, 
 use Rattle.std.proofs.lemmas.Bool.Decides.{nat_tests}
 use Rattle.std.proofs.Math.Nat.{div-le_of_le-mul, div-mul-le_self, mul-le-mul_right}
 use Rattle.std.proofs.lemmas.Nat.{le-div}
-use Rattle.std.specs.Prelude.{Option, Some, None, is_some, option_map}
+use Rattle.std.specs.Prelude.{List, Option, Some, None, is_some, option_map}
 use Rattle.std.proofs.lemmas.List.Elements.{All-append}
+use Rattle.tm_model.specs.declared.outcome.Pick.{Pick}
+use Rattle.tm_pick.specs.declared.events.Events.{Events}
 use Rattle.tm_hunt.proofs.Passing.{none_passed}
 use Rattle.tm_hunt.specs.Attempts.{IsFirst, IsSearch}
-use Rattle.tm_hunt.specs.Hunt.{HavePassed, Passes}
+use Rattle.tm_hunt.specs.Hunt.{AreUnder, HavePassed, Passes}
 use Rattle.tm_hunt.specs.declared.searching.Found.{Found}
 use Rattle.tm_hunt.specs.declared.searching.Search.{Search}
 use Rattle.tm_hunt.specs.declared.trial.Trial.{Trial}
@@ -54,15 +56,15 @@ share_next first end jobs job h = elim (or_not (job + 1) jobs) [
 
 -- ---- runs that passed
 
-pub both_passed : (trial : Trial) (m n k : ℕ) → k ≡ m + n → HavePassed trial m → HavePassed trial n → HavePassed trial k
-both_passed trial m n k e h l =
+pub both_passed : (trial : Trial) (events : Events) (m n k : ℕ) → k ≡ m + n → HavePassed trial events m → HavePassed trial events n → HavePassed trial events k
+both_passed trial events m n k e h l =
     let first = h.counted in
     let rest = l.counted in
     let long = length-append h.schedules l.schedules in
     record {
       schedules = h.schedules ++ l.schedules;
       counted = omega arith;
-      each = All-append (Passes trial) h.schedules l.schedules h.each l.each;
+      each = All-append (λ (picks : List Pick). Passes trial picks × AreUnder events picks) h.schedules l.schedules h.each l.each;
     }
 
 -- no more runs passed than there are
@@ -70,8 +72,8 @@ fits : (first end passed : ℕ) (failed : Option ℕ) → first ≤ end → IsFi
 fits first end passed None h k = let all = k h in omega arith
 fits first end passed (Some run) h k = omega arith
 
-pub share_fits : (trial : Trial) (first end : ℕ) (share : Share) → first ≤ end → IsShare trial first end share → first + (share.ended + share.cut) ≤ end
-share_fits trial first end share h k = fits first end (share.ended + share.cut) share.failed h k.failed
+pub share_fits : (trial : Trial) (events : Events) (first end : ℕ) (share : Share) → first ≤ end → IsShare trial events first end share → first + (share.ended + share.cut) ≤ end
+share_fits trial events first end share h k = fits first end (share.ended + share.cut) share.failed h k.failed
 
 -- behind runs that all passed
 failed_behind : (first middle end before next all : ℕ) (failed : Option ℕ) → first + before ≡ middle → middle ≤ end → all ≡ before + next →
@@ -84,43 +86,43 @@ failed_within : (first end last passed run : ℕ) → end ≤ last → IsFirstFa
 failed_within first end last passed run h k = (k.0, omega arith)
 
 -- a share behind some runs that all passed
-pub share_behind : (trial : Trial) (first middle end before : ℕ) (next all : Share) → HavePassed trial before → first + before ≡ middle → middle ≤ end →
-    IsShare trial middle end next → all.failed ≡ next.failed → all.ended + all.cut ≡ before + (next.ended + next.cut) → IsShare trial first end all
-share_behind trial first middle end before next all passed h m k f e = record {
-  passed = both_passed trial before (next.ended + next.cut) (all.ended + all.cut) e passed k.passed;
+pub share_behind : (trial : Trial) (events : Events) (first middle end before : ℕ) (next all : Share) → HavePassed trial events before → first + before ≡ middle → middle ≤ end →
+    IsShare trial events middle end next → all.failed ≡ next.failed → all.ended + all.cut ≡ before + (next.ended + next.cut) → IsShare trial events first end all
+share_behind trial events first middle end before next all passed h m k f e = record {
+  passed = both_passed trial events before (next.ended + next.cut) (all.ended + all.cut) e passed k.passed;
   failed = subst (IsFirstFailed first end (all.ended + all.cut)) (sym f)
       (failed_behind first middle end before (next.ended + next.cut) (all.ended + all.cut) next.failed h m e k.failed);
 }
 
 -- the shares of so many threads, none of which failed
-pub record Joined (trial : Trial) (first end jobs count : ℕ) (all : Share) : Type 0 where
+pub record Joined (trial : Trial) (events : Events) (first end jobs count : ℕ) (all : Share) : Type 0 where
   pub none : all.failed ≡ None
-  pub passed : HavePassed trial (all.ended + all.cut)
+  pub passed : HavePassed trial events (all.ended + all.cut)
   pub counted : first + (all.ended + all.cut) ≡ share_start first end jobs count
 
-pub joined_none : (trial : Trial) (first end jobs : ℕ) (all : Share) → 0 < jobs → all.failed ≡ None → all.ended ≡ 0 → all.cut ≡ 0 → Joined trial first end jobs 0 all
-joined_none trial first end jobs all some none ended cut =
+pub joined_none : (trial : Trial) (events : Events) (first end jobs : ℕ) (all : Share) → 0 < jobs → all.failed ≡ None → all.ended ≡ 0 → all.cut ≡ 0 → Joined trial events first end jobs 0 all
+joined_none trial events first end jobs all some none ended cut =
     let at = within first end jobs 0 some in
     let zero : 0 * (end - first) / jobs ≡ 0 = search rules in
     let sum : all.ended + all.cut ≡ 0 = omega arith in
-    record { none = none; passed = subst (HavePassed trial) (sym sum) (none_passed trial); counted = omega arith }
+    record { none = none; passed = subst (HavePassed trial events) (sym sum) (none_passed trial events); counted = omega arith }
 
 -- the next one
-pub joined_share : (trial : Trial) (first end jobs count : ℕ) (before next all : Share) → first ≤ end → Joined trial first end jobs count before →
-    IsShare trial (share_start first end jobs count) (share_start first end jobs (count + 1)) next →
+pub joined_share : (trial : Trial) (events : Events) (first end jobs count : ℕ) (before next all : Share) → first ≤ end → Joined trial events first end jobs count before →
+    IsShare trial events (share_start first end jobs count) (share_start first end jobs (count + 1)) next →
     all.failed ≡ next.failed → all.ended + all.cut ≡ before.ended + before.cut + (next.ended + next.cut) →
-    IsShare trial first (share_start first end jobs (count + 1)) all
-joined_share trial first end jobs count before next all h j k f e =
-    share_behind trial first (share_start first end jobs count) (share_start first end jobs (count + 1)) (before.ended + before.cut) next all
+    IsShare trial events first (share_start first end jobs (count + 1)) all
+joined_share trial events first end jobs count before next all h j k f e =
+    share_behind trial events first (share_start first end jobs count) (share_start first end jobs (count + 1)) (before.ended + before.cut) next all
     j.passed j.counted (share_next first end jobs count h) k f e
 
 -- none failed so far
 all_passed : (first end passed : ℕ) (failed : Option ℕ) → failed ≡ None → first ≤ end → IsFirstFailed first end passed failed → first + passed ≡ end
 all_passed first end passed failed none h k = (subst (IsFirstFailed first end passed) none k) h
 
-pub joined_more : (trial : Trial) (first end jobs count : ℕ) (all : Share) → first ≤ end → all.failed ≡ None →
-    IsShare trial first (share_start first end jobs (count + 1)) all → Joined trial first end jobs (count + 1) all
-joined_more trial first end jobs count all h none k = record {
+pub joined_more : (trial : Trial) (events : Events) (first end jobs count : ℕ) (all : Share) → first ≤ end → all.failed ≡ None →
+    IsShare trial events first (share_start first end jobs (count + 1)) all → Joined trial events first end jobs (count + 1) all
+joined_more trial events first end jobs count all h none k = record {
   none = none;
   passed = k.passed;
   counted = all_passed first (share_start first end jobs (count + 1)) (all.ended + all.cut) all.failed none (share_least first end jobs (count + 1) h) k.failed;
@@ -135,98 +137,98 @@ widened : (first end last passed : ℕ) (failed : Option ℕ) → is_some failed
 widened first end last passed None some h k = cc
 widened first end last passed (Some run) some h k = failed_within first end last passed run h k
 
-pub joined_failed : (trial : Trial) (first end jobs count : ℕ) (all : Share) → first ≤ end → is_some all.failed ≡ true →
-    IsShare trial first (share_start first end jobs (count + 1)) all → IsShare trial first end all
-joined_failed trial first end jobs count all h some k = record {
+pub joined_failed : (trial : Trial) (events : Events) (first end jobs count : ℕ) (all : Share) → first ≤ end → is_some all.failed ≡ true →
+    IsShare trial events first (share_start first end jobs (count + 1)) all → IsShare trial events first end all
+joined_failed trial events first end jobs count all h some k = record {
   passed = k.passed;
   failed = widened first (share_start first end jobs (count + 1)) end (all.ended + all.cut) all.failed some (share_most first end jobs (count + 1) h) k.failed;
 }
 
 -- none did
-pub joined_all : (trial : Trial) (first end jobs : ℕ) (all : Share) → Joined trial first end jobs jobs all → IsShare trial first end all
-joined_all trial first end jobs all j =
+pub joined_all : (trial : Trial) (events : Events) (first end jobs : ℕ) (all : Share) → Joined trial events first end jobs jobs all → IsShare trial events first end all
+joined_all trial events first end jobs all j =
     let at = behind first end jobs jobs (omega arith) in
     let whole = j.counted in
     record { passed = j.passed; failed = subst (IsFirstFailed first end (all.ended + all.cut)) (sym j.none) (λ _. omega arith) }
 
 -- what a search tells of its first failing run, without the schedule
-failed_of : (trial : Trial) (first end passed : ℕ) (found : Option Found) → IsFirst trial first end passed found → IsFirstFailed first end passed (option_map (λ f. f.run) found)
-failed_of trial first end passed None h = h
-failed_of trial first end passed (Some found) h = (h.1, h.2)
+failed_of : (trial : Trial) (events : Events) (first end passed : ℕ) (found : Option Found) → IsFirst trial events first end passed found → IsFirstFailed first end passed (option_map (λ f. f.run) found)
+failed_of trial events first end passed None h = h
+failed_of trial events first end passed (Some found) h = (h.2, h.3)
 
-pub share_of_search : (trial : Trial) (first end : ℕ) (search : Search) (share : Share) → IsSearch trial first end search →
-    share.failed ≡ option_map (λ f. f.run) search.found → share.ended ≡ search.ended → share.cut ≡ search.cut → IsShare trial first end share
-share_of_search trial first end search share k f e c =
+pub share_of_search : (trial : Trial) (events : Events) (first end : ℕ) (search : Search) (share : Share) → IsSearch trial events first end search →
+    share.failed ≡ option_map (λ f. f.run) search.found → share.ended ≡ search.ended → share.cut ≡ search.cut → IsShare trial events first end share
+share_of_search trial events first end search share k f e c =
     let same : search.ended + search.cut ≡ share.ended + share.cut = omega arith in
     record {
-      passed = subst (HavePassed trial) same k.passed;
+      passed = subst (HavePassed trial events) same k.passed;
       failed = subst (IsFirstFailed first end (share.ended + share.cut)) (sym f)
-          (failed_of trial first end (share.ended + share.cut) search.found (subst (λ n. IsFirst trial first end n search.found) same k.found));
+          (failed_of trial events first end (share.ended + share.cut) search.found (subst (λ n. IsFirst trial events first end n search.found) same k.found));
     }
 
 -- ---- searches
 
-first_fits : (trial : Trial) (first end passed : ℕ) (found : Option Found) → first ≤ end → IsFirst trial first end passed found → first + passed ≤ end
-first_fits trial first end passed None h k = let all = k h in omega arith
-first_fits trial first end passed (Some found) h k = omega (arith, k.1, k.2)
+first_fits : (trial : Trial) (events : Events) (first end passed : ℕ) (found : Option Found) → first ≤ end → IsFirst trial events first end passed found → first + passed ≤ end
+first_fits trial events first end passed None h k = let all = k h in omega arith
+first_fits trial events first end passed (Some found) h k = omega (arith, k.2, k.3)
 
-pub search_fits : (trial : Trial) (first end : ℕ) (search : Search) → first ≤ end → IsSearch trial first end search → first + (search.ended + search.cut) ≤ end
-search_fits trial first end search h k = first_fits trial first end (search.ended + search.cut) search.found h k.found
+pub search_fits : (trial : Trial) (events : Events) (first end : ℕ) (search : Search) → first ≤ end → IsSearch trial events first end search → first + (search.ended + search.cut) ≤ end
+search_fits trial events first end search h k = first_fits trial events first end (search.ended + search.cut) search.found h k.found
 
-first_behind : (trial : Trial) (first middle end before next all : ℕ) (found : Option Found) → first + before ≡ middle → middle ≤ end → all ≡ before + next →
-    IsFirst trial middle end next found → IsFirst trial first end all found
-first_behind trial first middle end before next all None h m e k = λ _. let whole = k m in omega arith
-first_behind trial first middle end before next all (Some found) h m e k = (k.0, omega (arith, k.1), k.2)
+first_behind : (trial : Trial) (events : Events) (first middle end before next all : ℕ) (found : Option Found) → first + before ≡ middle → middle ≤ end → all ≡ before + next →
+    IsFirst trial events middle end next found → IsFirst trial events first end all found
+first_behind trial events first middle end before next all None h m e k = λ _. let whole = k m in omega arith
+first_behind trial events first middle end before next all (Some found) h m e k = (k.0, k.1, omega (arith, k.2), k.3)
 
 -- a search behind some runs that all passed
-pub search_behind : (trial : Trial) (first middle end before : ℕ) (next all : Search) → HavePassed trial before → first + before ≡ middle → middle ≤ end →
-    IsSearch trial middle end next → all.found ≡ next.found → all.ended + all.cut ≡ before + (next.ended + next.cut) → IsSearch trial first end all
-search_behind trial first middle end before next all passed h m k f e = record {
-  passed = both_passed trial before (next.ended + next.cut) (all.ended + all.cut) e passed k.passed;
-  found = subst (IsFirst trial first end (all.ended + all.cut)) (sym f)
-      (first_behind trial first middle end before (next.ended + next.cut) (all.ended + all.cut) next.found h m e k.found);
+pub search_behind : (trial : Trial) (events : Events) (first middle end before : ℕ) (next all : Search) → HavePassed trial events before → first + before ≡ middle → middle ≤ end →
+    IsSearch trial events middle end next → all.found ≡ next.found → all.ended + all.cut ≡ before + (next.ended + next.cut) → IsSearch trial events first end all
+search_behind trial events first middle end before next all passed h m k f e = record {
+  passed = both_passed trial events before (next.ended + next.cut) (all.ended + all.cut) e passed k.passed;
+  found = subst (IsFirst trial events first end (all.ended + all.cut)) (sym f)
+      (first_behind trial events first middle end before (next.ended + next.cut) (all.ended + all.cut) next.found h m e k.found);
 }
 
 -- up to a further end
-first_within : (trial : Trial) (first end last passed : ℕ) (found : Option Found) → is_some found ≡ true → end ≤ last → IsFirst trial first end passed found → IsFirst trial first last passed found
-first_within trial first end last passed None some h k = cc
-first_within trial first end last passed (Some found) some h k = (k.0, k.1, omega (arith, k.2))
+first_within : (trial : Trial) (events : Events) (first end last passed : ℕ) (found : Option Found) → is_some found ≡ true → end ≤ last → IsFirst trial events first end passed found → IsFirst trial events first last passed found
+first_within trial events first end last passed None some h k = cc
+first_within trial events first end last passed (Some found) some h k = (k.0, k.1, k.2, omega (arith, k.3))
 
-pub search_within : (trial : Trial) (first end last : ℕ) (search : Search) → is_some search.found ≡ true → end ≤ last → IsSearch trial first end search → IsSearch trial first last search
-search_within trial first end last search some h k = record {
+pub search_within : (trial : Trial) (events : Events) (first end last : ℕ) (search : Search) → is_some search.found ≡ true → end ≤ last → IsSearch trial events first end search → IsSearch trial events first last search
+search_within trial events first end last search some h k = record {
   passed = k.passed;
-  found = first_within trial first end last (search.ended + search.cut) search.found some h k.found;
+  found = first_within trial events first end last (search.ended + search.cut) search.found some h k.found;
 }
 
 -- so many runs passed, which are those from a first one up to another
-pub record Passed (trial : Trial) (first end at count : ℕ) : Type 0 where
-  pub passed : HavePassed trial count
+pub record Passed (trial : Trial) (events : Events) (first end at count : ℕ) : Type 0 where
+  pub passed : HavePassed trial events count
   pub counted : first + count ≡ at
   pub within : first ≤ end → at ≤ end
 
-pub passed_none : (trial : Trial) (first end : ℕ) → Passed trial first end first 0
-passed_none trial first end = record { passed = none_passed trial; counted = omega arith; within = λ h. h }
+pub passed_none : (trial : Trial) (events : Events) (first end : ℕ) → Passed trial events first end first 0
+passed_none trial events first end = record { passed = none_passed trial events; counted = omega arith; within = λ h. h }
 
-found_none : (trial : Trial) (first end passed : ℕ) (found : Option Found) → is_some found ≡ false → first ≤ end → IsFirst trial first end passed found → first + passed ≡ end
-found_none trial first end passed None none h k = k h
-found_none trial first end passed (Some found) none h k = cc
+found_none : (trial : Trial) (events : Events) (first end passed : ℕ) (found : Option Found) → is_some found ≡ false → first ≤ end → IsFirst trial events first end passed found → first + passed ≡ end
+found_none trial events first end passed None none h k = k h
+found_none trial events first end passed (Some found) none h k = cc
 
 -- with the runs of a search that none of them failed
-pub passed_more : (trial : Trial) (first end at next count all : ℕ) (search : Search) → Passed trial first end at count → at ≤ next → next ≤ end →
-    IsSearch trial at next search → is_some search.found ≡ false → all ≡ count + (search.ended + search.cut) → Passed trial first end next all
-passed_more trial first end at next count all search p h l k none e =
-    let whole = found_none trial at next (search.ended + search.cut) search.found none h k.found in
+pub passed_more : (trial : Trial) (events : Events) (first end at next count all : ℕ) (search : Search) → Passed trial events first end at count → at ≤ next → next ≤ end →
+    IsSearch trial events at next search → is_some search.found ≡ false → all ≡ count + (search.ended + search.cut) → Passed trial events first end next all
+passed_more trial events first end at next count all search p h l k none e =
+    let whole = found_none trial events at next (search.ended + search.cut) search.found none h k.found in
     let before = p.counted in
     record {
-      passed = both_passed trial count (search.ended + search.cut) all e p.passed k.passed;
+      passed = both_passed trial events count (search.ended + search.cut) all e p.passed k.passed;
       counted = omega arith;
       within = λ _. l;
     }
 
 -- all passed
-pub passed_all : (trial : Trial) (first end at : ℕ) (search : Search) → Passed trial first end at (search.ended + search.cut) → end ≤ at → search.found ≡ None → IsSearch trial first end search
-passed_all trial first end at search p h none = record {
+pub passed_all : (trial : Trial) (events : Events) (first end at : ℕ) (search : Search) → Passed trial events first end at (search.ended + search.cut) → end ≤ at → search.found ≡ None → IsSearch trial events first end search
+passed_all trial events first end at search p h none = record {
   passed = p.passed;
-  found = subst (IsFirst trial first end (search.ended + search.cut)) (sym none)
+  found = subst (IsFirst trial events first end (search.ended + search.cut)) (sym none)
       (λ ordered. let last = p.within ordered in let before = p.counted in omega arith);
 }

@@ -17,7 +17,8 @@ written_on_ok a b x (Ok done) h = h
 written_on_ok a b x (Err failed) h = tt
 
 -- a list with a byte between, by its first element
-pub joined_first : (f : ℕ → List ℕ) (byte first : ℕ) (rest : List ℕ) → join_with_byte byte (map f (first ∷ rest)) ≡ f first ++ flat_map (λ x. byte ∷ f x) rest
+pub joined_first : {A : Type 0} (f : A → List ℕ) (byte : ℕ) (first : A) (rest : List A) →
+    join_with_byte byte (map f (first ∷ rest)) ≡ f first ++ flat_map (λ x. byte ∷ f x) rest
 joined_first f byte first [] = sym (append-nil (f first))
 joined_first f byte first (next ∷ rest) = ap (λ l. f first ++ byte ∷ l) (joined_first f byte next rest)
 

@@ -10,13 +10,16 @@ use Rattle.std.specs.Option.{option_copied}
 use Rattle.elide_args.specs.declared.hunt_options.HuntOptions.{HuntOptions}
 use Rattle.elide_args.specs.declared.subcommand.MachineOptions.{MachineOptions}
 use Rattle.elide_checks.specs.Checks.{AreChecks}
-use Rattle.elide_checks.specs.Runs.{AreRuns}
+use Rattle.elide_checks.specs.Runs.{AreRuns, events_asked}
 use Rattle.elide_setup.specs.ElideProgram.ProgramFileType.{ProgramFile}
 use Rattle.elide_setup.specs.Setup.{IsAsked}
 use Rattle.elide_setup.specs.declared.machine.Setup.{Setup}
-use Rattle.ia_text.specs.TextLine.{line_end, number_text}
+use Rattle.ia_text.specs.TextLine.{line_end}
+use Rattle.tm_model.specs.declared.outcome.Pick.{Pick}
+use Rattle.tm_pick.specs.declared.events.Events.{Events}
+use Rattle.tm_schedule.specs.Picks.{pick_word}
 use Rattle.tm_hunt.specs.Attempts.{IsSearch}
-use Rattle.tm_hunt.specs.Cost.{cost_of, switches_of}
+use Rattle.tm_hunt.specs.Cost.{cost_of, events_in, switches_of}
 use Rattle.tm_hunt.specs.Hunt.{Fails}
 use Rattle.tm_hunt.specs.declared.attempt.Failure.{Failure}
 use Rattle.tm_hunt.specs.declared.searching.Found.{Found}
@@ -46,12 +49,18 @@ abbrev pub check_text : HuntOptions → ℕ → List ℕ
 check_text options index =
     check_option options.stops.items (index - length options.checks.items) (slice_get options.checks.items index)
 
--- how many steps a schedule has, and how often the core changes
-abbrev pub counts_of : List ℕ → Counts
-counts_of cores = record { steps = length cores; switches = switches_of cores }
+-- how many steps a schedule has, how often the core changes, and how many of the steps come under an event
+abbrev pub counts_of : List Pick → Counts
+counts_of picks = record { steps = length picks; switches = switches_of picks; events = events_in picks }
+
+-- the events, where there are any
+abbrev pub events_text : ℕ → List ℕ
+events_text count = if nat_eq count 0 then [] else codes ", events " ++ decimal count
 
 unfoldable pub counts_text : Counts → List ℕ
-counts_text counts = codes "steps " ++ decimal counts.steps ++ codes ", switches " ++ decimal counts.switches
+counts_text counts =
+    codes "steps " ++ decimal counts.steps ++ codes ", switches " ++ decimal counts.switches
+    ++ events_text counts.events
 
 -- before it was shortened, and after that
 unfoldable pub counts_line : Counts → Counts → List ℕ
@@ -70,26 +79,26 @@ machine_text machine =
     ++ (option_text (codes " --reads ") (codes "512") machine.reads
     ++ option_text (codes " --writes ") (codes "512") machine.writes)))
 
--- the numbers of the cores, with spaces between
-abbrev pub steps_text : List ℕ → List ℕ
-steps_text cores = join_with_byte 32 (map number_text cores)
+-- the words of the steps, with spaces between
+abbrev pub steps_text : List Pick → List ℕ
+steps_text picks = join_with_byte 32 (map pick_word picks)
 
 -- a schedule of at most 1,000 steps
-abbrev pub steps_option : List ℕ → List ℕ
-steps_option cores =
-    if nat_lt 1000 (length cores) then codes " --schedule PATH, with the schedule that --record PATH writes"
-    else codes " --steps " ++ (34 ∷ steps_text cores ++ 34 ∷ [])
+abbrev pub steps_option : List Pick → List ℕ
+steps_option picks =
+    if nat_lt 1000 (length picks) then codes " --schedule PATH, with the schedule that --record PATH writes"
+    else codes " --steps " ++ (34 ∷ steps_text picks ++ 34 ∷ [])
 
 -- by its file, where it was recorded
-abbrev pub schedule_text : Option (Bor (List ℕ)) → List ℕ → List ℕ
-schedule_text None cores = steps_option cores
-schedule_text (Some path) cores = codes " --schedule " ++ path_word path.now
+abbrev pub schedule_text : Option (Bor (List ℕ)) → List Pick → List ℕ
+schedule_text None picks = steps_option picks
+schedule_text (Some path) picks = codes " --schedule " ++ path_word path.now
 
 -- the command that replays a schedule
-abbrev pub replay_line : HuntOptions → List ℕ → List ℕ
-replay_line options cores =
+abbrev pub replay_line : HuntOptions → List Pick → List ℕ
+replay_line options picks =
     codes "elide replay " ++ (path_word options.machine.file.now
-    ++ (machine_text options.machine ++ (schedule_text options.record cores ++ line_end)))
+    ++ (machine_text options.machine ++ (schedule_text options.record picks ++ line_end)))
 
 unfoldable pub run_front : ℕ → List ℕ
 run_front run = codes "run " ++ decimal run ++ codes " fails "
@@ -98,7 +107,7 @@ run_front run = codes "run " ++ decimal run ++ codes " fails "
 abbrev pub failure_text : HuntOptions → Counts → Found → List ℕ
 failure_text options before found =
     run_front found.run ++ (check_text options found.failure.check
-    ++ (counts_line before (counts_of found.failure.cores.items) ++ replay_line options found.failure.cores.items))
+    ++ (counts_line before (counts_of found.failure.picks.items) ++ replay_line options found.failure.picks.items))
 
 -- what a search came to
 abbrev pub search_lines : HuntOptions → Counts → ℕ → ℕ → Option Found → List ℕ
@@ -118,16 +127,18 @@ pub record IsTold (options : HuntOptions) (counts : Counts) (search : Search) (a
   pub answered : answer ≡ answer_of search.found
   pub wrote : Appends before after (search_text options counts search)
 
--- a schedule of so many steps and switches, no simpler than that of a failure, fails by the same check
+-- a schedule of so many steps, switches and events, no simpler than that of a failure, fails by the same check
 pub record WasLonger (trial : Trial) (before : Counts) (failure : Failure) : Type 0 where
-  pub cores : List ℕ
-  pub fails : Fails trial cores failure.check
-  pub counted : before ≡ counts_of cores
-  pub simpler : cost_of failure.cores.items ≤ cost_of cores
+  pub picks : List Pick
+  pub fails : Fails trial picks failure.check
+  pub counted : before ≡ counts_of picks
+  pub simpler : cost_of failure.picks.items ≤ cost_of picks
 
--- a search over the runs from a first one up to an end, whose schedule was shortened, and how long it was before
-pub record IsHunted (trial : Trial) (first end : ℕ) (before : Counts) (search : Search) : Type 0 where
-  pub came_to : IsSearch trial first end search
+-- a search over the runs from a first one up to an end, under these events, whose schedule was shortened, and how long
+-- it was before
+pub record IsHunted (trial : Trial) (events : Events) (first end : ℕ) (before : Counts) (search : Search)
+    : Type 0 where
+  pub came_to : IsSearch trial events first end search
   pub longer : IfSome search.found (λ found. WasLonger trial before found.failure)
 
 -- the trial is of this program and these limits, and its checks are those of the options
@@ -136,7 +147,8 @@ pub record IsTrialOf (file : ProgramFile) (options : HuntOptions) (setup : Setup
   pub limits : trial.limits ≡ setup.limits
   pub checks : AreChecks file options trial.checks.now
 
--- that of a search over the runs of the options, of a machine of the options and of what FILE's content is read as
+-- that of a search over the runs of the options, under their events, of a machine of the options and of what FILE's
+-- content is read as
 pub record IsPrinted (content : List ℕ → Option (List ℕ)) (options : HuntOptions) (answer : Answer)
     (before after : Option (List ℕ)) : Type 0 where
   pub setup : Setup
@@ -146,7 +158,9 @@ pub record IsPrinted (content : List ℕ → Option (List ℕ)) (options : HuntO
   pub first : ℕ
   pub end : ℕ
   pub runs : AreRuns (option_copied options.runs) first end
+  pub events : Events
+  pub said : events_asked (option_copied options.events) ≡ Some events
   pub counts : Counts
   pub search : Search
-  pub hunted : IsHunted trial first end counts search
+  pub hunted : IsHunted trial events first end counts search
   pub told : IsTold options counts search answer before after

@@ -59,7 +59,7 @@ impl Block<'_> {
         requires some { 0 < self.now.jobs }
         requires ordered { self.now.first ≤ self.now.end }
         requires short { self.now.end < 2 ^ 32 }
-        ensures { IfOk result (IsShare self.now.trial self.now.first self.now.end) }
+        ensures { IfOk result (IsShare self.now.trial self.now.plan.events self.now.first self.now.end) }
     {
         let alloc = rt.alloc();
         let shares = thread::map_indices(
@@ -78,7 +78,7 @@ impl Block<'_> {
     fn share(&self, alloc: Global, job: usize) -> Result<Share, HuntFault>
         requires within { job < self.now.jobs }
         requires ordered { self.now.first ≤ self.now.end }
-        ensures { IfOk result (IsShare self.now.trial
+        ensures { IfOk result (IsShare self.now.trial self.now.plan.events
             (share_start self.now.first self.now.end self.now.jobs job)
             (share_start self.now.first self.now.end self.now.jobs (job + 1))) }
     {
@@ -110,10 +110,10 @@ impl Block<'_> {
         requires short { self.now.end < 2 ^ 32 }
         requires counted { length shares.now ≡ self.now.jobs }
         requires each { (job : ℕ) (other : _) → job < self.now.jobs → IfOk (slice_index_or shares.now job other)
-            (IsShare self.now.trial
+            (IsShare self.now.trial self.now.plan.events
             (share_start self.now.first self.now.end self.now.jobs job)
             (share_start self.now.first self.now.end self.now.jobs (job + 1))) }
-        ensures { IfOk result (IsShare self.now.trial self.now.first self.now.end) }
+        ensures { IfOk result (IsShare self.now.trial self.now.plan.events self.now.first self.now.end) }
     {
         let mut all = Share {
             failed: None,

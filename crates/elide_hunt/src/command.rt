@@ -10,6 +10,7 @@ ghost use Rattle.elide_setup.specs.Setup.{IsSetup};
 ghost use Rattle.elide_setup.specs.declared.machine.Setup.{Setup};
 ghost use Rattle.tm_hunt.specs.Attempts.{IsFailure, IsSearch};
 ghost use Rattle.tm_hunt.specs.Cost.{cost_of};
+ghost use Rattle.tm_hunt.specs.Kept.{KeepsKinds};
 ghost use Rattle.tm_hunt.specs.declared.trial.Trial.{Trial};
 ghost use Rattle.elide_hunt.specs.Printed.{IsHunted, IsPrinted, IsTold, IsTrialOf, failure_text, none_line};
 
@@ -22,10 +23,9 @@ use elide_checks::{
     record, record_path,
 };
 use ia_text::Out;
-use std::alloc::{AllocError, Global};
+use std::alloc::Global;
 use std::thread::Threads;
 use tm_hunt::{Failure, Found, Search, Trial, shorten, usual_length};
-use tm_model::Pick;
 use tm_pick::Plan;
 
 /// What a search came to.
@@ -58,22 +58,9 @@ pub fn hunt<R: Threads + Sync + AllocGlobal, P: Paths, O: Out + Drop, G: Progres
     progress.end();
     let (search, before) = made?;
     if let Some(found) = &search.found {
-        let picks = picks_of(rt.alloc(), found.failure.cores.as_slice())?;
-        record(path, picks.as_slice(), paths)?;
+        record(path, found.failure.picks.as_slice(), paths)?;
     }
     tell(options, &search, before, out)
-}
-
-// The steps of these cores, none under an event.
-fn picks_of(alloc: Global, cores: &[u8]) -> Result<Vec<Pick>, AllocError> {
-    let mut picks = Vec::with_capacity(alloc, cores.len())?;
-    for core in cores {
-        picks.push(Pick {
-            core: *core,
-            event: None,
-        })?;
-    }
-    Ok(picks)
 }
 
 // Prints what a search came to.
@@ -133,7 +120,7 @@ fn hunted<R: Threads + Sync + AllocGlobal, G: Progress>(
 ) -> Result<(Search, Counts), Refusal>
     ensures { IfOk result (λ made. (file : ProgramFile) × (setup : Setup) × (trial : Trial) × IsFile text.now file
         × IsSetup file settings.now setup × IsTrialOf file options.now setup trial
-        × IsHunted trial orders.now.first orders.now.end made.1 made.0) }
+        × IsHunted trial orders.now.events orders.now.first orders.now.end made.1 made.0) }
 {
     let alloc = rt.alloc();
     let file = ProgramFile::read(alloc, text)?;
@@ -156,7 +143,7 @@ fn hunted_in<R: Threads + Sync + AllocGlobal, G: Progress>(
 ) -> Result<(Search, Counts), Refusal>
     ensures { (file : ProgramFile) (options : HuntOptions) → AreDemands file options demands.now.demands.items →
         IfOk result (λ made. (trial : Trial) × IsTrialOf file options setup.now trial
-        × IsHunted trial orders.now.first orders.now.end made.1 made.0) }
+        × IsHunted trial orders.now.events orders.now.first orders.now.end made.1 made.0) }
 {
     let checks = demands.checks(rt.alloc(), setup.program.mem_size())?;
     let trial = Trial {
@@ -177,14 +164,14 @@ fn shortest<R: Threads + Sync + AllocGlobal, G: Progress>(
     orders: &Orders,
     progress: &mut G,
 ) -> Result<(Search, Counts), Refusal>
-    ensures { IfOk result (λ made. IsHunted trial.now orders.now.first orders.now.end made.1 made.0) }
+    ensures { IfOk result (λ made. IsHunted trial.now orders.now.events orders.now.first orders.now.end made.1 made.0) }
 {
     let Search { found, ended, cut } = tried(rt, trial, orders, progress)?;
     let Some(Found { run, mut failure }) = found else {
         let found = None;
         return Ok((Search { found, ended, cut }, counts_of(&[])));
     };
-    let before = counts_of(failure.cores.as_slice());
+    let before = counts_of(failure.picks.as_slice());
     shortened(rt.alloc(), trial, &mut failure)?;
     let found = Some(Found { run, failure });
     Ok((Search { found, ended, cut }, before))
@@ -197,7 +184,7 @@ fn tried<R: Threads + Sync + AllocGlobal, G: Progress>(
     orders: &Orders,
     progress: &mut G,
 ) -> Result<Search, Refusal>
-    ensures { IfOk result (IsSearch trial.now orders.now.first orders.now.end) }
+    ensures { IfOk result (IsSearch trial.now orders.now.events orders.now.first orders.now.end) }
 {
     let length = match usual_length(rt.alloc(), trial) {
         Ok(length) => length,
@@ -207,6 +194,7 @@ fn tried<R: Threads + Sync + AllocGlobal, G: Progress>(
         seed: orders.seed,
         method: orders.method,
         length,
+        events: orders.events,
     };
     searched(rt, trial, plan, orders, progress)
 }
@@ -216,7 +204,8 @@ fn shortened(alloc: Global, trial: &Trial<'_>, failure: &mut Failure) -> Result<
     requires { IsFailure trial.now failure.old }
     ensures fails { IsFailure trial.now failure.new }
     ensures same { failure.new.check ≡ failure.old.check }
-    ensures simpler { cost_of failure.new.cores.items ≤ cost_of failure.old.cores.items }
+    ensures simpler { cost_of failure.new.picks.items ≤ cost_of failure.old.picks.items }
+    ensures kinds { KeepsKinds failure.old.picks.items failure.new.picks.items }
 {
     match shorten(alloc, trial, failure) {
         Ok(()) => Ok(()),

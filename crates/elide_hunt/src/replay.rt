@@ -3,7 +3,7 @@
 ghost use Rattle.std.specs.Prelude.{◌≡◌, ◌≤◌, ◌++◌, ◌∷◌, OnOk, length};
 ghost use Rattle.std.specs.List.{flat_map};
 ghost use Rattle.ia_text.specs.Writing.{Wrote};
-ghost use Rattle.ia_text.specs.TextLine.{number_text};
+ghost use Rattle.tm_schedule.specs.Picks.{event_text, pick_word};
 ghost use Rattle.elide_hunt.specs.Printed.{machine_text, option_text, replay_line, schedule_text};
 ghost use Rattle.elide_hunt.specs.Printed.{steps_option, steps_text};
 
@@ -12,6 +12,7 @@ use elide_args::{HuntOptions, MachineOptions};
 use ia_text::page::push;
 use ia_text::text_line::{TextLine, push_number};
 use ia_text::{Failed, Out};
+use tm_model::{Event, Interference, Pick};
 
 /// The most steps of a schedule that is printed in the command that replays it.
 const MOST_SHOWN: usize = 1000;
@@ -19,15 +20,15 @@ const MOST_SHOWN: usize = 1000;
 /// Writes the command that replays a schedule.
 pub fn put_command<O: Out>(
     options: &HuntOptions<'_>,
-    cores: &[u8],
+    picks: &[Pick],
     out: &mut O,
 ) -> Result<(), Failed>
-    ensures { OnOk result (Wrote (O.device out.old) (O.device out.new) (replay_line options.now cores.now)) }
+    ensures { OnOk result (Wrote (O.device out.old) (O.device out.new) (replay_line options.now picks.now)) }
 {
     out.put(b"elide replay ")?;
     put_path(options.machine.file, out)?;
     put_machine(&options.machine, out)?;
-    put_schedule(options.record, cores, out)?;
+    put_schedule(options.record, picks, out)?;
     out.put(b"\n")
 }
 
@@ -61,58 +62,73 @@ fn put_option<O: Out>(
 }
 
 // Writes the option that says the schedule: its file, where it was recorded.
-fn put_schedule<O: Out>(path: Option<&str>, cores: &[u8], out: &mut O) -> Result<(), Failed>
-    ensures { OnOk result (Wrote (O.device out.old) (O.device out.new) (schedule_text path.entry cores.now)) }
+fn put_schedule<O: Out>(path: Option<&str>, picks: &[Pick], out: &mut O) -> Result<(), Failed>
+    ensures { OnOk result (Wrote (O.device out.old) (O.device out.new) (schedule_text path.entry picks.now)) }
 {
     match path {
         Some(path) => {
             out.put(b" --schedule ")?;
             put_path(path, out)
         }
-        None => put_steps(cores, out),
+        None => put_steps(picks, out),
     }
 }
 
 // The same of a schedule that was not.
-fn put_steps<O: Out>(cores: &[u8], out: &mut O) -> Result<(), Failed>
-    ensures { OnOk result (Wrote (O.device out.old) (O.device out.new) (steps_option cores.now)) }
+fn put_steps<O: Out>(picks: &[Pick], out: &mut O) -> Result<(), Failed>
+    ensures { OnOk result (Wrote (O.device out.old) (O.device out.new) (steps_option picks.now)) }
 {
-    if cores.len() > MOST_SHOWN {
+    if picks.len() > MOST_SHOWN {
         return out.put(b" --schedule PATH, with the schedule that --record PATH writes");
     }
     out.put(b" --steps \"")?;
-    put_cores(cores, out)?;
+    put_words(picks, out)?;
     out.put(b"\"")
 }
 
-// Writes the numbers of the cores, with spaces between.
-fn put_cores<O: Out>(cores: &[u8], out: &mut O) -> Result<(), Failed>
-    ensures { OnOk result (Wrote (O.device out.old) (O.device out.new) (steps_text cores.now)) }
+// Writes the words of the steps, with spaces between.
+fn put_words<O: Out>(picks: &[Pick], out: &mut O) -> Result<(), Failed>
+    ensures { OnOk result (Wrote (O.device out.old) (O.device out.new) (steps_text picks.now)) }
 {
-    let Some((first, rest)) = cores.split_first() else {
+    let Some((first, rest)) = picks.split_first() else {
         return Ok(());
     };
-    put_core(b"", *first, out)?;
+    put_pick(b"", *first, out)?;
     put_more(rest, out)
 }
 
-// The same behind another one.
-fn put_more<O: Out>(cores: &[u8], out: &mut O) -> Result<(), Failed>
+// Writes them behind another one.
+fn put_more<O: Out>(picks: &[Pick], out: &mut O) -> Result<(), Failed>
     ensures { OnOk result (Wrote (O.device out.old) (O.device out.new)
-        (flat_map (λ core. 32 ∷ number_text core) cores.now)) }
+        (flat_map (λ pick. 32 ∷ pick_word pick) picks.now)) }
 {
-    for core in cores {
-        put_core(b" ", *core, out)?;
+    for pick in picks {
+        put_pick(b" ", *pick, out)?;
     }
     Ok(())
 }
 
-fn put_core<O: Out>(between: &[u8], core: u8, out: &mut O) -> Result<(), Failed>
+// Writes the word of a step: its core, and the letter of its event, if any.
+fn put_pick<O: Out>(between: &[u8], pick: Pick, out: &mut O) -> Result<(), Failed>
     requires { length between.now ≤ 1 }
-    ensures { OnOk result (Wrote (O.device out.old) (O.device out.new) (between.now ++ number_text core)) }
+    ensures { OnOk result (Wrote (O.device out.old) (O.device out.new) (between.now ++ pick_word pick)) }
 {
     let mut row = TextLine::new();
     push(&mut row, between);
-    push_number(&mut row, core);
+    push_number(&mut row, pick.core);
+    push(&mut row, letters_of(pick.event));
     out.put(row.as_slice())
+}
+
+// The letter of an event, and none for none.
+fn letters_of(event: Option<Event>) -> &'static [u8]
+    ensures text { result.now ≡ event_text event }
+    ensures len { length result.now ≤ 1 }
+{
+    match event {
+        None => b"",
+        Some(Event::Abort(Interference::Interrupt)) => b"i",
+        Some(Event::Abort(Interference::Eviction)) => b"e",
+        Some(Event::Abort(Interference::Snoop)) => b"s",
+    }
 }

@@ -4,7 +4,7 @@ ghost use Rattle.std.specs.Prelude.{◌≡◌, ◌+◌, ◌≤◌, ◌++◌, OnO
 ghost use Rattle.std.specs.Fmt.{decimal};
 ghost use Rattle.arrayvec.specs.ArrayVec.{array_vec_len};
 ghost use Rattle.ia_text.specs.Writing.{Wrote};
-ghost use Rattle.elide_hunt.specs.Printed.{check_text, counts_line, counts_of, counts_text};
+ghost use Rattle.elide_hunt.specs.Printed.{check_text, counts_line, counts_of, counts_text, events_text};
 ghost use Rattle.elide_hunt.specs.Printed.{failure_text, none_line, run_front};
 
 use crate::replay::put_command;
@@ -13,7 +13,8 @@ use elide_args::HuntOptions;
 use ia_text::page::push;
 use ia_text::{Failed, Out};
 use itoa::Buffer;
-use tm_hunt::{Found, switches};
+use tm_hunt::{Found, events, switches};
+use tm_model::Pick;
 
 /// How long a schedule is.
 #[derive(Clone, Copy)]
@@ -22,15 +23,18 @@ pub struct Counts {
     pub steps: usize,
     /// How often the core changes.
     pub switches: usize,
+    /// How many of its steps come under an event.
+    pub events: usize,
 }
 
 /// How long this one is.
-pub fn counts_of(cores: &[u8]) -> Counts
-    ensures { result ≡ counts_of cores.now }
+pub fn counts_of(picks: &[Pick]) -> Counts
+    ensures { result ≡ counts_of picks.now }
 {
     Counts {
-        steps: cores.len(),
-        switches: switches(cores),
+        steps: picks.len(),
+        switches: switches(picks),
+        events: events(picks),
     }
 }
 
@@ -78,11 +82,11 @@ pub fn tell_failure<O: Out>(
 ) -> Result<(), Failed>
     ensures { OnOk result (Wrote (O.device out.old) (O.device out.new) (failure_text options.now before found.now)) }
 {
-    let cores = found.failure.cores.as_slice();
+    let picks = found.failure.picks.as_slice();
     put_run(found.run, out)?;
     put_check(options, found.failure.check, out)?;
-    put_counts(before, counts_of(cores), out)?;
-    put_command(options, cores, out)
+    put_counts(before, counts_of(picks), out)?;
+    put_command(options, picks, out)
 }
 
 fn put_run<O: Out>(run: u32, out: &mut O) -> Result<(), Failed>
@@ -128,12 +132,25 @@ fn push_change(line: &mut Line, before: Counts, after: Counts)
 fn push_counts(line: &mut Line, counts: Counts)
     requires { array_vec_len line.old ≤ 128 }
     ensures text { line.new.items ≡ line.old.items ++ counts_text counts }
-    ensures len { array_vec_len line.new ≤ array_vec_len line.old + 60 }
+    ensures len { array_vec_len line.new ≤ array_vec_len line.old + 90 }
 {
     push(line, b"steps ");
     push_decimal(line, counts.steps as u64);
     push(line, b", switches ");
     push_decimal(line, counts.switches as u64);
+    push_events(line, counts.events as u64);
+}
+
+// Adds how many events there are, where there are any.
+fn push_events(line: &mut Line, count: u64)
+    requires { array_vec_len line.old ≤ 192 }
+    ensures text { line.new.items ≡ line.old.items ++ events_text count }
+    ensures len { array_vec_len line.new ≤ array_vec_len line.old + 29 }
+{
+    if count != 0 {
+        push(line, b", events ");
+        push_decimal(line, count);
+    }
 }
 
 // Writes the option that says the check with this index.

@@ -25,7 +25,7 @@ pub fn searched<R: Threads + Sync + AllocGlobal, G: Progress>(
     orders: &Orders,
     progress: &mut G,
 ) -> Result<Search, Refusal>
-    ensures { IfOk result (IsSearch trial.now orders.now.first orders.now.end) }
+    ensures { IfOk result (IsSearch trial.now plan.events orders.now.first orders.now.end) }
 {
     let mut ended: u32 = 0;
     let mut cut: u32 = 0;
@@ -88,7 +88,7 @@ fn searched_in<R: Threads + Sync + AllocGlobal>(
     requires some { 0 < block.now.jobs }
     requires ordered { block.now.first ≤ block.now.end }
     requires short { block.now.end < 2 ^ 32 }
-    ensures { IfOk result (IsSearch block.now.trial block.now.first block.now.end) }
+    ensures { IfOk result (IsSearch block.now.trial block.now.plan.events block.now.first block.now.end) }
 {
     let share = block.made(rt)?;
     let Some(failing) = share.failed else {

@@ -29,6 +29,8 @@ pub printed_on : (content : List ℕ → Option (List ℕ)) (options : OutcomesO
 printed_on content options answer first begun ended last before printed behind = record {
   setup = printed.setup;
   asked = printed.asked;
+  under = printed.under;
+  said = printed.said;
   trial = printed.trial;
   shows = printed.shows;
   most = printed.most;

@@ -1,3 +1,4 @@
 pub mod Items
 pub mod Lines
+pub mod Under
 pub mod Printed

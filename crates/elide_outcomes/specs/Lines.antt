@@ -5,8 +5,10 @@ use Rattle.std.specs.Fmt.{decimal}
 use Rattle.std.specs.List.{flat_map}
 use Rattle.std.specs.Ordering.{nat_cmp}
 use Rattle.ia_text.specs.Number.{eight_digits}
-use Rattle.ia_text.specs.TextLine.{line_end, number_text}
+use Rattle.ia_text.specs.TextLine.{line_end}
+use Rattle.tm_model.specs.declared.outcome.Pick.{Pick}
 use Rattle.tm_outcomes.specs.declared.table.Told.{Told}
+use Rattle.tm_schedule.specs.Picks.{pick_word}
 
 -- a value in eight hex digits, with a space behind it
 abbrev pub item_text : ℕ → List ℕ
@@ -16,9 +18,9 @@ item_text value = eight_digits value ++ codes " "
 abbrev pub ends_text : ℕ → List ℕ
 ends_text ends = codes " " ++ decimal ends ++ codes " "
 
--- a step of a schedule: a space, and the number of its core
-abbrev pub step_text : ℕ → List ℕ
-step_text core = codes " " ++ number_text core
+-- a step of a schedule: a space, and the word that `--steps` takes, the number of its core and the letter of its event
+abbrev pub step_text : Pick → List ℕ
+step_text pick = codes " " ++ pick_word pick
 
 -- the line of an outcome
 abbrev pub outcome_line : Told → List ℕ

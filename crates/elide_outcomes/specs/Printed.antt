@@ -14,17 +14,21 @@ use Rattle.tm_outcomes.specs.declared.table.Told.{Told}
 use Rattle.tm_outcomes.specs.declared.trial.Trial.{Trial}
 use Rattle.elide_outcomes.specs.Items.{AreItems}
 use Rattle.elide_outcomes.specs.Lines.{AreInOrder, count_line, outcome_lines}
+use Rattle.elide_outcomes.specs.Under.{AreUnder, IsUnder}
 use Rattle.elide_outcomes.specs.declared.command.Answer.{Answer}
 use Rattle.elide_outcomes.specs.declared.command.Answer.TheVariants.{Cut, Whole}
+use Rattle.elide_outcomes.specs.declared.under.Under.{Under}
 
 -- ---- what is searched
 
--- the machine is the one that a file was made into, and what is shown of it is what `--show` says,
--- by the file's symbols
-pub record IsTrialOf (file : ProgramFile) (setup : Setup) (show : Option (List ℕ)) (trial : Trial) : Type 0 where
+-- the machine is the one that a file was made into, what is shown of it is what `--show` says, by the file's symbols,
+-- and its steps come under what `--events` says
+pub record IsTrialOf (file : ProgramFile) (setup : Setup) (show : Option (List ℕ)) (under : Under) (trial : Trial)
+    : Type 0 where
   pub program : trial.program.now ≡ setup.program
   pub limits : trial.limits ≡ setup.limits
   pub items : AreItems file show trial.items.now
+  pub events : AreUnder under trial.events
 
 -- the most states: a million by default, and 1 or more
 pub record IsLimit (option : Option (List ℕ)) (most : ℕ) : Type 0 where
@@ -52,8 +56,10 @@ pub record IsPrinted (content : List ℕ → Option (List ℕ)) (options : Outco
     (before after : Option (List ℕ)) : Type 0 where
   pub setup : Setup
   pub asked : IsAsked (content options.machine.file.now) options.machine setup
+  pub under : Under
+  pub said : IsUnder (option_copied options.events) under
   pub trial : Trial
-  pub shows : IsTrialOf asked.file setup (option_copied options.show) trial
+  pub shows : IsTrialOf asked.file setup (option_copied options.show) under trial
   pub most : ℕ
   pub limit : IsLimit (option_copied options.limit) most
   pub told : IsTold trial most answer before after

@@ -12,6 +12,7 @@ ghost use Rattle.elide_outcomes.specs.Printed.{IsLimit, IsPrinted, IsTold, IsTri
 
 use crate::items::items_of;
 use crate::report::{sort, tell};
+use crate::under::Under;
 use elide_args::OutcomesOptions;
 use elide_program::{Paths, ProgramFile, Settings, number_of, read_file};
 use elide_setup::{Fault, Gathered, MachineFault, Refusal, RunFault, Setup};
@@ -29,6 +30,17 @@ pub enum Answer {
     Whole,
     /// The limit on states was reached.
     Cut,
+}
+
+/// What is asked of a search, beside its machine.
+#[derive(Clone, Copy)]
+pub struct Asked<'a> {
+    /// `--show`: what is shown.
+    pub show: Option<&'a str>,
+    /// What the steps come under.
+    pub under: Under,
+    /// The most states.
+    pub most: u32,
 }
 
 impl Answer {
@@ -67,27 +79,33 @@ fn outcomes_of_options<P: Paths, O: Out>(
         (O.device out.old).contents (O.device out.new).contents) }
 {
     let settings = Settings::read(&options.machine)?;
+    let under = Under::read(options.events)?;
     let most = limit_of(options.limit)?;
+    let asked = Asked {
+        show: options.show,
+        under,
+        most,
+    };
     let text = read_file(options.machine.file, paths)?;
-    outcomes_of_text(alloc, options.show, &settings, most, text.as_slice(), out)
+    outcomes_of_text(alloc, &asked, &settings, text.as_slice(), out)
 }
 
 // The same of a program's text. What is made in one of these functions is lent to the next, so that each has little to drop.
 fn outcomes_of_text<O: Out>(
     alloc: Global,
-    show: Option<&str>,
+    asked: &Asked<'_>,
     settings: &Settings<'_>,
-    most: u32,
     text: &[u8],
     out: &mut O,
 ) -> Result<Answer, Refusal>
-    requires { 1 ≤ most }
+    requires { 1 ≤ asked.now.most }
     ensures { IfOk result (λ answer. (file : ProgramFile) × IsFile text.now file × (trial : Trial)
-        × (setup : Setup) × IsSetup file settings.now setup × IsTrialOf file setup (option_copied show.entry) trial
-        × IsTold trial most answer (O.device out.old).contents (O.device out.new).contents) }
+        × (setup : Setup) × IsSetup file settings.now setup
+        × IsTrialOf file setup (option_copied asked.now.show) asked.now.under trial
+        × IsTold trial asked.now.most answer (O.device out.old).contents (O.device out.new).contents) }
 {
     let file = ProgramFile::read(alloc, text)?;
-    let told = outcomes_of_file(alloc, show, settings, most, &file, out);
+    let told = outcomes_of_file(alloc, asked, settings, &file, out);
     drop(file);
     told
 }
@@ -95,25 +113,27 @@ fn outcomes_of_text<O: Out>(
 // The same of a program's file that was read.
 fn outcomes_of_file<O: Out>(
     alloc: Global,
-    show: Option<&str>,
+    asked: &Asked<'_>,
     settings: &Settings<'_>,
-    most: u32,
     file: &ProgramFile<'_>,
     out: &mut O,
 ) -> Result<Answer, Refusal>
-    requires { 1 ≤ most }
+    requires { 1 ≤ asked.now.most }
     ensures { IfOk result (λ answer. (trial : Trial) × (setup : Setup) × IsSetup file.now settings.now setup
-        × IsTrialOf file.now setup (option_copied show.entry) trial
-        × IsTold trial most answer (O.device out.old).contents (O.device out.new).contents) }
+        × IsTrialOf file.now setup (option_copied asked.now.show) asked.now.under trial
+        × IsTold trial asked.now.most answer (O.device out.old).contents (O.device out.new).contents) }
 {
-    let items = items_of(alloc, show, file)?;
+    let items = items_of(alloc, asked.show, file)?;
+    let listed = asked.under.listed(alloc)?;
     let setup = Setup::of_file(alloc, settings, file)?;
+    let events = asked.under.events(listed.as_slice());
     let trial = Trial {
         program: &setup.program,
         limits: setup.limits,
         items: items.as_slice(),
+        events,
     };
-    outcomes_of_trial(alloc, &trial, most, out)
+    outcomes_of_trial(alloc, &trial, asked.most, out)
 }
 
 // The same of a machine, with what is shown of it.

@@ -4,6 +4,7 @@ ghost use Rattle.std.specs.Prelude.{◌≡◌, ◌≤◌, ◌++◌, OnOk, length
 ghost use Rattle.std.specs.List.{flat_map};
 ghost use Rattle.arrayvec.specs.ArrayVec.{array_vec_len};
 ghost use Rattle.ia_text.specs.Writing.{Wrote, Writes};
+ghost use Rattle.tm_schedule.specs.Picks.{event_text};
 ghost use Rattle.elide_outcomes.specs.Lines.{AreInOrder, count_line, counts_text, cut_text, ends_text, outcome_line, outcome_lines};
 ghost use Rattle.elide_outcomes.specs.Lines.{step_text, item_text};
 
@@ -11,7 +12,7 @@ use ia_text::page::{push, push_eight};
 use ia_text::text_line::{TextLine, push_number};
 use ia_text::{Out, WriteFault};
 use itoa::Buffer;
-use tm_outcomes::{Search, Told};
+use tm_outcomes::{Event, Interference, Pick, Search, Told};
 
 /// Puts outcomes in the order of their values.
 pub fn sort(outcomes: &mut Vec<Told>)
@@ -83,23 +84,37 @@ fn tell_ends<O: Out>(ends: u32, out: &mut O) -> Result<(), WriteFault>
     Ok(())
 }
 
-fn tell_steps<O: Out>(cores: &[u8], out: &mut O) -> Result<(), WriteFault>
-    ensures { OnOk result (Wrote (O.device out.old) (O.device out.new) (flat_map step_text cores.now)) }
+fn tell_steps<O: Out>(picks: &[Pick], out: &mut O) -> Result<(), WriteFault>
+    ensures { OnOk result (Wrote (O.device out.old) (O.device out.new) (flat_map step_text picks.now)) }
 {
-    for core in cores {
-        tell_step(*core, out)?;
+    for pick in picks {
+        tell_step(*pick, out)?;
     }
     Ok(())
 }
 
-fn tell_step<O: Out>(core: u8, out: &mut O) -> Result<(), WriteFault>
-    ensures { Writes (O.device out.old) (O.device out.new) (step_text core) result }
+fn tell_step<O: Out>(pick: Pick, out: &mut O) -> Result<(), WriteFault>
+    ensures { Writes (O.device out.old) (O.device out.new) (step_text pick) result }
 {
     let mut row = TextLine::new();
     push(&mut row, b" ");
-    push_number(&mut row, core);
+    push_number(&mut row, pick.core);
+    push(&mut row, letter_of(pick.event));
     out.put(row.as_slice())?;
     Ok(())
+}
+
+// The letter of an event, and nothing for none.
+fn letter_of(event: Option<Event>) -> &'static [u8]
+    ensures letter { result.now ≡ event_text event }
+    ensures len { length result.now ≤ 1 }
+{
+    match event {
+        None => b"",
+        Some(Event::Abort(Interference::Interrupt)) => b"i",
+        Some(Event::Abort(Interference::Eviction)) => b"e",
+        Some(Event::Abort(Interference::Snoop)) => b"s",
+    }
 }
 
 // The last line.

@@ -4,3 +4,4 @@ pub mod ProgramFile
 pub mod Settings
 pub mod Parts
 pub mod Sums
+pub mod Entries

@@ -1,5 +1,5 @@
 -- What the options of a command line say of a machine (docs/FORMATS.md, "Options of the command line").
-use Rattle.std.specs.Prelude.{◌≡◌, ℕ, ◌^◌, List, nat_lt, if◌then◌else◌, Option, Some, None, option_and_then}
+use Rattle.std.specs.Prelude.{◌≡◌, ℕ, ◌^◌, List, nat_lt, if◌then◌else◌, Option, Some, None, option_and_then, option_map}
 use Rattle.std.specs.Option.{option_copied}
 use Rattle.ia_lex.specs.Numbers.{word_number}
 use Rattle.elide_args.specs.declared.subcommand.MachineOptions.{MachineOptions}
@@ -21,10 +21,12 @@ abbrev pub number_or : ℕ → Option (List ℕ) → Option ℕ
 number_or default None = Some default
 number_or default (Some word) = word32 word
 
--- the numbers of a machine are those that the options say, and what is printed of memory is what they ask for
+-- the numbers of a machine are those that the options say, its cores begin where they say, and what is printed of
+-- memory is what they ask for
 pub record AreSettings (options : MachineOptions) (settings : Settings) : Type 0 where
   pub cores : number_or 1 (option_copied options.cores) ≡ Some settings.cores
   pub memory : number_or 65536 (option_copied options.memory) ≡ Some settings.memory
+  pub entries : option_map (λ list. list.text.now) settings.entries ≡ option_copied options.entry
   pub reads : number_or 512 (option_copied options.reads) ≡ Some settings.reads
   pub writes : number_or 512 (option_copied options.writes) ≡ Some settings.writes
   pub dumps : settings.dumps.now ≡ options.dumps.items

@@ -1,6 +1,7 @@
 //! FILE as a program: image text, an executable in ELF, or a source that is assembled.
 
-ghost use Rattle.std.specs.Prelude.{◌≡◌, ◌≤◌, ◌↔◌, IfErr, IfOk, IsTrue, List, MatchResult, None, length, min, replicate, ℕ};
+ghost use Rattle.std.specs.Prelude.{◌≡◌, ◌≤◌, ◌↔◌, IfErr, IfOk, IsTrue, List, MatchResult, None, Some, length, min, replicate, ℕ};
+ghost use Rattle.elide_program.specs.Entries.{AreStarts, for_cores};
 ghost use Rattle.elide_program.specs.Faults.{unread, unread_source};
 ghost use Rattle.elide_program.specs.Files.{Gives, Tells, most_bytes};
 ghost use Rattle.elide_program.specs.ProgramFile.{IsSource, is_image};
@@ -169,6 +170,8 @@ impl<'a> ProgramFile<'a> {
         ensures cores { IfOk result (λ starts. length starts.items ≤ 64 → length starts.items ≡ settings.now.cores) }
         ensures default { IfOk result (λ starts. settings.now.entries ≡ None
             → starts.items ≡ replicate (min settings.now.cores 65) (file_start self.now)) }
+        ensures starts { IfOk result (λ starts. length starts.items ≤ 64
+            → AreStarts self.now settings.now.entries settings.now.cores starts.items) }
     {
         match settings.entries {
             Some(list) => starts_of(alloc, list, settings.cores, self),
@@ -210,16 +213,27 @@ impl<'a> ProgramFile<'a> {
     }
 }
 
-// The addresses of a list: one for all cores, or one a core.
+// Where the cores start as a list says.
 fn starts_of(
     alloc: Global,
     list: EntryList<'_>,
     cores: u32,
     file: &ProgramFile<'_>,
 ) -> Result<Vec<u32>, ProgramRefusal>
-    ensures { IfOk result (λ starts. length starts.items ≤ 64 → length starts.items ≡ cores) }
+    ensures cores { IfOk result (λ starts. length starts.items ≤ 64 → length starts.items ≡ cores) }
+    ensures starts { IfOk result (λ starts. length starts.items ≤ 64
+        → AreStarts file.now (Some list.entry) cores starts.items) }
 {
     let addresses = list.addresses(alloc, file)?;
+    for_cores(alloc, addresses, cores)
+}
+
+// One address for all cores, or one a core.
+#[tactic(auto, using(crate::proofs::EntrySteps::for_all, crate::proofs::EntrySteps::of_alone, crate::proofs::EntrySteps::of_each))]
+fn for_cores(alloc: Global, addresses: Vec<u32>, cores: u32) -> Result<Vec<u32>, ProgramRefusal>
+    ensures cores { IfOk result (λ starts. length starts.items ≤ 64 → length starts.items ≡ cores) }
+    ensures starts { IfOk result (λ starts. length starts.items ≤ 64 → starts.items ≡ for_cores cores addresses.items) }
+{
     match addresses.as_slice() {
         [alone] => same_start(alloc, *alone, cores),
         all if all.len() == cores as usize => Ok(addresses),

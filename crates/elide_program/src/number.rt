@@ -1,6 +1,8 @@
 //! Numbers and names of the command line.
 
 ghost use Rattle.std.specs.Prelude.{◌≡◌};
+ghost use Rattle.std.specs.List.{list_all};
+ghost use Rattle.elide_program.specs.Entries.{is_name, is_name_part};
 ghost use Rattle.elide_program.specs.Settings.{word32};
 
 use ia_lex::word_number;
@@ -21,11 +23,23 @@ pub fn number_in(word: &[u8]) -> Option<u32>
 }
 
 /// Whether a word is a name: letters, digits, `_` and `.`, not beginning with a digit.
-pub fn is_name(word: &str) -> bool {
-    let bytes = word.as_bytes();
-    let is_part = |byte: &u8| byte.is_ascii_alphanumeric() || *byte == b'_' || *byte == b'.';
-    match bytes.first() {
-        Some(first) => !first.is_ascii_digit() && bytes.iter().all(is_part),
-        None => false,
+pub fn is_name(word: &str) -> bool
+    ensures { result ≡ is_name word.now }
+{
+    match word.as_bytes() {
+        [] => false,
+        [first, ..] => !first.is_ascii_digit() && are_name_parts(word.as_bytes()),
     }
+}
+
+fn are_name_parts(word: &[u8]) -> bool
+    ensures { result ≡ list_all is_name_part word.now }
+{
+    word.iter().all(|byte| is_name_part(*byte))
+}
+
+fn is_name_part(byte: u8) -> bool
+    ensures { result ≡ is_name_part byte }
+{
+    byte.is_ascii_alphanumeric() || byte == b'_' || byte == b'.'
 }

@@ -80,8 +80,8 @@ fn values_of(
     Ok(values)
 }
 
-// Adds one at the end.
-fn add<T: Copy>(row: &mut Vec<T>, value: T) -> Result<(), ProgramRefusal>
+/// Adds one at the end.
+pub fn add<T: Copy>(row: &mut Vec<T>, value: T) -> Result<(), ProgramRefusal>
     ensures { OnOk result (row.new.items ≡ row.old.items ++ value ∷ []) }
 {
     match row.push(value) {

@@ -1,6 +1,6 @@
 //! The options that `run`, `threads`, `replay` and `debug` have alike.
 
-ghost use Rattle.std.specs.Prelude.{◌≡◌, IfOk, MatchResult, None, Some};
+ghost use Rattle.std.specs.Prelude.{◌≡◌, IfOk, MatchResult, None, Some, option_map};
 ghost use Rattle.std.specs.Option.{option_copied};
 ghost use Rattle.elide_program.specs.Settings.{number_or, number_said};
 
@@ -97,7 +97,9 @@ fn number_or(text: Option<&str>, default: u32, name: &'static str) -> Result<u32
 fn entries_of<'a>(
     text: Option<&'a str>,
     cores: u32,
-) -> Result<Option<EntryList<'a>>, ProgramRefusal> {
+) -> Result<Option<EntryList<'a>>, ProgramRefusal>
+    ensures { IfOk result (λ entries. option_map (λ list. list.text.now) entries ≡ option_copied text.entry) }
+{
     let Some(text) = text else {
         return Ok(None);
     };

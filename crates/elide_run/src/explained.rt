@@ -2,7 +2,7 @@
 
 ghost use Rattle.std.specs.Prelude.{◌≡◌, ℕ, IfOk, List, true};
 ghost use Rattle.ia_text.specs.Writing.{Wrote};
-ghost use Rattle.elide_setup.specs.Runs.{IsMachineStep, IsRunOf};
+ghost use Rattle.elide_setup.specs.Runs.{AreMachineSteps, IsMachineStep, IsRunOf};
 ghost use Rattle.elide_setup.specs.Schedules.{AreOf, picks_made};
 ghost use Rattle.tm_model.specs.declared.outcome.Outcome.{Outcome};
 ghost use Rattle.tm_model.specs.declared.outcome.Pick.{Pick};
@@ -111,7 +111,7 @@ struct Telling<T, O> {
 }
 
 impl<T: StepTeller, O: Out> StepMaker for Telling<T, O> {
-    ghost takes = { λ before pick outcome after. IsMachineStep before.machine pick outcome after.machine
+    ghost takes = { λ before steps after. AreMachineSteps before.machine steps after.machine
         × (text : List ℕ)
         × Wrote (⟦<Gathered<O> as Out>⟧.device before.page) (⟦<Gathered<O> as Out>⟧.device after.page) text };
 

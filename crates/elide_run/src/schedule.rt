@@ -2,12 +2,11 @@
 
 ghost use Rattle.std.specs.Prelude.{◌≡◌, ℕ, IfOk, List, false};
 ghost use Rattle.ia_text.specs.Writing.{Wrote};
-ghost use Rattle.elide_setup.specs.Runs.{IsMachineStep, IsRunOf};
+ghost use Rattle.elide_setup.specs.Runs.{AreMachineSteps, IsRunOf};
 ghost use Rattle.elide_setup.specs.Schedules.{AreOf, picks_made};
-ghost use Rattle.elide_setup.specs.TmHist.Lines.{outcome_line};
 ghost use Rattle.tm_model.specs.declared.outcome.Outcome.{Outcome};
 ghost use Rattle.tm_model.specs.declared.outcome.Pick.{Pick};
-ghost use Rattle.elide_run.specs.Printed.{IsPrinted, IsRunAsAsked, IsTold, trace_text};
+ghost use Rattle.elide_run.specs.Printed.{IsPrinted, IsRunAsAsked, IsTold, outcome_lines, trace_text};
 
 use crate::explained::run_explained;
 use crate::halting::{Ending, ending_of};
@@ -102,9 +101,9 @@ struct Tracing<O> {
 }
 
 impl<O: Out> StepMaker for Tracing<O> {
-    ghost takes = { λ before pick outcome after. IsMachineStep before.machine pick outcome after.machine
+    ghost takes = { λ before steps after. AreMachineSteps before.machine steps after.machine
         × Wrote (⟦<Gathered<O> as Out>⟧.device before.page) (⟦<Gathered<O> as Out>⟧.device after.page)
-        (outcome_line pick.core outcome) };
+        (outcome_lines steps) };
 
     fn make_step(&mut self, pick: Pick) -> Result<Outcome, Refusal> {
         let outcome = self.machine.make_step(pick)?;

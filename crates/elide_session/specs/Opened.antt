@@ -17,7 +17,11 @@ pub record IsOpened (content : Option (List ℕ)) (options : MachineOptions) (bo
   pub new : IsNew setup.program setup.limits 1000000 board
   pub named : AreSymbolsOf asked.file symbols
 
+-- something is said of a schedule that is drawn
+abbrev pub says_draw : ScheduleOptions → Bool
+says_draw schedule = is_some schedule.events || is_some schedule.seed || is_some schedule.limit
+
 -- a schedule is asked for
 abbrev pub is_scheduled : ScheduleOptions → Bool
 is_scheduled schedule = is_some schedule.steps || is_some schedule.path || schedule.in_turn || is_some schedule.random
-    || is_some schedule.limit
+    || says_draw schedule

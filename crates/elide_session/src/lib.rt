@@ -7,7 +7,7 @@
 #![tactic(auto)]
 
 ghost use Rattle.std.specs.Prelude.{◌≡◌, [], IfOk, false};
-ghost use Rattle.elide_session.specs.Opened.{IsOpened, is_scheduled};
+ghost use Rattle.elide_session.specs.Opened.{IsOpened, is_scheduled, says_draw};
 ghost use Rattle.elide_session.specs.Symbols.{AreSymbolsOf};
 ghost use Rattle.elide_setup.specs.Faults.{fault_number};
 ghost use Rattle.tm_debug.specs.Faults.{session_code};
@@ -79,7 +79,8 @@ pub fn session_fault(fault: &SessionFault) -> Fault
     }
 }
 
-/// Whether a schedule is asked for, which may have no steps. A limit alone is refused where the schedule is read.
+/// Whether a schedule is asked for, which may have no steps. What is said of a draw alone is refused where the schedule is
+/// read.
 pub fn is_scheduled(schedule: &ScheduleOptions<'_>) -> bool
     ensures { result ≡ is_scheduled schedule.now }
 {
@@ -87,7 +88,14 @@ pub fn is_scheduled(schedule: &ScheduleOptions<'_>) -> bool
         || schedule.path.is_some()
         || schedule.in_turn
         || schedule.random.is_some()
-        || schedule.limit.is_some()
+        || says_draw(schedule)
+}
+
+// Whether something is said of a schedule that is drawn.
+fn says_draw(schedule: &ScheduleOptions<'_>) -> bool
+    ensures { result ≡ says_draw schedule.now }
+{
+    schedule.events.is_some() || schedule.seed.is_some() || schedule.limit.is_some()
 }
 
 // The same as `opened`, where a schedule is asked for. It is read before the program is loaded.

@@ -1,7 +1,10 @@
+pub mod Alone
 mod Decimal
+pub mod Drawing
+mod EventTexts
 mod Held
 pub mod Owing
 pub mod Runs
 pub mod Schedules
 mod ShownTexts
-mod Walks
+pub mod Walks

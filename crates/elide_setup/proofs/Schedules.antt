@@ -14,7 +14,7 @@ pub planned_before : (before after : List ℕ → Option (List ℕ)) (asked : Pl
 planned_before before after (plan.Steps listed) picks kept h = h
 planned_before before after (plan.File path) picks kept h =
     subst (λ (content : Option (List ℕ)). IfSome content (λ text. schedule_of text ≡ Ok picks)) (kept path.now) h
-planned_before before after (plan.Drawn drawn) picks kept h = tt
+planned_before before after (plan.Drawn drawn) picks kept h = h
 
 file_before : (before after : List ℕ → Option (List ℕ)) (path : Option (Bor (List ℕ))) (picks : List Pick) → ((other : List ℕ) → after other ≡ before other) →
     IfSome path (λ p. IfSome (after p.now) (λ text. schedule_of text ≡ Ok picks)) → IfSome path (λ p. IfSome (before p.now) (λ text. schedule_of text ≡ Ok picks))
@@ -23,4 +23,4 @@ file_before before after (Some path) picks kept h = subst (λ (content : Option 
 
 pub asked_before : (before after : List ℕ → Option (List ℕ)) (options : ScheduleOptions) (picks : List Pick) → ((other : List ℕ) → after other ≡ before other) →
     AreAsked after options picks → AreAsked before options picks
-asked_before before after options picks kept h = record { steps = h.steps; file = file_before before after options.path picks kept h.file }
+asked_before before after options picks kept h = record { steps = h.steps; file = file_before before after options.path picks kept h.file; drawn = h.drawn }

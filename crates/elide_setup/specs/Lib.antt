@@ -1,5 +1,8 @@
+pub mod Drawing
+pub mod Events
 pub mod Faults
 pub mod Gathering
+pub mod Misuse
 pub mod Owing
 pub mod Runs
 pub mod Schedules

@@ -1,32 +1,58 @@
 -- What a command's schedule states: the picks of the steps that it lists, each a core and the event that its step comes
 -- under, or none.
-use Rattle.std.specs.Prelude.{◌≡◌, ℕ, List, ⊤, map, Option, IfSome, Ok}
+use Rattle.std.specs.Prelude.{◌≡◌, ℕ, Bool, List, [], map, Option, None, IfSome, Ok, if◌then◌else◌}
+use Rattle.std.specs.Option.{option_copied}
 use Rattle.elide_args.specs.declared.subcommand.ScheduleOptions.{ScheduleOptions}
 use Rattle.tm_schedule.specs.Schedule.{schedule_of, steps_of}
 use Rattle.tm_model.specs.declared.outcome.Outcome.{Outcome}
 use Rattle.tm_model.specs.declared.outcome.Pick.{Pick}
+use Rattle.tm_model.specs.Runs.{picks_of}
+use Rattle.elide_setup.specs.Drawing.{AreUnder, events_asked}
+use Rattle.elide_setup.specs.Owing.{history_made}
 use Rattle.elide_setup.specs.declared.plan.Course.{Course}
 use Rattle.elide_setup.specs.declared.plan.Course.TheVariants as course
 use Rattle.elide_setup.specs.declared.plan.Plan.{Plan}
 use Rattle.elide_setup.specs.declared.plan.Plan.TheVariants as plan
 
 -- the picks are those of `--steps`, and those of the schedule that the file at `--schedule` holds, where its content is
--- known (docs/FORMATS.md, "Schedules"); nothing is said of a schedule that is drawn
+-- known (docs/FORMATS.md, "Schedules"); of a schedule that is drawn, whose cores nothing is said of, the events are of
+-- those that `--events` asks for
 pub record AreAsked (content : List ℕ → Option (List ℕ)) (options : ScheduleOptions) (picks : List Pick) : Type 0 where
   pub steps : IfSome options.steps (λ text. steps_of text.now ≡ Ok picks)
   pub file : IfSome options.path (λ path. IfSome (content path.now) (λ text. schedule_of text ≡ Ok picks))
+  pub drawn : options.steps ≡ None → options.path ≡ None →
+      IfSome (events_asked (option_copied options.events)) (λ events. AreUnder events picks)
 
 -- the same of a plan that was read
 abbrev pub ArePlanned : (List ℕ → Option (List ℕ)) → Plan → List Pick → Type 0
 ArePlanned content (plan.Steps listed) picks = picks ≡ listed.items
 ArePlanned content (plan.File path) picks = IfSome (content path.now) (λ text. schedule_of text ≡ Ok picks)
-ArePlanned content (plan.Drawn drawn) picks = ⊤
+ArePlanned content (plan.Drawn drawn) picks = AreUnder drawn.events picks
 
 -- the same of a course
 abbrev pub AreOf : Course → List Pick → Type 0
 AreOf (course.Listed listed) picks = picks ≡ listed.items
-AreOf (course.Drawn drawn) picks = ⊤
+AreOf (course.Drawn drawn) picks = AreUnder drawn.events picks
 
 -- the picks of steps that were made, each with what it came to
 abbrev pub picks_made : List (Pick × Outcome) → List Pick
 picks_made steps = map (λ made. made.0) steps
+
+-- a step of this core under no event
+abbrev pub lone_pick : ℕ → Pick
+lone_pick core = record { core = core; event = None }
+
+-- each with the event that its outcome tells, and none where that aborted nothing
+abbrev pub picks_told : List (Pick × Outcome) → List Pick
+picks_told steps = picks_of (history_made steps)
+
+-- the picks that are kept of steps: of those that are drawn, where they are asked for, all that were made, as their
+-- outcomes tell them; those of a list stand there
+abbrev pub kept_of : Course → Bool → List (Pick × Outcome) → List Pick
+kept_of (course.Listed listed) keeps steps = []
+kept_of (course.Drawn drawn) keeps steps = if keeps then picks_told steps else []
+
+-- the schedule that came about: the list, or what was kept of the steps that were drawn
+abbrev pub schedule_made : Course → List Pick → List Pick
+schedule_made (course.Listed listed) kept = listed.items
+schedule_made (course.Drawn drawn) kept = kept

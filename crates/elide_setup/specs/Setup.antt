@@ -1,6 +1,7 @@
 -- A program and its machine's settings, as the options say.
 use Rattle.std.specs.Prelude.{◌≡◌, ℕ, List, Option, length}
 use Rattle.elide_args.specs.declared.subcommand.MachineOptions.{MachineOptions}
+use Rattle.elide_program.specs.Entries.{AreStarts}
 use Rattle.elide_program.specs.Parts.{AreParts}
 use Rattle.elide_program.specs.ProgramFile.{IsRead, loaded}
 use Rattle.elide_program.specs.Settings.{AreSettings}
@@ -8,10 +9,11 @@ use Rattle.elide_program.specs.declared.file.ProgramFile.{ProgramFile}
 use Rattle.elide_program.specs.declared.settings.Settings.{Settings}
 use Rattle.elide_setup.specs.declared.machine.Setup.{Setup}
 
--- the machine is that of a file with the cores, the memory and the limits of the settings, and what is printed of
--- memory is what they ask for
+-- the machine is that of a file with the cores, the memory and the limits of the settings, each core begins where they
+-- say, and what is printed of memory is what they ask for
 pub record IsSetup (file : ProgramFile) (settings : Settings) (setup : Setup) : Type 0 where
   pub cores : length setup.program.entries ≡ settings.cores
+  pub starts : AreStarts file settings.entries settings.cores setup.program.entries
   pub program : setup.program ≡ loaded file settings.memory setup.program.entries
   pub reads : setup.limits.read_lines ≡ settings.reads
   pub writes : setup.limits.write_lines ≡ settings.writes

@@ -7,6 +7,7 @@
 //! `elide_program`, and on the machine and its history (`tm_core`, `tm_hist`), whose clauses say what a machine comes to.
 #![tactic(auto)]
 
+mod events;
 mod fault;
 mod gathered;
 mod lent;
@@ -22,6 +23,7 @@ mod walk;
 pub use elide_program::{
     Paths, ProgramFile, ProgramRefusal, Settings, Text, number_of, read_file, sum_of,
 };
+pub use events::{events_of, kinds_of};
 pub use fault::{Fault, Refusal};
 pub use gathered::Gathered;
 pub use ia_image::Program;
@@ -37,5 +39,6 @@ pub use tm_hist::{
     MachineFault, Outcome, Pick, Reach, RunFault, Serial, StepFault, Stop, interference_text,
     stop_text, write_outcome,
 };
+pub use tm_pick::{Events, Kinds};
 pub use told::{push_back, push_front};
 pub use walk::StepMaker;

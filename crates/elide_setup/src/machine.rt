@@ -3,6 +3,7 @@
 ghost use Rattle.std.specs.Prelude.{◌≡◌, ◌≤◌, ℕ, [], IfOk, List, length};
 ghost use Rattle.tm_model.specs.declared.outcome.Pick.{Pick};
 ghost use Rattle.tm_hist.specs.Board.{IsNew};
+ghost use Rattle.elide_program.specs.Entries.{AreStarts};
 ghost use Rattle.elide_program.specs.Parts.{AreParts};
 ghost use Rattle.elide_program.specs.declared.file.ProgramFile.{ProgramFile};
 ghost use Rattle.elide_setup.specs.Runs.{IsRunOf};
@@ -39,6 +40,7 @@ impl Setup {
         parts: MemoryParts,
     ) -> Result<Setup, Refusal>
         ensures { IfOk result (λ setup. (length starts.now ≤ 64 → length starts.now ≡ settings.now.cores)
+            → (length starts.now ≤ 64 → AreStarts file.now settings.now.entries settings.now.cores starts.now)
             → AreParts file.now settings.now.dumps.now settings.now.shows.now parts
             → IsSetup file.now settings.now setup) }
     {

@@ -1,16 +1,20 @@
 //! Where a command's schedule comes from.
 
-ghost use Rattle.std.specs.Prelude.{◌≡◌, ℕ, IfOk, IfSome, List, Ok, Option};
+ghost use Rattle.std.specs.Prelude.{◌≡◌, ℕ, IfOk, IfSome, List, Ok, OnOk, Option, Some};
+ghost use Rattle.std.specs.Option.{option_copied};
 ghost use Rattle.tm_model.specs.declared.outcome.Pick.{Pick};
-ghost use Rattle.tm_schedule.specs.Schedule.{schedule_of};
+ghost use Rattle.tm_pick.specs.Drawn.{AreDrawn};
+ghost use Rattle.tm_schedule.specs.Schedule.{schedule_of, steps_of};
+ghost use Rattle.elide_setup.specs.Drawing.{IsAskedDraw, IsDrawn, IsEventSeed, IsSeed, SaysNoDraw, events_asked};
 ghost use Rattle.elide_setup.specs.Schedules.{AreAsked, AreOf, ArePlanned};
 
+use crate::events::events_of;
 use crate::fault::{Fault, Refusal};
 use elide_args::ScheduleOptions;
 use elide_program::{MOST_BYTES, Paths, ProgramFault, ReadFault, number_of};
 use std::alloc::Global;
 use tm_model::Pick;
-use tm_pick::Picker;
+use tm_pick::{Events, Picker};
 use tm_schedule::{ScheduleFault, read_schedule, read_steps};
 
 /// The most steps of a schedule that is drawn, where `--limit` is not given.
@@ -37,25 +41,29 @@ pub enum Course {
 }
 
 impl<'a> Plan<'a> {
-    /// Reads `--steps`, `--schedule`, `--in-turn` or `--random`, of which exactly one is given.
+    /// Reads `--steps`, `--schedule`, `--in-turn` or `--random`, of which exactly one is given, and with the last two
+    /// `--events`, `--seed` and `--limit`.
     pub fn read(alloc: Global, options: &ScheduleOptions<'a>) -> Result<Plan<'a>, Refusal>
-        ensures { IfOk result (λ plan. (content : List ℕ → Option (List ℕ)) (picks : List Pick) →
+        ensures steps { IfOk result (λ plan. (content : List ℕ → Option (List ℕ)) (picks : List Pick) →
             ArePlanned content plan picks → AreAsked content options.now picks) }
+        ensures draw { IfOk result (IsAskedDraw options.now) }
     {
         let given = (options.steps, options.path, options.in_turn, options.random);
         match given {
-            (None, None, true, None) => Ok(Plan::Drawn(Drawn::read(None, options.limit)?)),
-            (None, None, false, Some(seed)) => {
-                Ok(Plan::Drawn(Drawn::read(Some(seed), options.limit)?))
+            (None, None, true, None) | (None, None, false, Some(_)) => {
+                Ok(Plan::Drawn(Drawn::read(options)?))
             }
-            (Some(_), None, false, None) | (None, Some(_), false, None)
-                if options.limit.is_some() => { Err(Refusal::Usage("--limit")) }
-            (Some(list), None, false, None) => match read_steps(alloc, list.as_bytes()) {
-                Ok(steps) => Ok(Plan::Steps(steps)),
-                Err(ScheduleFault::BadSchedule(_)) => Err(Refusal::Usage("--steps")),
-                Err(fault) => Err(Refusal::Fault(Fault::Schedule(fault))),
-            },
-            (None, Some(path), false, None) => Ok(Plan::File(path)),
+            (Some(list), None, false, None) => {
+                check_listed(options)?;
+                Ok(Plan::Steps(steps_said(alloc, list)?))
+            }
+            (None, Some(path), false, None) => {
+                check_listed(options)?;
+                Ok(Plan::File(path))
+            }
+            (None, None, false, None) if options.events.is_some() => {
+                Err(Refusal::Usage("--events"))
+            }
             _ => Err(Refusal::Usage("--steps")),
         }
     }
@@ -76,32 +84,104 @@ impl<'a> Plan<'a> {
     }
 }
 
+// Refuses what is said of a schedule that is drawn, beside one that is listed.
+fn check_listed(options: &ScheduleOptions<'_>) -> Result<(), Refusal>
+    ensures { OnOk result (SaysNoDraw options.now) }
+{
+    if options.limit.is_some() {
+        return Err(Refusal::Usage("--limit"));
+    }
+    if options.events.is_some() {
+        return Err(Refusal::Usage("--events"));
+    }
+    if options.seed.is_some() {
+        return Err(Refusal::Usage("--seed"));
+    }
+    Ok(())
+}
+
+// The steps of a list.
+fn steps_said(alloc: Global, list: &str) -> Result<Vec<Pick>, Refusal>
+    ensures { IfOk result (λ picks. steps_of list.now ≡ Ok picks.items) }
+{
+    match read_steps(alloc, list.as_bytes()) {
+        Ok(steps) => Ok(steps),
+        Err(ScheduleFault::BadSchedule(_)) => Err(Refusal::Usage("--steps")),
+        Err(fault) => Err(Refusal::Fault(Fault::Schedule(fault))),
+    }
+}
+
 /// A schedule that is drawn, whose steps stand in no list.
 #[derive(Clone, Copy, PartialEq, Eq)]
 pub struct Drawn {
     /// The seed of a schedule by chance; round by round, where there is none.
     pub seed: Option<u32>,
+    /// Which steps come under an event.
+    pub events: Events,
+    /// What the events are drawn from: the seed of a schedule by chance, and else `--seed`.
+    pub event_seed: u32,
     /// The most steps, 1 or more.
     pub most: u32,
 }
 
 impl Drawn {
-    // Reads the seed and `--limit`.
-    fn read(seed: Option<&str>, limit: Option<&str>) -> Result<Drawn, Refusal> {
-        let seed = match seed {
-            Some(_) => Some(number_of(seed, "--random")?),
-            None => None,
-        };
-        let most = limit_of(limit)?;
-        Ok(Drawn { seed, most })
+    // Reads `--random`, `--events`, `--seed` and `--limit`.
+    fn read(options: &ScheduleOptions<'_>) -> Result<Drawn, Refusal>
+        ensures { IfOk result (IsDrawn options.now) }
+    {
+        let seed = seed_of(options.random)?;
+        let events = events_said(options.events)?;
+        let event_seed = event_seed_of(options, seed)?;
+        let most = limit_of(options.limit)?;
+        Ok(Drawn {
+            seed,
+            events,
+            event_seed,
+            most,
+        })
     }
 
-    /// What picks the cores of the steps.
-    pub fn picker(self) -> Picker<'static> {
-        match self.seed {
+    /// What picks the steps: each core, and the event that its step comes under.
+    pub fn picker(self) -> Picker<'static>
+        ensures { AreDrawn self.events result }
+    {
+        let picker = match self.seed {
             Some(seed) => Picker::random(seed),
             None => Picker::in_turn(),
-        }
+        };
+        picker.under(self.events.of_run(self.event_seed, 0))
+    }
+}
+
+// The seed of a schedule by chance, where it is one.
+fn seed_of(random: Option<&str>) -> Result<Option<u32>, Refusal>
+    ensures { IfOk result (IsSeed (option_copied random.entry)) }
+{
+    match random {
+        Some(_) => Ok(Some(number_of(random, "--random")?)),
+        None => Ok(None),
+    }
+}
+
+// The events that are asked for: none, where the option is not given.
+fn events_said(events: Option<&str>) -> Result<Events, Refusal>
+    ensures { IfOk result (λ said. events_asked (option_copied events.entry) ≡ Some said) }
+{
+    match events {
+        Some(text) => events_of(text),
+        None => Ok(Events::Never),
+    }
+}
+
+// What the events are drawn from. `--seed` says it where events are asked for and the schedule is not drawn by a seed of
+// its own.
+fn event_seed_of(options: &ScheduleOptions<'_>, random: Option<u32>) -> Result<u32, Refusal>
+    ensures { IfOk result (IsEventSeed options.now random) }
+{
+    match (options.seed, random) {
+        (None, random) => Ok(random.unwrap_or(1)),
+        (Some(_), None) if options.events.is_some() => Ok(number_of(options.seed, "--seed")?),
+        (Some(_), _) => Err(Refusal::Usage("--seed")),
     }
 }
 

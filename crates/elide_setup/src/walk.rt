@@ -1,10 +1,13 @@
 //! Runs over a schedule, listed or drawn.
 
-ghost use Rattle.std.specs.Prelude.{◌≡◌, ◌≤◌, ◌++◌, ◌∷◌, [], IfOk, List, Ok};
+ghost use Rattle.std.specs.Prelude.{◌≡◌, ◌≤◌, ◌++◌, ◌∷◌, [], if◌then◌else◌, length, replicate, take, true};
+ghost use Rattle.std.specs.Prelude.{IfOk, List, Ok, OnOk};
+ghost use Rattle.tm_model.specs.Runs.{event_told, pick_of};
 ghost use Rattle.tm_model.specs.declared.outcome.Outcome.{Outcome};
 ghost use Rattle.tm_model.specs.declared.outcome.Pick.{Pick};
-ghost use Rattle.elide_setup.specs.Runs.{IsBoardStep, IsMachineStep};
-ghost use Rattle.elide_setup.specs.Schedules.{AreOf, picks_made};
+ghost use Rattle.elide_setup.specs.Drawing.{AreUnder};
+ghost use Rattle.elide_setup.specs.Runs.{AreBoardSteps, AreMachineSteps};
+ghost use Rattle.elide_setup.specs.Schedules.{AreOf, kept_of, lone_pick, picks_made, picks_told, schedule_made};
 ghost use Rattle.elide_setup.specs.TmHist.Board.{IsOwedNext, SameBoard};
 ghost use Rattle.elide_setup.specs.Walks.{Leads};
 
@@ -15,25 +18,40 @@ use crate::recorded::record;
 use elide_program::Paths;
 use std::alloc::Global;
 use tm_core::NoSuchCore;
-use tm_hist::{Board, Machine, Outcome, RunFault, StepFault};
+use tm_hist::{Board, Event, Machine, Outcome, RunFault, StepFault};
 use tm_model::Pick;
 use tm_pick::Going;
 
 /// After how many steps it is told how far a run is.
-const PORTION: u32 = 65536;
+const PORTION: usize = 65536;
+
+/// How many steps of one core side by side are made as a run: fewer cost less one by one.
+const SHORTEST: usize = 3;
 
 /// What makes the steps of a run.
 pub trait StepMaker {
-    // What the step of a pick does, with its outcome.
-    ghost takes: { Self → Pick → Outcome → Self → Type 0 };
+    // What steps do, each a pick with its outcome.
+    ghost takes: { Self → List (Pick × Outcome) → Self → Type 0 };
 
     /// Makes one step of a pick's core, under its event where it has one.
     fn make_step(&mut self, pick: Pick) -> Result<Outcome, Refusal>
-        ensures { IfOk result (λ outcome. takes self.old pick outcome self.new) };
+        ensures { IfOk result (λ outcome. takes self.old ((pick, outcome) ∷ []) self.new) };
+
+    /// Makes steps of a core side by side, under no event: one at least, and at most so many, 1 or more. Answers how many.
+    fn make_run(&mut self, core: u8, most: u32) -> Result<u32, Refusal>
+        requires { 1 ≤ most }
+        ensures steps { IfOk result (λ count. (steps : List (Pick × Outcome))
+            × (picks_made steps ≡ replicate count (lone_pick core)) × takes self.old steps self.new) }
+        ensures some { IfOk result (λ count. 1 ≤ count) }
+        ensures most { IfOk result (λ count. count ≤ most) }
+    {
+        self.make_step(Pick { core, event: None })?;
+        Ok(1)
+    }
 }
 
 impl StepMaker for Machine {
-    ghost takes = { IsMachineStep };
+    ghost takes = { AreMachineSteps };
 
     // Inlined, so that a walk that drops the outcome pays nothing for it.
     #[inline(always)]
@@ -43,10 +61,15 @@ impl StepMaker for Machine {
             Some(event) => told(self.step_under(pick.core, event)),
         }
     }
+
+    // One call, in which a step costs a third of what it costs by itself.
+    fn make_run(&mut self, core: u8, most: u32) -> Result<u32, Refusal> {
+        ran(self.steps_alone(core, most))
+    }
 }
 
 impl StepMaker for Board {
-    ghost takes = { IsBoardStep };
+    ghost takes = { AreBoardSteps };
 
     #[inline(always)]
     fn make_step(&mut self, pick: Pick) -> Result<Outcome, Refusal> {
@@ -92,6 +115,16 @@ fn told(made: Result<Outcome, NoSuchCore>) -> Result<Outcome, Refusal>
     }
 }
 
+// The same of an answer to steps of one core.
+fn ran(made: Result<u32, NoSuchCore>) -> Result<u32, Refusal>
+    ensures { IfOk result (λ count. made ≡ Ok count) }
+{
+    match made {
+        Ok(count) => Ok(count),
+        Err(NoSuchCore) => Err(Refusal::Fault(Fault::Run(RunFault::NoSuchCore))),
+    }
+}
+
 impl Course {
     /// How many steps there are at most: those of a list, or those that may be drawn.
     pub fn most(&self) -> u64 {
@@ -113,7 +146,8 @@ impl Course {
 
     /// Makes the steps on a machine of so many cores, 1 to 64: those of the list, or those that are drawn until all cores
     /// have stopped or the limit is reached.
-    /// Answers the picks of those that were drawn, where `keeps` asks for them; else it takes no memory.
+    /// Answers the picks of those that were drawn, where `keeps` asks for them, each with the event that aborted it; else
+    /// it takes no memory.
     pub fn walk<S: StepMaker, G: Progress>(
         &self,
         alloc: Global,
@@ -123,20 +157,34 @@ impl Course {
         progress: &mut G,
     ) -> Result<Vec<Pick>, Refusal>
         requires { cores ≤ 64 }
-        ensures { IfOk result (λ _. (steps : List (Pick × Outcome)) × AreOf self.now (picks_made steps)
-            × Leads S.takes maker.old steps maker.new) }
+        ensures { IfOk result (λ kept. (steps : List (Pick × Outcome)) × AreOf self.now (picks_made steps)
+            × Leads S.takes maker.old steps maker.new × (kept.items ≡ kept_of self.now keeps steps)) }
     {
-        let mut made = Vec::new(alloc);
-        let walked = match self {
-            Course::Listed(steps) => walk_list(steps.as_slice(), maker, progress),
-            Course::Drawn(drawn) => {
-                let kept = if keeps { Some(&mut made) } else { None };
-                walk_drawn(*drawn, cores, kept, maker, progress)
-            }
-        };
+        let mut kept = Vec::new(alloc);
+        let walked = self.walk_kept(cores, keeps, &mut kept, maker, progress);
         progress.end();
         walked?;
-        Ok(made)
+        Ok(kept)
+    }
+
+    // The same with a list that is empty, for what is kept.
+    fn walk_kept<S: StepMaker, G: Progress>(
+        &self,
+        cores: u8,
+        keeps: bool,
+        kept: &mut Vec<Pick>,
+        maker: &mut S,
+        progress: &mut G,
+    ) -> Result<(), Refusal>
+        requires cores { cores ≤ 64 }
+        requires none { kept.old.items ≡ [] }
+        ensures { IfOk result (λ _. (steps : List (Pick × Outcome)) × AreOf self.now (picks_made steps)
+            × Leads S.takes maker.old steps maker.new × (kept.new.items ≡ kept_of self.now keeps steps)) }
+    {
+        match self {
+            Course::Listed(steps) => walk_list(steps.as_slice(), maker, progress),
+            Course::Drawn(drawn) => walk_drawn(*drawn, cores, keeps, kept, maker, progress),
+        }
     }
 
     /// The same, and the schedule that came about is written where there is a path: a list before its steps are made.
@@ -156,27 +204,36 @@ impl Course {
         if let Course::Listed(steps) = self {
             record(path, steps.as_slice(), paths)?;
         }
-        let made = self.walk(alloc, cores, path.is_some(), maker, progress)?;
+        let kept = self.walk(alloc, cores, path.is_some(), maker, progress)?;
         match self {
             Course::Listed(_) => Ok(()),
-            Course::Drawn(_) => record(path, made.as_slice(), paths),
+            Course::Drawn(_) => record(path, kept.as_slice(), paths),
         }
     }
 
-    /// Writes the schedule that came about, where there is a path: the list, or the steps that were drawn.
+    /// Writes the schedule that came about, where there is a path: the list, or the steps that were kept of those that were
+    /// drawn.
     pub fn record<P: Paths>(
         &self,
         path: Option<&str>,
-        made: &[Pick],
+        kept: &[Pick],
         paths: &mut P,
     ) -> Result<(), Refusal> {
+        record(path, self.schedule(kept), paths)
+    }
+
+    // The schedule that came about: the list, or what was kept of the steps that were drawn.
+    fn schedule<'a>(&'a self, kept: &'a [Pick]) -> &'a [Pick]
+        ensures { result.now ≡ schedule_made self.now kept.now }
+    {
         match self {
-            Course::Listed(steps) => record(path, steps.as_slice(), paths),
-            Course::Drawn(_) => record(path, made, paths),
+            Course::Listed(steps) => steps.as_slice(),
+            Course::Drawn(_) => kept,
         }
     }
 }
 
+// Makes the steps of a list, a portion after another.
 fn walk_list<S: StepMaker, G: Progress>(
     steps: &[Pick],
     maker: &mut S,
@@ -185,25 +242,98 @@ fn walk_list<S: StepMaker, G: Progress>(
     ensures { IfOk result (λ _. (made : List (Pick × Outcome)) × (picks_made made ≡ steps.now)
         × Leads S.takes maker.old made maker.new) }
 {
-    for index in 0..steps.len() {
-        if index % PORTION as usize == 0 {
-            progress.tell(index as u64, steps.len() as u64, "steps");
-        }
-        maker.make_step(steps[index])?;
+    let mut index = 0;
+    while index < steps.len() {
+        progress.tell(index as u64, steps.len() as u64, "steps");
+        let count = PORTION.min(steps.len() - index);
+        walk_portion(&steps[index..index + count], maker)?;
+        index += count;
     }
     Ok(())
 }
 
-// The steps that are drawn, whose picks are kept where there is a list for them.
+// The same of one portion: steps of one core side by side are made as a run.
+fn walk_portion<S: StepMaker>(steps: &[Pick], maker: &mut S) -> Result<(), Refusal>
+    requires { length steps.now ≤ 65536 }
+    ensures { IfOk result (λ _. (made : List (Pick × Outcome)) × (picks_made made ≡ steps.now)
+        × Leads S.takes maker.old made maker.new) }
+{
+    let mut index = 0;
+    while index < steps.len() {
+        let count = walk_front(&steps[index..], maker)?;
+        index += count;
+    }
+    Ok(())
+}
+
+// Makes the first step of a list, or the run that it begins with. Answers how many steps that are.
+#[inline(always)]
+fn walk_front<S: StepMaker>(steps: &[Pick], maker: &mut S) -> Result<usize, Refusal>
+    requires some { 1 ≤ length steps.now }
+    requires few { length steps.now ≤ 65536 }
+    ensures steps { IfOk result (λ count. (made : List (Pick × Outcome)) × (picks_made made ≡ take count steps.now)
+        × Leads S.takes maker.old made maker.new) }
+    ensures some { IfOk result (λ count. 1 ≤ count) }
+    ensures most { IfOk result (λ count. count ≤ length steps.now) }
+{
+    let first = steps[0];
+    let count = run_length(first.core, steps);
+    if count < SHORTEST {
+        maker.make_step(first)?;
+        return Ok(1);
+    }
+    walk_run(first.core, count as u32, maker)?;
+    Ok(count)
+}
+
+// How many of the first of these steps are of this core, under no event.
+#[inline(always)]
+fn run_length(core: u8, steps: &[Pick]) -> usize
+    ensures alike { take result steps.now ≡ replicate result (lone_pick core) }
+    ensures most { result ≤ length steps.now }
+{
+    let mut count = 0;
+    while count < steps.len() && is_lone(steps[count], core) {
+        count += 1;
+    }
+    count
+}
+
+// Whether a step is of this core, under no event.
+#[inline(always)]
+fn is_lone(pick: Pick, core: u8) -> bool
+    ensures { result ≡ true → pick ≡ lone_pick core }
+{
+    pick.core == core && pick.event.is_none()
+}
+
+// Makes so many steps of a core under no event.
+fn walk_run<S: StepMaker>(core: u8, count: u32, maker: &mut S) -> Result<(), Refusal>
+    ensures { IfOk result (λ _. (made : List (Pick × Outcome))
+        × (picks_made made ≡ replicate count (lone_pick core)) × Leads S.takes maker.old made maker.new) }
+{
+    let mut done = 0;
+    while done < count {
+        let made = maker.make_run(core, count - done)?;
+        done += made;
+    }
+    Ok(())
+}
+
+// The steps that are drawn. Where they are asked for they are kept behind those of a list, each with the event that its
+// outcome tells.
 fn walk_drawn<S: StepMaker, G: Progress>(
     drawn: Drawn,
     cores: u8,
-    mut kept: Option<&mut Vec<Pick>>,
+    keeps: bool,
+    kept: &mut Vec<Pick>,
     maker: &mut S,
     progress: &mut G,
 ) -> Result<(), Refusal>
     requires { cores ≤ 64 }
-    ensures { IfOk result (λ _. (steps : List (Pick × Outcome)) × Leads S.takes maker.old steps maker.new) }
+    ensures { IfOk result (λ _. (steps : List (Pick × Outcome)) × AreUnder drawn.events (picks_made steps)
+        × Leads S.takes maker.old steps maker.new
+        × (kept.new.items ≡ kept.old.items ++ (if keeps then picks_told steps else []))) }
 {
     let mut going = Going::all(cores);
     let mut picker = drawn.picker();
@@ -211,24 +341,41 @@ fn walk_drawn<S: StepMaker, G: Progress>(
         if going.is_empty() {
             break;
         }
-        if number % PORTION == 0 {
+        if number as usize % PORTION == 0 {
             progress.tell(u64::from(number), u64::from(drawn.most), "steps");
         }
-        let core = picker.next(&going, false);
-        let pick = Pick { core, event: None };
-        if let Outcome::Stopped(_) = maker.make_step(pick)? {
-            going.remove(core);
+        let pick = picker.next(&going, false);
+        let outcome = maker.make_step(pick)?;
+        if let Outcome::Stopped(_) = outcome {
+            going.remove(pick.core);
         }
-        if let Some(list) = &mut kept {
-            keep(list, pick)?;
-        }
+        keep(keeps, kept, pick, outcome)?;
     }
     Ok(())
 }
 
-fn keep(list: &mut Vec<Pick>, pick: Pick) -> Result<(), Refusal> {
-    match list.push(pick) {
+// Puts a step to a list, where it is to be kept, under the event that its outcome tells.
+#[inline(always)]
+fn keep(keeps: bool, list: &mut Vec<Pick>, pick: Pick, outcome: Outcome) -> Result<(), Refusal>
+    ensures { OnOk result (list.new.items
+        ≡ list.old.items ++ (if keeps then pick_of (pick.core, outcome) ∷ [] else [])) }
+{
+    if !keeps {
+        return Ok(());
+    }
+    let event = event_told(outcome);
+    match list.push(Pick { event, ..pick }) {
         Ok(()) => Ok(()),
         Err(_) => Err(Refusal::Fault(Fault::Run(RunFault::NoMemory))),
+    }
+}
+
+// The event that an outcome tells of.
+fn event_told(outcome: Outcome) -> Option<Event>
+    ensures { result ≡ event_told outcome }
+{
+    match outcome {
+        Outcome::AbortedBy(interference, _status) => Some(Event::Abort(interference)),
+        _ => None,
     }
 }

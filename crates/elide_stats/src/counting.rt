@@ -1,6 +1,6 @@
 //! A run whose steps are counted.
 
-ghost use Rattle.elide_setup.specs.Runs.{IsMachineStep};
+ghost use Rattle.elide_setup.specs.Runs.{AreMachineSteps};
 
 use crate::asked::Asked;
 use crate::hits::{CoreBytes, Hits};
@@ -25,7 +25,7 @@ pub struct Counting {
 }
 
 impl StepMaker for Counting {
-    ghost takes = { λ before pick outcome after. IsMachineStep before.machine pick outcome after.machine };
+    ghost takes = { λ before steps after. AreMachineSteps before.machine steps after.machine };
 
     // Makes a step, and counts it with the transactions that it hits.
     fn make_step(&mut self, pick: Pick) -> Result<Outcome, Refusal> {

@@ -23,7 +23,7 @@ use elide_args::ThreadsOptions;
 use elide_places::Places;
 use elide_setup::{
     Board, Fault, Gathered, Paths, ProgramFile, ProgramRefusal, Progress, Refusal, Settings, Setup,
-    new_board, number_of, read_file, show, shown_memory,
+    events_of, new_board, number_of, read_file, show, shown_memory,
 };
 use elide_stats::tell_counts;
 use elide_why::tell_history;
@@ -31,7 +31,11 @@ use ia_text::Out;
 use std::alloc::Global;
 use std::sync::Wait;
 use std::thread::Threads;
-use tm_work::{Burst, WorkFault, run_steadily};
+use tm_pick::Events;
+use tm_work::{Burst, EventPlan, WorkFault, run_steadily};
+
+// What events are drawn from where no seed is given.
+const FIRST_SEED: u32 = 1;
 
 /// Runs each core on a thread of its own, writes the schedule that came about where it is asked for, and prints the aborts
 /// with their reasons where these are asked for, and then what the transactions came to, or where that is not asked for
@@ -74,24 +78,25 @@ struct Work<'a> {
     budget: u32,
     // How many of them before another core can come between.
     burst: Burst,
+    // Which of them come under an event from outside of the program.
+    plan: EventPlan,
     // Where the schedule that comes about is written.
     path: Option<&'a str>,
 }
 
 impl<'a> Work<'a> {
-    fn read<P: Paths>(
-        options: &ThreadsOptions<'a>,
-        paths: &mut P,
-    ) -> Result<Work<'a>, ProgramRefusal>
+    fn read<P: Paths>(options: &ThreadsOptions<'a>, paths: &mut P) -> Result<Work<'a>, Refusal>
         ensures budget { IfOk result (λ work. number_said (option_copied options.now.budget) ≡ Some work.budget) }
         ensures kept { (other : List ℕ) → P.content paths.new other ≡ P.content paths.old other }
     {
         let budget = number_of(options.budget, "--budget")?;
         let burst = burst_of(options.burst)?;
+        let plan = plan_of(options)?;
         let path = path_of(options, paths)?;
         Ok(Work {
             budget,
             burst,
+            plan,
             path,
         })
     }
@@ -179,7 +184,7 @@ fn recorded<R: Threads + Wait + Sync + AllocGlobal, P: Paths, G: Progress + Send
         × IsReport board (replicate (length board.program.entries) work.entry.budget) last steps) }
 {
     let record = record_of(rt.alloc(), work.path, &board)?;
-    let board = worked(rt, board, work.budget, work.burst, progress)?;
+    let board = worked(rt, board, work, progress)?;
     if let Some(record) = record {
         record.write(&board, paths)?;
     }
@@ -249,6 +254,20 @@ fn burst_of(text: Option<&str>) -> Result<Burst, ProgramRefusal>
     }
 }
 
+// Which steps come under an event. A seed without events is a misuse.
+fn plan_of(options: &ThreadsOptions<'_>) -> Result<EventPlan, Refusal> {
+    let events = match options.events {
+        Some(text) => events_of(text)?,
+        None if options.seed.is_some() => return Err(Refusal::Usage("--seed")),
+        None => Events::Never,
+    };
+    let seed = match options.seed {
+        Some(_) => number_of(options.seed, "--seed")?,
+        None => FIRST_SEED,
+    };
+    Ok(EventPlan { events, seed })
+}
+
 // Where the schedule that comes about is written, which is not where the program is read.
 fn path_of<'a, P: Paths>(
     options: &ThreadsOptions<'a>,
@@ -292,19 +311,26 @@ fn opened(alloc: Global, setup: &Setup, budget: u32) -> Result<Board, Refusal>
 fn worked<R: Threads + Wait + Sync + AllocGlobal, G: Progress + Send>(
     rt: &R,
     board: Board,
-    budget: u32,
-    burst: Burst,
+    work: Work<'_>,
     progress: &mut G,
 ) -> Result<Board, Refusal>
     ensures { IfOk result (λ last. (steps : List ℕ)
-        × IsReport board (replicate (length board.program.entries) budget) last steps) }
+        × IsReport board (replicate (length board.program.entries) work.entry.budget) last steps) }
 {
     let alloc = rt.alloc();
-    let Ok(budgets) = vec![in alloc; budget; usize::from(board.cores())] else {
+    let Ok(budgets) = vec![in alloc; work.budget; usize::from(board.cores())] else {
         return Err(Refusal::Fault(Fault::NoWorkers));
     };
     let told = Told::new(progress, board.limit());
-    let report = run_steadily(rt, alloc, board, budgets.as_slice(), burst, &told);
+    let report = run_steadily(
+        rt,
+        alloc,
+        board,
+        budgets.as_slice(),
+        work.burst,
+        work.plan,
+        &told,
+    );
     drop(told);
     progress.end();
     match report {

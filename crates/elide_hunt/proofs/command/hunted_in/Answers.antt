@@ -5,5 +5,5 @@ use Rattle.elide_hunt.proofs.command.hunted_in.Goals as goal
 
 pub returns : goal.returns
 returns g c file options are =
-    with_trial _ file options c.args.setup.now c.args.orders.now.first c.args.orders.now.end c.shortest-made.result c.shortest-made.ensures refl refl
+    with_trial _ c.args.orders.now.events file options c.args.setup.now c.args.orders.now.first c.args.orders.now.end c.shortest-made.result c.shortest-made.ensures refl refl
     (subst (AreChecks file options) (sym c.as_slice.ensures.value) (c.in_ok-checks.ensures file options are))

@@ -8,7 +8,7 @@ use Rattle.elide_hunt.proofs.replay.put_command.Goals as goal
 pub returns : goal.returns
 returns g c =
     let options = c.args.options.now in
-    let last = schedule_text options.record c.args.cores.now ++ line_end in
+    let last = schedule_text options.record c.args.picks.now ++ line_end in
     let r = c.put-2.result in
     then_on_ok _ (path_word options.machine.file.now ++ (machine_text options.machine ++ last)) r c.in_ok-put.ensures
     (then_on_ok _ (machine_text options.machine ++ last) r c.in_ok-put_path.ensures

@@ -4,7 +4,7 @@ use Rattle.elide_hunt.proofs.searching.searched.Given as goal
 
 -- the runs below this number were made, and passed
 abbrev pub invariant-turns : goal.invariant-turns
-invariant-turns g l = Passed l.trial l.orders.first l.orders.end l.first (l.ended + l.cut)
+invariant-turns g l = Passed l.trial l.plan.events l.orders.first l.orders.end l.first (l.ended + l.cut)
 
 abbrev pub decreases-turns : goal.decreases-turns
 decreases-turns g l = l.orders.end - l.first

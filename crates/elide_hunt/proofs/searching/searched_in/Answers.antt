@@ -8,5 +8,5 @@ returns-in-Ok g c =
     let share = c.in_ok-share.share in
     let again = c.in-Ok.again in
     let failed = rw c.in-Some.is at c.in_ok-share.ensures.failed in
-    search_behind block.trial block.first c.in-Some.failing block.end (share.ended + share.cut) again _ c.in_ok-share.ensures.passed failed.0 (omega (arith, failed.1))
+    search_behind block.trial block.plan.events block.first c.in-Some.failing block.end (share.ended + share.cut) again _ c.in_ok-share.ensures.passed failed.0 (omega (arith, failed.1))
     c.in-Ok.ensures.ok refl (omega arith)

@@ -7,11 +7,12 @@ use Rattle.elide_outcomes.proofs.command.outcomes_of_file.Goals as goal
 
 pub returns : goal.returns
 returns g c =
-    told_of_file c.args.file.now c.args.settings.now (option_copied c.args.show) _ c.in_ok-setup.setup c.args.most c.outcomes_of_trial.result
+    told_of_file c.args.file.now c.args.settings.now c.args.asked.now _ c.in_ok-setup.setup c.outcomes_of_trial.result
     (g.O.Out.device c.args.out.now).contents (g.O.Out.device c.outcomes_of_trial.new.out).contents
     c.outcomes_of_trial.ensures c.in_ok-setup.ensures
     (record {
       program = refl;
       limits = refl;
-      items = subst (λ (items : List Item). AreItems c.args.file.now (option_copied c.args.show) items) (sym c.as_slice.ensures.value) c.in_ok-items.ensures;
+      items = subst (λ (items : List Item). AreItems c.args.file.now (option_copied c.args.asked.now.show) items) (sym c.as_slice-2.ensures.value) c.in_ok-items.ensures;
+      events = c.events-events.ensures;
     })

@@ -4,6 +4,7 @@ use Rattle.std.specs.Option.{option_copied}
 use Rattle.elide_program.specs.ProgramFile.{IsFile}
 use Rattle.elide_outcomes.specs.Printed.{IsPrinted}
 use Rattle.elide_outcomes.specs.declared.command.Answer.{Answer}
+use Rattle.elide_outcomes.specs.declared.command.Asked.{Asked}
 use Rattle.elide_outcomes.proofs.Trials.{IsToldOfText}
 use Rattle.elide_outcomes.proofs.command.outcomes_of_options.Goals as goal
 
@@ -11,11 +12,11 @@ pub returns : goal.returns
 returns g c =
     let options = c.args.options.now in
     let settings = c.in_ok-settings.settings in
-    let most = c.in_ok-most.most in
+    let asked : Asked = record { show = options.show; under = c.in_ok-under.under; most = c.in_ok-most.most } in
     let before = (g.O.Out.device c.args.out.now).contents in
     let after = (g.O.Out.device c.outcomes_of_text.new.out).contents in
     IfOk-weaker c.outcomes_of_text.result
-    (IsToldOfText c.as_slice.result.now settings (option_copied options.show) most before after)
+    (IsToldOfText c.as_slice.result.now settings asked before after)
     (λ (answer : Answer). IsPrinted (g.P.Paths.content c.args.paths.now) options answer before after)
     (λ (answer : Answer) t. record {
       setup = t.3;
@@ -30,9 +31,11 @@ returns g c =
         said = c.in_ok-settings.ensures;
         made = t.4;
       };
+      under = asked.under;
+      said = c.in_ok-under.ensures;
       trial = t.2;
       shows = t.5;
-      most = most;
+      most = asked.most;
       limit = c.in_ok-most.ensures;
       told = t.6;
     })

@@ -5,6 +5,6 @@ use Rattle.elide_outcomes.specs.Lines.{step_text}
 use Rattle.elide_outcomes.proofs.report.tell_steps.Given as goal
 
 -- the steps so far were told
-abbrev pub invariant-loop-core : goal.invariant-loop-core
-invariant-loop-core g l =
-    Wrote (g.O.Out.device l.initial.out) (g.O.Out.device l.out) (flat_map step_text (take l.core-index l.cores))
+abbrev pub invariant-loop-pick : goal.invariant-loop-pick
+invariant-loop-pick g l =
+    Wrote (g.O.Out.device l.initial.out) (g.O.Out.device l.out) (flat_map step_text (take l.pick-index l.picks))

@@ -20,5 +20,5 @@ pub returns-clause-course : goal.returns-clause-course
 returns-clause-course g c =
     IfOk-weaker c.planned.result (λ (r : Setup × Course). (picks : List Pick) → AreOf r.1 picks → ArePlanned (g.P.Paths.content c.read_file.new.paths) c.in_ok-plan.plan picks)
     (λ (r : Setup × Course). (picks : List Pick) → AreOf r.1 picks → AreAsked (g.P.Paths.content c.args.paths.now) c.args.schedule.now picks)
-    (λ r is picks of. c.in_ok-plan.ensures (g.P.Paths.content c.args.paths.now) picks (planned_before (g.P.Paths.content c.args.paths.now) (g.P.Paths.content c.read_file.new.paths) c.in_ok-plan.plan picks c.read_file.ensures.kept (is picks of)))
+    (λ r is picks of. c.in_ok-plan.ensures.steps (g.P.Paths.content c.args.paths.now) picks (planned_before (g.P.Paths.content c.args.paths.now) (g.P.Paths.content c.read_file.new.paths) c.in_ok-plan.plan picks c.read_file.ensures.kept (is picks of)))
     c.planned.ensures.course

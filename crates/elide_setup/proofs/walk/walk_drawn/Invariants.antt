@@ -1,9 +1,17 @@
-use Rattle.std.proofs.Common.{List}
+use Rattle.std.proofs.Common.{◌≡◌, ◌++◌, List, []}
+use Rattle.std.specs.Prelude.{if◌then◌else◌}
 use Rattle.tm_model.specs.declared.outcome.Outcome.{Outcome}
 use Rattle.tm_model.specs.declared.outcome.Pick.{Pick}
+use Rattle.tm_pick.specs.Drawn.{AreDrawn}
+use Rattle.elide_setup.specs.Drawing.{AreUnder}
+use Rattle.elide_setup.specs.Schedules.{picks_made, picks_told}
 use Rattle.elide_setup.specs.Walks.{Leads}
 use Rattle.elide_setup.proofs.walk.walk_drawn.Given as goal
 
--- some steps were made
+-- some steps were made, and are kept where they are asked for
 abbrev pub invariant-loop-number : goal.invariant-loop-number
-invariant-loop-number g l = (steps : List (Pick × Outcome)) × Leads g.S.StepMaker.takes l.initial.maker steps l.maker
+invariant-loop-number g l = record {
+  kinds : AreDrawn l.fn.drawn.events l.picker;
+  made : (steps : List (Pick × Outcome)) × AreUnder l.fn.drawn.events (picks_made steps) × Leads g.S.StepMaker.takes l.initial.maker steps l.maker
+      × (l.kept.items ≡ l.initial.kept.items ++ (if l.fn.keeps then picks_told steps else []));
+}

@@ -9,18 +9,18 @@ use Rattle.elide_hunt.proofs.block.Block.joined.Goals as goal
 pub loop-share-init : goal.loop-share-init
 loop-share-init c =
     let block = c.args.self.now in
-    joined_none block.trial block.first block.end block.jobs (record { failed = None; ended = 0; cut = 0 }) c.requires.some refl refl refl
+    joined_none block.trial block.plan.events block.first block.end block.jobs (record { failed = None; ended = 0; cut = 0 }) c.requires.some refl refl refl
 
 pub then-all-requires : goal.then-all-requires
 then-all-requires c =
     let block = c.args.self.now in
     let index = c.loop-share.share-index in
-    let Gives : Result Share HuntFault → Type 0 = λ r. IfOk r (IsShare block.trial (share_start block.first block.end block.jobs index)
+    let Gives : Result Share HuntFault → Type 0 = λ r. IfOk r (IsShare block.trial block.plan.events (share_start block.first block.end block.jobs index)
     (share_start block.first block.end block.jobs (index + 1))) in
     let given = subst Gives c.in-Ok.is (c.requires.each index (Ok (record { failed = None; ended = 0; cut = 0 })) (omega arith)) in
     let next = share_next block.first block.end block.jobs index c.requires.ordered in
     let most = share_most block.first block.end block.jobs (index + 1) c.requires.ordered in
-    let fits = share_fits block.trial _ _ c.in-Ok.next next given in
+    let fits = share_fits block.trial block.plan.events _ _ c.in-Ok.next next given in
     let before = c.loop-share.invariant.counted in
     omega arith
 
@@ -28,29 +28,29 @@ pub returns-then-is_some : goal.returns-then-is_some
 returns-then-is_some c =
     let block = c.args.self.now in
     let index = c.loop-share.share-index in
-    let Gives : Result Share HuntFault → Type 0 = λ r. IfOk r (IsShare block.trial (share_start block.first block.end block.jobs index)
+    let Gives : Result Share HuntFault → Type 0 = λ r. IfOk r (IsShare block.trial block.plan.events (share_start block.first block.end block.jobs index)
     (share_start block.first block.end block.jobs (index + 1))) in
     let given = subst Gives c.in-Ok.is (c.requires.each index (Ok (record { failed = None; ended = 0; cut = 0 })) (omega arith)) in
     let some : is_some c.then-all.result.failed ≡ true = search rules in
-    joined_failed block.trial block.first block.end block.jobs index c.then-all.result c.requires.ordered some
-    (joined_share block.trial block.first block.end block.jobs index c.loop-share.all c.in-Ok.next c.then-all.result c.requires.ordered
+    joined_failed block.trial block.plan.events block.first block.end block.jobs index c.then-all.result c.requires.ordered some
+    (joined_share block.trial block.plan.events block.first block.end block.jobs index c.loop-share.all c.in-Ok.next c.then-all.result c.requires.ordered
     c.loop-share.invariant given c.then-all.ensures.failed c.then-all.ensures.passed)
 
 pub loop-share-preserved : goal.loop-share-preserved
 loop-share-preserved c =
     let block = c.args.self.now in
     let index = c.loop-share.share-index in
-    let Gives : Result Share HuntFault → Type 0 = λ r. IfOk r (IsShare block.trial (share_start block.first block.end block.jobs index)
+    let Gives : Result Share HuntFault → Type 0 = λ r. IfOk r (IsShare block.trial block.plan.events (share_start block.first block.end block.jobs index)
     (share_start block.first block.end block.jobs (index + 1))) in
     let given = subst Gives c.in-Ok.is (c.requires.each index (Ok (record { failed = None; ended = 0; cut = 0 })) (omega arith)) in
     let none : is_some c.then-all.result.failed ≡ false = search rules in
-    joined_more block.trial block.first block.end block.jobs index c.then-all.result c.requires.ordered (none_of c.then-all.result.failed none)
-    (joined_share block.trial block.first block.end block.jobs index c.loop-share.all c.in-Ok.next c.then-all.result c.requires.ordered
+    joined_more block.trial block.plan.events block.first block.end block.jobs index c.then-all.result c.requires.ordered (none_of c.then-all.result.failed none)
+    (joined_share block.trial block.plan.events block.first block.end block.jobs index c.loop-share.all c.in-Ok.next c.then-all.result c.requires.ordered
     c.loop-share.invariant given c.then-all.ensures.failed c.then-all.ensures.passed)
 
 pub returns : goal.returns
 returns c =
     let block = c.args.self.now in
     let last : c.loop-share.share-index ≡ block.jobs = omega arith in
-    joined_all block.trial block.first block.end block.jobs c.loop-share.all
-    (subst (λ (n : ℕ). Joined block.trial block.first block.end block.jobs n c.loop-share.all) last c.loop-share.invariant)
+    joined_all block.trial block.plan.events block.first block.end block.jobs c.loop-share.all
+    (subst (λ (n : ℕ). Joined block.trial block.plan.events block.first block.end block.jobs n c.loop-share.all) last c.loop-share.invariant)

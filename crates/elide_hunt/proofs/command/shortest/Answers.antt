@@ -1,0 +1,12 @@
+use Rattle.std.proofs.Common.{◌≡◌, List, subst}
+use Rattle.tm_model.specs.declared.outcome.Pick.{Pick}
+use Rattle.elide_hunt.specs.Printed.{counts_of}
+use Rattle.elide_hunt.proofs.Hunted.{shortened_hunt}
+use Rattle.elide_hunt.proofs.command.shortest.Goals as goal
+
+pub returns : goal.returns
+returns g c =
+    shortened_hunt c.args.trial.now c.args.orders.now.events c.args.orders.now.first c.args.orders.now.end c.counts_of-before.result
+    c.in_ok-found.field-0 c.in-Some.field-0 c.shortened.new.failure c.in-Some.is c.in_ok-found.ensures
+    (subst (λ (picks : List Pick). c.counts_of-before.result ≡ counts_of picks) c.as_slice.ensures.value c.counts_of-before.ensures)
+    c.in_ok-shortened.ensures.fails c.in_ok-shortened.ensures.same c.in_ok-shortened.ensures.simpler c.in_ok-shortened.ensures.kinds

@@ -1,0 +1,77 @@
+//! What the steps come under, as the option says it.
+
+ghost use Rattle.std.specs.Prelude.{◌≡◌, ◌++◌, IfOk, OnOk};
+ghost use Rattle.std.specs.Option.{option_copied};
+ghost use Rattle.elide_outcomes.specs.Under.{AreUnder, IsUnder, event_if, listed_by};
+
+use elide_setup::{Refusal, kinds_of};
+use std::alloc::{AllocError, Global};
+use tm_outcomes::{Event, Events, Interference};
+use tm_pick::Kinds;
+
+/// What `--events` says that each step of a schedule comes under.
+#[derive(Clone, Copy, PartialEq, Eq, Debug)]
+pub enum Under {
+    /// No event: the option is not given.
+    Nothing,
+    /// None, or an event of one of these kinds.
+    AnyOf(Kinds),
+    /// An interrupt.
+    Always,
+}
+
+impl Under {
+    /// What the option says: `always`, or kinds with commas between. Anything else is a misuse.
+    pub fn read(text: Option<&str>) -> Result<Under, Refusal>
+        ensures { IfOk result (IsUnder (option_copied text.entry)) }
+    {
+        let Some(text) = text else {
+            return Ok(Under::Nothing);
+        };
+        if text == "always" {
+            return Ok(Under::Always);
+        }
+        match kinds_of(text) {
+            Some(kinds) => Ok(Under::AnyOf(kinds)),
+            None => Err(Refusal::Usage("--events")),
+        }
+    }
+
+    /// The events that a step may come under, where it need not.
+    pub fn listed(self, alloc: Global) -> Result<Vec<Event>, AllocError>
+        ensures { IfOk result (λ listed. listed.items ≡ listed_by self) }
+    {
+        let mut listed = Vec::new(alloc);
+        match self {
+            Under::AnyOf(kinds) => {
+                add_if(kinds.interrupt, Interference::Interrupt, &mut listed)?;
+                add_if(kinds.eviction, Interference::Eviction, &mut listed)?;
+                add_if(kinds.snoop, Interference::Snoop, &mut listed)?;
+                Ok(listed)
+            }
+            Under::Nothing | Under::Always => Ok(listed),
+        }
+    }
+
+    /// What the steps of a trial come under, where they may come under these.
+    pub fn events(self, listed: &[Event]) -> Events<'_>
+        requires { listed.now ≡ listed_by self }
+        ensures { AreUnder self result }
+    {
+        match self {
+            Under::Nothing => Events::Never,
+            Under::AnyOf(_kinds) => Events::May(listed),
+            Under::Always => Events::Always(Event::Abort(Interference::Interrupt)),
+        }
+    }
+}
+
+// Adds an abort by this, where it is said.
+fn add_if(is_said: bool, by: Interference, listed: &mut Vec<Event>) -> Result<(), AllocError>
+    ensures { OnOk result (listed.new.items ≡ listed.old.items ++ event_if is_said by) }
+{
+    if is_said {
+        listed.push(Event::Abort(by))?;
+    }
+    Ok(())
+}

@@ -1,0 +1,76 @@
+-- Steps whose events are drawn, and one more.
+use Rattle.std.proofs.Common.{◌≡◌, ℕ, List, [], ◌∷◌, ◌++◌, Option, None, Some, refl, ap, subst, sym, ◌∙◌, inl, inr}
+use Rattle.std.specs.Prelude.{◌⊎◌, MatchOption}
+use Rattle.std.proofs.lemmas.List.Elements.{All-append, All-cons, All-head, All-nil, All-tail}
+use Rattle.tm_model.proofs.Events.{no_event_told}
+use Rattle.tm_model.specs.Conflicts.{Doomed, doomed_after}
+use Rattle.tm_model.specs.Owed.{owed_under}
+use Rattle.tm_model.specs.Runs.{IsOwedUnder, event_told, pick_of}
+use Rattle.tm_model.specs.Setting.{Setting}
+use Rattle.tm_model.specs.State.{Closed, Core, Halted, Midway, Opened, State}
+use Rattle.tm_model.specs.Steps.{step}
+use Rattle.tm_model.specs.declared.outcome.Event.{Event}
+use Rattle.tm_model.specs.declared.outcome.Event.TheVariants as event
+use Rattle.tm_model.specs.declared.outcome.Outcome.{Outcome}
+use Rattle.tm_model.specs.declared.outcome.Pick.{Pick}
+use Rattle.tm_pick.specs.Drawn.{AreDrawn}
+use Rattle.tm_pick.specs.Kinds.{IsOfKinds, no_kinds}
+use Rattle.tm_pick.specs.declared.events.Events.{Events}
+use Rattle.tm_pick.specs.declared.events.Events.TheVariants.{Never, Rate, Draw}
+use Rattle.tm_pick.specs.declared.kinds.Kinds.{Kinds}
+use Rattle.elide_setup.specs.Drawing.{AreUnder, IsUnder}
+use Rattle.elide_setup.specs.Owing.{AreOwedUnder}
+use Rattle.elide_setup.specs.Schedules.{picks_made, picks_told}
+use Rattle.elide_setup.proofs.Walks.{picks_on}
+
+is_under : (events : Events) (kinds : Kinds) (event : Option Event) → AreDrawn events kinds → IsOfKinds kinds event → (kinds ≡ no_kinds → event ≡ None) → IsUnder events event
+is_under Never kinds event drawn of never = never drawn
+is_under (Rate many asked) kinds event drawn of never = subst (λ (k : Kinds). IsOfKinds k event) drawn of
+is_under Draw kinds event drawn of never = tt
+
+pub under_more : (events : Events) (kinds : Kinds) (steps : List (Pick × Outcome)) (pick : Pick) (outcome : Outcome) →
+    AreDrawn events kinds → IsOfKinds kinds pick.event → (kinds ≡ no_kinds → pick.event ≡ None) → AreUnder events (picks_made steps) →
+    AreUnder events (picks_made (steps ++ (pick, outcome) ∷ []))
+under_more events kinds steps pick outcome drawn of never under =
+    subst (λ (picks : List Pick). AreUnder events picks) (sym (picks_on steps ((pick, outcome) ∷ [])))
+    (All-append (λ (p : Pick). IsUnder events p.event) (picks_made steps) (pick ∷ []) under (All-cons (λ (p : Pick). IsUnder events p.event) pick [] (is_under events kinds pick.event drawn of never) (All-nil (λ (p : Pick). IsUnder events p.event))))
+
+-- ---- the events that their outcomes tell
+
+-- where an outcome tells one, it is the one that it is owed under
+told_by : (by : Option Event) (setting : Setting) (memory : List ℕ) (core : Core) (doom : Option ℕ) →
+    (event_told (owed_under by setting memory core doom) ≡ None) ⊎ (event_told (owed_under by setting memory core doom) ≡ by)
+told_by None setting memory core doom = inl (no_event_told setting memory core doom)
+told_by (Some (event.Abort by)) setting memory (Opened regs steps) None = inr refl
+told_by (Some (event.Abort by)) setting memory (Opened regs steps) (Some depth) = inl refl
+told_by (Some (event.Abort by)) setting memory (Closed regs) doom = inl (no_event_told setting memory (Closed regs) doom)
+told_by (Some (event.Abort by)) setting memory (Midway regs value) doom = inl (no_event_told setting memory (Midway regs value) doom)
+told_by (Some (event.Abort by)) setting memory (Halted regs stop) doom = inl (no_event_told setting memory (Halted regs stop) doom)
+
+none_under : (events : Events) → IsUnder events None
+none_under Never = refl
+none_under (Rate many kinds) = tt
+none_under Draw = tt
+
+told_under : (events : Events) (setting : Setting) (state : State) (doomed : Doomed) (pick : Pick) (outcome : Outcome) →
+    IsUnder events pick.event → IsOwedUnder pick.event setting state doomed pick.core outcome → IsUnder events (event_told outcome)
+told_under events setting state doomed pick outcome under owed =
+    let core : Core = state.cores pick.core in
+    elim (told_by pick.event setting state.memory core (doomed pick.core)) [
+      | inl none ↦ subst (λ (e : Option Event). IsUnder events e) (sym (ap event_told owed ∙ none)) (none_under events)
+      | inr same ↦ subst (λ (e : Option Event). IsUnder events e) (sym (ap event_told owed ∙ same)) under
+    ]
+
+-- so the picks that they tell come under those that may be drawn
+pub all_told_under : (events : Events) (setting : Setting) (state : State) (doomed : Doomed) (steps : List (Pick × Outcome)) →
+    AreOwedUnder setting state doomed steps → AreUnder events (picks_made steps) → AreUnder events (picks_told steps)
+all_told_under events setting state doomed [] owed under = All-nil (λ (p : Pick). IsUnder events p.event)
+all_told_under events setting state doomed (made ∷ steps) owed under =
+    let P : Pick → Type 0 = λ p. IsUnder events p.event in
+    All-cons P (pick_of (made.0.core, made.1)) (picks_told steps)
+    (told_under events setting state doomed made.0 made.1 (All-head P made.0 (picks_made steps) under) owed.0)
+    ((elim (step setting state made.0.core made.1) as (λ t.
+    MatchOption t ⊥ (λ next. AreOwedUnder setting next (doomed_after setting state doomed made.0.core made.1) steps) → AreUnder events (picks_told steps)) [
+      | None ↦ λ never. absurd never
+      | Some next ↦ λ more. all_told_under events setting next (doomed_after setting state doomed made.0.core made.1) steps more (All-tail P made.0 (picks_made steps) under)
+    ]) owed.1)

@@ -1,0 +1,63 @@
+-- What a schedule that is drawn is drawn from (docs/FORMATS.md, "Events that are drawn").
+use Rattle.std.specs.Prelude.{◌≡◌, ◌≢◌, ℕ, List, ⊤, All, Option, Some, None}
+use Rattle.std.specs.Option.{option_copied}
+use Rattle.elide_args.specs.declared.subcommand.ScheduleOptions.{ScheduleOptions}
+use Rattle.tm_model.specs.declared.outcome.Event.{Event}
+use Rattle.tm_model.specs.declared.outcome.Pick.{Pick}
+use Rattle.tm_pick.specs.Kinds.{IsOfKinds}
+use Rattle.tm_pick.specs.declared.events.Events.{Events}
+use Rattle.tm_pick.specs.declared.events.Events.TheVariants.{Never, Rate, Draw}
+use Rattle.elide_setup.specs.ElideProgram.Settings.{word32}
+use Rattle.elide_setup.specs.Events.{events_said}
+use Rattle.elide_setup.specs.declared.plan.Drawn.{Drawn}
+use Rattle.elide_setup.specs.declared.plan.Plan.{Plan}
+use Rattle.elide_setup.specs.declared.plan.Plan.TheVariants as plan
+
+-- the events that are asked for: none, where nothing is said
+abbrev pub events_asked : Option (List ℕ) → Option Events
+events_asked None = Some Never
+events_asked (Some text) = events_said text
+
+-- the seed of `--random`, and none where it is not given
+abbrev pub IsSeed : Option (List ℕ) → Option ℕ → Type 0
+IsSeed None seed = seed ≡ None
+IsSeed (Some text) seed = (word32 text ≡ seed) × (seed ≢ None)
+
+-- What the events are drawn from: the seed of `--random`, with which the cores are drawn, too, and there is no other
+-- one; else that of `--seed`, which is given only where events are; else 1.
+abbrev pub event_seed_of : Option ℕ → Option (List ℕ) → Option ℕ
+event_seed_of None None = Some 1
+event_seed_of None (Some text) = word32 text
+event_seed_of (Some random) None = Some random
+event_seed_of (Some random) (Some text) = None
+
+pub record IsEventSeed (options : ScheduleOptions) (random : Option ℕ) (seed : ℕ) : Type 0 where
+  pub said : event_seed_of random (option_copied options.seed) ≡ Some seed
+  pub alone : options.events ≡ None → options.seed ≡ None
+
+pub record IsDrawn (options : ScheduleOptions) (drawn : Drawn) : Type 0 where
+  pub seed : IsSeed (option_copied options.random) drawn.seed
+  pub events : events_asked (option_copied options.events) ≡ Some drawn.events
+  pub event_seed : IsEventSeed options drawn.seed drawn.event_seed
+
+-- nothing is drawn: neither the most steps, nor events, nor what they are drawn from
+pub record SaysNoDraw (options : ScheduleOptions) : Type 0 where
+  pub limit : options.limit ≡ None
+  pub events : options.events ≡ None
+  pub seed : options.seed ≡ None
+
+-- what is said of a draw is said of a schedule that is drawn
+abbrev pub IsAskedDraw : ScheduleOptions → Plan → Type 0
+IsAskedDraw options (plan.Steps listed) = SaysNoDraw options
+IsAskedDraw options (plan.File path) = SaysNoDraw options
+IsAskedDraw options (plan.Drawn drawn) = IsDrawn options drawn
+
+-- an event that may be drawn
+abbrev pub IsUnder : Events → Option Event → Type 0
+IsUnder Never event = event ≡ None
+IsUnder (Rate many kinds) event = IsOfKinds kinds event
+IsUnder Draw event = ⊤
+
+-- steps that may be
+abbrev pub AreUnder : Events → List Pick → Type 0
+AreUnder events picks = All (λ (pick : Pick). IsUnder events pick.event) picks
