@@ -194,7 +194,7 @@ fn a_core_alone_goes_on_or_stays(rt: HostRuntime) -> Result<(), Fail> {
                 (b"vCont;s:2", b"T05replaylog:end;thread:02;"),
                 (b"vCont;s:1", b"T05thread:01;"),
                 (b"vCont;c:2", b"T05replaylog:end;thread:02;"),
-                (b"vCont;c:7", b"T05replaylog:end;thread:02;"),
+                (b"vCont;c:7", b"E01"),
                 (b"Hc1", b"OK"),
                 (b"c", b"T05replaylog:end;thread:01;"),
             ],

@@ -1,6 +1,6 @@
 -- What a command tells and what it does to the target (gdb manual, appendix E.2, "Packets").
 use Rattle.std.specs.Prelude.{◌≡◌, ℕ, ◌+◌, ◌==◌, if◌then◌else◌, List, [], ◌∷◌, ◌++◌, Option, Some, None, codes, is_some}
-use Rattle.std.specs.Prelude.{nat_lt}
+use Rattle.std.specs.Prelude.{nat_lt, Bool, true, false}
 use Rattle.hex.specs.Hex.{encode_lower}
 use Rattle.gdb_command.specs.declared.command.Command.{Command}
 use Rattle.gdb_command.specs.declared.command.Command.TheVariants as command
@@ -21,10 +21,10 @@ use Rattle.gdb_target.specs.Registers.{register_of, register_text, registers_tex
 use Rattle.gdb_target.specs.Shown.{IsShown}
 use Rattle.tm_model.specs.declared.outcome.Event.TheVariants as event
 use Rattle.tm_gdb.specs.Back.{RunsBack, StepsBack}
-use Rattle.tm_gdb.specs.Moves.{Continues, Resumes, StepsAlone, selected_goers}
+use Rattle.tm_gdb.specs.Moves.{Continues, Resumes, StepsAlone, names_stranger, selected_goers}
 use Rattle.tm_gdb.specs.Points.{set_break, set_watch, unset_break, unset_watch}
 use Rattle.tm_gdb.specs.Stops.{stop_text}
-use Rattle.tm_gdb.specs.Values.{TargetValue, core_of, moved_core, thread_core}
+use Rattle.tm_gdb.specs.Values.{TargetValue, core_of, cores_of, moved_core, thread_core}
 
 -- all registers of the selected core
 abbrev pub TellsRegisters : TargetValue → List ℕ → Type 0
@@ -123,8 +123,18 @@ Sets (setting.SelectForMoves thread) from to text = ChoosesForMoves thread from 
 Sets (setting.Insert place) from to text = InsertsAt place.kind place.span from to text
 Sets (setting.Remove place) from to text = (to ≡ removed place.kind place.span from) × (text ≡ codes "OK")
 
--- what a command does and tells; a move is answered by why the target stands then, and at which core
+-- a move of which an action names a thread that there is not is none
+abbrev pub is_refused : Move → ℕ → Bool
+is_refused (move.Resume actions) cores = names_stranger actions cores
+is_refused _ cores = false
+
+-- a move is answered by why the target stands then, and at which core
+abbrev pub MovesUnless : Bool → Move → TargetValue → List ℕ → TargetValue → Type 0
+MovesUnless true moved from text to = (to ≡ from) × (text ≡ codes "E01")
+MovesUnless false moved from text to = Moves moved from to × (text ≡ stop_text to.stop (core_of to))
+
+-- what a command does and tells
 abbrev pub Answers : Command → TargetValue → List ℕ → TargetValue → Type 0
 Answers (command.Ask asked) from text to = (to ≡ asked_of asked from) × Tells asked from text
-Answers (command.Move moved) from text to = Moves moved from to × (text ≡ stop_text to.stop (core_of to))
+Answers (command.Move moved) from text to = MovesUnless (is_refused moved (cores_of from)) moved from text to
 Answers (command.Set setting) from text to = Sets setting from to text

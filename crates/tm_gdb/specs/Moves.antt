@@ -3,11 +3,12 @@ use Rattle.std.specs.Prelude.{◌≡◌, ℕ, zero, suc, ◌+◌, ◌%◌, ◌==
 use Rattle.std.specs.Prelude.{[], ◌∷◌}
 use Rattle.std.specs.Prelude.{◌++◌, Option, Some, None, length, nat_eq, nat_lt, unwrap_or}
 use Rattle.std.specs.Option.{option_or}
-use Rattle.std.specs.List.{slice_get}
+use Rattle.std.specs.List.{list_any, slice_get}
 use Rattle.gdb_command.specs.Actions.{action_of}
 use Rattle.gdb_command.specs.declared.command.Action.{Action}
 use Rattle.gdb_command.specs.declared.command.Action.TheVariants.{Step, Continue}
 use Rattle.gdb_command.specs.declared.command.Actions.{Actions}
+use Rattle.gdb_command.specs.declared.command.ThreadAction.{ThreadAction}
 use Rattle.tm_debug.specs.Session.{is_stopped, next_behind, plain_pick}
 use Rattle.tm_hist.specs.Board.{IsHistory, IsOwedNext, SameBoard, ShownBoard}
 use Rattle.tm_model.specs.declared.outcome.Event.{Event}
@@ -94,6 +95,14 @@ steps actions core = is_step (action_of actions (core + 1))
 
 abbrev pub continues : Actions → ℕ → Bool
 continues actions core = is_continue (action_of actions (core + 1))
+
+-- an action names a thread that there is not, of so many cores
+abbrev pub is_stranger : ℕ → Option ThreadAction → Bool
+is_stranger cores None = false
+is_stranger cores (Some entry) = nat_lt cores entry.thread
+
+abbrev pub names_stranger : Actions → ℕ → Bool
+names_stranger actions cores = list_any (is_stranger cores) actions.chosen
 
 -- a core is among those that go on
 abbrev pub goes : Goers → ℕ → Bool

@@ -2,16 +2,17 @@
 
 ghost use Rattle.std.specs.Prelude.{◌≡◌, ◌≤◌, [], OnErr, OnOk, codes, false, length, true};
 ghost use Rattle.tm_hist.specs.Board.{SameBoard};
-ghost use Rattle.tm_gdb.specs.Answers.{Answers, ChoosesForMoves, InsertsAt, Moves, Sets, Tells, asked_of, done_text};
-ghost use Rattle.tm_gdb.specs.Answers.{removed};
+ghost use Rattle.tm_gdb.specs.Answers.{Answers, ChoosesForMoves, InsertsAt, Moves, MovesUnless, Sets, Tells, asked_of};
+ghost use Rattle.tm_gdb.specs.Answers.{done_text, is_refused, removed};
 ghost use Rattle.tm_gdb.specs.Answers.{selecting, thread_text};
 ghost use Rattle.tm_gdb.specs.Stops.{stop_text};
-ghost use Rattle.tm_gdb.specs.Values.{core_of, thread_core, value_of};
+ghost use Rattle.tm_gdb.specs.Values.{core_of, cores_of, thread_core, value_of};
 
 use crate::monitor::monitor_text;
 use crate::stop::push_stop;
 use crate::target::Target;
 use crate::tell::{tell_description, tell_memory, tell_register, tell_registers, tell_threads};
+use crate::turns::{core_count, names_stranger};
 use gdb_command::{Command, Monitor, Move, Point, PointKind, Question, Setting, Span};
 use gdb_packet::Bytes;
 use gdb_target::{push_thread, push_threads};
@@ -148,8 +149,21 @@ fn make_move(alloc: Global, target: &mut Target, asked: &Move) -> Result<(), All
     }
 }
 
+// Whether a move is refused, of so many cores: an action names a thread that there is not.
+fn is_refused(asked: &Move, cores: u8) -> bool
+    ensures { result ≡ is_refused asked.now cores }
+{
+    match asked {
+        Move::Resume(actions) => names_stranger(actions, cores),
+        Move::StepSelected => false,
+        Move::ContinueSelected => false,
+        Move::StepBack => false,
+        Move::ContinueBack => false,
+    }
+}
+
 // Moves the target, and tells why it stands then.
-fn carry(
+fn move_and_tell(
     alloc: Global,
     target: &mut Target,
     asked: &Move,
@@ -168,6 +182,27 @@ fn carry(
             Ok(())
         }
         Err(fault) => Err(fault),
+    }
+}
+
+// Carries a move out, or refuses it.
+fn carry(
+    alloc: Global,
+    target: &mut Target,
+    asked: &Move,
+    row: &mut Bytes,
+) -> Result<(), AllocError>
+    requires { row.old.items ≡ [] }
+    ensures ok { OnOk result (MovesUnless (is_refused asked.now (cores_of (value_of target.old))) asked.now
+        (value_of target.old) row.new.items (value_of target.new)) }
+    ensures err { OnErr result (value_of target.new ≡ value_of target.old) }
+    ensures same { SameBoard target.old.board target.new.board }
+{
+    if is_refused(asked, core_count(&target.board)) {
+        push(row, b"E01");
+        Ok(())
+    } else {
+        move_and_tell(alloc, target, asked, row)
     }
 }
 

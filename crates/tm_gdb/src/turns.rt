@@ -4,10 +4,10 @@ ghost use Rattle.std.specs.Prelude.{◌≡◌, ◌+◌, ◌^◌, ◌<◌, ◌≤
 ghost use Rattle.gdb_command.specs.Actions.{action_of};
 ghost use Rattle.tm_debug.specs.Session.{is_stopped, next_behind};
 ghost use Rattle.tm_gdb.specs.Moves.{all_continue, continues, goer_from, goers_of, goes, going_from, is_continue};
-ghost use Rattle.tm_gdb.specs.Moves.{is_step};
+ghost use Rattle.tm_gdb.specs.Moves.{is_step, is_stranger, names_stranger};
 ghost use Rattle.tm_gdb.specs.Moves.{plainly, some_continue, stepping_from, steps, turn_pick};
 
-use gdb_command::{Action, Actions};
+use gdb_command::{Action, Actions, ThreadAction};
 use tm_debug::{Board, CoreState};
 use tm_model::Pick;
 
@@ -54,6 +54,26 @@ fn is_continue(action: Option<Action>) -> bool
     ensures { result ≡ is_continue action }
 {
     matches!(action, Some(Action::Continue))
+}
+
+// Whether an action names a thread that there is not, of so many cores.
+fn is_stranger(cores: u8, entry: Option<ThreadAction>) -> bool
+    ensures { result ≡ is_stranger cores entry }
+{
+    match entry {
+        Some(entry) => u32::from(cores) < entry.thread,
+        None => false,
+    }
+}
+
+/// Whether one of the actions names a thread that there is not, of so many cores.
+pub fn names_stranger(actions: &Actions, cores: u8) -> bool
+    ensures { result ≡ names_stranger actions.now cores }
+{
+    actions
+        .chosen
+        .iter()
+        .any(|entry| is_stranger(cores, *entry))
 }
 
 /// Whether a core is to step.
