@@ -66,8 +66,8 @@ impl Paths for Memory {
         if let Some(Content::Folder) = self.files.get(path) {
             return Err(Failed);
         }
-        let mut content = ToVec::new(Vec::new(self.alloc));
-        text.write_to(&mut content).map_err(|_| Failed)?;
+        let empty = ToVec::new(Vec::new(self.alloc));
+        let content = text.write_to(empty).map_err(|_| Failed)?;
         self.put(path, Content::Bytes(content.bytes))
             .map_err(|_| Failed)
     }

@@ -108,6 +108,8 @@ pub fn write_in_place<R: Files, T: Text>(rt: &R, path: &str, text: &T) -> Result
 
 /// Writes a text to an open file.
 pub fn write_all<F: io::Write + Drop, T: Text>(file: F, text: &T) -> Result<(), Failed> {
-    let mut out = ToWriter::new(file);
-    text.write_to(&mut out).map_err(|_| Failed)
+    match text.write_to(ToWriter::new(file)) {
+        Ok(_written) => Ok(()),
+        Err(_) => Err(Failed),
+    }
 }

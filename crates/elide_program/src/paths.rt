@@ -1,6 +1,7 @@
 //! Files by their paths.
 
-ghost use Rattle.std.specs.Prelude.{◌≡◌, ◌≤◌, ℕ, IfOk, List, MatchResult, Option, length};
+ghost use Rattle.std.specs.Io.KnownBytes.{Appends};
+ghost use Rattle.std.specs.Prelude.{◌≡◌, ◌≤◌, ℕ, IfOk, IfSome, List, MatchResult, OnOk, Option, length};
 ghost use Rattle.elide_program.specs.Files.{Gives, Refuses};
 
 use ia_text::{Failed, Out, WriteFault};
@@ -36,8 +37,13 @@ pub enum ReadFault {
 
 /// A text that writes itself.
 pub trait Text {
-    /// Writes the text. A beginning of it, where the device fails.
-    fn write_to<O: Out>(&self, out: &mut O) -> Result<(), WriteFault>;
+    // The bytes of the text.
+    ghost bytes: { Self → List ℕ };
+
+    /// Writes the text, and gives the device back. A beginning of the text, where the device fails.
+    fn write_to<O: Out + Drop>(&self, out: O) -> Result<O, WriteFault>
+        ensures written { IfOk result (λ given.
+            Appends (O.device out).contents (O.device given).contents (bytes self.now)) };
 }
 
 /// The files that a command reads and writes.
@@ -56,7 +62,8 @@ pub trait Paths {
 
     /// Makes a file with this text, or replaces one that is there. Where that fails, a file that was there stays as it was.
     /// What is no regular file, such as a device, is written as it is.
-    fn write<T: Text>(&mut self, path: &str, text: &T) -> Result<(), Failed>;
+    fn write<T: Text>(&mut self, path: &str, text: &T) -> Result<(), Failed>
+        ensures written { OnOk result (IfSome (content self.new path.now) (λ bytes. bytes ≡ T.bytes text.now)) };
 
     /// Whether both paths lead to one regular file. No file is changed.
     fn is_same_file(&mut self, path: &str, other: &str) -> bool

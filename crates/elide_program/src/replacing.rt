@@ -16,6 +16,9 @@ type Beside = ArrayString<4096>;
 // How many names are tried for a file beside another one.
 const NAMES: u32 = 100;
 
+// How many bytes of a file's name that of the file beside it begins with at most: names have up to 255 bytes on most systems.
+const FRONT: usize = 200;
+
 /// Writes a text to a new file beside a path, and gives it that name when it is whole, so that what stood there before stays
 /// where a write fails. In a folder that takes no new file, the file is written where it stands.
 pub fn replace<R: Files, T: Text>(
@@ -45,13 +48,22 @@ pub fn replace<R: Files, T: Text>(
     Err(Failed)
 }
 
-// The path with `.part` and a number behind it, where that is no longer than a path can be.
+// The path, or a beginning of it where the name in it is long, with `.part` and a number behind, where that is no longer than a path
+// can be.
 fn name_beside(path: &str, number: u32) -> Option<Beside> {
+    let front = front_of(path);
     let mut beside = Beside::new();
-    match write!(beside, "{path}.part{number}") {
+    match write!(beside, "{front}.part{number}") {
         Ok(()) => Some(beside),
         Err(_) => None,
     }
+}
+
+// A path up to the first bytes of the name in it.
+fn front_of(path: &str) -> &str {
+    let folder = path.rfind('/').unwrap_or(0);
+    let end = path.floor_char_boundary(folder.saturating_add(FRONT));
+    &path[..end]
 }
 
 // Gives a file that was written whole its name, and removes one that was not.

@@ -4,6 +4,7 @@ pub mod Drawing
 mod EventTexts
 mod Held
 pub mod Owing
+pub mod Records
 pub mod Runs
 pub mod Schedules
 mod ShownTexts

@@ -4,6 +4,7 @@ pub mod Faults
 pub mod Gathering
 pub mod Misuse
 pub mod Owing
+pub mod Recorded
 pub mod Runs
 pub mod Schedules
 pub mod Setup

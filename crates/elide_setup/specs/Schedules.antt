@@ -1,6 +1,7 @@
 -- What a command's schedule states: the picks of the steps that it lists, each a core and the event that its step comes
 -- under, or none.
-use Rattle.std.specs.Prelude.{◌≡◌, ℕ, Bool, List, [], map, Option, None, IfSome, Ok, if◌then◌else◌}
+use Rattle.std.specs.Prelude.{◌≡◌, ℕ, Bool, true, false, ◌||◌, List, [], map, Option, None, IfSome, Ok, is_some}
+use Rattle.std.specs.Prelude.{if◌then◌else◌}
 use Rattle.std.specs.Option.{option_copied}
 use Rattle.elide_args.specs.declared.subcommand.ScheduleOptions.{ScheduleOptions}
 use Rattle.tm_schedule.specs.Schedule.{schedule_of, steps_of}
@@ -34,6 +35,21 @@ abbrev pub AreOf : Course → List Pick → Type 0
 AreOf (course.Listed listed) picks = picks ≡ listed.items
 AreOf (course.Drawn drawn) picks = AreUnder drawn.events picks
 
+-- whether the steps are a list: those of `--steps` and of a file are one
+abbrev pub are_listed : ScheduleOptions → Bool
+are_listed options = is_some options.steps || is_some options.path
+
+-- the same of a plan that was read
+abbrev pub plan_is_list : Plan → Bool
+plan_is_list (plan.Steps listed) = true
+plan_is_list (plan.File path) = true
+plan_is_list (plan.Drawn drawn) = false
+
+-- the same of a course
+abbrev pub is_list : Course → Bool
+is_list (course.Listed listed) = true
+is_list (course.Drawn drawn) = false
+
 -- the picks of steps that were made, each with what it came to
 abbrev pub picks_made : List (Pick × Outcome) → List Pick
 picks_made steps = map (λ made. made.0) steps
@@ -56,3 +72,7 @@ kept_of (course.Drawn drawn) keeps steps = if keeps then picks_told steps else [
 abbrev pub schedule_made : Course → List Pick → List Pick
 schedule_made (course.Listed listed) kept = listed.items
 schedule_made (course.Drawn drawn) kept = kept
+
+-- the same of steps that were made as the options ask
+abbrev pub schedule_asked : ScheduleOptions → List (Pick × Outcome) → List Pick
+schedule_asked options steps = if are_listed options then picks_made steps else picks_told steps

@@ -7,7 +7,7 @@ ghost use Rattle.elide_program.specs.Entries.{AreStarts};
 ghost use Rattle.elide_program.specs.Parts.{AreParts};
 ghost use Rattle.elide_program.specs.declared.file.ProgramFile.{ProgramFile};
 ghost use Rattle.elide_setup.specs.Runs.{IsRunOf};
-ghost use Rattle.elide_setup.specs.Schedules.{AreAsked, AreOf, ArePlanned};
+ghost use Rattle.elide_setup.specs.Schedules.{AreAsked, AreOf, ArePlanned, are_listed, is_list, plan_is_list};
 ghost use Rattle.elide_setup.specs.Setup.{IsAsked, IsSetup};
 
 use crate::fault::{Fault, Refusal};
@@ -85,6 +85,7 @@ pub fn scheduled<P: Paths>(
     ensures setup { IfOk result (λ r. IsAsked (P.content paths.old machine.now.file.now) machine.now r.0) }
     ensures course { IfOk result (λ r. (picks : List Pick) → AreOf r.1 picks →
         AreAsked (P.content paths.old) schedule.now picks) }
+    ensures listed { IfOk result (λ r. is_list r.1 ≡ are_listed schedule.now) }
 {
     let settings = Settings::read(machine)?;
     let plan = Plan::read(alloc, schedule)?;
@@ -104,6 +105,7 @@ pub fn planned<P: Paths>(
     ensures setup { IfOk result (λ r. IsSetup file.now settings.now r.0) }
     ensures course { IfOk result (λ r. (picks : List Pick) → AreOf r.1 picks →
         ArePlanned (P.content paths.old) plan.entry picks) }
+    ensures listed { IfOk result (λ r. is_list r.1 ≡ plan_is_list plan.entry) }
 {
     let starts = file.starts(alloc, settings)?;
     let parts = MemoryParts::of_file(alloc, settings, file)?;

@@ -6,7 +6,7 @@ ghost use Rattle.tm_model.specs.declared.outcome.Pick.{Pick};
 ghost use Rattle.tm_pick.specs.Drawn.{AreDrawn};
 ghost use Rattle.tm_schedule.specs.Schedule.{schedule_of, steps_of};
 ghost use Rattle.elide_setup.specs.Drawing.{IsAskedDraw, IsDrawn, IsEventSeed, IsSeed, SaysNoDraw, events_asked};
-ghost use Rattle.elide_setup.specs.Schedules.{AreAsked, AreOf, ArePlanned};
+ghost use Rattle.elide_setup.specs.Schedules.{AreAsked, AreOf, ArePlanned, are_listed, is_list, plan_is_list};
 
 use crate::events::events_of;
 use crate::fault::{Fault, Refusal};
@@ -47,6 +47,7 @@ impl<'a> Plan<'a> {
         ensures steps { IfOk result (λ plan. (content : List ℕ → Option (List ℕ)) (picks : List Pick) →
             ArePlanned content plan picks → AreAsked content options.now picks) }
         ensures draw { IfOk result (IsAskedDraw options.now) }
+        ensures listed { IfOk result (λ plan. plan_is_list plan ≡ are_listed options.now) }
     {
         let given = (options.steps, options.path, options.in_turn, options.random);
         match given {
@@ -70,8 +71,9 @@ impl<'a> Plan<'a> {
 
     /// The steps.
     pub fn course<P: Paths>(self, alloc: Global, paths: &mut P) -> Result<Course, Refusal>
-        ensures { IfOk result (λ course. (picks : List Pick) → AreOf course picks →
+        ensures steps { IfOk result (λ course. (picks : List Pick) → AreOf course picks →
             ArePlanned (P.content paths.old) self.entry picks) }
+        ensures listed { IfOk result (λ course. is_list course ≡ plan_is_list self.entry) }
     {
         match self {
             Plan::Steps(steps) => Ok(Course::Listed(steps)),

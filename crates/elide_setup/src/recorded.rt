@@ -1,10 +1,11 @@
 //! Schedules that are written to a file.
 
-ghost use Rattle.std.specs.Prelude.{◌≡◌, ℕ, List};
+ghost use Rattle.std.specs.Prelude.{◌≡◌, ℕ, IfOk, List, OnOk};
+ghost use Rattle.tm_schedule.specs.Schedule.{schedule_text};
+ghost use Rattle.elide_setup.specs.Recorded.{IsRecorded};
 
 use crate::fault::{Fault, Refusal};
 use crate::gathered::Gathered;
-use crate::lent::Lent;
 use elide_program::{Paths, Text};
 use ia_text::{Out, WriteFault};
 use tm_model::Pick;
@@ -17,6 +18,7 @@ pub fn record_path<'a, P: Paths>(
     paths: &mut P,
 ) -> Result<Option<&'a str>, Refusal>
     ensures kept { (other : List ℕ) → P.content paths.new other ≡ P.content paths.old other }
+    ensures given { IfOk result (λ given. given ≡ path.entry) }
 {
     match path {
         Some(path) if paths.is_same_file(path, file) => Err(Refusal::Usage("--record")),
@@ -25,7 +27,9 @@ pub fn record_path<'a, P: Paths>(
 }
 
 /// Writes the schedule of these steps to a file, where there is a path.
-pub fn record<P: Paths>(path: Option<&str>, picks: &[Pick], paths: &mut P) -> Result<(), Refusal> {
+pub fn record<P: Paths>(path: Option<&str>, picks: &[Pick], paths: &mut P) -> Result<(), Refusal>
+    ensures { OnOk result (IsRecorded (P.content paths.new) path.entry picks.now) }
+{
     let Some(path) = path else {
         return Ok(());
     };
@@ -40,10 +44,12 @@ pub fn record<P: Paths>(path: Option<&str>, picks: &[Pick], paths: &mut P) -> Re
 struct Schedule<'a>(&'a [Pick]);
 
 impl Text for Schedule<'_> {
-    fn write_to<O: Out>(&self, out: &mut O) -> Result<(), WriteFault> {
-        let mut page = Gathered::new(Lent::new(out));
+    ghost bytes = { λ s. schedule_text s.0.now };
+
+    fn write_to<O: Out + Drop>(&self, out: O) -> Result<O, WriteFault> {
+        let mut page = Gathered::new(out);
         write_schedule(self.0, &mut page)?;
-        page.finish()?;
-        Ok(())
+        let out = page.finish()?;
+        Ok(out)
     }
 }

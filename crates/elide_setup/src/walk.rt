@@ -6,6 +6,7 @@ ghost use Rattle.tm_model.specs.Runs.{event_told, pick_of};
 ghost use Rattle.tm_model.specs.declared.outcome.Outcome.{Outcome};
 ghost use Rattle.tm_model.specs.declared.outcome.Pick.{Pick};
 ghost use Rattle.elide_setup.specs.Drawing.{AreUnder};
+ghost use Rattle.elide_setup.specs.Recorded.{IsRecorded};
 ghost use Rattle.elide_setup.specs.Runs.{AreBoardSteps, AreMachineSteps};
 ghost use Rattle.elide_setup.specs.Schedules.{AreOf, kept_of, lone_pick, picks_made, picks_told, schedule_made};
 ghost use Rattle.elide_setup.specs.TmHist.Board.{IsOwedNext, SameBoard};
@@ -199,15 +200,19 @@ impl Course {
     ) -> Result<(), Refusal>
         requires { cores ≤ 64 }
         ensures { IfOk result (λ _. (steps : List (Pick × Outcome)) × AreOf self.now (picks_made steps)
-            × Leads S.takes maker.old steps maker.new) }
+            × Leads S.takes maker.old steps maker.new
+            × IsRecorded (P.content paths.new) path.entry (schedule_made self.now (picks_told steps))) }
     {
-        if let Course::Listed(steps) = self {
-            record(path, steps.as_slice(), paths)?;
-        }
-        let kept = self.walk(alloc, cores, path.is_some(), maker, progress)?;
         match self {
-            Course::Listed(_) => Ok(()),
-            Course::Drawn(_) => record(path, kept.as_slice(), paths),
+            Course::Listed(steps) => {
+                record(path, steps.as_slice(), paths)?;
+                self.walk(alloc, cores, false, maker, progress)?;
+                Ok(())
+            }
+            Course::Drawn(_) => {
+                let kept = self.walk(alloc, cores, path.is_some(), maker, progress)?;
+                record(path, kept.as_slice(), paths)
+            }
         }
     }
 
@@ -218,7 +223,9 @@ impl Course {
         path: Option<&str>,
         kept: &[Pick],
         paths: &mut P,
-    ) -> Result<(), Refusal> {
+    ) -> Result<(), Refusal>
+        ensures { OnOk result (IsRecorded (P.content paths.new) path.entry (schedule_made self.now kept.now)) }
+    {
         record(path, self.schedule(kept), paths)
     }
 

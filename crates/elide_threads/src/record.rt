@@ -1,10 +1,8 @@
 //! The schedule that comes about.
 
-use elide_setup::{Board, Fault, Gathered, Lent, Paths, Refusal, Text};
-use ia_text::{Out, WriteFault};
+use elide_setup::{Board, Paths, Refusal, record};
 use std::alloc::{AllocError, Global};
 use tm_model::Pick;
-use tm_schedule::write_schedule;
 
 /// The schedule that comes about, and the path of the file that it is for. Its memory is taken before the first step.
 #[derive(Drop)]
@@ -28,23 +26,6 @@ impl<'a> Record<'a> {
                 self.picks.push(pick).map_err(|_| AllocError)?;
             }
         }
-        let schedule = Schedule(self.picks.as_slice());
-        match paths.write(self.path, &schedule) {
-            Ok(()) => Ok(()),
-            Err(_) => Err(Refusal::Fault(Fault::Output)),
-        }
-    }
-}
-
-// The text of a schedule of these steps.
-#[derive(Clone, Copy)]
-struct Schedule<'a>(&'a [Pick]);
-
-impl Text for Schedule<'_> {
-    fn write_to<O: Out>(&self, out: &mut O) -> Result<(), WriteFault> {
-        let mut page = Gathered::new(Lent::new(out));
-        write_schedule(self.0, &mut page)?;
-        page.finish()?;
-        Ok(())
+        record(Some(self.path), self.picks.as_slice(), paths)
     }
 }
