@@ -12,6 +12,7 @@ use Rattle.elide_args.specs.declared.subcommand.MachineOptions.{MachineOptions}
 use Rattle.elide_checks.specs.Checks.{AreChecks}
 use Rattle.elide_checks.specs.Runs.{AreRuns, events_asked}
 use Rattle.elide_setup.specs.ElideProgram.ProgramFileType.{ProgramFile}
+use Rattle.elide_setup.specs.Recorded.{IsRecorded}
 use Rattle.elide_setup.specs.Setup.{IsAsked}
 use Rattle.elide_setup.specs.declared.machine.Setup.{Setup}
 use Rattle.ia_text.specs.TextLine.{line_end}
@@ -148,8 +149,8 @@ pub record IsTrialOf (file : ProgramFile) (options : HuntOptions) (setup : Setup
   pub checks : AreChecks file options trial.checks.now
 
 -- that of a search over the runs of the options, under their events, of a machine of the options and of what FILE's
--- content is read as
-pub record IsPrinted (content : List ℕ → Option (List ℕ)) (options : HuntOptions) (answer : Answer)
+-- content is read as; where a run fails, what is recorded is the schedule that is told
+pub record IsPrinted (content left : List ℕ → Option (List ℕ)) (options : HuntOptions) (answer : Answer)
     (before after : Option (List ℕ)) : Type 0 where
   pub setup : Setup
   pub asked : IsAsked (content options.machine.file.now) options.machine setup
@@ -164,3 +165,4 @@ pub record IsPrinted (content : List ℕ → Option (List ℕ)) (options : HuntO
   pub search : Search
   pub hunted : IsHunted trial events first end counts search
   pub told : IsTold options counts search answer before after
+  pub recorded : IfSome search.found (λ found. IsRecorded left options.record found.failure.picks.items)

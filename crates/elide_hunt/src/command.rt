@@ -1,11 +1,12 @@
 //! The command.
 
-ghost use Rattle.std.specs.Prelude.{◌≡◌, ◌≤◌, IfOk};
+ghost use Rattle.std.specs.Prelude.{◌≡◌, ◌≤◌, IfOk, IfSome, OnOk};
 ghost use Rattle.std.specs.Io.KnownBytes.{Appends};
 ghost use Rattle.elide_args.specs.declared.hunt_options.HuntOptions.{HuntOptions};
 ghost use Rattle.elide_checks.specs.Demands.{AreDemands};
 ghost use Rattle.elide_setup.specs.ElideProgram.ProgramFile.{IsFile};
 ghost use Rattle.elide_setup.specs.ElideProgram.ProgramFileType.{ProgramFile};
+ghost use Rattle.elide_setup.specs.Recorded.{IsRecorded};
 ghost use Rattle.elide_setup.specs.Setup.{IsSetup};
 ghost use Rattle.elide_setup.specs.declared.machine.Setup.{Setup};
 ghost use Rattle.tm_hunt.specs.Attempts.{IsFailure, IsSearch};
@@ -46,7 +47,7 @@ pub fn hunt<R: Threads + Sync + AllocGlobal, P: Paths, O: Out + Drop, G: Progres
     out: O,
     progress: &mut G,
 ) -> Result<(Answer, O), Refusal>
-    ensures { IfOk result (λ r. IsPrinted (P.content paths.old) options.now r.0
+    ensures { IfOk result (λ r. IsPrinted (P.content paths.old) (P.content paths.new) options.now r.0
         (O.device out).contents (O.device r.1).contents) }
 {
     let settings = Settings::read(&options.machine)?;
@@ -57,10 +58,19 @@ pub fn hunt<R: Threads + Sync + AllocGlobal, P: Paths, O: Out + Drop, G: Progres
     drop(text);
     progress.end();
     let (search, before) = made?;
-    if let Some(found) = &search.found {
-        record(path, found.failure.picks.as_slice(), paths)?;
-    }
+    write_record(&search, path, paths)?;
     tell(options, &search, before, out)
+}
+
+// Writes the schedule of the run that failed, if one did, where there is a path.
+fn write_record<P: Paths>(search: &Search, path: Option<&str>, paths: &mut P) -> Result<(), Refusal>
+    ensures { OnOk result (IfSome search.now.found (λ found.
+        IsRecorded (P.content paths.new) path.entry found.failure.picks.items)) }
+{
+    match &search.found {
+        Some(found) => record(path, found.failure.picks.as_slice(), paths),
+        None => Ok(()),
+    }
 }
 
 // Prints what a search came to.

@@ -5,7 +5,8 @@ use Rattle.std.specs.Io.KnownBytes.{Appends}
 use Rattle.elide_args.specs.declared.subcommand.ReplayOptions.{ReplayOptions}
 use Rattle.tm_model.specs.declared.outcome.Outcome.{Outcome}
 use Rattle.tm_model.specs.declared.outcome.Pick.{Pick}
-use Rattle.elide_setup.specs.Schedules.{AreAsked, picks_made}
+use Rattle.elide_setup.specs.Recorded.{IsRecorded}
+use Rattle.elide_setup.specs.Schedules.{AreAsked, picks_made, picks_told}
 use Rattle.elide_setup.specs.Setup.{IsAsked}
 use Rattle.elide_setup.specs.Shown.{IsShownOf, shown_text}
 use Rattle.elide_setup.specs.TmHist.Board.{IsHistory, ShownBoard as Board}
@@ -27,9 +28,10 @@ pub record IsTold (setup : Setup) (options : ReplayOptions) (board : Board) (bef
   pub shown : IsShownOf board.machine.memory setup.parts options.machine.shows.items memory
   pub wrote : Appends before after (lines ++ (shown_text board.machine memory ++ agreement_text Agrees))
 
--- the board is one of the options and of what FILE's content is read as, and made the steps of their schedule
-pub record IsPrinted (content : List ℕ → Option (List ℕ)) (options : ReplayOptions) (before after : Option (List ℕ))
-    : Type 0 where
+-- the board is one of the options and of what FILE's content is read as, and made the steps of their schedule; what is
+-- recorded is the schedule that their outcomes tell
+pub record IsPrinted (content left : List ℕ → Option (List ℕ)) (options : ReplayOptions)
+    (before after : Option (List ℕ)) : Type 0 where
   pub setup : Setup
   pub asked : IsAsked (content options.machine.file.now) options.machine setup
   pub board : Board
@@ -37,4 +39,5 @@ pub record IsPrinted (content : List ℕ → Option (List ℕ)) (options : Repla
   pub steps : List (Pick × Outcome)
   pub stepped : HasMade board steps
   pub scheduled : AreAsked content options.schedule (picks_made steps)
+  pub recorded : IsRecorded left options.record (picks_told steps)
   pub told : IsTold setup options board before after

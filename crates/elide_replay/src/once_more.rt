@@ -1,9 +1,11 @@
 //! `elide replay`.
 
-ghost use Rattle.std.specs.Prelude.{◌≡◌, ◌↔◌, ◌++◌, IfOk, List, None, false, max};
+ghost use Rattle.std.specs.Prelude.{◌≡◌, ◌↔◌, ◌++◌, IfOk, List, None, OnOk, false, max};
 ghost use Rattle.ia_text.specs.Writing.{Wrote};
 ghost use Rattle.tm_model.specs.declared.outcome.Outcome.{Outcome};
 ghost use Rattle.tm_model.specs.declared.outcome.Pick.{Pick};
+ghost use Rattle.tm_model.specs.Runs.{picks_of};
+ghost use Rattle.elide_setup.specs.Recorded.{IsRecorded};
 ghost use Rattle.elide_setup.specs.Schedules.{AreAsked, AreOf, picks_made};
 ghost use Rattle.elide_setup.specs.Setup.{IsAsked};
 ghost use Rattle.elide_setup.specs.Shown.{shown_text};
@@ -23,7 +25,7 @@ use elide_why::{
     record, record_path, scheduled, scheduled_places, show, shown_memory, tell_history,
 };
 use ia_text::Out;
-use std::alloc::Global;
+use std::alloc::{AllocError, Global};
 use tm_model::Pick;
 
 /// Runs a schedule on a board, and its history again on one memory; prints the aborts with their reasons where they are
@@ -37,7 +39,7 @@ pub fn replay<P: Paths, O: Out + Drop, G: Progress>(
     progress: &mut G,
 ) -> Result<(Agreement, O), Refusal>
     ensures agrees { IfOk result (λ r. r.0 ≡ Agreement.Agrees) }
-    ensures printed { IfOk result (λ r. IsPrinted (P.content paths.old) options.now
+    ensures printed { IfOk result (λ r. IsPrinted (P.content paths.old) (P.content paths.new) options.now
         (O.device out).contents (O.device r.1).contents) }
 {
     let path = record_path(options.record, options.machine.file, paths)?;
@@ -99,14 +101,13 @@ fn compared<P: Paths, O: Out + Drop, G: Progress>(
     requires { options.now.explains ≡ false → places ≡ None }
     ensures agrees { IfOk result (λ r. r.0 ≡ Agreement.Agrees) }
     ensures told { IfOk result (λ r. IsTold setup.now options.now board.now (O.device out).contents (O.device r.1).contents) }
+    ensures recorded { IfOk result (λ _. IsRecorded (P.content paths.new) path.entry (picks_of board.now.history)) }
 {
     board.is_run();
     let sums = options.machine.shows.as_slice();
     let memory = shown_memory(board.machine().view(), &setup.parts, sums)?;
     let serial = again(alloc, board)?;
-    if path.is_some() {
-        record(path, picks_of(alloc, board)?.as_slice(), paths)?;
-    }
+    write_record(alloc, board, path, paths)?;
     let mut page = Gathered::new(out);
     if let Some(places) = places {
         tell_history(
@@ -121,6 +122,24 @@ fn compared<P: Paths, O: Out + Drop, G: Progress>(
     let agreement = tell(board, &serial, memory, &mut page)?;
     let out = page.finish()?;
     Ok((agreement, out))
+}
+
+// Writes the schedule of a board's steps, where there is a path.
+fn write_record<P: Paths>(
+    alloc: Global,
+    board: &Board,
+    path: Option<&str>,
+    paths: &mut P,
+) -> Result<(), Refusal>
+    ensures { OnOk result (IsRecorded (P.content paths.new) path.entry (picks_of board.now.history)) }
+{
+    if path.is_none() {
+        return Ok(());
+    }
+    match picks_of(alloc, board) {
+        Ok(picks) => record(path, picks.as_slice(), paths),
+        Err(_) => Err(Refusal::Fault(Fault::Run(RunFault::NoMemory))),
+    }
 }
 
 // The program and the schedule, and the places of its source where the reasons of the aborts are asked for.
@@ -186,15 +205,13 @@ fn text_of(agreement: Agreement) -> &'static [u8]
 }
 
 // The pick of each step of a board: an event that aborted nothing is left out.
-fn picks_of(alloc: Global, board: &Board) -> Result<Vec<Pick>, Refusal> {
-    let mut picks = Vec::new(alloc);
+fn picks_of(alloc: Global, board: &Board) -> Result<Vec<Pick>, AllocError>
+    ensures { IfOk result (λ picks. picks.items ≡ picks_of board.now.history) }
+{
     let history = board.history();
+    let mut picks = Vec::with_capacity(alloc, history.len())?;
     for index in 0..history.len() {
-        if let Some(pick) = history.pick_at(index) {
-            if picks.push(pick).is_err() {
-                return Err(Refusal::Fault(Fault::Run(RunFault::NoMemory)));
-            }
-        }
+        picks.push(history.pick_at(index).unwrap())?;
     }
     Ok(picks)
 }

@@ -4,10 +4,11 @@ use Rattle.std.specs.Prelude.{◌≡◌, ℕ, Bool, false, List, [], ◌++◌, O
 use Rattle.std.specs.Io.KnownBytes.{Appends}
 use Rattle.std.specs.List.{flat_map}
 use Rattle.elide_args.specs.declared.subcommand.RunOptions.{RunOptions}
+use Rattle.elide_setup.specs.Recorded.{IsRecorded}
 use Rattle.elide_setup.specs.Runs.{IsRunOf}
 use Rattle.tm_model.specs.declared.outcome.Outcome.{Outcome}
 use Rattle.tm_model.specs.declared.outcome.Pick.{Pick}
-use Rattle.elide_setup.specs.Schedules.{AreAsked, picks_made}
+use Rattle.elide_setup.specs.Schedules.{AreAsked, picks_made, schedule_asked}
 use Rattle.elide_setup.specs.Setup.{IsAsked}
 use Rattle.elide_setup.specs.Shown.{IsShownOf, shown_text}
 use Rattle.elide_setup.specs.TmCore.Theorem.{ShownMachine as Machine}
@@ -26,13 +27,15 @@ abbrev pub trace_text : Bool → List (Pick × Outcome) → List ℕ
 trace_text traces steps = if traces then outcome_lines steps else []
 
 -- the machine is that of the options and of what FILE's content is read as, run by the rules along their schedule, and
--- the lines of its steps were written; those that tell why transactions aborted are any
-pub record IsRunAsAsked (content : List ℕ → Option (List ℕ)) (options : RunOptions) (setup : Setup) (machine : Machine)
-    (before after : Option (List ℕ)) : Type 0 where
+-- the lines of its steps were written; those that tell why transactions aborted are any. The file that the schedule is
+-- recorded in is left with that of these steps
+pub record IsRunAsAsked (content left : List ℕ → Option (List ℕ)) (options : RunOptions) (setup : Setup)
+    (machine : Machine) (before after : Option (List ℕ)) : Type 0 where
   pub asked : IsAsked (content options.machine.file.now) options.machine setup
   pub made : List (Pick × Outcome)
   pub steps : AreAsked content options.schedule (picks_made made)
   pub ran : IsRunOf setup.program setup.limits made machine
+  pub recorded : options.explains ≡ false → IsRecorded left options.record (schedule_asked options.schedule made)
   pub lines : List ℕ
   pub traced : options.explains ≡ false → lines ≡ trace_text options.traces made
   pub wrote : Appends before after lines
@@ -47,10 +50,10 @@ pub record IsTold (options : RunOptions) (setup : Setup) (machine : Machine) (en
   pub wrote : Appends before after (shown_text machine memory ++ asked_lines options.expects_halt machine)
 
 -- both of one machine, the one behind the other
-pub record IsPrinted (content : List ℕ → Option (List ℕ)) (options : RunOptions) (ending : Ending)
+pub record IsPrinted (content left : List ℕ → Option (List ℕ)) (options : RunOptions) (ending : Ending)
     (before after : Option (List ℕ)) : Type 0 where
   pub setup : Setup
   pub machine : Machine
   pub between : Option (List ℕ)
-  pub ran : IsRunAsAsked content options setup machine before between
+  pub ran : IsRunAsAsked content left options setup machine before between
   pub told : IsTold options setup machine ending between after

@@ -28,7 +28,7 @@ pub fn run_explained<P: Paths, O: Out + Drop, G: Progress>(
     progress: &mut G,
 ) -> Result<(Setup, Machine, Gathered<O>), Refusal>
     requires { options.now.explains ≡ true }
-    ensures { IfOk result (λ r. IsRunAsAsked (P.content paths.old) options.now r.0 r.1
+    ensures { IfOk result (λ r. IsRunAsAsked (P.content paths.old) (P.content paths.new) options.now r.0 r.1
         (⟦<Gathered<O> as Out>⟧.device page).contents (⟦<Gathered<O> as Out>⟧.device r.2).contents) }
 {
     let path = record_path(options.record, options.machine.file, paths)?;

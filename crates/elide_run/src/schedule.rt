@@ -2,8 +2,9 @@
 
 ghost use Rattle.std.specs.Prelude.{◌≡◌, ℕ, IfOk, List, false};
 ghost use Rattle.ia_text.specs.Writing.{Wrote};
+ghost use Rattle.elide_setup.specs.Recorded.{IsRecorded};
 ghost use Rattle.elide_setup.specs.Runs.{AreMachineSteps, IsRunOf};
-ghost use Rattle.elide_setup.specs.Schedules.{AreOf, picks_made};
+ghost use Rattle.elide_setup.specs.Schedules.{AreOf, picks_made, picks_told, schedule_made};
 ghost use Rattle.tm_model.specs.declared.outcome.Outcome.{Outcome};
 ghost use Rattle.tm_model.specs.declared.outcome.Pick.{Pick};
 ghost use Rattle.elide_run.specs.Printed.{IsPrinted, IsRunAsAsked, IsTold, outcome_lines, trace_text};
@@ -30,7 +31,7 @@ pub fn run<P: Paths, O: Out + Drop, G: Progress>(
     out: O,
     progress: &mut G,
 ) -> Result<(Ending, O), Refusal>
-    ensures { IfOk result (λ r. IsPrinted (P.content paths.old) options.now r.0
+    ensures { IfOk result (λ r. IsPrinted (P.content paths.old) (P.content paths.new) options.now r.0
         (O.device out).contents (O.device r.1).contents) }
 {
     let page = Gathered::new(out);
@@ -54,7 +55,7 @@ fn run_plainly<P: Paths, O: Out + Drop, G: Progress>(
     progress: &mut G,
 ) -> Result<(Setup, Machine, Gathered<O>), Refusal>
     requires { options.now.explains ≡ false }
-    ensures { IfOk result (λ r. IsRunAsAsked (P.content paths.old) options.now r.0 r.1
+    ensures { IfOk result (λ r. IsRunAsAsked (P.content paths.old) (P.content paths.new) options.now r.0 r.1
         (⟦<Gathered<O> as Out>⟧.device page).contents (⟦<Gathered<O> as Out>⟧.device r.2).contents) }
 {
     let path = record_path(options.record, options.machine.file, paths)?;
@@ -79,7 +80,8 @@ fn stepped<P: Paths, O: Out + Drop, G: Progress>(
     ensures { IfOk result (λ r. (made : List (Pick × Outcome)) × AreOf course.now (picks_made made)
         × IsRunOf setup.now.program setup.now.limits made r.0
         × Wrote (⟦<Gathered<O> as Out>⟧.device page) (⟦<Gathered<O> as Out>⟧.device r.1)
-        (trace_text options.now.traces made)) }
+        (trace_text options.now.traces made)
+        × IsRecorded (P.content paths.new) path.entry (schedule_made course.now (picks_told made))) }
 {
     let mut machine = machine_of(alloc, setup, course)?;
     let cores = machine.cores();

@@ -1,7 +1,10 @@
 use Rattle.std.proofs.Common.{ℕ, List, Option, subst}
 use Rattle.std.proofs.lemmas.Result.{IfOk-weaker}
+use Rattle.std.specs.Borrow.{Bor}
+use Rattle.std.specs.Prelude.{IfSome}
 use Rattle.elide_setup.specs.ElideProgram.Files.{Gives, most_bytes}
 use Rattle.elide_setup.specs.ElideProgram.ProgramFile.{IsFile}
+use Rattle.elide_setup.specs.Recorded.{IsRecorded}
 use Rattle.elide_hunt.specs.Printed.{IsPrinted, IsTold}
 use Rattle.elide_hunt.specs.declared.command.Answer.{Answer}
 use Rattle.elide_hunt.proofs.command.hunt.Goals as goal
@@ -9,6 +12,7 @@ use Rattle.elide_hunt.proofs.command.hunt.Goals as goal
 pub returns : goal.returns
 returns g c =
     let content : List ℕ → Option (List ℕ) = g.P.Paths.content c.args.paths.now in
+    let left : List ℕ → Option (List ℕ) = g.P.Paths.content c.write_record.new.paths in
     let options = c.args.options.now in
     let bytes : List ℕ = c.in_ok-text.text.items in
     let given : Gives (content options.machine.file.now) most_bytes bytes =
@@ -18,7 +22,7 @@ returns g c =
     let made = c.in_ok-search.ensures in
     IfOk-weaker c.tell.result
     (λ (r : Answer × g.row.O.Denot). IsTold options before one r.0 (g.O.Out.device c.args.out).contents (g.O.Out.device r.1).contents)
-    (λ (r : Answer × g.row.O.Denot). IsPrinted content options r.0 (g.O.Out.device c.args.out).contents (g.O.Out.device r.1).contents)
+    (λ (r : Answer × g.row.O.Denot). IsPrinted content left options r.0 (g.O.Out.device c.args.out).contents (g.O.Out.device r.1).contents)
     (λ r told. record {
       setup = made.1;
       asked = record {
@@ -39,5 +43,6 @@ returns g c =
       search = one;
       hunted = made.6;
       told = told;
+      recorded = subst (λ (path : Option (Bor (List ℕ))). IfSome one.found (λ found. IsRecorded left path found.failure.picks.items)) c.in_ok-path.ensures.given c.in_ok-write_record.ensures;
     })
     c.tell.ensures

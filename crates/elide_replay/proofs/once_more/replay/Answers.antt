@@ -1,23 +1,40 @@
 use Rattle.std.proofs.Common.{ℕ, List, Option, subst}
 use Rattle.std.proofs.lemmas.Result.{IfOk-weaker}
+use Rattle.std.specs.Borrow.{Bor}
+use Rattle.std.specs.Prelude.{IfOk, Result, Ok, Err}
+use Rattle.tm_model.specs.Runs.{picks_of}
+use Rattle.tm_model.specs.declared.outcome.Outcome.{Outcome}
 use Rattle.elide_setup.proofs.Schedules.{asked_before}
 use Rattle.elide_setup.specs.Setup.{IsAsked}
 use Rattle.elide_replay.specs.Printed.{IsPrinted, IsTold}
-use Rattle.elide_setup.specs.Schedules.{picks_made}
+use Rattle.elide_setup.specs.Recorded.{IsRecorded}
+use Rattle.elide_setup.specs.Schedules.{picks_made, picks_told}
 use Rattle.elide_replay.specs.declared.agreement.Agreement.{Agreement}
 use Rattle.elide_replay.proofs.once_more.replay.Goals as goal
+
+-- two facts of what is answered give a third
+both : {X E : Type 0} (r : Result X E) (P Q R : X → Type 0) → ((x : X) → P x → Q x → R x) → IfOk r P → IfOk r Q → IfOk r R
+both (Ok x) P Q R third p q = third x p q
+both (Err e) P Q R third p q = tt
 
 pub returns-clause-printed : goal.returns-clause-printed
 returns-clause-printed g c =
     let content : List ℕ → Option (List ℕ) = g.P.Paths.content c.args.paths.now in
+    let left : List ℕ → Option (List ℕ) = g.P.Paths.content c.compared.new.paths in
     let options = c.args.options.now in
     let setup = c.in_ok-setup.setup in
     let board = c.in_ok-board.board in
     let stepped = c.in_ok-board.ensures.steps in
-    IfOk-weaker c.compared.result
+    let recorded : IfOk c.compared.result (λ _. IsRecorded left options.record (picks_told stepped.0)) =
+    IfOk-weaker c.compared.result (λ _. IsRecorded left c.in_ok-path.path (picks_of board.history)) (λ _. IsRecorded left options.record (picks_told stepped.0))
+    (λ _ h. subst (λ (path : Option (Bor (List ℕ))). IsRecorded left path (picks_told stepped.0)) c.in_ok-path.ensures.given
+    (subst (λ (history : List (ℕ × Outcome)). IsRecorded left c.in_ok-path.path (picks_of history)) stepped.1.history h))
+    c.compared.ensures.recorded in
+    both c.compared.result
     (λ (r : Agreement × g.row.O.Denot). IsTold setup options board (g.O.Out.device c.args.out).contents (g.O.Out.device r.1).contents)
-    (λ (r : Agreement × g.row.O.Denot). IsPrinted content options (g.O.Out.device c.args.out).contents (g.O.Out.device r.1).contents)
-    (λ r told. record {
+    (λ (r : Agreement × g.row.O.Denot). IsRecorded left options.record (picks_told stepped.0))
+    (λ (r : Agreement × g.row.O.Denot). IsPrinted content left options (g.O.Out.device c.args.out).contents (g.O.Out.device r.1).contents)
+    (λ r told recorded. record {
       setup = setup;
       asked = subst (λ (text : Option (List ℕ)). IsAsked text options.machine setup) (c.record_path.ensures.kept options.machine.file.now) c.in_ok-setup.ensures.setup;
       board = board;
@@ -25,6 +42,7 @@ returns-clause-printed g c =
       steps = stepped.0;
       stepped = stepped.1;
       scheduled = asked_before content (g.P.Paths.content c.record_path.new.paths) options.schedule (picks_made stepped.0) c.record_path.ensures.kept (c.in_ok-setup.ensures.course (picks_made stepped.0) stepped.2);
+      recorded = recorded;
       told = told;
     })
-    c.compared.ensures.told
+    c.compared.ensures.told recorded

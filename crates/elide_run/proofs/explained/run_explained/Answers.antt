@@ -12,6 +12,7 @@ returns g c =
       made = made.0;
       steps = asked_before (g.P.Paths.content c.args.paths.now) (g.P.Paths.content c.record_path.new.paths) c.args.options.now.schedule (picks_made made.0) c.record_path.ensures.kept (c.in_ok-setup.ensures.course (picks_made made.0) made.1);
       ran = made.2;
+      recorded = λ e. cc;
       lines = made.3;
       traced = λ e. cc;
       wrote = made.4.bytes;

@@ -10,6 +10,7 @@ returns-then-not-options g c =
       made.1,
       run_of_all c.args.setup.now.program c.args.setup.now.limits made.0 c.in_ok-machine.machine c.walk_recorded.new.maker c.in_ok-machine.ensures made.2,
       wrote_untraced _ c.args.options.now.traces made.0 c.if-not-options.true,
+      made.3,
     )
 
 pub returns : goal.returns
@@ -22,4 +23,5 @@ returns g c =
       made.1,
       run_of_all c.args.setup.now.program c.args.setup.now.limits made.0 c.in_ok-machine.machine c.walk_recorded-2.new.maker.machine c.in_ok-machine.ensures all.leads,
       wrote_traced _ _ c.args.options.now.traces made.0 c.if-not-options.false all.wrote,
+      made.3,
     )
