@@ -6,8 +6,8 @@ use ia_text::{Out, WriteFault, write_line};
 use std::alloc::{AllocError, Global};
 
 /// Writes the listing of some code at an address, with a line `NAME:` for each label above the instruction that it stands
-/// before; of several, in the order of the source or of the executable's table. A label within an instruction of the listing is
-/// not written. [`AllocError`], before anything is written, where there is no memory for the order of the labels.
+/// before, whose name stands there as [`Label::shown`] has it; of several, in the order of the source or of the executable's
+/// table. A label within an instruction of the listing is not written. [`AllocError`], before anything is written, where there is no memory for the order of the labels.
 pub fn list_labelled<O: Out>(
     alloc: Global,
     code: &[u8],
@@ -73,7 +73,7 @@ fn write_labels<O: Out>(
         }
         if address == at {
             if let Some(label) = labels.get(index) {
-                out.put(label.name())?;
+                out.put(label.shown())?;
                 out.put(b":\n")?;
             }
         }

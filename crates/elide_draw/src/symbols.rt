@@ -1,6 +1,6 @@
 //! What lines of memory are called in pictures.
 
-use elide_places::{Places, SymbolText, push_symbols};
+use elide_places::{Naming, Places, SymbolText, push_symbols};
 use std::str;
 use tm_timeline::{Label, LineLabels};
 
@@ -20,7 +20,8 @@ impl<'a> Symbols<'a> {
 impl LineLabels for Symbols<'_> {
     fn label(&self, line: u32) -> Label {
         let mut row = SymbolText::new();
-        push_symbols(&mut row, self.places, line);
+        // A picture has escapes of its own.
+        push_symbols(&mut row, self.places, line, Naming::Raw);
         // A source has names in ASCII alone.
         Label::of(str::from_utf8(row.as_slice()).unwrap_or(""))
     }

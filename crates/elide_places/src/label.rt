@@ -1,5 +1,10 @@
 //! Labels of a program.
 
+ghost use Rattle.std.specs.Prelude.{◌≡◌, true};
+ghost use Rattle.std.specs.List.{list_all};
+ghost use Rattle.elide_places.specs.Shown.{is_printable, shown_name};
+
+use crate::shown::shown_name;
 use ia_elf::Symbol;
 use ia_item::Name;
 use std::alloc::{AllocError, Global};
@@ -8,7 +13,10 @@ use std::alloc::{AllocError, Global};
 #[derive(Debug, Drop)]
 pub struct Label {
     name: Vec<u8>,
+    // The name as it is shown.
+    shown: Vec<u8>,
     address: u32,
+    ghost is_shown: { shown.items ≡ shown_name name.items },
 }
 
 impl Label {
@@ -16,23 +24,37 @@ impl Label {
     pub(crate) fn of(alloc: Global, name: &Name<'_>, address: u32) -> Result<Label, AllocError> {
         let mut whole = Vec::from_slice(alloc, name.scope)?;
         whole.extend_from_slice(name.own)?;
-        Ok(Label {
-            name: whole,
-            address,
-        })
+        Label::named(alloc, whole, address)
     }
 
     /// The symbol of an executable.
     pub(crate) fn of_symbol(alloc: Global, symbol: Symbol<'_>) -> Result<Label, AllocError> {
+        let name = Vec::from_slice(alloc, symbol.name)?;
+        Label::named(alloc, name, symbol.value)
+    }
+
+    // The label of this whole name.
+    fn named(alloc: Global, name: Vec<u8>, address: u32) -> Result<Label, AllocError> {
+        let shown = shown_name(alloc, name.as_slice())?;
         Ok(Label {
-            name: Vec::from_slice(alloc, symbol.name)?,
-            address: symbol.value,
+            name,
+            shown,
+            address,
         })
     }
 
-    /// The whole name, as `start.next`.
+    /// The whole name, as `start.next`: that of an executable's symbol can hold any byte but NUL.
     pub fn name(&self) -> &[u8] {
         self.name.as_slice()
+    }
+
+    /// The whole name, as [`shown_name`] shows it.
+    #[tactic(auto, using(crate::proofs::Showing::name_is_printable))]
+    pub fn shown(&self) -> &[u8]
+        ensures text { result.now ≡ shown_name self.now.name.items }
+        ensures printable { list_all is_printable result.now ≡ true }
+    {
+        self.shown.as_slice()
     }
 
     /// The address.

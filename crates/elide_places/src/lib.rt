@@ -1,13 +1,16 @@
-//! Where the instructions and the labels of a program stand.
+//! Where the instructions and the labels of a program stand, and how names are shown.
 //!
-//! Promises no more than safety: what is told by these places is compared by `doc_tests`. Stands on the assembler's own
-//! reading and placing of a source (`ia_source`, `ia_layout`) and on the reader of executables (`ia_elf`).
+//! Promised: the name of a symbol is shown by bytes of `!` to `~` alone, and one that has no other bytes and no backslash as it is
+//! (`specs/Shown.antt`). Of places no more than safety: what is told by them is compared by `doc_tests`. Stands on the assembler's
+//! own reading and placing of a source (`ia_source`, `ia_layout`) and on the reader of executables (`ia_elf`).
 #![tactic(auto)]
 
 mod label;
 mod places;
+mod shown;
 mod symbols;
 
 pub use label::Label;
 pub use places::Places;
-pub use symbols::{SymbolText, push_code_place, push_symbols};
+pub use shown::shown_name;
+pub use symbols::{Naming, SymbolText, push_code_place, push_symbols};

@@ -1,10 +1,14 @@
 //! The symbols on a line of 64 bytes.
 
+ghost use Rattle.std.specs.Prelude.{◌≡◌, true};
+ghost use Rattle.std.specs.List.{list_all};
+ghost use Rattle.elide_places.specs.Shown.{is_printable};
+ghost use Rattle.elide_places.specs.declared.symbols.Naming.TheVariants.{Shown};
+
 use crate::label::Label;
 use crate::places::Places;
-use arrayvec::{ArrayString, ArrayVec};
-use ia_text::page::push;
-use std::fmt::Write;
+use arrayvec::ArrayVec;
+use ia_text::page::{Page, push, push_number};
 
 /// How many bytes of names are told of a line.
 const ROOM: usize = 96;
@@ -12,33 +16,62 @@ const ROOM: usize = 96;
 /// Names of symbols.
 pub type SymbolText = ArrayVec<u8, ROOM>;
 
+/// In which form a device is given names.
+#[derive(Clone, Copy, PartialEq, Eq, Debug)]
+pub enum Naming {
+    /// As they are shown, by [`Label::shown`].
+    Shown,
+    /// As they are, by [`Label::name`]: for a device that has escapes of its own.
+    Raw,
+}
+
+impl Naming {
+    // The name of a label in this form.
+    fn name_of(self, label: &Label) -> &[u8]
+        ensures { self ≡ Shown → list_all is_printable result.now ≡ true }
+    {
+        match self {
+            Naming::Shown => label.shown(),
+            Naming::Raw => label.name(),
+        }
+    }
+}
+
 /// Writes what stands on a line of 64 bytes, of this number: the labels on it, as `mutex, owner`; where there is none,
 /// the last one below it in the image, with the distance, as `table+0x40`; and nothing where there is none, either. What
 /// has no room is told as `..`.
-pub fn push_symbols(row: &mut SymbolText, places: &Places, line: u32) {
+pub fn push_symbols(row: &mut SymbolText, places: &Places, line: u32, naming: Naming)
+    ensures { naming ≡ Shown → list_all is_printable row.new.items ≡ true }
+{
     row.clear();
-    for label in places.labels() {
+    'labels: for label in places.labels() {
         if label.line() == line {
-            push_name(row, label.name());
+            push_name(row, naming.name_of(label));
         }
     }
     if row.is_empty() {
-        push_below(row, places, line);
+        push_below(row, places, line, naming);
     }
 }
 
 /// Writes where an instruction of an executable stands: the symbol of its code at the address or the last below it, with the
-/// distance, as `insert+0x1c`; nothing where there is none. A name past the room is told as `..`.
-pub fn push_code_place(row: &mut SymbolText, places: &Places, address: u32) {
+/// distance, as `insert+0x1c`; nothing where there is none. The name is shown by [`Label::shown`]; one past the room is told
+/// as `..`.
+pub fn push_code_place(row: &mut SymbolText, places: &Places, address: u32)
+    ensures { list_all is_printable row.new.items ≡ true }
+{
     row.clear();
     if let Some(label) = places.code_label(address) {
-        push_cut(row, label.name());
+        push_cut(row, label.shown());
         push_distance(row, address.saturating_sub(label.address()));
     }
 }
 
 // One more name.
-fn push_name(row: &mut SymbolText, name: &[u8]) {
+fn push_name(row: &mut SymbolText, name: &[u8])
+    ensures { list_all is_printable row.old.items ≡ true → list_all is_printable name.now ≡ true
+        → list_all is_printable row.new.items ≡ true }
+{
     if !row.is_empty() {
         push_cut(row, b", ");
     }
@@ -46,24 +79,29 @@ fn push_name(row: &mut SymbolText, name: &[u8]) {
 }
 
 // The last label below a line of the image, with the distance to it.
-fn push_below(row: &mut SymbolText, places: &Places, line: u32) {
+fn push_below(row: &mut SymbolText, places: &Places, line: u32, naming: Naming)
+    ensures { naming ≡ Shown → list_all is_printable row.old.items ≡ true → list_all is_printable row.new.items ≡ true }
+{
     if line >= places.end().div_ceil(64) {
         return;
     }
     if let Some(label) = last_below(places.labels(), line) {
         let distance = line.saturating_mul(64).saturating_sub(label.address());
-        push_cut(row, label.name());
+        push_cut(row, naming.name_of(label));
         push_distance(row, distance);
     }
 }
 
 // Adds a distance, as `+0x40`, unless it is 0.
-fn push_distance(row: &mut SymbolText, distance: u32) {
+#[tactic(auto, using(crate::proofs::Showing::distance_is_printable))]
+fn push_distance(row: &mut SymbolText, distance: u32)
+    ensures { list_all is_printable row.old.items ≡ true → list_all is_printable row.new.items ≡ true }
+{
     if distance != 0 {
-        let mut sum = ArrayString::<16>::new();
-        // There is room for a number of 32 bits.
-        let _ = write!(sum, "+0x{distance:x}");
-        push_cut(row, sum.as_str().as_bytes());
+        let mut sum = Page::new();
+        push(&mut sum, b"+");
+        push_number(&mut sum, distance);
+        push_cut(row, sum.as_slice());
     }
 }
 
@@ -87,7 +125,11 @@ fn is_later(label: &Label, last: Option<&Label>) -> bool {
 }
 
 // Adds a text, or, where it has no room, `..` in its place.
-fn push_cut(row: &mut SymbolText, text: &[u8]) {
+#[tactic(auto, using(crate::proofs::Showing::more_is_printable))]
+fn push_cut(row: &mut SymbolText, text: &[u8])
+    ensures { list_all is_printable row.old.items ≡ true → list_all is_printable text.now ≡ true
+        → list_all is_printable row.new.items ≡ true }
+{
     if text.len() + 2 <= row.remaining_capacity() {
         push(row, text);
     } else if !row.as_slice().ends_with(b"..") && row.remaining_capacity() >= 2 {

@@ -1,5 +1,6 @@
 //! What places and lines of memory are called.
 
+use elide_places::{Naming, shown_name};
 use elide_program::ProgramFile;
 use ia_asm::ProgramImage;
 use ia_elf::Elf;
@@ -16,6 +17,8 @@ pub struct Labels<'a> {
     code_end: u32,
     // The address behind the image.
     end: u64,
+    // In which form names are told.
+    naming: Naming,
 }
 
 // A symbol with its address.
@@ -26,13 +29,18 @@ struct Label<'a> {
 }
 
 impl<'a> Labels<'a> {
-    /// The symbols of a file.
-    pub fn of_file(alloc: Global, file: &ProgramFile<'a>) -> Result<Labels<'a>, AllocError> {
+    /// The symbols of a file, whose names are told in this form.
+    pub fn of_file(
+        alloc: Global,
+        file: &ProgramFile<'a>,
+        naming: Naming,
+    ) -> Result<Labels<'a>, AllocError> {
         let mut labels = Labels {
             list: Vec::new(alloc),
             first: file.base(),
             code_end: file.base().saturating_add(file.code_len()),
             end: end_of(file),
+            naming,
         };
         match labels.add_all(file) {
             Ok(()) => Ok(labels),
@@ -81,7 +89,7 @@ impl<'a> Labels<'a> {
         match self.nearest(address) {
             Some(label) => {
                 let mut text = String::new(alloc);
-                push_name(&mut text, &label.name)?;
+                self.push_name(alloc, &mut text, &label.name)?;
                 if label.address < address {
                     let distance = format!(in alloc; "+{:#x}", address - label.address)?;
                     text.push_str(distance.as_str())?;
@@ -115,13 +123,24 @@ impl<'a> Labels<'a> {
                 if !text.is_empty() {
                     text.push_str(",")?;
                 }
-                push_name(&mut text, &label.name)?;
+                self.push_name(alloc, &mut text, &label.name)?;
             }
         }
         if text.is_empty() {
             text.push_str("-")?;
         }
         Ok(text)
+    }
+
+    // Adds a symbol's whole name.
+    fn push_name(
+        &self,
+        alloc: Global,
+        text: &mut String,
+        name: &Name<'_>,
+    ) -> Result<(), AllocError> {
+        push_part(alloc, text, name.scope, self.naming)?;
+        push_part(alloc, text, name.own, self.naming)
     }
 }
 
@@ -133,10 +152,20 @@ fn end_of(file: &ProgramFile<'_>) -> u64 {
     }
 }
 
-// Adds a symbol's whole name.
-fn push_name(text: &mut String, name: &Name<'_>) -> Result<(), AllocError> {
-    push_bytes(text, name.scope)?;
-    push_bytes(text, name.own)
+// Adds a part of a name in this form.
+fn push_part(
+    alloc: Global,
+    text: &mut String,
+    part: &[u8],
+    naming: Naming,
+) -> Result<(), AllocError> {
+    match naming {
+        Naming::Shown => {
+            let shown = shown_name(alloc, part)?;
+            push_bytes(text, shown.as_slice())
+        }
+        Naming::Raw => push_bytes(text, part),
+    }
 }
 
 // Adds bytes that are text; others are left out.

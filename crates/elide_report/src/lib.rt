@@ -1,7 +1,8 @@
 //! What `elide stats` tells of the steps that were counted: in columns, and as JSON.
 //!
 //! Promises no more than safety: that the counts are those of the steps that were told of is proved of `tm_stats`; what is
-//! printed is compared by `doc_tests`. Stands on `tm_stats` for the counts and on `elide_program` for the symbols of a program.
+//! printed is compared by `doc_tests`. Stands on `tm_stats` for the counts, on `elide_program` for the symbols of a program and on
+//! `elide_places` for how they are shown.
 #![tactic(auto)]
 
 mod columns;
@@ -10,6 +11,7 @@ mod labels;
 mod report;
 
 pub use columns::put_columns;
+pub use elide_places::Naming;
 pub use json::json_line;
 pub use labels::Labels;
 pub use report::Report;

@@ -1,7 +1,7 @@
 //! What is printed of a run that was counted.
 
 use crate::counting::{Counting, no_memory};
-use elide_report::{Labels, Report, json_line, put_columns};
+use elide_report::{Labels, Naming, Report, json_line, put_columns};
 use elide_setup::{Board, Gathered, Lent, ProgramFile, Progress, Refusal};
 use ia_text::Out;
 use std::alloc::Global;
@@ -17,7 +17,9 @@ pub fn tell_counting<O: Out>(
     if counting.sort().is_err() {
         return Err(no_memory());
     }
-    match Labels::of_file(alloc, file) {
+    // JSON has escapes of its own.
+    let naming = if is_json { Naming::Raw } else { Naming::Shown };
+    match Labels::of_file(alloc, file, naming) {
         Ok(labels) => tell_labelled(alloc, counting, &labels, is_json, out),
         Err(refused) => Err(Refusal::from(refused)),
     }

@@ -16,7 +16,7 @@ use Rattle.elide_why.specs.Subset.{outside_text, symbols_text}
 use Rattle.elide_why.specs.declared.outside.Outside.{Outside}
 use Rattle.elide_why.specs.declared.words.Words.{Words}
 
--- a line by its number, with the symbols that stand on it
+-- a line by its number, with the symbols that stand on it, as they are shown
 abbrev pub line_text : ℕ → Words → List ℕ
 line_text line words = codes "line " ++ hex_digits line ++ symbols_text words.symbols.items
 

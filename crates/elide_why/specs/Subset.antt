@@ -12,7 +12,7 @@ abbrev pub code_from : ProgramValue → ℕ → List ℕ
 code_from program address =
     if nat_lt address program.base then [] else take 15 (drop (address - program.base) (code_of program))
 
--- symbols in brackets, where there are any
+-- symbols, as they are shown, in brackets, where there are any
 abbrev pub symbols_text : List ℕ → List ℕ
 symbols_text symbols = if length symbols == 0 then [] else codes " (" ++ symbols ++ codes ")"
 

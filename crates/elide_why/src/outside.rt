@@ -1,6 +1,8 @@
 //! Code that is no instruction of the subset.
 
-ghost use Rattle.std.specs.Prelude.{◌≤◌, length};
+ghost use Rattle.std.specs.Prelude.{◌≡◌, ◌≤◌, length, true};
+ghost use Rattle.std.specs.List.{list_all};
+ghost use Rattle.elide_places.specs.Shown.{is_printable};
 
 use elide_places::SymbolText;
 
@@ -11,7 +13,8 @@ pub struct Outside<'a> {
     pub code: &'a [u8],
     /// The address.
     pub address: u32,
-    /// Of an executable the symbol there, or the last one below with the distance.
+    /// Of an executable the symbol there, or the last one below with the distance, as it is shown.
     pub place: SymbolText,
     pub ghost short: { length code.now ≤ 15 },
+    pub ghost printable: { list_all is_printable place.items ≡ true },
 }

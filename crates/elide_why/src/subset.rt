@@ -97,7 +97,7 @@ fn push_code(page: &mut Page, code: &[u8], address: u32)
     push_eight(page, address);
 }
 
-/// Adds symbols in brackets, where there are any.
+/// Adds symbols, as they are shown, in brackets, where there are any.
 pub fn push_symbols(page: &mut Page, symbols: &[u8])
     requires { array_vec_len page.old + length symbols.now + 3 ≤ 4096 }
     ensures text { page.new.items ≡ page.old.items ++ symbols_text symbols.now }

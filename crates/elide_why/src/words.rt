@@ -1,11 +1,13 @@
 //! What the text of a program says of a reason.
 
-ghost use Rattle.std.specs.Prelude.{◌≡◌};
+ghost use Rattle.std.specs.Prelude.{◌≡◌, true};
+ghost use Rattle.std.specs.List.{list_all};
+ghost use Rattle.elide_places.specs.Shown.{is_printable};
 ghost use Rattle.elide_why.specs.Words.{IsOutsideOf};
 
 use crate::outside::Outside;
 use arrayvec::ArrayVec;
-use elide_places::{Places, SymbolText, push_symbols};
+use elide_places::{Naming, Places, SymbolText, push_symbols};
 use elide_setup::{AbortReason, Program, Stop};
 use ia_insn::Insn;
 use ia_text::page::{push, push_eight};
@@ -21,7 +23,7 @@ pub type PlaceText = ArrayVec<u8, 1100>;
 /// What the text of a program says of a reason.
 #[derive(Drop)]
 pub struct Words<'a> {
-    /// The symbols on the line that the reason tells of; none, where it tells of no line.
+    /// The symbols on the line that the reason tells of, as they are shown; none, where it tells of no line.
     pub symbols: SymbolText,
     /// The address of the instruction that is told: the one by which another core hit, or else the one that was next
     /// where the core was aborted.
@@ -32,6 +34,7 @@ pub struct Words<'a> {
     pub insn: Option<Insn>,
     /// The code where the subset ends, where it does.
     pub outside: Option<Outside<'a>>,
+    pub ghost printable: { list_all is_printable symbols.items ≡ true },
 }
 
 impl<'a> Words<'a> {
@@ -39,13 +42,9 @@ impl<'a> Words<'a> {
     pub fn of(program: &'a Program, path: &str, places: &Places, reason: &Reason) -> Words<'a>
         ensures { IsOutsideOf program.now reason.now.cause reason.now.eip result.outside }
     {
-        let mut symbols = SymbolText::new();
-        if let Some(line) = line_of(reason) {
-            push_symbols(&mut symbols, places, line);
-        }
         let eip = eip_of(reason);
         Words {
-            symbols,
+            symbols: symbols_of(places, reason),
             eip,
             place: place_of(path, places, eip),
             insn: if tells_insn(reason) {
@@ -71,6 +70,17 @@ impl<'a> Words<'a> {
             outside: None,
         }
     }
+}
+
+// The symbols on the line that a reason tells of, as they are shown.
+fn symbols_of(places: &Places, reason: &Reason) -> SymbolText
+    ensures { list_all is_printable result.items ≡ true }
+{
+    let mut symbols = SymbolText::new();
+    if let Some(line) = line_of(reason) {
+        push_symbols(&mut symbols, places, line, Naming::Shown);
+    }
+    symbols
 }
 
 // The code where the subset ends, where a reason tells that it does.
