@@ -1,5 +1,5 @@
 -- A session of the debugger on the machine that the options say.
-use Rattle.std.specs.Prelude.{◌≡◌, ℕ, false, ◌&&◌, if◌then◌else◌, List, [], Option}
+use Rattle.std.specs.Prelude.{◌≡◌, ℕ, ◌&&◌, if◌then◌else◌, List, Option}
 use Rattle.ia_text.specs.Writing.{Device}
 use Rattle.debug_command.specs.declared.manner.Manner.{Manner}
 use Rattle.debug_command.specs.declared.manner.Manner.TheVariants.{Plain, Spoken}
@@ -9,7 +9,7 @@ use Rattle.elide_session.specs.TmDebug.Serving.{BehindPrompt, ServesInput}
 use Rattle.elide_session.specs.TmDebug.Session.{start_in}
 use Rattle.elide_session.specs.TmHist.Board.{ShownBoard as Board}
 use Rattle.elide_args.specs.declared.subcommand.SessionOptions.{SessionOptions}
-use Rattle.elide_session.specs.Opened.{IsOpened, is_scheduled}
+use Rattle.elide_session.specs.Opened.{IsOpened, IsPlan}
 use Rattle.elide_session.specs.ElideSetup.Terminals.{Terminals}
 
 -- a session is spoken where a person types its input and reads its output
@@ -17,15 +17,15 @@ abbrev pub manner_at : Terminals → Manner
 manner_at terminals = if terminals.input && terminals.output then Spoken else Plain
 
 -- what was written are the answers to the input with that board, by the symbols of the program that the content of FILE
--- is read as, along some plan, which has no step where no schedule is asked for, and this is left of the input
-pub record IsServed (options : SessionOptions) (terminals : Terminals) (content input left : Option (List ℕ))
-    (old new : Device) : Type 0 where
+-- is read as, along the schedule that the options ask for, and this is left of the input
+pub record IsServed (content : List ℕ → Option (List ℕ)) (options : SessionOptions) (terminals : Terminals)
+    (input left : Option (List ℕ)) (old new : Device) : Type 0 where
   pub first : Board
   pub last : Board
   pub plan : List Pick
-  pub planned : is_scheduled options.schedule ≡ false → plan ≡ []
+  pub planned : IsPlan content options.schedule plan
   pub symbols : List Symbol
-  pub opened : IsOpened content options.machine first symbols
+  pub opened : IsOpened (content options.machine.file.now) options.machine first symbols
   pub labels : List Symbol
   pub manner : Manner
   pub speaks : manner ≡ manner_at terminals

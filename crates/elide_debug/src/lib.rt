@@ -1,8 +1,8 @@
 //! `elide debug`.
 //!
 //! Promised: what [`debug`] writes are the answers of a session (`tm_debug`) to the input, with the machine that the options say and
-//! room for 1,000,000 steps: spoken where input and output are a terminal's, and plain else. Which schedule `next` goes along is
-//! compared by `doc_tests`. Stands on `elide_session` and `tm_debug`.
+//! room for 1,000,000 steps, along the schedule that they ask for: spoken where input and output are a terminal's, and plain else.
+//! Which cores a schedule that is drawn picks is compared by `doc_tests`. Stands on `elide_session` and `tm_debug`.
 #![tactic(auto)]
 
 ghost use Rattle.std.specs.Prelude.{◌≡◌, OnOk};
@@ -25,8 +25,8 @@ pub fn debug<R: Wait, P: Paths, I: In, O: Out>(
     out: &mut O,
     terminals: Terminals,
 ) -> Result<(), Refusal>
-    ensures { OnOk result (IsServed options.now terminals (P.content paths.old options.now.machine.file.now) (I.remaining input.old) (I.remaining input.new) (O.device out.old)
-        (O.device out.new)) }
+    ensures { OnOk result (IsServed (P.content paths.old) options.now terminals
+        (I.remaining input.old) (I.remaining input.new) (O.device out.old) (O.device out.new)) }
 {
     let manner = manner_at(terminals);
     let start = opened(

@@ -1,9 +1,14 @@
 //! `elide gdb`.
 //!
-//! Promises no more than safety: what a session answers is `tm_gdb`'s promise, and the board that it begins with
-//! `elide_session`'s.
-//! Stored sessions are compared by `doc_tests`.
+//! Promised: what [`gdb`] writes is what is to be done of the packets of the input (`tm_gdb`), with the machine that the options say
+//! and room for 1,000,000 steps; a continued run of all cores goes along the schedule that the options ask for, where they ask for
+//! one. Which cores a schedule that is drawn picks, and stored sessions, are compared by `doc_tests`. Stands on `elide_session` and
+//! `tm_gdb`.
 #![tactic(auto)]
+
+ghost use Rattle.std.specs.Prelude.{◌≡◌, None, OnOk, Some, if◌then◌else◌};
+ghost use Rattle.elide_gdb.specs.Served.{IsServed};
+ghost use Rattle.tm_gdb.specs.Values.{picks_in};
 
 use elide_args::SessionOptions;
 use elide_session::{In, Paths, Refusal, is_scheduled, opened, session_fault};
@@ -23,7 +28,10 @@ pub fn gdb<R: Wait, P: Paths, I: In, O: Out>(
     paths: &mut P,
     input: &mut I,
     out: &mut O,
-) -> Result<(), Refusal> {
+) -> Result<(), Refusal>
+    ensures { OnOk result (IsServed (P.content paths.old) options.now
+        (I.remaining input.old) (I.remaining input.new) (O.device out.old) (O.device out.new)) }
+{
     let opened = opened(alloc, &options.machine, &options.schedule, false, paths)?;
     let plan = asked_for(opened.plan, is_scheduled(&options.schedule));
     match serve(rt, alloc, opened.board, plan, input, out) {
@@ -33,6 +41,8 @@ pub fn gdb<R: Wait, P: Paths, I: In, O: Out>(
 }
 
 // A schedule, where it is asked for.
-fn asked_for(plan: Vec<Pick>, is_asked: bool) -> Option<Vec<Pick>> {
+fn asked_for(plan: Vec<Pick>, is_asked: bool) -> Option<Vec<Pick>>
+    ensures { picks_in result ≡ (if is_asked then Some plan.items else None) }
+{
     if is_asked { Some(plan) } else { None }
 }

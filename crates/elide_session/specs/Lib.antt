@@ -1,5 +1,6 @@
 pub mod Opened
 pub mod Symbols
+pub mod DebugCommand
 pub mod ElideSetup
 pub mod TmDebug
 pub mod TmHist

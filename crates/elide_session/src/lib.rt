@@ -1,15 +1,18 @@
 //! What `elide debug` and `elide gdb` begin with: a board, the schedule that a session goes along, and the program's symbols.
 //!
-//! Promised: the board is that of the options and of the program in FILE before its first step, with room for 1,000,000 steps; where
-//! no schedule is asked for there is none; each name stands for what it stands for in that program; and the number of the fault that
-//! ends a session early. Which steps a schedule has, and which labels a program, is compared by `doc_tests`. Stands on `elide_setup`
-//! and, for sessions, on `tm_debug`.
+//! Promised: the board is that of the options and of the program in FILE before its first step, with room for 1,000,000 steps; the
+//! plan is the schedule that the options ask for, in the words of `elide_setup`, and there is none where they ask for none; each name
+//! stands for what it stands for in that program; and the number of the fault that ends a session early. Which cores a schedule that
+//! is drawn picks, and which labels a program has, is compared by `doc_tests`. Stands on `elide_setup` and, for sessions, on
+//! `tm_debug`.
 #![tactic(auto)]
 
-ghost use Rattle.std.specs.Prelude.{◌≡◌, [], IfOk, false};
-ghost use Rattle.elide_session.specs.Opened.{IsOpened, is_scheduled, says_draw};
+ghost use Rattle.std.specs.Prelude.{◌≡◌, IfOk, true};
+ghost use Rattle.elide_session.specs.Opened.{IsOpened, IsPlan, is_scheduled, says_draw};
 ghost use Rattle.elide_session.specs.Symbols.{AreSymbolsOf};
+ghost use Rattle.elide_setup.specs.Drawing.{AreUnder};
 ghost use Rattle.elide_setup.specs.Faults.{fault_number};
+ghost use Rattle.elide_setup.specs.Schedules.{AreOf};
 ghost use Rattle.tm_debug.specs.Faults.{session_code};
 
 mod symbols;
@@ -17,8 +20,8 @@ mod symbols;
 use elide_args::{MachineOptions, ScheduleOptions};
 pub use elide_setup::{Paths, Refusal, Terminals};
 use elide_setup::{
-    Course, Fault, Plan, ProgramFile, Settings, Setup, Silent, new_board, new_machine, planned,
-    read_file,
+    Course, Drawn, Fault, Plan, ProgramFile, Settings, Setup, Silent, new_board, new_machine,
+    planned, read_file,
 };
 use std::alloc::{AllocError, Global};
 use symbols::{labels_of, symbols_of};
@@ -29,12 +32,16 @@ use tm_model::Pick;
 /// How many steps a session can make.
 const MOST_STEPS: u64 = 1_000_000;
 
+/// How many steps of a schedule a session can ask for: those that it makes, and the one that it has no room for.
+const MOST_DRAWN: u32 = 1_000_001;
+
 /// What a session begins with.
 #[derive(Drop)]
 pub struct Opening {
     /// The board of a machine before its first step, with room for 1,000,000 of them.
     pub board: Board,
-    /// The picks of the schedule: none, where no schedule is asked for.
+    /// The picks of the schedule: none, where no schedule is asked for. Of a schedule that is drawn at most 1,000,001, one more than
+    /// a session can make, so that it is told apart whether the schedule ends or the session does.
     pub plan: Vec<Pick>,
     /// The symbols of the program, and its labels, where they are wanted.
     pub names: Names,
@@ -50,7 +57,7 @@ pub fn opened<P: Paths>(
     paths: &mut P,
 ) -> Result<Opening, Refusal>
     ensures opened { IfOk result (λ r. IsOpened (P.content paths.old machine.now.file.now) machine.now r.board r.names.symbols.items) }
-    ensures plan { IfOk result (λ r. is_scheduled schedule.now ≡ false → r.plan.items ≡ []) }
+    ensures plan { IfOk result (λ r. IsPlan (P.content paths.old) schedule.now r.plan.items) }
 {
     if is_scheduled(schedule) {
         return opened_scheduled(alloc, machine, schedule, wants_labels, paths);
@@ -106,13 +113,15 @@ fn opened_scheduled<P: Paths>(
     wants_labels: bool,
     paths: &mut P,
 ) -> Result<Opening, Refusal>
+    requires { is_scheduled schedule.now ≡ true }
     ensures opened { IfOk result (λ r. IsOpened (P.content paths.old machine.now.file.now) machine.now r.board r.names.symbols.items) }
+    ensures plan { IfOk result (λ r. IsPlan (P.content paths.old) schedule.now r.plan.items) }
 {
     let settings = Settings::read(machine)?;
-    let plan = Plan::read(alloc, schedule)?;
+    let asked = Plan::read(alloc, schedule)?;
     let text = read_file(machine.file, paths)?;
     let file = ProgramFile::read(alloc, text.as_slice())?;
-    let (setup, course) = planned(alloc, &settings, plan, &file, paths)?;
+    let (setup, course) = planned(alloc, &settings, asked, &file, paths)?;
     course.check_cores(setup.program.cores())?;
     let board = new_board(alloc, &setup, MOST_STEPS)?;
     let plan = plan_of(alloc, &setup, course)?;
@@ -138,19 +147,28 @@ fn names_of(
     Ok(Names { symbols, labels })
 }
 
-// The picks of a schedule: of one that is drawn, as a run on a machine of its own draws it.
-fn plan_of(alloc: Global, setup: &Setup, course: Course) -> Result<Vec<Pick>, Refusal> {
+// The picks of a schedule.
+fn plan_of(alloc: Global, setup: &Setup, course: Course) -> Result<Vec<Pick>, Refusal>
+    ensures { IfOk result (λ plan. AreOf course plan.items) }
+{
     match course {
         Course::Listed(steps) => Ok(steps),
-        drawn => {
-            let mut machine = new_machine(alloc, setup)?;
-            drawn.walk(
-                alloc,
-                setup.program.cores(),
-                true,
-                &mut machine,
-                &mut Silent,
-            )
-        }
+        Course::Drawn(drawn) => drawn_plan(alloc, setup, drawn),
     }
+}
+
+// Those of one that is drawn, as a run on a machine of its own draws it, and no more of them than a session can ask for.
+fn drawn_plan(alloc: Global, setup: &Setup, drawn: Drawn) -> Result<Vec<Pick>, Refusal>
+    ensures { IfOk result (λ plan. AreUnder drawn.events plan.items) }
+{
+    let mut machine = new_machine(alloc, setup)?;
+    let most = drawn.most.min(MOST_DRAWN);
+    let course = Course::Drawn(Drawn { most, ..drawn });
+    course.walk(
+        alloc,
+        setup.program.cores(),
+        true,
+        &mut machine,
+        &mut Silent,
+    )
 }

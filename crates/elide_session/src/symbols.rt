@@ -30,7 +30,7 @@ pub fn labels_of(alloc: Global, text: &[u8]) -> Result<Vec<Symbol>, AllocError> 
     let places = Places::of_text(alloc, text)?;
     let mut row = Vec::new(alloc);
     for label in places.labels() {
-        row.push(symbol_of(alloc, label.name(), &[], label.address())?)?;
+        row.push(symbol_of(alloc, label.shown(), &[], label.address())?)?;
     }
     Ok(row)
 }
