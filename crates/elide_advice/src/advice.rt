@@ -2,11 +2,12 @@
 
 use crate::asked::file_of;
 use crate::files::{advise_input, advise_length, advise_output};
-use crate::machine::{advise_limits, advise_load, advise_steps};
+use crate::machine::{advise_executable, advise_limits, advise_load, advise_steps};
 use crate::misuse::advise_misuse;
 use crate::page::Page;
 use crate::source::advise_source;
 use crate::steps::{advise_core, advise_schedule, write_line};
+use crate::symbols::advise_symbol;
 use elide_args::Subcommand;
 use elide_program::{Paths, ProgramFault};
 use elide_setup::{BoardFault, Fault, MachineFault, Refusal, RunFault, StepFault};
@@ -29,13 +30,27 @@ pub fn advise<P: Paths, O: Out>(
 ) {
     let mut page = Page::new(err, is_painted);
     let written = match refusal {
-        Refusal::Usage(name) => advise_misuse(subcommand, name, &mut page),
+        Refusal::Usage(name) => advise_usage(alloc, subcommand, name, paths, &mut page),
         Refusal::Fault(fault) => advise_fault(alloc, subcommand, fault, paths, &mut page),
     };
     if written.is_ok() {
         // A failure here has no further place to be told.
         let _ = page.finish();
     }
+}
+
+// How an option is used, or which symbol of its value there is not.
+fn advise_usage<P: Paths, O: Out>(
+    alloc: Global,
+    subcommand: &Subcommand<'_>,
+    name: &str,
+    paths: &mut P,
+    page: &mut Page<'_, O>,
+) -> fmt::Result {
+    if advise_symbol(alloc, subcommand, name, paths, page)? {
+        return Ok(());
+    }
+    advise_misuse(subcommand, name, page)
 }
 
 fn advise_fault<P: Paths, O: Out>(
@@ -54,7 +69,10 @@ fn advise_fault<P: Paths, O: Out>(
         Fault::Step(StepFault::NoSuchCore) => advise_core(alloc, subcommand, paths, page),
         Fault::Schedule(fault) => advise_schedule(subcommand, fault, paths, page),
         Fault::OutOfRange => writeln!(page, "what is to be shown or checked is not there"),
-        Fault::SpawnRefused => writeln!(page, "the system starts no further thread"),
+        Fault::SpawnRefused => writeln!(
+            page,
+            "the system refused a thread: it starts no further one (ulimit -u), or has no memory for its stack (ulimit -v)"
+        ),
         Fault::Output => advise_output(subcommand, page),
         _ => Ok(()),
     }
@@ -80,6 +98,7 @@ fn advise_program<P: Paths, O: Out>(
             let meaning = "a line has hex digits, an even number of them";
             write_line(file, line, meaning, paths, page)
         }
+        ProgramFault::Elf(fault) => advise_executable(file, fault.code(), page),
         ProgramFault::Load(fault) => advise_load(subcommand, fault, page),
         ProgramFault::Input => advise_input(subcommand, paths, page),
         ProgramFault::TooLong => advise_length(page),

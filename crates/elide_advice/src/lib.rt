@@ -13,8 +13,10 @@ mod excerpt;
 mod files;
 mod machine;
 mod misuse;
+mod near;
 mod page;
 mod source;
 mod steps;
+mod symbols;
 
 pub use advice::advise;

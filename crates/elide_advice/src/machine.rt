@@ -33,6 +33,25 @@ pub fn memory_of(machine: &MachineOptions<'_>) -> u32 {
     number_or(machine.memory, 65_536)
 }
 
+/// Writes what an executable is not, of which this fault was told by its number (docs/FAULTS.md), and how it is made.
+pub fn advise_executable<O: Out>(file: &str, fault: u8, page: &mut Page<'_, O>) -> fmt::Result {
+    match fault {
+        90 => writeln!(
+            page,
+            "{file}: not for a 32-bit Intel 80386; compile with -m32 -march=i486"
+        ),
+        92 => writeln!(
+            page,
+            "{file}: an object file, a shared one or one with dynamic linking; link with -static -nostdlib -no-pie"
+        ),
+        96 => writeln!(
+            page,
+            "{file}: a segment without code lies below the end of the code; link with -Wl,-T,elide.ld, the script of examples/c"
+        ),
+        _ => Ok(()),
+    }
+}
+
 /// Writes why a program is not loaded into a machine.
 pub fn advise_load<O: Out>(
     subcommand: &Subcommand<'_>,
