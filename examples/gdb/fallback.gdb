@@ -4,14 +4,14 @@ set confirm off
 set filename-display basename
 file ../c/fallback.elf
 target remote | "$ELIDE" gdb ../c/fallback.elf --cores 2
-break fail
+break fallback.c:76
 continue
 print $tm_state
 print work
 thread apply all print work
 monitor sets
 # behind the abort: the line that looks at the status
-break fallback.c:70
+break fallback.c:80
 continue
 continue
 continue
@@ -27,7 +27,7 @@ continue
 reverse-continue
 delete
 set scheduler-locking on
-break fallback.c:83
+break fallback.c:94
 continue
 next
 until
