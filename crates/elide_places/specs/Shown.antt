@@ -1,7 +1,7 @@
 -- How the name of a symbol is shown (docs/FORMATS.md, "Names of symbols"): no control byte reaches a terminal, and no
 -- space parts a name.
 use Rattle.std.specs.Prelude.{ℕ, Bool, not, ◌==◌, ◌&&◌, ◌+◌, ◌/◌, ◌%◌, if◌then◌else◌, Option, Some, None}
-use Rattle.std.specs.Prelude.{List, [], ◌∷◌, flat_map}
+use Rattle.std.specs.Prelude.{List, [], ◌∷◌, flat_map, Vec}
 use Rattle.std.specs.Char.{is_ascii_graphic}
 use Rattle.std.specs.Int.{is_in_range}
 
@@ -32,6 +32,11 @@ shown_byte byte = if is_plain byte then byte ∷ [] else 92 ∷ behind_backslash
 
 abbrev pub shown_name : List ℕ → List ℕ
 shown_name name = flat_map shown_byte name
+
+-- what is shown of a name with another text beside it, or none
+abbrev pub shown_of : {Z : Type 0} → List ℕ → Option (Vec ℕ Z) → List ℕ
+shown_of name None = name
+shown_of name (Some text) = text.items
 
 -- a byte of a row of names that are shown: of a name, or a space between two
 abbrev pub is_printable : ℕ → Bool

@@ -2,9 +2,9 @@
 
 ghost use Rattle.std.specs.Prelude.{◌≡◌, true};
 ghost use Rattle.std.specs.List.{list_all};
-ghost use Rattle.elide_places.specs.Shown.{is_printable, shown_name};
+ghost use Rattle.elide_places.specs.Shown.{is_printable, shown_name, shown_of};
 
-use crate::shown::shown_name;
+use crate::shown::shown_otherwise;
 use ia_elf::Symbol;
 use ia_item::Name;
 use std::alloc::{AllocError, Global};
@@ -13,10 +13,10 @@ use std::alloc::{AllocError, Global};
 #[derive(Debug, Drop)]
 pub struct Label {
     name: Vec<u8>,
-    // The name as it is shown.
-    shown: Vec<u8>,
+    // The name as it is shown, where that is another text.
+    shown: Option<Vec<u8>>,
     address: u32,
-    ghost is_shown: { shown.items ≡ shown_name name.items },
+    ghost is_shown: { shown_of name.items shown ≡ shown_name name.items },
 }
 
 impl Label {
@@ -35,7 +35,7 @@ impl Label {
 
     // The label of this whole name.
     fn named(alloc: Global, name: Vec<u8>, address: u32) -> Result<Label, AllocError> {
-        let shown = shown_name(alloc, name.as_slice())?;
+        let shown = shown_otherwise(alloc, name.as_slice())?;
         Ok(Label {
             name,
             shown,
@@ -48,13 +48,16 @@ impl Label {
         self.name.as_slice()
     }
 
-    /// The whole name, as [`shown_name`] shows it.
+    /// The whole name, as [`shown_name`](crate::shown_name) shows it.
     #[tactic(auto, using(crate::proofs::Showing::name_is_printable))]
     pub fn shown(&self) -> &[u8]
         ensures text { result.now ≡ shown_name self.now.name.items }
         ensures printable { list_all is_printable result.now ≡ true }
     {
-        self.shown.as_slice()
+        match &self.shown {
+            Some(shown) => shown.as_slice(),
+            None => self.name.as_slice(),
+        }
     }
 
     /// The address.

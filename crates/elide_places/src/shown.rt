@@ -3,7 +3,7 @@
 ghost use Rattle.std.specs.Prelude.{◌≡◌, ◌++◌, IfOk, OnOk, true};
 ghost use Rattle.std.specs.List.{list_all};
 ghost use Rattle.std.specs.Char.{is_ascii_graphic};
-ghost use Rattle.elide_places.specs.Shown.{is_plain, letter_of, octal, octal_digit, shown_byte, shown_name};
+ghost use Rattle.elide_places.specs.Shown.{is_plain, letter_of, octal, octal_digit, shown_byte, shown_name, shown_of};
 
 use std::alloc::{AllocError, Global};
 
@@ -25,6 +25,24 @@ pub fn shown_name(alloc: Global, name: &[u8]) -> Result<Vec<u8>, AllocError>
         push_byte(&mut shown, name[index])?;
     }
     Ok(shown)
+}
+
+/// The same, where that is another text than the name: most names are shown as they are, and need no second text.
+pub(crate) fn shown_otherwise(alloc: Global, name: &[u8]) -> Result<Option<Vec<u8>>, AllocError>
+    ensures { IfOk result (λ shown. shown_of name.now shown ≡ shown_name name.now) }
+{
+    if is_shown_as_it_is(name) {
+        return Ok(None);
+    }
+    let shown = shown_name(alloc, name)?;
+    Ok(Some(shown))
+}
+
+// Whether each byte of a name stands for itself.
+fn is_shown_as_it_is(name: &[u8]) -> bool
+    ensures { result ≡ list_all is_plain name.now }
+{
+    name.iter().all(|byte| is_plain(*byte))
 }
 
 // Adds a byte of a name, as it is shown.
