@@ -10,8 +10,8 @@ _elide_options() {
     replay) echo '--help --cores --mem --entry --reads --writes --dump --show --steps --schedule --why --in-turn --random --events --seed --limit --record --color' ;;
     debug) echo '--help --cores --mem --entry --reads --writes --dump --steps --schedule --in-turn --random --events --seed --limit --color' ;;
     gdb) echo '--help --cores --mem --entry --reads --writes --steps --schedule --in-turn --random --events --seed --limit --color' ;;
-    hunt) echo '--help --cores --mem --entry --reads --writes --check --stop --expect-halt --runs --seed --method --events --limit --jobs --record --color' ;;
-    outcomes) echo '--help --cores --mem --entry --reads --writes --show --events --limit --color' ;;
+    hunt) echo '--help --cores --mem --entry --reads --writes --check --stop --expect-halt --runs --seed --method --events --limit --jobs --record --json --color' ;;
+    outcomes) echo '--help --cores --mem --entry --reads --writes --show --events --limit --json --color' ;;
     stats) echo '--help --cores --mem --entry --reads --writes --steps --schedule --in-turn --random --events --seed --limit --record --json --color' ;;
     draw) echo '--help --cores --mem --entry --reads --writes --steps --schedule --in-turn --random --events --seed --limit --record --from --to --core --color' ;;
     explain) echo '--help --color' ;;

@@ -124,6 +124,7 @@ complete -c elide -n '__fish_seen_subcommand_from hunt' -l events -x -d 'Aborts 
 complete -c elide -n '__fish_seen_subcommand_from hunt' -l limit -x -d 'The most steps of a run [default: 1000000]'
 complete -c elide -n '__fish_seen_subcommand_from hunt' -l jobs -x -d 'How many threads make runs, 1 to 1024 [default: one a processor]'
 complete -c elide -n '__fish_seen_subcommand_from hunt' -l record -r -F -d 'Writes the schedule that came about to this file'
+complete -c elide -n '__fish_seen_subcommand_from hunt' -l json -d 'Prints one JSON object in place of the lines (docs/JSON.md)'
 complete -c elide -n '__fish_seen_subcommand_from hunt' -l color -x -a 'auto always never' -d 'Paints messages and listings: auto, where it is a terminal\'s and NO_COLOR is not set, always or never [default: auto]'
 
 complete -c elide -n __fish_use_subcommand -f -a outcomes -d 'Searches all schedules of a small program and prints each outcome'
@@ -136,6 +137,7 @@ complete -c elide -n '__fish_seen_subcommand_from outcomes' -l writes -x -d 'Lin
 complete -c elide -n '__fish_seen_subcommand_from outcomes' -l show -x -d 'What is shown where all cores have stopped: registers of cores, as eax@0, and doublewords at sums of symbols and numbers'
 complete -c elide -n '__fish_seen_subcommand_from outcomes' -l events -x -d 'Aborts from outside: each of the kinds (interrupt, eviction, snoop) at each step of each transaction; `always`: each step under an interrupt'
 complete -c elide -n '__fish_seen_subcommand_from outcomes' -l limit -x -d 'The most states; where there are more, the status is 3 [default: 1000000]'
+complete -c elide -n '__fish_seen_subcommand_from outcomes' -l json -d 'Prints one JSON object in place of the lines (docs/JSON.md)'
 complete -c elide -n '__fish_seen_subcommand_from outcomes' -l color -x -a 'auto always never' -d 'Paints messages and listings: auto, where it is a terminal\'s and NO_COLOR is not set, always or never [default: auto]'
 
 complete -c elide -n __fish_use_subcommand -f -a stats -d 'Runs a schedule of core steps and prints what its transactions came to, by the place of their XBEGIN'

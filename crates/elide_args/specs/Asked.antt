@@ -10,6 +10,8 @@ use Rattle.elide_args.specs.declared.hunt_options.HuntOptions.{HuntOptions}
 use Rattle.elide_args.specs.declared.subcommand.DrawOptions.{DrawOptions}
 use Rattle.elide_args.specs.declared.subcommand.MachineOptions.{MachineOptions}
 use Rattle.elide_args.specs.declared.subcommand.OutcomesOptions.{OutcomesOptions}
+use Rattle.elide_args.specs.declared.subcommand.ReplayOptions.{ReplayOptions}
+use Rattle.elide_args.specs.declared.subcommand.RunOptions.{RunOptions}
 use Rattle.elide_args.specs.declared.subcommand.ScheduleOptions.{ScheduleOptions}
 use Rattle.elide_args.specs.declared.subcommand.SessionOptions.{SessionOptions}
 use Rattle.elide_args.specs.declared.subcommand.StatsOptions.{StatsOptions}
@@ -57,10 +59,27 @@ pub record ShowsNothing (options : MachineOptions) : Type 0 where
 pub record IsSchedule (found : Found) (options : ScheduleOptions) : Type 0 where
   pub steps : first_value found (codes "steps") ≡ option_copied options.steps
   pub path : first_value found (codes "schedule") ≡ option_copied options.path
+  pub in_turn : IsFlag found (codes "in-turn") options.in_turn
   pub random : first_value found (codes "random") ≡ option_copied options.random
   pub events : first_value found (codes "events") ≡ option_copied options.events
   pub seed : first_value found (codes "seed") ≡ option_copied options.seed
   pub limit : first_value found (codes "limit") ≡ option_copied options.limit
+
+pub record IsRun (found : Found) (options : RunOptions) : Type 0 where
+  pub machine : IsMachine found options.machine
+  pub shown : IsShown found options.machine
+  pub schedule : IsSchedule found options.schedule
+  pub traces : IsFlag found (codes "trace") options.traces
+  pub explains : IsFlag found (codes "why") options.explains
+  pub halt : IsFlag found (codes "expect-halt") options.expects_halt
+  pub path : first_value found (codes "record") ≡ option_copied options.«record»
+
+pub record IsSecondRun (found : Found) (options : ReplayOptions) : Type 0 where
+  pub machine : IsMachine found options.machine
+  pub shown : IsShown found options.machine
+  pub schedule : IsSchedule found options.schedule
+  pub explains : IsFlag found (codes "why") options.explains
+  pub path : first_value found (codes "record") ≡ option_copied options.«record»
 
 pub record IsWork (found : Found) (options : ThreadsOptions) : Type 0 where
   pub machine : IsMachine found options.machine
@@ -80,6 +99,7 @@ pub record IsSearch (found : Found) (options : OutcomesOptions) : Type 0 where
   pub show : first_value found (codes "show") ≡ option_copied options.show
   pub events : first_value found (codes "events") ≡ option_copied options.events
   pub limit : first_value found (codes "limit") ≡ option_copied options.limit
+  pub json : IsFlag found (codes "json") options.is_json
 
 pub record IsHunt (found : Found) (options : HuntOptions) : Type 0 where
   pub machine : IsMachine found options.machine
@@ -94,6 +114,7 @@ pub record IsHunt (found : Found) (options : HuntOptions) : Type 0 where
   pub limit : first_value found (codes "limit") ≡ option_copied options.limit
   pub jobs : first_value found (codes "jobs") ≡ option_copied options.jobs
   pub path : first_value found (codes "record") ≡ option_copied options.«record»
+  pub json : IsFlag found (codes "json") options.is_json
 
 pub record IsCounting (found : Found) (options : StatsOptions) : Type 0 where
   pub machine : IsMachine found options.machine
@@ -118,17 +139,15 @@ pub record IsPicture (found : Found) (options : DrawOptions) : Type 0 where
 
 -- the subcommand of this name, with these values
 abbrev pub Asks : Found → List ℕ → Subcommand → Type 0
-Asks found name (Asm options) = (name ≡ codes "asm") × (first_value found (codes "FILE") ≡ Some options.file.now)
+Asks found name (Asm options) =
+    (name ≡ codes "asm") × (first_value found (codes "FILE") ≡ Some options.file.now)
+    × IsFlag found (codes "list") options.lists
 Asks found name (Dis options) =
     (name ≡ codes "dis") × (first_value found (codes "FILE") ≡ Some options.file.now)
     × IsFlag found (codes "labels") options.shows_labels
-Asks found name (Run options) =
-    (name ≡ codes "run") × IsMachine found options.machine × IsShown found options.machine
-    × IsSchedule found options.schedule
+Asks found name (Run options) = (name ≡ codes "run") × IsRun found options
 Asks found name (Threads options) = (name ≡ codes "threads") × IsWork found options
-Asks found name (Replay options) =
-    (name ≡ codes "replay") × IsMachine found options.machine × IsShown found options.machine
-    × IsSchedule found options.schedule
+Asks found name (Replay options) = (name ≡ codes "replay") × IsSecondRun found options
 Asks found name (Debug options) = (name ≡ codes "debug") × IsSession found options
 Asks found name (Gdb options) = (name ≡ codes "gdb") × IsSession found options
 Asks found name (Hunt options) = (name ≡ codes "hunt") × IsHunt found options

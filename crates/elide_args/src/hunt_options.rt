@@ -27,4 +27,6 @@ pub struct HuntOptions<'a> {
     pub jobs: Option<&'a str>,
     /// `--record`: the path that the schedule is written to.
     pub record: Option<&'a str>,
+    /// Whether JSON is printed in place of lines.
+    pub is_json: bool,
 }

@@ -282,6 +282,12 @@ pub const JSON: OptionText = OptionText {
     help: "Prints one JSON object in place of columns",
 };
 
+pub const JSON_LINES: OptionText = OptionText {
+    name: "json",
+    form: Form::Flag,
+    help: "Prints one JSON object in place of the lines (docs/JSON.md)",
+};
+
 pub const COUNTS: OptionText = OptionText {
     name: "stats",
     form: Form::Flag,

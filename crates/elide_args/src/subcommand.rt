@@ -138,6 +138,8 @@ pub struct OutcomesOptions<'a> {
     pub events: Option<&'a str>,
     /// `--limit`: the most states.
     pub limit: Option<&'a str>,
+    /// Whether JSON is printed in place of lines.
+    pub is_json: bool,
 }
 
 /// The options of `stats`.

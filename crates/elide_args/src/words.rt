@@ -2,8 +2,9 @@
 
 ghost use Rattle.std.specs.Prelude.{◌≡◌, IfOk, IfSome, Some, codes};
 ghost use Rattle.clap.specs.Matches.{first_value, found_of};
-ghost use Rattle.elide_args.specs.Asked.{Asks, IsCounting, IsHunt, IsMachine, IsPicture, IsSchedule, IsSession, IsShown};
-ghost use Rattle.elide_args.specs.Asked.{IsWork, ShowsNothing, texts_of, values_of};
+ghost use Rattle.elide_args.specs.Asked.{Asks, IsCounting, IsHunt, IsMachine, IsPicture, IsSchedule};
+ghost use Rattle.elide_args.specs.Asked.{IsSearch, IsSession, IsShown, IsWork, ShowsNothing};
+ghost use Rattle.elide_args.specs.Asked.{texts_of, values_of};
 
 use crate::hunt_options::HuntOptions;
 use crate::line::command_line;
@@ -92,19 +93,17 @@ fn asked<'a>(alloc: Global, matches: &ArgMatches<'a>) -> Option<CommandLine<'a>>
     })
 }
 
-// The subcommand of a name, with these options.
-fn any_named<'a>(alloc: Global, name: &str, options: &ArgMatches<'a>) -> Option<Subcommand<'a>> {
-    if name == "hunt" {
-        return match hunt_of(alloc, options) {
-            Ok(hunt) => hunt.map(Subcommand::Hunt),
-            Err(_) => None,
-        };
+// The subcommand of a name, with these options. None, too, where there is no memory.
+fn any_named<'a>(alloc: Global, name: &str, options: &ArgMatches<'a>) -> Option<Subcommand<'a>>
+    ensures { IfSome result (Asks (found_of options.now) name.now) }
+{
+    match name {
+        "hunt" => Some(Subcommand::Hunt(hunt_of(alloc, options)?)),
+        "explain" => Some(Subcommand::Explain(ExplainOptions {
+            fault: options.get_str("FAULT"),
+        })),
+        other => subcommand_named(alloc, other, options),
     }
-    if name == "explain" {
-        let fault = options.get_str("FAULT");
-        return Some(Subcommand::Explain(ExplainOptions { fault }));
-    }
-    subcommand_named(alloc, name, options)
 }
 
 // The same but for those of several values of their own. None, too, where there is no memory.
@@ -142,12 +141,7 @@ fn subcommand_named<'a>(
         })),
         "debug" => Some(Subcommand::Debug(session_of(alloc, file, options)?)),
         "gdb" => Some(Subcommand::Gdb(session_of(alloc, file, options)?)),
-        "outcomes" => Some(Subcommand::Outcomes(OutcomesOptions {
-            machine: machine_of(alloc, file, options),
-            show: options.get_str("show"),
-            events: options.get_str("events"),
-            limit: options.get_str("limit"),
-        })),
+        "outcomes" => Some(Subcommand::Outcomes(search_of(alloc, file, options))),
         "stats" => Some(Subcommand::Stats(stats_of(alloc, file, options))),
         "draw" => Some(Subcommand::Draw(draw_of(alloc, file, options))),
         _ => None,
@@ -155,19 +149,14 @@ fn subcommand_named<'a>(
 }
 
 // The options of `hunt`, where there is memory for those that are given several times.
-fn hunt_of<'a>(
-    alloc: Global,
-    options: &ArgMatches<'a>,
-) -> Result<Option<HuntOptions<'a>>, AllocError>
-    ensures { IfOk result (λ hunt. IfSome hunt (IsHunt (found_of options.now))) }
+fn hunt_of<'a>(alloc: Global, options: &ArgMatches<'a>) -> Option<HuntOptions<'a>>
+    ensures { IfSome result (IsHunt (found_of options.now)) }
 {
-    let Some(file) = options.get_str("FILE") else {
-        return Ok(None);
-    };
-    Ok(Some(HuntOptions {
+    let file = options.get_str("FILE")?;
+    Some(HuntOptions {
         machine: machine_of(alloc, file, options),
-        checks: several_of(alloc, options, "check")?,
-        stops: several_of(alloc, options, "stop")?,
+        checks: several_of(alloc, options, "check").ok()?,
+        stops: several_of(alloc, options, "stop").ok()?,
         expects_halt: options.get_flag("expect-halt"),
         runs: options.get_str("runs"),
         seed: options.get_str("seed"),
@@ -176,7 +165,8 @@ fn hunt_of<'a>(
         limit: options.get_str("limit"),
         jobs: options.get_str("jobs"),
         record: options.get_str("record"),
-    }))
+        is_json: options.get_flag("json"),
+    })
 }
 
 // The values of an option that is given several times.
@@ -212,6 +202,19 @@ fn threads_of<'a>(
         is_json: options.get_flag("json"),
         record: options.get_str("record"),
     })
+}
+
+fn search_of<'a>(alloc: Global, file: &'a str, options: &ArgMatches<'a>) -> OutcomesOptions<'a>
+    requires { first_value (found_of options.now) (codes "FILE") ≡ Some file.now }
+    ensures { IsSearch (found_of options.now) result }
+{
+    OutcomesOptions {
+        machine: machine_of(alloc, file, options),
+        show: options.get_str("show"),
+        events: options.get_str("events"),
+        limit: options.get_str("limit"),
+        is_json: options.get_flag("json"),
+    }
 }
 
 fn stats_of<'a>(alloc: Global, file: &'a str, options: &ArgMatches<'a>) -> StatsOptions<'a>
