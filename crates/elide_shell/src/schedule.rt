@@ -1,0 +1,89 @@
+//! The option that says a schedule.
+
+ghost use Rattle.std.specs.Prelude.{◌≡◌, ◌≤◌, ◌++◌, ◌∷◌, OnOk, length};
+ghost use Rattle.std.specs.List.{flat_map};
+ghost use Rattle.ia_text.specs.Writing.{Wrote};
+ghost use Rattle.tm_schedule.specs.Picks.{event_text, pick_word};
+ghost use Rattle.elide_shell.specs.Options.{schedule_text, steps_option, steps_text};
+
+use crate::words::put_path;
+use ia_text::page::push;
+use ia_text::text_line::{TextLine, push_number};
+use ia_text::{Failed, Out};
+use tm_model::{Event, Interference, Pick};
+
+/// The most steps of a schedule that is printed in a command line.
+const MOST_SHOWN: usize = 1000;
+
+/// Writes the option that says a schedule, behind a space: its file, where it was recorded, and else its steps. Those of
+/// more than 1,000 steps are told by the words that say how it is recorded.
+pub fn put_schedule<O: Out>(path: Option<&str>, picks: &[Pick], out: &mut O) -> Result<(), Failed>
+    ensures { OnOk result (Wrote (O.device out.old) (O.device out.new) (schedule_text path.entry picks.now)) }
+{
+    match path {
+        Some(path) => {
+            out.put(b" --schedule ")?;
+            put_path(path, out)
+        }
+        None => put_steps(picks, out),
+    }
+}
+
+// The same of a schedule that was not.
+fn put_steps<O: Out>(picks: &[Pick], out: &mut O) -> Result<(), Failed>
+    ensures { OnOk result (Wrote (O.device out.old) (O.device out.new) (steps_option picks.now)) }
+{
+    if picks.len() > MOST_SHOWN {
+        return out.put(b" --schedule PATH, with the schedule that --record PATH writes");
+    }
+    out.put(b" --steps \"")?;
+    put_words(picks, out)?;
+    out.put(b"\"")
+}
+
+// Writes the words of the steps, with spaces between.
+fn put_words<O: Out>(picks: &[Pick], out: &mut O) -> Result<(), Failed>
+    ensures { OnOk result (Wrote (O.device out.old) (O.device out.new) (steps_text picks.now)) }
+{
+    let Some((first, rest)) = picks.split_first() else {
+        return Ok(());
+    };
+    put_pick(b"", *first, out)?;
+    put_more(rest, out)
+}
+
+// Writes them behind another one.
+fn put_more<O: Out>(picks: &[Pick], out: &mut O) -> Result<(), Failed>
+    ensures { OnOk result (Wrote (O.device out.old) (O.device out.new)
+        (flat_map (λ pick. 32 ∷ pick_word pick) picks.now)) }
+{
+    for pick in picks {
+        put_pick(b" ", *pick, out)?;
+    }
+    Ok(())
+}
+
+// Writes the word of a step: its core, and the letter of its event, if any.
+fn put_pick<O: Out>(between: &[u8], pick: Pick, out: &mut O) -> Result<(), Failed>
+    requires { length between.now ≤ 1 }
+    ensures { OnOk result (Wrote (O.device out.old) (O.device out.new) (between.now ++ pick_word pick)) }
+{
+    let mut row = TextLine::new();
+    push(&mut row, between);
+    push_number(&mut row, pick.core);
+    push(&mut row, letters_of(pick.event));
+    out.put(row.as_slice())
+}
+
+// The letter of an event, and none for none.
+fn letters_of(event: Option<Event>) -> &'static [u8]
+    ensures text { result.now ≡ event_text event }
+    ensures len { length result.now ≤ 1 }
+{
+    match event {
+        None => b"",
+        Some(Event::Abort(Interference::Interrupt)) => b"i",
+        Some(Event::Abort(Interference::Eviction)) => b"e",
+        Some(Event::Abort(Interference::Snoop)) => b"s",
+    }
+}

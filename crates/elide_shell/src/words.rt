@@ -1,0 +1,97 @@
+//! Words of a command, as a POSIX shell reads them.
+
+ghost use Rattle.std.specs.Prelude.{◌≡◌, ◌++◌, OnOk, codes};
+ghost use Rattle.std.specs.List.{flat_map, list_all};
+ghost use Rattle.ia_text.specs.Writing.{Wrote};
+ghost use Rattle.elide_shell.specs.Shell.{begins_with_dash, is_plain, is_plain_word, path_word, quoted, quoted_byte, shell_word};
+
+use ia_text::{Failed, Out};
+
+/// Writes a word, between single quotes where a byte of it would not stand for itself.
+#[tactic(auto, unfolding(crate::specs::Shell::shell_word))]
+pub fn put_word<O: Out>(word: &str, out: &mut O) -> Result<(), Failed>
+    ensures { OnOk result (Wrote (O.device out.old) (O.device out.new) (shell_word word.now)) }
+{
+    if is_plain_word(word) {
+        out.put(word.as_bytes())
+    } else {
+        put_quoted(word, out)
+    }
+}
+
+/// Writes the path of a file, from its folder on where it begins as an option does.
+#[tactic(auto, unfolding(crate::specs::Shell::path_word))]
+pub fn put_path<O: Out>(path: &str, out: &mut O) -> Result<(), Failed>
+    ensures { OnOk result (Wrote (O.device out.old) (O.device out.new) (path_word path.now)) }
+{
+    if begins_with_dash(path.as_bytes()) {
+        put_in_folder(path, out)
+    } else {
+        put_word(path, out)
+    }
+}
+
+fn begins_with_dash(path: &[u8]) -> bool
+    ensures { result ≡ begins_with_dash path.now }
+{
+    match path.first() {
+        Some(byte) => *byte == b'-',
+        None => false,
+    }
+}
+
+fn put_in_folder<O: Out>(path: &str, out: &mut O) -> Result<(), Failed>
+    ensures { OnOk result (Wrote (O.device out.old) (O.device out.new) (codes "./" ++ shell_word path.now)) }
+{
+    out.put(b"./")?;
+    put_word(path, out)
+}
+
+// Whether a word stands for itself.
+fn is_plain_word(word: &str) -> bool
+    ensures { result ≡ is_plain_word word.now }
+{
+    !word.is_empty() && are_plain(word.as_bytes())
+}
+
+// Whether each byte stands for itself.
+fn are_plain(bytes: &[u8]) -> bool
+    ensures { result ≡ list_all is_plain bytes.now }
+{
+    bytes.iter().all(|byte| is_plain(*byte))
+}
+
+// Whether a byte stands for itself.
+fn is_plain(byte: u8) -> bool
+    ensures { result ≡ is_plain byte }
+{
+    byte.is_ascii_alphanumeric() || b"_./,:=@%+-".contains(&byte)
+}
+
+fn put_quoted<O: Out>(word: &str, out: &mut O) -> Result<(), Failed>
+    ensures { OnOk result (Wrote (O.device out.old) (O.device out.new) (quoted word.now)) }
+{
+    out.put(b"'")?;
+    put_bytes(word.as_bytes(), out)?;
+    out.put(b"'")
+}
+
+fn put_bytes<O: Out>(bytes: &[u8], out: &mut O) -> Result<(), Failed>
+    ensures { OnOk result (Wrote (O.device out.old) (O.device out.new) (flat_map quoted_byte bytes.now)) }
+{
+    for byte in bytes {
+        put_byte(*byte, out)?;
+    }
+    Ok(())
+}
+
+// Writes a byte between single quotes, of which a quote has to stand outside.
+fn put_byte<O: Out>(byte: u8, out: &mut O) -> Result<(), Failed>
+    ensures { OnOk result (Wrote (O.device out.old) (O.device out.new) (quoted_byte byte)) }
+{
+    if byte == b'\'' {
+        out.put(b"'\\''")
+    } else {
+        out.put(&[byte])
+    }
+}
