@@ -1,3 +1,4 @@
+mod Objects
 mod Printed
 mod Trials
 mod Words

@@ -4,7 +4,7 @@ use Rattle.std.specs.Char.{is_not_whitespace, is_whitespace}
 use Rattle.std.specs.Str.{EmptyOrStartsWithPassing, NoCharPasses}
 use Rattle.elide_program.specs.declared.file.ProgramFile.{ProgramFile}
 use Rattle.tm_outcomes.specs.declared.trial.Item.{Item}
-use Rattle.elide_outcomes.specs.Items.{BeginsWithWord, IsItem, SaysItems}
+use Rattle.elide_outcomes.specs.Items.{AreWords, BeginsWithWord, IsItem, SaysItems}
 
 -- what `split_whitespace` says of a word, as the record
 pub word_of_step : (text word rest : List ℕ) →
@@ -27,3 +27,18 @@ goes_on file text rest next word items items' item before begins is same others 
 -- no word is left
 pub all_said : (file : ProgramFile) (text rest : List ℕ) (items : List Item) → GoesOn file text rest items → SaysItems file rest [] → SaysItems file text items
 all_said file text rest items before none = subst (λ (all : List Item). SaysItems file text all) (append-nil items) (before [] none)
+
+-- these words stand there, and behind them those of the rest
+abbrev pub WordsGoOn : List ℕ → List ℕ → List (List ℕ) → Type 0
+WordsGoOn text rest words = (others : List (List ℕ)) → AreWords rest others → AreWords text (words ++ others)
+
+pub words_go_on : (text rest next word : List ℕ) (words words' : List (List ℕ)) → WordsGoOn text rest words →
+    BeginsWithWord rest word next → words' ≡ words ++ word ∷ [] → WordsGoOn text next words'
+words_go_on text rest next word words words' before begins same others are =
+    let Are : List (List ℕ) → Type 0 = λ all. AreWords text all in
+    let all : Are (words ++ (word ∷ others)) = before (word ∷ others) (next, begins, are) in
+    subst (λ (l : List (List ℕ)). Are (l ++ others)) (sym same) (subst Are (sym (append_assoc words (word ∷ []) others)) all)
+
+-- no word is left
+pub all_words : (text rest : List ℕ) (words : List (List ℕ)) → WordsGoOn text rest words → AreWords rest [] → AreWords text words
+all_words text rest words before none = subst (λ (all : List (List ℕ)). AreWords text all) (append-nil words) (before [] none)

@@ -47,6 +47,11 @@ pub record BeginsWithWord (text word rest : List ℕ) : Type 0 where
   pub word_has_none : NoCharPasses is_whitespace word
   pub rest_is_apart : (more : List ℕ) × EmptyOrStartsWithPassing is_whitespace rest more
 
+-- these are the words of the text, in their order
+abbrev pub AreWords : List ℕ → List (List ℕ) → Type 0
+AreWords text [] = NoCharPasses is_not_whitespace text
+AreWords text (word ∷ words) = (rest : List ℕ) × BeginsWithWord text word rest × AreWords rest words
+
 -- each word of the text says an item, in their order
 abbrev pub SaysItems : ProgramFile → List ℕ → List Item → Type 0
 SaysItems file text [] = NoCharPasses is_not_whitespace text
@@ -62,3 +67,7 @@ pub record AreItems (file : ProgramFile) (option : Option (List ℕ)) (items : L
   pub given : option ≡ Some text
   pub said : SaysItems file text items
   pub some : 0 < length items
+
+-- it is given, and these are its words
+abbrev pub AreWordsOf : Option (List ℕ) → List (List ℕ) → Type 0
+AreWordsOf option words = (text : List ℕ) × (option ≡ Some text) × AreWords text words

@@ -1,4 +1,5 @@
 pub mod Items
 pub mod Lines
+pub mod Object
 pub mod Under
 pub mod Printed

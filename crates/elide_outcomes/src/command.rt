@@ -8,9 +8,10 @@ ghost use Rattle.elide_setup.specs.Setup.{IsSetup};
 ghost use Rattle.elide_setup.specs.declared.machine.Setup.{Setup};
 ghost use Rattle.tm_outcomes.specs.Outcomes.{AreThere, IsSearch};
 ghost use Rattle.tm_outcomes.specs.declared.trial.Trial.{Trial};
-ghost use Rattle.elide_outcomes.specs.Printed.{IsLimit, IsPrinted, IsTold, IsTrialOf, answer_of};
+ghost use Rattle.elide_outcomes.specs.Printed.{IsFound, IsLimit, IsPrinted, IsTrialOf, IsWritten, answer_of};
 
 use crate::items::items_of;
+use crate::object::tell_object;
 use crate::report::{sort, tell};
 use crate::under::Under;
 use elide_args::OutcomesOptions;
@@ -41,6 +42,8 @@ pub struct Asked<'a> {
     pub under: Under,
     /// The most states.
     pub most: u32,
+    /// Whether JSON is printed in place of lines.
+    pub is_json: bool,
 }
 
 impl Answer {
@@ -85,43 +88,62 @@ fn outcomes_of_options<P: Paths, O: Out>(
         show: options.show,
         under,
         most,
+        is_json: options.is_json,
     };
     let text = read_file(options.machine.file, paths)?;
-    outcomes_of_text(alloc, &asked, &settings, text.as_slice(), out)
+    let search = search_of_text(alloc, &asked, &settings, text.as_slice())?;
+    write(alloc, &asked, &search, out)?;
+    Ok(Answer::of(search.is_cut))
 }
 
-// The same of a program's text. What is made in one of these functions is lent to the next, so that each has little to drop.
-fn outcomes_of_text<O: Out>(
+// Prints what was found, in the form that is asked for.
+fn write<O: Out>(
+    alloc: Global,
+    asked: &Asked<'_>,
+    search: &Search,
+    out: &mut O,
+) -> Result<(), Refusal>
+    ensures { OnOk result (IsWritten asked.now.is_json (option_copied asked.now.show) search.now.outcomes.items
+        search.now.states search.now.is_cut (O.device out.old).contents (O.device out.new).contents) }
+{
+    if asked.is_json {
+        tell_object(alloc, asked.show, search, out)
+    } else {
+        tell(search, out)?;
+        Ok(())
+    }
+}
+
+// Searches a program's text. What is made in one of these functions is lent to the next, so that each has little to drop.
+fn search_of_text(
     alloc: Global,
     asked: &Asked<'_>,
     settings: &Settings<'_>,
     text: &[u8],
-    out: &mut O,
-) -> Result<Answer, Refusal>
+) -> Result<Search, Refusal>
     requires { 1 ≤ asked.now.most }
-    ensures { IfOk result (λ answer. (file : ProgramFile) × IsFile text.now file × (trial : Trial)
+    ensures { IfOk result (λ search. (file : ProgramFile) × IsFile text.now file × (trial : Trial)
         × (setup : Setup) × IsSetup file settings.now setup
         × IsTrialOf file setup (option_copied asked.now.show) asked.now.under trial
-        × IsTold trial asked.now.most answer (O.device out.old).contents (O.device out.new).contents) }
+        × IsFound trial asked.now.most search) }
 {
     let file = ProgramFile::read(alloc, text)?;
-    let told = outcomes_of_file(alloc, asked, settings, &file, out);
+    let search = search_of_file(alloc, asked, settings, &file);
     drop(file);
-    told
+    search
 }
 
 // The same of a program's file that was read.
-fn outcomes_of_file<O: Out>(
+fn search_of_file(
     alloc: Global,
     asked: &Asked<'_>,
     settings: &Settings<'_>,
     file: &ProgramFile<'_>,
-    out: &mut O,
-) -> Result<Answer, Refusal>
+) -> Result<Search, Refusal>
     requires { 1 ≤ asked.now.most }
-    ensures { IfOk result (λ answer. (trial : Trial) × (setup : Setup) × IsSetup file.now settings.now setup
+    ensures { IfOk result (λ search. (trial : Trial) × (setup : Setup) × IsSetup file.now settings.now setup
         × IsTrialOf file.now setup (option_copied asked.now.show) asked.now.under trial
-        × IsTold trial asked.now.most answer (O.device out.old).contents (O.device out.new).contents) }
+        × IsFound trial asked.now.most search) }
 {
     let items = items_of(alloc, asked.show, file)?;
     let listed = asked.under.listed(alloc)?;
@@ -133,23 +155,17 @@ fn outcomes_of_file<O: Out>(
         items: items.as_slice(),
         events,
     };
-    outcomes_of_trial(alloc, &trial, asked.most, out)
+    sorted(alloc, &trial, asked.most)
 }
 
-// The same of a machine, with what is shown of it.
-fn outcomes_of_trial<O: Out>(
-    alloc: Global,
-    trial: &Trial<'_>,
-    most: u32,
-    out: &mut O,
-) -> Result<Answer, Refusal>
+// The same of a machine, with what is shown of it: the outcomes stand in the order of their values.
+fn sorted(alloc: Global, trial: &Trial<'_>, most: u32) -> Result<Search, Refusal>
     requires { 1 ≤ most }
-    ensures { IfOk result (λ answer. IsTold trial.now most answer (O.device out.old).contents (O.device out.new).contents) }
+    ensures { IfOk result (IsFound trial.now most) }
 {
     let mut search = search(alloc, trial, most)?;
     sort(&mut search.outcomes);
-    tell(&search, out)?;
-    Ok(Answer::of(search.is_cut))
+    Ok(search)
 }
 
 // The most states, 1 or more.

@@ -10,7 +10,9 @@
 
 mod command;
 mod items;
+mod object;
 mod report;
+mod shown;
 mod under;
 
 pub use command::{Answer, outcomes};

@@ -1,42 +1,32 @@
 use Rattle.std.proofs.Common.{List, subst, ℕ}
-use Rattle.std.proofs.lemmas.Result.{IfOk-weaker}
 use Rattle.std.specs.Option.{option_copied}
 use Rattle.elide_program.specs.ProgramFile.{IsFile}
-use Rattle.elide_outcomes.specs.Printed.{IsPrinted}
-use Rattle.elide_outcomes.specs.declared.command.Answer.{Answer}
-use Rattle.elide_outcomes.specs.declared.command.Asked.{Asked}
-use Rattle.elide_outcomes.proofs.Trials.{IsToldOfText}
+use Rattle.elide_outcomes.proofs.Trials.{told_of_found}
 use Rattle.elide_outcomes.proofs.command.outcomes_of_options.Goals as goal
 
 pub returns : goal.returns
 returns g c =
     let options = c.args.options.now in
-    let settings = c.in_ok-settings.settings in
-    let asked : Asked = record { show = options.show; under = c.in_ok-under.under; most = c.in_ok-most.most } in
-    let before = (g.O.Out.device c.args.out.now).contents in
-    let after = (g.O.Out.device c.outcomes_of_text.new.out).contents in
-    IfOk-weaker c.outcomes_of_text.result
-    (IsToldOfText c.as_slice.result.now settings asked before after)
-    (λ (answer : Answer). IsPrinted (g.P.Paths.content c.args.paths.now) options answer before after)
-    (λ (answer : Answer) t. record {
-      setup = t.3;
+    let made = c.in_ok-search.ensures in
+    record {
+      setup = made.3;
       asked = record {
-        file = t.0;
+        file = made.0;
         read = record {
           text = c.in_ok-text.text.items;
           given = c.in_ok-text.ensures.given;
-          read = subst (λ (text : List ℕ). IsFile text t.0) c.as_slice.ensures.value t.1;
+          read = subst (λ (text : List ℕ). IsFile text made.0) c.as_slice.ensures.value made.1;
         };
-        settings = settings;
+        settings = c.in_ok-settings.settings;
         said = c.in_ok-settings.ensures;
-        made = t.4;
+        made = made.4;
       };
-      under = asked.under;
+      under = c.in_ok-under.under;
       said = c.in_ok-under.ensures;
-      trial = t.2;
-      shows = t.5;
-      most = asked.most;
+      trial = made.2;
+      shows = made.5;
+      most = c.in_ok-most.most;
       limit = c.in_ok-most.ensures;
-      told = t.6;
-    })
-    c.outcomes_of_text.ensures
+      told = told_of_found made.2 c.in_ok-most.most options.is_json (option_copied options.show) c.of.result c.in_ok-search.search
+          (g.O.Out.device c.args.out.now).contents (g.O.Out.device c.write.new.out).contents made.6 c.of.ensures c.in_ok-write.ensures;
+    }

@@ -2,14 +2,13 @@ use Rattle.std.proofs.Common.{List, refl, subst, sym}
 use Rattle.std.specs.Option.{option_copied}
 use Rattle.tm_outcomes.specs.declared.trial.Item.{Item}
 use Rattle.elide_outcomes.specs.Items.{AreItems}
-use Rattle.elide_outcomes.proofs.Trials.{told_of_file}
-use Rattle.elide_outcomes.proofs.command.outcomes_of_file.Goals as goal
+use Rattle.elide_outcomes.proofs.Trials.{found_of_file}
+use Rattle.elide_outcomes.proofs.command.search_of_file.Goals as goal
 
 pub returns : goal.returns
-returns g c =
-    told_of_file c.args.file.now c.args.settings.now c.args.asked.now _ c.in_ok-setup.setup c.outcomes_of_trial.result
-    (g.O.Out.device c.args.out.now).contents (g.O.Out.device c.outcomes_of_trial.new.out).contents
-    c.outcomes_of_trial.ensures c.in_ok-setup.ensures
+returns c =
+    found_of_file c.args.file.now c.args.settings.now c.args.asked.now _ c.in_ok-setup.setup c.sorted.result
+    c.sorted.ensures c.in_ok-setup.ensures
     (record {
       program = refl;
       limits = refl;

@@ -1,0 +1,12 @@
+use Rattle.std.proofs.Common.{refl}
+use Rattle.elide_outcomes.proofs.command.sorted.Goals as goal
+
+pub returns : goal.returns
+returns c = record {
+  there = c.in_ok-search.ensures.there;
+  search = c.in_ok-search.search;
+  searched = c.in_ok-search.ensures.found;
+  order = c.sort.ensures;
+  states = refl;
+  cut = refl;
+}

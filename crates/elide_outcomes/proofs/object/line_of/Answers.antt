@@ -1,0 +1,14 @@
+use Rattle.std.proofs.lemmas.Result.{IfOk-weaker}
+use Rattle.elide_args.specs.Asked.{texts_of}
+use Rattle.elide_outcomes.proofs.Objects.{no_float_search}
+use Rattle.elide_outcomes.specs.Object.{search_value}
+use Rattle.elide_outcomes.proofs.object.line_of.Goals as goal
+
+pub returns : goal.returns
+returns c =
+    let show = texts_of c.args.show.now in
+    let search = c.args.search.now in
+    IfOk-weaker c.object_line.result _ _
+    (λ line texts. texts (search_value show search.outcomes.items search.states search.is_cut) (λ log sent. sent)
+    (no_float_search show search.outcomes.items search.states search.is_cut))
+    c.object_line.ensures

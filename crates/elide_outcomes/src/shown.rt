@@ -1,0 +1,37 @@
+//! The words of `--show`, as they were given.
+
+ghost use Rattle.std.specs.Prelude.{◌≡◌, ◌++◌, ◌∷◌, [], IfOk, OnOk};
+ghost use Rattle.std.specs.Option.{option_copied};
+ghost use Rattle.elide_args.specs.Asked.{texts_of};
+ghost use Rattle.elide_outcomes.specs.Items.{AreWords, AreWordsOf};
+
+use elide_setup::Refusal;
+use std::alloc::{AllocError, Global};
+
+/// The words of the option's value, with white space between.
+pub fn words_of<'a>(alloc: Global, text: Option<&'a str>) -> Result<Vec<&'a str>, Refusal>
+    ensures { IfOk result (λ words. AreWordsOf (option_copied text.entry) (texts_of words.items)) }
+{
+    let Some(text) = text else {
+        return Err(Refusal::Usage("--show"));
+    };
+    Ok(words_in(alloc, text)?)
+}
+
+// Those of a text.
+fn words_in<'a>(alloc: Global, text: &'a str) -> Result<Vec<&'a str>, AllocError>
+    ensures { IfOk result (λ words. AreWords text.now (texts_of words.items)) }
+{
+    let mut words = Vec::new(alloc);
+    for word in text.split_whitespace() {
+        add(&mut words, word)?;
+    }
+    Ok(words)
+}
+
+// Adds one at the end.
+fn add<'a>(words: &mut Vec<&'a str>, word: &'a str) -> Result<(), AllocError>
+    ensures { OnOk result (texts_of words.new.items ≡ texts_of words.old.items ++ word.now ∷ []) }
+{
+    words.push(word).map_err(|_| AllocError)
+}
