@@ -15,7 +15,8 @@ use Rattle.tm_hunt.specs.declared.attempt.Failure.{Failure}
 use Rattle.tm_hunt.specs.declared.searching.Found.{Found}
 use Rattle.tm_hunt.specs.declared.searching.Search.{Search}
 use Rattle.tm_hunt.specs.declared.trial.Trial.{Trial}
-use Rattle.elide_hunt.specs.Printed.{IsHunted, IsTrialOf, counts_of}
+use Rattle.elide_hunt.specs.Printed.{IsHunted, IsTrialOf}
+use Rattle.elide_hunt.specs.Lines.{counts_of}
 use Rattle.elide_hunt.specs.declared.report.Counts.{Counts}
 
 pub with_trial : {E : Type 0} (trial : Trial) (events : Events) (file : ProgramFile) (options : HuntOptions) (setup : Setup) (first end : ℕ) (r : Result (Search × Counts) E) →

@@ -1,3 +1,4 @@
 mod Hunted
+mod Objects
 mod Shares
 mod Texts

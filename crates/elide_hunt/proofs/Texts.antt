@@ -1,26 +1,6 @@
 -- Texts that are written one behind the other.
-use Rattle.std.proofs.Common.{◌≡◌, ℕ, List, [], ◌∷◌, ◌++◌, sym, ap, ◌∙◌, append-nil, Option, Some, None}
-use Rattle.std.proofs.lemmas.Result.{on_ok_weaker}
-use Rattle.std.specs.List.{flat_map, join_with_byte}
-use Rattle.std.specs.Prelude.{OnOk, Result, Ok, Err, map}
+use Rattle.std.proofs.Common.{ℕ, List, ◌++◌, ap, ◌∙◌, Option, Some, None}
 use Rattle.std.specs.Io.KnownBytes.{Appends, Keeps}
-use Rattle.ia_text.proofs.Writing.{wrote_then}
-use Rattle.ia_text.specs.Writing.{Device, Writes, Wrote}
-
--- the first was written, and the second where a call is `Ok`
-pub then_on_ok : {T E : Type 0} {a b : Device} {x : List ℕ} (c : Device) (y : List ℕ) (r : Result T E) → Wrote a b x → OnOk r (Wrote b c y) → OnOk r (Wrote a c (x ++ y))
-then_on_ok {T} {E} {a} {b} {x} c y r h k = on_ok_weaker r (λ (w : Wrote b c y). wrote_then h w) k
-
--- what a call that may stop writes where it is `Ok`
-pub written_on_ok : {T E : Type 0} (a b : Device) (x : List ℕ) (r : Result T E) → Writes a b x r → OnOk r (Wrote a b x)
-written_on_ok a b x (Ok done) h = h
-written_on_ok a b x (Err failed) h = tt
-
--- a list with a byte between, by its first element
-pub joined_first : {A : Type 0} (f : A → List ℕ) (byte : ℕ) (first : A) (rest : List A) →
-    join_with_byte byte (map f (first ∷ rest)) ≡ f first ++ flat_map (λ x. byte ∷ f x) rest
-joined_first f byte first [] = sym (append-nil (f first))
-joined_first f byte first (next ∷ rest) = ap (λ l. f first ++ byte ∷ l) (joined_first f byte next rest)
 
 -- a text on a device that gathers, which handed on what it held
 pub passed_on : (first begun ended last : Option (List ℕ)) (text : List ℕ) → Keeps first begun → Appends begun ended text → Keeps ended last → Appends first last text

@@ -1,3 +1,5 @@
 pub mod Shares
-pub mod Shell
+pub mod Lines
+pub mod Object
+pub mod Sent
 pub mod Printed

@@ -13,9 +13,13 @@ ghost use Rattle.tm_hunt.specs.Attempts.{IsFailure, IsSearch};
 ghost use Rattle.tm_hunt.specs.Cost.{cost_of};
 ghost use Rattle.tm_hunt.specs.Kept.{KeepsKinds};
 ghost use Rattle.tm_hunt.specs.declared.trial.Trial.{Trial};
-ghost use Rattle.elide_hunt.specs.Printed.{IsHunted, IsPrinted, IsTold, IsTrialOf, failure_text, none_line};
+ghost use Rattle.elide_object.specs.Object.{object_text};
+ghost use Rattle.elide_hunt.specs.Lines.{failure_text, none_line, search_text};
+ghost use Rattle.elide_hunt.specs.Object.{search_value};
+ghost use Rattle.elide_hunt.specs.Printed.{IsHunted, IsPrinted, IsTold, IsTrialOf, answer_of};
 
 use crate::fault::fault_of;
+use crate::object::tell_object;
 use crate::report::{Counts, counts_of, tell_failure, tell_none};
 use crate::searching::searched;
 use elide_args::HuntOptions;
@@ -36,6 +40,18 @@ pub enum Answer {
     NoneFailed,
     /// A run failed.
     Failed,
+}
+
+impl Answer {
+    // That of a search.
+    fn of(search: &Search) -> Answer
+        ensures { result ≡ answer_of search.now.found }
+    {
+        match &search.found {
+            Some(_) => Answer::Failed,
+            None => Answer::NoneFailed,
+        }
+    }
 }
 
 /// Makes runs by chance until one fails, shortens its schedule, writes it where that is asked for, and prints what came
@@ -59,7 +75,7 @@ pub fn hunt<R: Threads + Sync + AllocGlobal, P: Paths, O: Out + Drop, G: Progres
     progress.end();
     let (search, before) = made?;
     write_record(&search, path, paths)?;
-    tell(options, &search, before, out)
+    tell(rt.alloc(), options, &search, before, out)
 }
 
 // Writes the schedule of the run that failed, if one did, where there is a path.
@@ -75,6 +91,7 @@ fn write_record<P: Paths>(search: &Search, path: Option<&str>, paths: &mut P) ->
 
 // Prints what a search came to.
 fn tell<O: Out + Drop>(
+    alloc: Global,
     options: &HuntOptions<'_>,
     search: &Search,
     before: Counts,
@@ -83,15 +100,45 @@ fn tell<O: Out + Drop>(
     ensures { IfOk result (λ r. IsTold options.now before search.now r.0
         (O.device out).contents (O.device r.1).contents) }
 {
+    if options.is_json {
+        let out = put_object(alloc, options, search, before, out)?;
+        Ok((Answer::of(search), out))
+    } else {
+        let out = put_lines(options, search, before, out)?;
+        Ok((Answer::of(search), out))
+    }
+}
+
+// Prints its object.
+fn put_object<O: Out + Drop>(
+    alloc: Global,
+    options: &HuntOptions<'_>,
+    search: &Search,
+    before: Counts,
+    out: O,
+) -> Result<O, Refusal>
+    ensures { IfOk result (λ given. Appends (O.device out).contents (O.device given).contents
+        (object_text (search_value options.now before search.now))) }
+{
+    let mut page = Gathered::new(out);
+    tell_object(alloc, options, search, before, &mut page)?;
+    let out = page.finish()?;
+    Ok(out)
+}
+
+// Prints its lines.
+fn put_lines<O: Out + Drop>(
+    options: &HuntOptions<'_>,
+    search: &Search,
+    before: Counts,
+    out: O,
+) -> Result<O, Refusal>
+    ensures { IfOk result (λ given. Appends (O.device out).contents (O.device given).contents
+        (search_text options.now before search.now)) }
+{
     match &search.found {
-        Some(found) => {
-            let out = put_failure(options, found, before, out)?;
-            Ok((Answer::Failed, out))
-        }
-        None => {
-            let out = put_none(search.ended, search.cut, out)?;
-            Ok((Answer::NoneFailed, out))
-        }
+        Some(found) => put_failure(options, found, before, out),
+        None => put_none(search.ended, search.cut, out),
     }
 }
 

@@ -1,134 +1,47 @@
 //! The command that replays a schedule.
 
-ghost use Rattle.std.specs.Prelude.{◌≡◌, ◌≤◌, ◌++◌, ◌∷◌, OnOk, length};
-ghost use Rattle.std.specs.List.{flat_map};
+ghost use Rattle.std.specs.Prelude.{◌≡◌, IfOk, OnOk};
 ghost use Rattle.ia_text.specs.Writing.{Wrote};
-ghost use Rattle.tm_schedule.specs.Picks.{event_text, pick_word};
-ghost use Rattle.elide_hunt.specs.Printed.{machine_text, option_text, replay_line, schedule_text};
-ghost use Rattle.elide_hunt.specs.Printed.{steps_option, steps_text};
+ghost use Rattle.elide_hunt.specs.Lines.{replay_command, replay_line};
 
-use crate::shell::{put_path, put_word};
-use elide_args::{HuntOptions, MachineOptions};
-use ia_text::page::push;
-use ia_text::text_line::{TextLine, push_number};
-use ia_text::{Failed, Out};
-use tm_model::{Event, Interference, Pick};
+use elide_args::HuntOptions;
+use elide_shell::{put_machine, put_path, put_schedule};
+use ia_text::{Failed, Out, ToVec};
+use std::alloc::{AllocError, Global};
+use tm_model::Pick;
 
-/// The most steps of a schedule that is printed in the command that replays it.
-const MOST_SHOWN: usize = 1000;
-
-/// Writes the command that replays a schedule.
-pub fn put_command<O: Out>(
+/// Writes the command that replays a schedule, on a line of its own.
+pub fn put_line<O: Out>(
     options: &HuntOptions<'_>,
     picks: &[Pick],
     out: &mut O,
 ) -> Result<(), Failed>
     ensures { OnOk result (Wrote (O.device out.old) (O.device out.new) (replay_line options.now picks.now)) }
 {
-    out.put(b"elide replay ")?;
-    put_path(options.machine.file, out)?;
-    put_machine(&options.machine, out)?;
-    put_schedule(options.record, picks, out)?;
+    put_command(options, picks, out)?;
     out.put(b"\n")
 }
 
-// Writes the options of the machine that are not those by default.
-fn put_machine<O: Out>(machine: &MachineOptions<'_>, out: &mut O) -> Result<(), Failed>
-    ensures { OnOk result (Wrote (O.device out.old) (O.device out.new) (machine_text machine.now)) }
+/// The bytes of the command.
+pub fn command_bytes(
+    alloc: Global,
+    options: &HuntOptions<'_>,
+    picks: &[Pick],
+) -> Result<Vec<u8>, AllocError>
+    ensures { IfOk result (λ bytes. bytes.items ≡ replay_command options.now picks.now) }
 {
-    put_option(" --cores ", machine.cores, "1", out)?;
-    put_option(" --mem ", machine.memory, "65536", out)?;
-    put_option(" --entry ", machine.entry, "", out)?;
-    put_option(" --reads ", machine.reads, "512", out)?;
-    put_option(" --writes ", machine.writes, "512", out)
-}
-
-// Writes an option where its value is given, and not the usual one.
-fn put_option<O: Out>(
-    name: &str,
-    value: Option<&str>,
-    usual: &str,
-    out: &mut O,
-) -> Result<(), Failed>
-    ensures { OnOk result (Wrote (O.device out.old) (O.device out.new) (option_text name.now usual.now value.entry)) }
-{
-    match value {
-        Some(value) if value != usual => {
-            out.put(name.as_bytes())?;
-            put_word(value, out)
-        }
-        _ => Ok(()),
+    let mut out = ToVec::new(Vec::new(alloc));
+    match put_command(options, picks, &mut out) {
+        Ok(()) => Ok(out.bytes),
+        Err(_) => Err(AllocError),
     }
 }
 
-// Writes the option that says the schedule: its file, where it was recorded.
-fn put_schedule<O: Out>(path: Option<&str>, picks: &[Pick], out: &mut O) -> Result<(), Failed>
-    ensures { OnOk result (Wrote (O.device out.old) (O.device out.new) (schedule_text path.entry picks.now)) }
+fn put_command<O: Out>(options: &HuntOptions<'_>, picks: &[Pick], out: &mut O) -> Result<(), Failed>
+    ensures { OnOk result (Wrote (O.device out.old) (O.device out.new) (replay_command options.now picks.now)) }
 {
-    match path {
-        Some(path) => {
-            out.put(b" --schedule ")?;
-            put_path(path, out)
-        }
-        None => put_steps(picks, out),
-    }
-}
-
-// The same of a schedule that was not.
-fn put_steps<O: Out>(picks: &[Pick], out: &mut O) -> Result<(), Failed>
-    ensures { OnOk result (Wrote (O.device out.old) (O.device out.new) (steps_option picks.now)) }
-{
-    if picks.len() > MOST_SHOWN {
-        return out.put(b" --schedule PATH, with the schedule that --record PATH writes");
-    }
-    out.put(b" --steps \"")?;
-    put_words(picks, out)?;
-    out.put(b"\"")
-}
-
-// Writes the words of the steps, with spaces between.
-fn put_words<O: Out>(picks: &[Pick], out: &mut O) -> Result<(), Failed>
-    ensures { OnOk result (Wrote (O.device out.old) (O.device out.new) (steps_text picks.now)) }
-{
-    let Some((first, rest)) = picks.split_first() else {
-        return Ok(());
-    };
-    put_pick(b"", *first, out)?;
-    put_more(rest, out)
-}
-
-// Writes them behind another one.
-fn put_more<O: Out>(picks: &[Pick], out: &mut O) -> Result<(), Failed>
-    ensures { OnOk result (Wrote (O.device out.old) (O.device out.new)
-        (flat_map (λ pick. 32 ∷ pick_word pick) picks.now)) }
-{
-    for pick in picks {
-        put_pick(b" ", *pick, out)?;
-    }
-    Ok(())
-}
-
-// Writes the word of a step: its core, and the letter of its event, if any.
-fn put_pick<O: Out>(between: &[u8], pick: Pick, out: &mut O) -> Result<(), Failed>
-    requires { length between.now ≤ 1 }
-    ensures { OnOk result (Wrote (O.device out.old) (O.device out.new) (between.now ++ pick_word pick)) }
-{
-    let mut row = TextLine::new();
-    push(&mut row, between);
-    push_number(&mut row, pick.core);
-    push(&mut row, letters_of(pick.event));
-    out.put(row.as_slice())
-}
-
-// The letter of an event, and none for none.
-fn letters_of(event: Option<Event>) -> &'static [u8]
-    ensures text { result.now ≡ event_text event }
-    ensures len { length result.now ≤ 1 }
-{
-    match event {
-        None => b"",
-        Some(Event::Abort(Interference::Interrupt)) => b"i",
-        Some(Event::Abort(Interference::Eviction)) => b"e",
-        Some(Event::Abort(Interference::Snoop)) => b"s",
-    }
+    out.put(b"elide replay ")?;
+    put_path(options.machine.file, out)?;
+    put_machine(&options.machine, out)?;
+    put_schedule(options.record, picks, out)
 }

@@ -4,10 +4,10 @@ ghost use Rattle.std.specs.Prelude.{◌≡◌, ◌+◌, ◌≤◌, ◌++◌, OnO
 ghost use Rattle.std.specs.Fmt.{decimal};
 ghost use Rattle.arrayvec.specs.ArrayVec.{array_vec_len};
 ghost use Rattle.ia_text.specs.Writing.{Wrote};
-ghost use Rattle.elide_hunt.specs.Printed.{check_text, counts_line, counts_of, counts_text, events_text};
-ghost use Rattle.elide_hunt.specs.Printed.{failure_text, none_line, run_front};
+ghost use Rattle.elide_hunt.specs.Lines.{check_text, counts_line, counts_of, counts_text, events_text};
+ghost use Rattle.elide_hunt.specs.Lines.{failure_text, none_line, run_front};
 
-use crate::replay::put_command;
+use crate::replay::put_line;
 use arrayvec::ArrayVec;
 use elide_args::HuntOptions;
 use ia_text::page::push;
@@ -50,7 +50,7 @@ pub fn tell_none<O: Out>(ended: u32, cut: u32, out: &mut O) -> Result<(), Failed
     out.put(line.as_slice())
 }
 
-#[tactic(auto, unfolding(crate::specs::Printed::none_line))]
+#[tactic(auto, unfolding(crate::specs::Lines::none_line))]
 fn push_none(line: &mut Line, ended: u32, cut: u32)
     requires { array_vec_len line.old ≡ 0 }
     ensures { line.new.items ≡ line.old.items ++ none_line ended cut }
@@ -86,7 +86,7 @@ pub fn tell_failure<O: Out>(
     put_run(found.run, out)?;
     put_check(options, found.failure.check, out)?;
     put_counts(before, counts_of(picks), out)?;
-    put_command(options, picks, out)
+    put_line(options, picks, out)
 }
 
 fn put_run<O: Out>(run: u32, out: &mut O) -> Result<(), Failed>
@@ -97,7 +97,7 @@ fn put_run<O: Out>(run: u32, out: &mut O) -> Result<(), Failed>
     out.put(line.as_slice())
 }
 
-#[tactic(auto, unfolding(crate::specs::Printed::run_front))]
+#[tactic(auto, unfolding(crate::specs::Lines::run_front))]
 fn push_run(line: &mut Line, run: u32)
     requires { array_vec_len line.old ≡ 0 }
     ensures { line.new.items ≡ line.old.items ++ run_front run }
@@ -116,7 +116,7 @@ fn put_counts<O: Out>(before: Counts, after: Counts, out: &mut O) -> Result<(), 
     out.put(line.as_slice())
 }
 
-#[tactic(auto, unfolding(crate::specs::Printed::counts_line))]
+#[tactic(auto, unfolding(crate::specs::Lines::counts_line))]
 fn push_change(line: &mut Line, before: Counts, after: Counts)
     requires { array_vec_len line.old ≡ 0 }
     ensures { line.new.items ≡ line.old.items ++ counts_line before after }
@@ -128,7 +128,7 @@ fn push_change(line: &mut Line, before: Counts, after: Counts)
     push(line, b"\n");
 }
 
-#[tactic(auto, unfolding(crate::specs::Printed::counts_text))]
+#[tactic(auto, unfolding(crate::specs::Lines::counts_text))]
 fn push_counts(line: &mut Line, counts: Counts)
     requires { array_vec_len line.old ≤ 128 }
     ensures text { line.new.items ≡ line.old.items ++ counts_text counts }

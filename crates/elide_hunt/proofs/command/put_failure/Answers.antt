@@ -1,7 +1,7 @@
 use Rattle.std.proofs.Common.{ℕ, List, Option}
 use Rattle.elide_setup.specs.Gathering.{told}
 use Rattle.elide_setup.specs.declared.gathered.Gathered.{Gathered}
-use Rattle.elide_hunt.specs.Printed.{failure_text}
+use Rattle.elide_hunt.specs.Lines.{failure_text}
 use Rattle.elide_hunt.proofs.Texts.{passed_on}
 use Rattle.elide_hunt.proofs.command.put_failure.Goals as goal
 

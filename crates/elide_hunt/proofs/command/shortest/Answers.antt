@@ -1,6 +1,6 @@
 use Rattle.std.proofs.Common.{◌≡◌, List, subst}
 use Rattle.tm_model.specs.declared.outcome.Pick.{Pick}
-use Rattle.elide_hunt.specs.Printed.{counts_of}
+use Rattle.elide_hunt.specs.Lines.{counts_of}
 use Rattle.elide_hunt.proofs.Hunted.{shortened_hunt}
 use Rattle.elide_hunt.proofs.command.shortest.Goals as goal
 

@@ -1,5 +1,5 @@
 use Rattle.std.proofs.Common.{append_assoc}
-use Rattle.elide_hunt.specs.Printed.{counts_line}
+use Rattle.elide_hunt.specs.Lines.{counts_line}
 use Rattle.elide_hunt.proofs.report.push_change.Goals as goal
 
 pub returns : goal.returns

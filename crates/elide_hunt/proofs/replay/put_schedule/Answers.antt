@@ -1,7 +1,0 @@
-use Rattle.elide_hunt.specs.Shell.{path_word}
-use Rattle.elide_hunt.proofs.Texts.{then_on_ok}
-use Rattle.elide_hunt.proofs.replay.put_schedule.Goals as goal
-
-pub returns-in_ok-put-in-Some : goal.returns-in_ok-put-in-Some
-returns-in_ok-put-in-Some g c =
-    rw c.in-Some.is (then_on_ok _ (path_word c.in-Some.path.now) c.put_path.result c.in_ok-put-in-Some.ensures c.put_path.ensures)

@@ -1,9 +1,0 @@
-use Rattle.std.proofs.Common.{take}
-use Rattle.std.specs.List.{flat_map}
-use Rattle.ia_text.specs.Writing.{Wrote}
-use Rattle.elide_hunt.specs.Shell.{quoted_byte}
-use Rattle.elide_hunt.proofs.shell.put_bytes.Given as goal
-
--- the bytes so far were written
-abbrev pub invariant-loop-byte : goal.invariant-loop-byte
-invariant-loop-byte g l = Wrote (g.O.Out.device l.initial.out) (g.O.Out.device l.out) (flat_map quoted_byte (take l.byte-index l.bytes))

@@ -1,0 +1,76 @@
+-- The lines that `elide hunt` prints (docs/FORMATS.md, "Checks").
+use Rattle.std.specs.Prelude.{ℕ, ◌+◌, ◌-◌, nat_eq, List, [], ◌++◌, codes, length, slice_get}
+use Rattle.std.specs.Prelude.{Option, Some, None, if◌then◌else◌}
+use Rattle.std.specs.Borrow.{Bor}
+use Rattle.std.specs.Fmt.{decimal}
+use Rattle.elide_args.specs.declared.hunt_options.HuntOptions.{HuntOptions}
+use Rattle.elide_shell.specs.Options.{machine_text, schedule_text}
+use Rattle.elide_shell.specs.Shell.{path_word}
+use Rattle.ia_text.specs.TextLine.{line_end}
+use Rattle.tm_model.specs.declared.outcome.Pick.{Pick}
+use Rattle.tm_hunt.specs.Cost.{events_in, switches_of}
+use Rattle.tm_hunt.specs.declared.searching.Found.{Found}
+use Rattle.tm_hunt.specs.declared.searching.Search.{Search}
+use Rattle.elide_hunt.specs.declared.report.Counts.{Counts}
+
+-- no run fails: how many there are, how many of them ended, and how many reached the limit
+unfoldable pub none_line : ℕ → ℕ → List ℕ
+none_line ended cut =
+    codes "no failure in " ++ decimal (ended + cut) ++ codes " runs: " ++ decimal ended ++ codes " ended, "
+    ++ decimal cut ++ codes " reached the limit" ++ line_end
+
+-- the option that says the check with this index: those of `--check` come first, then those of `--stop`
+abbrev pub stop_option : Option (Bor (List ℕ)) → List ℕ
+stop_option None = codes "--expect-halt"
+stop_option (Some text) = codes "--stop " ++ text.now
+
+abbrev pub check_option : List (Bor (List ℕ)) → ℕ → Option (Bor (List ℕ)) → List ℕ
+check_option stops index None = stop_option (slice_get stops index)
+check_option stops index (Some text) = codes "--check " ++ text.now
+
+abbrev pub check_text : HuntOptions → ℕ → List ℕ
+check_text options index =
+    check_option options.stops.items (index - length options.checks.items) (slice_get options.checks.items index)
+
+-- how many steps a schedule has, how often the core changes, and how many of the steps come under an event
+abbrev pub counts_of : List Pick → Counts
+counts_of picks = record { steps = length picks; switches = switches_of picks; events = events_in picks }
+
+-- the events, where there are any
+abbrev pub events_text : ℕ → List ℕ
+events_text count = if nat_eq count 0 then [] else codes ", events " ++ decimal count
+
+unfoldable pub counts_text : Counts → List ℕ
+counts_text counts =
+    codes "steps " ++ decimal counts.steps ++ codes ", switches " ++ decimal counts.switches
+    ++ events_text counts.events
+
+-- before it was shortened, and after that
+unfoldable pub counts_line : Counts → Counts → List ℕ
+counts_line before after = line_end ++ counts_text before ++ codes "; shortened to " ++ counts_text after ++ line_end
+
+-- the command that replays a schedule
+abbrev pub replay_command : HuntOptions → List Pick → List ℕ
+replay_command options picks =
+    codes "elide replay " ++ (path_word options.machine.file.now
+    ++ (machine_text options.machine ++ schedule_text options.record picks))
+
+abbrev pub replay_line : HuntOptions → List Pick → List ℕ
+replay_line options picks = replay_command options picks ++ line_end
+
+unfoldable pub run_front : ℕ → List ℕ
+run_front run = codes "run " ++ decimal run ++ codes " fails "
+
+-- a run fails: the check, how long its schedule was and is, and the command that replays it
+abbrev pub failure_text : HuntOptions → Counts → Found → List ℕ
+failure_text options before found =
+    run_front found.run ++ (check_text options found.failure.check
+    ++ (counts_line before (counts_of found.failure.picks.items) ++ replay_line options found.failure.picks.items))
+
+-- what a search came to
+abbrev pub search_lines : HuntOptions → Counts → ℕ → ℕ → Option Found → List ℕ
+search_lines options before ended cut None = none_line ended cut
+search_lines options before ended cut (Some found) = failure_text options before found
+
+abbrev pub search_text : HuntOptions → Counts → Search → List ℕ
+search_text options before search = search_lines options before search.ended search.cut search.found

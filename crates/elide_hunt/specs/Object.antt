@@ -1,0 +1,71 @@
+-- The object that `elide hunt --json` prints (docs/JSON.md, "hunt").
+use Rattle.std.specs.Prelude.{ℕ, ◌-◌, List, codes, length, Option, Some, None, slice_get}
+use Rattle.std.specs.Borrow.{Bor}
+use Rattle.elide_args.specs.declared.hunt_options.HuntOptions.{HuntOptions}
+use Rattle.elide_object.specs.Object.{number_value, schedule_value}
+use Rattle.serde_json.specs.Data.{Data, member, no_members, null, object, string}
+use Rattle.tm_hunt.specs.declared.searching.Found.{Found}
+use Rattle.tm_hunt.specs.declared.searching.Search.{Search}
+use Rattle.elide_hunt.specs.Lines.{counts_of, replay_command}
+use Rattle.elide_hunt.specs.declared.report.Counts.{Counts}
+
+-- the option that says the check with this index: those of `--check` come first, then those of `--stop`
+abbrev pub option_value : List ℕ → Data → Data
+option_value name text = object (member (codes "option") (string name) (member (codes "text") text no_members))
+
+abbrev pub stop_value : Option (Bor (List ℕ)) → Data
+stop_value None = option_value (codes "--expect-halt") null
+stop_value (Some text) = option_value (codes "--stop") (string text.now)
+
+abbrev pub option_of : List (Bor (List ℕ)) → ℕ → Option (Bor (List ℕ)) → Data
+option_of stops index None = stop_value (slice_get stops index)
+option_of stops index (Some text) = option_value (codes "--check") (string text.now)
+
+abbrev pub check_value : HuntOptions → ℕ → Data
+check_value options index =
+    option_of options.stops.items (index - length options.checks.items) (slice_get options.checks.items index)
+
+-- how long a schedule is
+abbrev pub counts_value : Counts → Data
+counts_value counts =
+    object (member (codes "steps") (number_value counts.steps)
+    (member (codes "switches") (number_value counts.switches)
+    (member (codes "events") (number_value counts.events) no_members)))
+
+-- the run that failed: its check, how long its schedule was and is, its steps, and the command that replays them
+abbrev pub failure_value : HuntOptions → Counts → List ℕ → Found → Data
+failure_value options before replay found =
+    object (member (codes "run") (number_value found.run)
+    (member (codes "check") (check_value options found.failure.check)
+    (member (codes "before") (counts_value before)
+    (member (codes "after") (counts_value (counts_of found.failure.picks.items))
+    (member (codes "schedule") (schedule_value found.failure.picks.items)
+    (member (codes "replay") (string replay) no_members))))))
+
+abbrev pub found_value : HuntOptions → Counts → Option Found → Data
+found_value options before None = null
+found_value options before (Some found) =
+    failure_value options before (replay_command options found.failure.picks.items) found
+
+-- the exit status
+abbrev pub search_status : {A : Type 0} → Option A → ℕ
+search_status None = 0
+search_status (Some found) = 3
+
+-- in how many runs that passed each core stopped, and how many reached the limit
+abbrev pub runs_value : ℕ → ℕ → Data
+runs_value ended cut =
+    object (member (codes "ended") (number_value ended) (member (codes "cut") (number_value cut) no_members))
+
+unfoldable pub hunt_value : ℕ → ℕ → Data → ℕ → Data
+hunt_value ended cut failure status =
+    object (member (codes "format") (number_value 1)
+    (member (codes "command") (string (codes "hunt"))
+    (member (codes "runs") (runs_value ended cut)
+    (member (codes "failure") failure
+    (member (codes "status") (number_value status) no_members)))))
+
+-- what a search came to
+abbrev pub search_value : HuntOptions → Counts → Search → Data
+search_value options before search =
+    hunt_value search.ended search.cut (found_value options before search.found) (search_status search.found)

@@ -1,0 +1,101 @@
+//! The object that `--json` prints of a search (docs/JSON.md, "hunt").
+//!
+//! [`tell_object`] is the one call. The whole text is made, and then it is written.
+
+ghost use Rattle.std.specs.Prelude.{◌≡◌, IfOk, OnOk, Some, string_bytes};
+ghost use Rattle.std.specs.Io.KnownBytes.{Appends};
+ghost use Rattle.elide_object.specs.Object.{object_text};
+ghost use Rattle.elide_hunt.specs.Object.{found_value, hunt_value, search_value};
+ghost use Rattle.elide_hunt.specs.Sent.{object_value};
+
+use crate::replay::command_bytes;
+use crate::report::Counts;
+use crate::sending::{FailureObject, HuntObject};
+use elide_args::HuntOptions;
+use elide_checks::{Fault, Refusal, RunFault};
+use elide_object::object_line;
+use ia_text::Out;
+use std::alloc::{AllocError, Global};
+use std::str;
+use tm_hunt::{Found, Search};
+
+/// Prints the object of a search, with how long the schedule of its failure was.
+pub fn tell_object<O: Out>(
+    alloc: Global,
+    options: &HuntOptions<'_>,
+    search: &Search,
+    before: Counts,
+    out: &mut O,
+) -> Result<(), Refusal>
+    ensures { OnOk result (Appends (O.device out.old).contents (O.device out.new).contents
+        (object_text (search_value options.now before search.now))) }
+{
+    match search_line(alloc, options, search, before) {
+        Ok(line) => {
+            out.put(line.as_bytes())?;
+            Ok(())
+        }
+        Err(_) => Err(Refusal::Fault(Fault::Run(RunFault::NoMemory))),
+    }
+}
+
+fn search_line(
+    alloc: Global,
+    options: &HuntOptions<'_>,
+    search: &Search,
+    before: Counts,
+) -> Result<String, AllocError>
+    ensures { IfOk result (λ line. string_bytes line ≡ object_text (search_value options.now before search.now)) }
+{
+    let (ended, cut) = (search.ended, search.cut);
+    match &search.found {
+        Some(found) => failure_line(alloc, options, found, before, ended, cut),
+        None => line_of(
+            alloc,
+            &HuntObject {
+                ended,
+                cut,
+                failure: None,
+            },
+        ),
+    }
+}
+
+// The line of a search whose last run failed, behind so many that passed.
+fn failure_line(
+    alloc: Global,
+    options: &HuntOptions<'_>,
+    found: &Found,
+    before: Counts,
+    ended: u32,
+    cut: u32,
+) -> Result<String, AllocError>
+    ensures { IfOk result (λ line. string_bytes line ≡ object_text (hunt_value ended cut
+        (found_value options.now before (Some found.now)) 3)) }
+{
+    let command = command_bytes(alloc, options, found.failure.picks.as_slice())?;
+    // The words of a command line are UTF-8, and what stands between them is ASCII: this refuses nothing.
+    let Ok(replay) = str::from_utf8(command.as_slice()) else {
+        return Err(AllocError);
+    };
+    let failure = Some(FailureObject {
+        options,
+        found,
+        before,
+        replay,
+    });
+    line_of(
+        alloc,
+        &HuntObject {
+            ended,
+            cut,
+            failure,
+        },
+    )
+}
+
+fn line_of(alloc: Global, object: &HuntObject<'_, '_>) -> Result<String, AllocError>
+    ensures { IfOk result (λ line. string_bytes line ≡ object_text (object_value object.now)) }
+{
+    object_line(alloc, object)
+}

@@ -1,0 +1,158 @@
+//! A search as an object, which sends itself to a writer.
+
+ghost use Rattle.std.specs.Prelude.{◌≡◌, OnOk, codes};
+ghost use Rattle.std.specs.Option.{option_copied};
+ghost use Rattle.elide_object.specs.Object.{SendsMember};
+ghost use Rattle.serde_json.specs.Events.{SendsValue};
+ghost use Rattle.elide_hunt.specs.Object.{check_value, counts_value, option_value, runs_value, search_status};
+ghost use Rattle.elide_hunt.specs.Sent.{failure_of, object_value, sent_failure, text_value};
+
+use crate::report::{Counts, counts_of};
+use elide_args::HuntOptions;
+use elide_object::{send_number, send_schedule, send_text};
+use serde::{Described, Serialize, Serializer};
+use tm_hunt::Found;
+
+/// What a search came to.
+#[derive(Clone, Copy)]
+pub struct HuntObject<'a, 'o> {
+    /// In how many of the runs that passed each core stopped.
+    pub ended: u32,
+    /// How many of them reached the limit on steps.
+    pub cut: u32,
+    /// The run that failed, if any.
+    pub failure: Option<FailureObject<'a, 'o>>,
+}
+
+/// A run that failed.
+#[derive(Clone, Copy)]
+pub struct FailureObject<'a, 'o> {
+    /// The options, which say its check.
+    pub options: &'a HuntOptions<'o>,
+    /// The run, with its shortened schedule.
+    pub found: &'a Found,
+    /// How long its schedule was.
+    pub before: Counts,
+    /// The command that replays the schedule.
+    pub replay: &'a str,
+}
+
+impl Described for HuntObject<'_, '_> {
+    ghost writes = { λ o. SendsValue (object_value o) };
+}
+
+impl Serialize for HuntObject<'_, '_> {
+    fn serialize<S: Serializer>(&self, out: &mut S) -> Result<(), S::Error> {
+        out.begin_map(Some(5))?;
+        send_number("format", 1, out)?;
+        send_text("command", "hunt", out)?;
+        send_runs(self.ended, self.cut, out)?;
+        send_failure(&self.failure, out)?;
+        send_number("status", self.status(), out)?;
+        out.end_map()
+    }
+}
+
+impl HuntObject<'_, '_> {
+    // The exit status.
+    fn status(&self) -> u64
+        ensures { result ≡ search_status self.now.failure }
+    {
+        match self.failure {
+            Some(_) => 3,
+            None => 0,
+        }
+    }
+}
+
+fn send_runs<S: Serializer>(ended: u32, cut: u32, out: &mut S) -> Result<(), S::Error>
+    ensures { OnOk result (SendsMember (codes "runs") (runs_value ended cut) (S.written out.old) (S.written out.new)) }
+{
+    out.key("runs")?;
+    out.begin_map(Some(2))?;
+    send_number("ended", u64::from(ended), out)?;
+    send_number("cut", u64::from(cut), out)?;
+    out.end_map()
+}
+
+fn send_failure<S: Serializer>(
+    failure: &Option<FailureObject<'_, '_>>,
+    out: &mut S,
+) -> Result<(), S::Error>
+    ensures { OnOk result (SendsMember (codes "failure") (failure_of failure.now) (S.written out.old) (S.written out.new)) }
+{
+    out.key("failure")?;
+    match failure {
+        Some(failure) => failure.send(out),
+        None => out.unit(),
+    }
+}
+
+impl FailureObject<'_, '_> {
+    fn send<S: Serializer>(&self, out: &mut S) -> Result<(), S::Error>
+        ensures { OnOk result (SendsValue (sent_failure self.now) (S.written out.old) (S.written out.new)) }
+    {
+        let picks = self.found.failure.picks.as_slice();
+        out.begin_map(Some(6))?;
+        send_number("run", u64::from(self.found.run), out)?;
+        send_check(self.options, self.found.failure.check, out)?;
+        send_counts("before", self.before, out)?;
+        send_counts("after", counts_of(picks), out)?;
+        send_schedule("schedule", picks, out)?;
+        send_text("replay", self.replay, out)?;
+        out.end_map()
+    }
+}
+
+// Sends the option that says the check with this index.
+fn send_check<S: Serializer>(
+    options: &HuntOptions<'_>,
+    check: usize,
+    out: &mut S,
+) -> Result<(), S::Error>
+    ensures { OnOk result (SendsMember (codes "check") (check_value options.now check) (S.written out.old) (S.written out.new)) }
+{
+    out.key("check")?;
+    if let Some(text) = options.checks.get(check) {
+        return send_option("--check", Some(*text), out);
+    }
+    match options
+        .stops
+        .get(check.saturating_sub(options.checks.len()))
+    {
+        Some(text) => send_option("--stop", Some(*text), out),
+        None => send_option("--expect-halt", None, out),
+    }
+}
+
+fn send_option<S: Serializer>(name: &str, text: Option<&str>, out: &mut S) -> Result<(), S::Error>
+    ensures { OnOk result (SendsValue (option_value name.now (text_value (option_copied text.entry))) (S.written out.old)
+        (S.written out.new)) }
+{
+    out.begin_map(Some(2))?;
+    send_text("option", name, out)?;
+    send_option_text(text, out)?;
+    out.end_map()
+}
+
+fn send_option_text<S: Serializer>(text: Option<&str>, out: &mut S) -> Result<(), S::Error>
+    ensures { OnOk result (SendsMember (codes "text") (text_value (option_copied text.entry)) (S.written out.old)
+        (S.written out.new)) }
+{
+    out.key("text")?;
+    match text {
+        Some(text) => out.str(text),
+        None => out.unit(),
+    }
+}
+
+fn send_counts<S: Serializer>(name: &str, counts: Counts, out: &mut S) -> Result<(), S::Error>
+    ensures { OnOk result (SendsMember name.now (counts_value counts) (S.written out.old) (S.written out.new)) }
+{
+    out.key(name)?;
+    out.begin_map(Some(3))?;
+    send_number("steps", counts.steps as u64, out)?;
+    send_number("switches", counts.switches as u64, out)?;
+    send_number("events", counts.events as u64, out)?;
+    out.end_map()
+}
