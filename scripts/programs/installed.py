@@ -90,6 +90,7 @@ def files(made, zsh):
         f"{zsh}/_elide": File(read("completions/_elide")),
         "share/fish/vendor_completions.d/elide.fish": File(read("completions/elide.fish")),
         "share/elide/elide.h": File(read("examples/c/elide.h")),
+        "share/elide/elide-rtm.h": File(read("examples/c/elide-rtm.h")),
         "share/elide/elide.ld": File(read("examples/c/elide.ld")),
         f"{DOCUMENTS}/copyright": File(COPYRIGHT.encode()),
     }

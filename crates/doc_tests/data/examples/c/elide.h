@@ -11,6 +11,9 @@
 
 #include <immintrin.h>
 
+#ifdef __cplusplus
+extern "C"
+#endif
 int core_main(unsigned core, unsigned cores);
 
 __asm__(".pushsection .text.start, \"ax\", @progbits\n"
