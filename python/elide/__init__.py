@@ -1,0 +1,66 @@
+"""elide from Python: a thin layer over the simulator's program.
+
+    import elide
+
+    with elide.Program.from_file("counter.asm") as program:
+        with program.machine(cores=2) as machine:
+            machine.step(0)
+            machine.run(10)
+            print(machine.regs(0).eax, machine.memory("count", 4), machine.why(1))
+        failure = elide.hunt(program, cores=2, check="count == 2")
+        found = elide.outcomes(program, "count", cores=2)
+
+The program does all the work, in a process of its own; nothing of the machine is in this package.
+Which program is run: see `program_path`.
+"""
+
+from ._path import program_path
+from .commands import hunt, outcomes
+from .errors import (
+    BadAnswer,
+    Error,
+    Fault,
+    Misuse,
+    ProgramEnded,
+    ProgramNotFound,
+    SourceWarning,
+)
+from .machine import Machine
+from .program import Program
+from .records import (
+    Failure,
+    Length,
+    Outcome,
+    Outcomes,
+    Reason,
+    Registers,
+    Sets,
+    Step,
+    Steps,
+)
+
+__version__ = "0.3.0"
+
+__all__ = [
+    "BadAnswer",
+    "Error",
+    "Failure",
+    "Fault",
+    "Length",
+    "Machine",
+    "Misuse",
+    "Outcome",
+    "Outcomes",
+    "Program",
+    "ProgramEnded",
+    "ProgramNotFound",
+    "Reason",
+    "Registers",
+    "Sets",
+    "SourceWarning",
+    "Step",
+    "Steps",
+    "hunt",
+    "outcomes",
+    "program_path",
+]

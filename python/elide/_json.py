@@ -1,0 +1,114 @@
+"""The objects that the program's commands print with `--json` (JSON.md), as records. An object of
+another form is a ValueError."""
+
+import json
+from typing import Any, Callable, Dict, List, Optional, Tuple, Type, TypeVar
+
+from . import records
+
+T = TypeVar("T")
+
+# Puts a program's name in the place of its file's path.
+Named = Callable[[str], str]
+
+# The number of the format that is read.
+FORMAT = 1
+
+
+class Fields:
+    """The fields of an object, of the types that are asked for."""
+
+    def __init__(self, value: Any) -> None:
+        if not isinstance(value, dict):
+            raise ValueError(f"no object: {value!r:.60}")
+        self._fields: Dict[str, Any] = value
+
+    def has(self, name: str) -> bool:
+        """Whether there is such a field that is not null."""
+        return self._fields.get(name) is not None
+
+    def number(self, name: str) -> int:
+        """A number."""
+        return self._get(name, int)
+
+    def text(self, name: str) -> str:
+        """A text."""
+        return self._get(name, str)
+
+    def truth(self, name: str) -> bool:
+        """True or false."""
+        return self._get(name, bool)
+
+    def inner(self, name: str) -> "Fields":
+        """An object."""
+        return Fields(self._get(name, dict))
+
+    def inners(self, name: str) -> List["Fields"]:
+        """A list of objects."""
+        return [Fields(it) for it in self._get(name, list)]
+
+    def texts(self, name: str) -> Tuple[str, ...]:
+        """A list of texts."""
+        return tuple(Fields({name: it}).text(name) for it in self._get(name, list))
+
+    def numbers(self, name: str) -> Tuple[int, ...]:
+        """A list of numbers."""
+        return tuple(Fields({name: it}).number(name) for it in self._get(name, list))
+
+    def maybe_text(self, name: str) -> Optional[str]:
+        """A text, or None where there is no such field."""
+        return self.text(name) if self.has(name) else None
+
+    def _get(self, name: str, kind: Type[T]) -> T:
+        value = self._fields.get(name)
+        # Not isinstance: True is an int of Python's.
+        if type(value) is not kind:
+            raise ValueError(f"{name}: {value!r:.60}")
+        found: T = value
+        return found
+
+
+def object_of(text: str, command: str, status: int) -> Fields:
+    """The object that a command printed, which ended with this status."""
+    found = Fields(json.loads(text))
+    if found.number("format") != FORMAT:
+        raise ValueError(f"format {found.number('format')} in place of {FORMAT}")
+    if found.text("command") != command or found.number("status") != status:
+        raise ValueError("of another command, or of another status")
+    return found
+
+
+def failure(found: Fields, named: Named) -> Optional[records.Failure]:
+    """The object of `hunt`."""
+    if not found.has("failure"):
+        return None
+    told, runs = found.inner("failure"), found.inner("runs")
+    check = told.inner("check")
+    return records.Failure(
+        run=told.number("run"),
+        option=check.text("option"),
+        check=check.maybe_text("text"),
+        before=_length(told.inner("before")),
+        after=_length(told.inner("after")),
+        schedule=told.texts("schedule"),
+        replay=named(told.text("replay")),
+        ended=runs.number("ended"),
+        cut=runs.number("cut"),
+    )
+
+
+def outcomes(found: Fields) -> records.Outcomes:
+    """The object of `outcomes`."""
+    return records.Outcomes(
+        show=found.texts("show"),
+        outcomes=tuple(
+            records.Outcome(it.numbers("values"), it.number("ends"), it.texts("schedule"))
+            for it in found.inners("outcomes")
+        ),
+        states=found.number("states"),
+        whole=found.truth("whole"),
+    )
+
+
+def _length(found: Fields) -> records.Length:
+    return records.Length(found.number("steps"), found.number("switches"), found.number("events"))

@@ -1,0 +1,186 @@
+"""What the program answers, as records."""
+
+from dataclasses import dataclass
+from typing import FrozenSet, Iterator, Optional, Tuple
+
+
+@dataclass(frozen=True)
+class Registers:
+    """The state and the registers of a core. Of a condemned core these are those that it had before
+    its outermost XBEGIN.
+
+    `state` is `run`, `mid` (between the two steps of an instruction), `tx`, `condemned`, or `stop:`
+    and the cause. `depth` is how many XBEGINs deep its transaction is, 0 where there is none, and
+    None of a condemned core, of which a session does not tell it. `flags` has the names of those
+    that are set, of CF PF AF ZF SF OF in this order.
+    """
+
+    core: int
+    state: str
+    depth: Optional[int]
+    eax: int
+    ecx: int
+    edx: int
+    ebx: int
+    esp: int
+    ebp: int
+    esi: int
+    edi: int
+    eip: int
+    flags: Tuple[str, ...]
+
+    @property
+    def stop(self) -> Optional[str]:
+        """Why the core has stopped, as `HLT` or `#GP`, or None where it has not."""
+        front, _, cause = self.state.partition(":")
+        return cause if front == "stop" else None
+
+
+@dataclass(frozen=True)
+class Step:
+    """What a step was. `number` counts the steps from 1.
+
+    `outcome` is `plain`, `loaded` (the first of two steps), `stopped`, `idle`, `begun`, `inside`,
+    `committed` or `aborted`. `cause` says why a core stopped; `status` is that of an abort, in EAX;
+    `event` is `interrupt`, `eviction` or `snoop` where one from outside aborted.
+    """
+
+    number: int
+    core: int
+    outcome: str
+    cause: Optional[str] = None
+    status: Optional[int] = None
+    event: Optional[str] = None
+
+    @property
+    def pick(self) -> str:
+        """The step as a word of a schedule: `0`, or `1i` where an interrupt aborted it."""
+        return f"{self.core}{self.event[0] if self.event else ''}"
+
+    def __str__(self) -> str:
+        status = None if self.status is None else f"{self.status:08x}"
+        parts = (str(self.core), self.outcome, self.cause, status, self.event)
+        return " ".join(part for part in parts if part)
+
+
+@dataclass(frozen=True)
+class Steps:
+    """The steps that a call of `Machine.run` made.
+
+    `end` says what ended it before all were made, else it is None: `all stopped`, `the schedule has
+    ended`, `limit` (a session makes 1,000,000 steps), or `break`, where core `core` stands before
+    the instruction at `address`.
+    """
+
+    steps: Tuple[Step, ...]
+    end: Optional[str] = None
+    core: Optional[int] = None
+    address: Optional[int] = None
+
+    def __iter__(self) -> Iterator[Step]:
+        return iter(self.steps)
+
+    def __len__(self) -> int:
+        return len(self.steps)
+
+
+@dataclass(frozen=True)
+class Sets:
+    """The lines that a core's transaction has read and written, as numbers: an address divided by
+    64. `state` and `depth` are those of Registers."""
+
+    core: int
+    state: str
+    depth: Optional[int]
+    reads: Tuple[int, ...]
+    writes: Tuple[int, ...]
+
+
+@dataclass(frozen=True)
+class Reason:
+    """Why the next step of a core is an abort.
+
+    `text` is the whole reason and `cause` its first words, as `conflict`, `capacity` or `xabort`.
+    Where another core's step doomed the transaction: `line` is the lowest line that was hit,
+    `access` is `read` or `written`, by step `step` (from 1) of core `by`, whose instruction is at
+    `address`. `begun` is the step of the outermost XBEGIN.
+    """
+
+    core: int
+    text: str
+    cause: str
+    line: Optional[int] = None
+    access: Optional[str] = None
+    step: Optional[int] = None
+    by: Optional[int] = None
+    address: Optional[int] = None
+    begun: Optional[int] = None
+
+    def __str__(self) -> str:
+        return self.text
+
+
+@dataclass(frozen=True)
+class Length:
+    """How long a schedule is: its steps, how often a step is of another core than the one before,
+    and how many steps an event aborted."""
+
+    steps: int
+    switches: int
+    events: int
+
+
+@dataclass(frozen=True)
+class Failure:
+    """The run that failed in a hunt: the one of the lowest number.
+
+    `option` is what it failed, `--check`, `--stop` or `--expect-halt`, and `check` its text, None
+    of the last. `schedule` is the shortened schedule, whose words `steps` of a machine takes;
+    `before` and `after` say how long it was, and is. `replay` is the command that replays it.
+    `ended` and `cut` count the runs before it: in how many each core stopped, and how many reached
+    the limit on steps.
+    """
+
+    run: int
+    option: str
+    check: Optional[str]
+    before: Length
+    after: Length
+    schedule: Tuple[str, ...]
+    replay: str
+    ended: int
+    cut: int
+
+
+@dataclass(frozen=True)
+class Outcome:
+    """An outcome of a search: the values in the order of `show`, how many states in which all cores
+    have stopped have them, and a shortest schedule that leads to one."""
+
+    values: Tuple[int, ...]
+    ends: int
+    schedule: Tuple[str, ...]
+
+
+@dataclass(frozen=True)
+class Outcomes:
+    """What a search of all schedules found: the outcomes in the order of their values.
+
+    `whole` is False where the search was cut at the limit, so that there may be more.
+    """
+
+    show: Tuple[str, ...]
+    outcomes: Tuple[Outcome, ...]
+    states: int
+    whole: bool
+
+    @property
+    def values(self) -> FrozenSet[Tuple[int, ...]]:
+        """The values of all outcomes, to be compared with a set."""
+        return frozenset(it.values for it in self.outcomes)
+
+    def __iter__(self) -> Iterator[Outcome]:
+        return iter(self.outcomes)
+
+    def __len__(self) -> int:
+        return len(self.outcomes)

@@ -1,0 +1,1 @@
+"""Tests of the package, against the built program; `python/test` runs them."""

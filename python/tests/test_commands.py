@@ -1,0 +1,195 @@
+"""Commands that answer once, by the program."""
+
+import os
+import pathlib
+import unittest
+import warnings
+from typing import Callable, Optional, Tuple, Union
+
+import elide
+
+from .support import COUNTER, ENDLESS, LOST, Case, example
+
+NO_READ = example("faulty/no-read.asm")
+
+
+class Calls(Case):
+    """What the commands have in common."""
+
+    def test_paths(self) -> None:
+        path = self.file("lost.asm", LOST)
+        programs: Tuple[Union[str, pathlib.Path, elide.Program], ...]
+        programs = (path, pathlib.Path(path), elide.Program.from_file(path))
+        for it in programs:
+            self.assertEqual(elide.outcomes(it, "count").values, {(1,)})
+            failure = elide.hunt(it, check="count == 2")
+            assert failure is not None
+            self.assertTrue(failure.replay.startswith(f"elide replay {path} "))
+
+    def test_a_warning(self) -> None:
+        path = self.file("warned.asm", "xned\nhlt\n")
+        calls: Tuple[Callable[[], object], ...] = (
+            lambda: elide.outcomes(path, "eax@0"),
+            lambda: elide.hunt(path, stop="#GP", runs=3),
+        )
+        for call in calls:
+            with warnings.catch_warnings(record=True) as caught:
+                warnings.simplefilter("always")
+                call()
+            self.assertEqual([it.category for it in caught], [elide.SourceWarning])
+            self.assertTrue(str(caught[0].message).startswith(f"{path}:1: "))
+            self.assertEqual(caught[0].filename, __file__)
+
+
+class Hunts(Case):
+    """`hunt`."""
+
+    def test_a_failure(self) -> None:
+        with elide.Program.from_file(NO_READ) as program:
+            failure = elide.hunt(program, cores=2, check="count == 6")
+            assert failure is not None
+            self.assertEqual(
+                (failure.run, failure.option, failure.check), (9, "--check", "count == 6")
+            )
+            self.assertEqual(failure.before, elide.Length(47, 32, 0))
+            self.assertEqual(failure.after, elide.Length(47, 4, 0))
+            self.assertEqual((failure.ended, failure.cut), (9, 0))
+            self.assertEqual(len(failure.schedule), 47)
+            self.assertTrue(failure.replay.startswith(f"elide replay {NO_READ} --cores 2 --steps "))
+            with program.machine(cores=2, steps=failure.schedule) as machine:
+                machine.run(47)
+                self.assertEqual(machine.value("count"), 4)
+
+    def test_a_failure_by_an_event(self) -> None:
+        path = example("faulty/status-zero.asm")
+        record = self.folder + "/schedule.txt"
+        failure = elide.hunt(path, 2, check="count == 6", events="draw", record=record)
+        assert failure is not None
+        self.assertEqual(failure.after.events, 1)
+        self.assertIn("1i", failure.schedule)
+        self.assertIn(f"--schedule {record}", failure.replay)
+        with elide.Program.from_file(path) as program:
+            with program.machine(2, schedule=record) as machine:
+                made = machine.run(1000)
+                self.assertEqual([it.pick for it in made], list(failure.schedule))
+                self.assertEqual(machine.value("count"), 5)
+
+    def test_no_failure(self) -> None:
+        path = example("fixed/elision.asm")
+        self.assertIsNone(elide.hunt(path, 2, check=["count == 6", "mutex == 0"], runs=200, jobs=2))
+
+    def test_the_runs_that_are_asked_for(self) -> None:
+        failure = elide.hunt(NO_READ, 2, check="count == 6", runs=(9, 10), seed=1, method="mix")
+        assert failure is not None
+        self.assertEqual((failure.run, failure.ended), (9, 0))
+        self.assertIsNone(elide.hunt(NO_READ, 2, check="count == 6", runs=9))
+
+    def test_other_checks(self) -> None:
+        with elide.Program.from_source("ud2") as program:
+            failure = elide.hunt(program, stop="#UD")
+            assert failure is not None
+            self.assertEqual((failure.option, failure.check), ("--stop", "#UD"))
+            self.assertIn("elide replay source.asm ", failure.replay)
+        with elide.Program.from_source(ENDLESS) as program:
+            failure = elide.hunt(program, expect_halt=True, limit=100)
+            assert failure is not None
+            self.assertEqual((failure.option, failure.check), ("--expect-halt", None))
+
+
+class Searches(Case):
+    """`outcomes`."""
+
+    def test_outcomes(self) -> None:
+        path = example("litmus/message-passing.asm")
+        found = elide.outcomes(path, "eax@1 ebx@1", cores=2, entry=["writer", "reader"])
+        self.assertEqual(found.values, {(0, 0), (0, 1), (1, 1)})
+        self.assertEqual((found.show, found.states, found.whole), (("eax@1", "ebx@1"), 28, True))
+        self.assertEqual(found.outcomes[0], elide.Outcome((0, 0), 1, tuple("110001")))
+        self.assertEqual(len(found), 3)
+        listed = elide.outcomes(path, ["eax@1", "ebx@1"], cores=2, entry="writer,reader")
+        self.assertEqual(listed, found)
+        program = elide.Program.from_file(path)
+        for it in found:
+            with program.machine(2, entry="writer,reader", steps=it.schedule) as machine:
+                machine.run(100)
+                regs = machine.regs(1)
+                self.assertEqual((regs.eax, regs.ebx), it.values)
+
+    def test_a_search_that_is_cut(self) -> None:
+        with elide.Program.from_source(LOST) as program:
+            found = elide.outcomes(program, "count", cores=2, limit=5)
+            self.assertFalse(found.whole)
+            found = elide.outcomes(program, "count", cores=2)
+            self.assertTrue(found.whole)
+            self.assertEqual(found.values, {(1,), (2,)})
+
+    def test_events(self) -> None:
+        with elide.Program.from_source(COUNTER) as program:
+            found = elide.outcomes(program, "count", events="interrupt")
+            self.assertEqual(found.values, {(0,), (1,)})
+            self.assertIn("0i", found.outcomes[0].schedule)
+
+
+class Refusals(Case):
+    """A fault and a misuse of each command."""
+
+    def test_faults(self) -> None:
+        with elide.Program.from_source("jmp nowhere\n", name="bad.asm") as program:
+            calls: Tuple[Callable[[], object], ...] = (
+                lambda: elide.hunt(program, check="0x0 == 1"),
+                lambda: elide.outcomes(program, "eax@0"),
+            )
+            for call in calls:
+                with self.assertRaises(elide.Fault) as caught:
+                    call()
+                told = "bad.asm:1: fault 12 UnknownSymbol: jmp nowhere"
+                self.assertEqual(str(caught.exception), told)
+
+    def test_faults_of_options(self) -> None:
+        nowhere = self.folder + "/nowhere/schedule"
+        with elide.Program.from_source(COUNTER) as program:
+            cases: Tuple[Tuple[int, Callable[[], object]], ...] = (
+                (23, lambda: elide.hunt(program, cores=0, check="count == 2")),
+                (23, lambda: elide.outcomes(program, "count", cores=65)),
+                (22, lambda: elide.hunt(program, memory=4096, check="count == 2")),
+                (24, lambda: elide.outcomes(program, "count", entry="count")),
+                (81, lambda: elide.hunt(program, check="count == 2", record=nowhere)),
+            )
+            for number, call in cases:
+                with self.subTest(number=number), self.assertRaises(elide.Fault) as caught:
+                    call()
+                self.assertEqual((caught.exception.number, caught.exception.line), (number, None))
+
+    def test_misuses(self) -> None:
+        with elide.Program.from_source(COUNTER) as program:
+            cases: Tuple[Tuple[Optional[str], Callable[[], object]], ...] = (
+                ("--check", lambda: elide.hunt(program, check="count ==")),
+                ("--check", lambda: elide.hunt(program, check="nowhere == 1")),
+                ("--stop", lambda: elide.hunt(program, stop="#XX")),
+                ("--method", lambda: elide.hunt(program, check="count == 1", method="none")),
+                ("--runs", lambda: elide.hunt(program, check="count == 1", runs="many")),
+                ("--events", lambda: elide.outcomes(program, "count", events="earthquake")),
+                ("--show", lambda: elide.outcomes(program, "exx@0")),
+                ("--show", lambda: elide.outcomes(program, [])),
+            )
+            for option, call in cases:
+                with self.subTest(option=option), self.assertRaises(elide.Misuse) as caught:
+                    call()
+                self.assertEqual(caught.exception.option, option)
+            with self.assertRaises(elide.Misuse):
+                elide.hunt(program)
+            with self.assertRaises(elide.Misuse) as caught:
+                elide.hunt(program, check=["count == 1"] * 64)
+            self.assertEqual(caught.exception.option, None)
+            self.assertIn("more than 64 arguments", str(caught.exception))
+
+    def test_a_file_that_is_not_there(self) -> None:
+        path = self.folder + "/nowhere.asm"
+        with self.assertRaises(elide.Fault) as caught:
+            elide.outcomes(path, "eax@0")
+        self.assertEqual(str(caught.exception), f"{path}: fault 80 Input")
+        self.assertFalse(os.path.exists(path))
+
+
+if __name__ == "__main__":
+    unittest.main()

@@ -1,0 +1,149 @@
+"""The lines and objects of the program's formats, as records."""
+
+import json
+import unittest
+from typing import Any, Dict, List
+
+import elide
+from elide import _json, _lines
+
+STATE = (
+    "core 63 {} eax=00000001 ecx=00000002 edx=00000003 ebx=00000004 esp=00010000 ebp=00000005"
+    " esi=00000006 edi=00000007 eip=ffffffff flags={}"
+)
+
+# What a search of all schedules found.
+FOUND: Dict[str, Any] = {
+    "show": ["eax@0", "x"],
+    "outcomes": [{"values": [0, 1], "ends": 2, "schedule": ["0", "1"]}],
+    "states": 5,
+    "whole": False,
+}
+
+
+def named(text: str) -> str:
+    return text.replace("/tmp/x.asm", "x.asm")
+
+
+class Lines(unittest.TestCase):
+    """Lines of the debugger."""
+
+    def test_states(self) -> None:
+        for word, state, depth in (
+            ("run", "run", 0),
+            ("mid", "mid", 0),
+            ("tx7", "tx", 7),
+            ("condemned", "condemned", None),
+            ("stop:#GP", "stop:#GP", 0),
+            ("stop:not-in-subset", "stop:not-in-subset", 0),
+        ):
+            regs = _lines.registers([STATE.format(word, "8d5")])
+            self.assertEqual((regs.core, regs.state, regs.depth), (63, state, depth))
+            values = [getattr(regs, name) for name in _lines.REGISTERS]
+            self.assertEqual(values, [1, 2, 3, 4, 65536, 5, 6, 7, 0xFFFFFFFF])
+            self.assertEqual(regs.flags, ("CF", "PF", "AF", "ZF", "SF", "OF"))
+
+    def test_steps(self) -> None:
+        for line, step in (
+            ("0 plain", elide.Step(1, 0, "plain")),
+            ("3 stopped #GP", elide.Step(1, 3, "stopped", cause="#GP")),
+            ("1 aborted 00000006", elide.Step(1, 1, "aborted", status=6)),
+            ("1 aborted ff000001", elide.Step(1, 1, "aborted", status=0xFF000001)),
+            (
+                "0 aborted 00000000 interrupt",
+                elide.Step(1, 0, "aborted", status=0, event="interrupt"),
+            ),
+            (
+                "0 aborted 00000008 eviction",
+                elide.Step(1, 0, "aborted", status=8, event="eviction"),
+            ),
+        ):
+            self.assertEqual(_lines.step(line, 1), step)
+            self.assertEqual(str(step), line)
+        self.assertEqual(elide.Step(1, 12, "aborted", status=6, event="snoop").pick, "12s")
+
+    def test_reasons(self) -> None:
+        for text, cause, begun in (
+            ("capacity; begun at step 3", "capacity", 3),
+            ("nested deeper than 7; begun at step 1", "nested deeper than 7", 1),
+            ("#BP; begun at step 12", "#BP", 12),
+            ("something new", "something new", None),
+        ):
+            reason = _lines.reason([f"core 1: {text}"])
+            self.assertEqual(reason, elide.Reason(1, text, cause, begun=begun))
+        self.assertIsNone(_lines.reason(["core 1: its next step is no abort"]))
+
+    def test_other_forms(self) -> None:
+        for line in ("", "0", "0 aborted", "0 aborted 6", "a plain", "0 plain ", "0 stopped"):
+            with self.subTest(line=line), self.assertRaises(ValueError):
+                _lines.step(line, 1)
+        whole = STATE.format("run", "8d5")
+        rows: List[List[str]] = [[], ["core 0"], [whole, "more"], [whole[:-1] + "x"]]
+        for row in rows:
+            with self.subTest(row=row), self.assertRaises(ValueError):
+                _lines.registers(row)
+
+
+class Objects(unittest.TestCase):
+    """Objects of `--json`, as JSON.md has them."""
+
+    def fields(self, command: str, status: int = 0, **fields: Any) -> _json.Fields:
+        text = json.dumps({"format": 1, "command": command, **fields, "status": status})
+        return _json.object_of(text, command, status)
+
+    def test_hunt(self) -> None:
+        runs = {"ended": 9, "cut": 1}
+        self.assertIsNone(_json.failure(self.fields("hunt", runs=runs, failure=None), named))
+        length = {"steps": 47, "switches": 32, "events": 0}
+        failure = {
+            "run": 9,
+            "check": {"option": "--expect-halt", "text": None},
+            "before": length,
+            "after": length,
+            "schedule": ["0", "1i"],
+            "replay": "elide replay /tmp/x.asm",
+        }
+        told = _json.failure(self.fields("hunt", 3, runs=runs, failure=failure), named)
+        wanted = elide.Failure(
+            run=9,
+            option="--expect-halt",
+            check=None,
+            before=elide.Length(47, 32, 0),
+            after=elide.Length(47, 32, 0),
+            schedule=("0", "1i"),
+            replay="elide replay x.asm",
+            ended=9,
+            cut=1,
+        )
+        self.assertEqual(told, wanted)
+
+    def test_outcomes(self) -> None:
+        told = _json.outcomes(self.fields("outcomes", 3, **FOUND))
+        self.assertEqual(told.outcomes, (elide.Outcome((0, 1), 2, ("0", "1")),))
+        self.assertEqual((told.show, told.states), (("eax@0", "x"), 5))
+        self.assertEqual((told.values, told.whole), ({(0, 1)}, False))
+
+    def test_fields_that_are_added(self) -> None:
+        one = {**FOUND["outcomes"][0], "new": 1}
+        found: Dict[str, Any] = {**FOUND, "outcomes": [one], "new": {}}
+        told = _json.outcomes(self.fields("outcomes", 3, **found))
+        self.assertEqual(told, _json.outcomes(self.fields("outcomes", 3, **FOUND)))
+
+    def test_fields_of_other_types(self) -> None:
+        for field, value in (
+            ("states", True),
+            ("states", "1"),
+            ("states", None),
+            ("show", "eax@0"),
+            ("show", [1]),
+            ("whole", 0),
+            ("outcomes", {}),
+        ):
+            found: Dict[str, Any] = {**FOUND, field: value}
+            with self.subTest(field=field, value=value), self.assertRaises(ValueError) as caught:
+                _json.outcomes(self.fields("outcomes", 3, **found))
+            self.assertIn(field, str(caught.exception))
+
+
+if __name__ == "__main__":
+    unittest.main()
