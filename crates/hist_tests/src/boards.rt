@@ -64,6 +64,28 @@ fn the_loser_aborts(rt: HostRuntime) {
 }
 
 #[test]
+fn a_board_restarts(rt: HostRuntime) {
+    let mut restarted = board(&rt, rt.alloc(), &[0x100, 0x100], 8);
+    let cores = [0, 0, 1, 1, 0, 0, 0, 1];
+    for core in &cores {
+        assert!(rt; restarted.step(*core).is_ok());
+    }
+    assert!(rt; restarted.is_full());
+    restarted.restart();
+    let mut new = board(&rt, rt.alloc(), &[0x100, 0x100], 8);
+    assert!(rt; restarted.history().is_empty());
+    assert_eq!(rt; restarted.limit(), 8);
+    assert_eq!(rt; restarted.limits(), LIMITS);
+    assert!(rt; restarted.machine().view() == new.machine().view());
+    for core in &cores {
+        assert_eq!(rt; restarted.step(*core), new.step(*core));
+    }
+    assert!(rt; restarted.is_full());
+    assert!(rt; restarted.machine().view() == new.machine().view());
+    assert!(rt; restarted.replay(rt.alloc()).is_ok());
+}
+
+#[test]
 fn a_full_history(rt: HostRuntime) {
     let mut board = board(&rt, rt.alloc(), &[0x114, 0x100], 2);
     assert!(rt; !board.is_stopped(0));

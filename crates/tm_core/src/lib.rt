@@ -25,7 +25,7 @@
 //!
 //! Stands on `tm_rule` (one instruction), `tm_status`, `tm_sets` (read and write sets), `tm_buffer` (a transaction's
 //! bytes) and `ia_image` (programs). Memory is asked for only where a machine is made and by the answers of `run` and
-//! `sets`.
+//! `sets`; `Machine::reopen` takes a machine back before its first step in place of a new one.
 #![tactic(auto)]
 
 mod alone;
@@ -46,6 +46,7 @@ mod machine;
 pub mod memory;
 mod on_registers;
 mod opening;
+mod reopen;
 mod seen;
 mod start;
 mod step;

@@ -11,7 +11,7 @@ use Rattle.tm_core.specs.TmModel.Setting.{Setting, program_setting}
 use Rattle.tm_core.specs.TmModel.Shown.{View, view_between, view_inside, view_midway, view_of, view_of_body, view_outside}
 use Rattle.tm_core.specs.TmModel.State.{Closed, Core, Halted, Midway, Opened, State, opening_state}
 use Rattle.tm_core.specs.TmModel.Steps.{run}
-use Rattle.tm_core.specs.Theorem.{ShownMachine as Machine, StandsFor, machine_setting as machine_setting, view_at}
+use Rattle.tm_core.specs.Theorem.{SameMachine, ShownMachine as Machine, StandsFor, machine_setting as machine_setting, view_at}
 use Rattle.tm_hist.specs.Board.{IsBoard, IsHistory, ShownBoard, bad_limit, stop_shown}
 use Rattle.tm_hist.specs.History.{pair_of}
 use Rattle.tm_hist.specs.Replay.{IsRefused, IsReplay, Replays, cores_of}
@@ -58,6 +58,22 @@ new_board p q l limit made capacity machine same none stands rules cores good ro
       limited = ltb-false 16777216 limit (or_false (ltb limit 1) (ltb 16777216 limit) good);
       room = room;
     }))
+
+-- the same of one that was taken back there
+pub restarted : (p : Program) (l : Limits) (limit before after : ℕ) (history : List (ℕ × Outcome)) (old new : Machine) (made : List Pair) →
+    IsBoard (record { program = p; limits = l; limit = limit; history = history; machine = old }) before →
+    after ≡ before → made ≡ [] → SameMachine old new → StandsFor new (opening_state p) (λ _. None) →
+    IsBoard (record { program = p; limits = l; limit = limit; history = map pair_of made; machine = new }) after
+restarted p l limit before after history old new made h room none same stands =
+    subst (λ (x : List Pair). IsBoard (record { program = p; limits = l; limit = limit; history = map pair_of x; machine = new }) after) (sym none) (record {
+      start = new;
+      rules = same.rules ∙ h.is_run.same.rules ∙ h.rules;
+      cores = same.cores ∙ h.is_run.same.cores ∙ h.cores;
+      is_run = record { same = record { rules = refl; cores = refl }; takes = record { are_owed = tt; last = opening_state p; is_run = refl; stands = stands } };
+      few = omega arith;
+      limited = h.limited;
+      room = subst (λ n. limit ≤ n) (sym room) h.room;
+    })
 
 -- the run by the rules that ask for no limits
 free_run : (b : ShownBoard) → (h : IsHistory b) → run (program_setting b.program 0 0) (opening_state b.program) b.history ≡ Some h.end

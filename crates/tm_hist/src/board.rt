@@ -173,6 +173,15 @@ impl Board {
         })
     }
 
+    /// Takes the board back before its first step, as [`Board::new`] left it: the same program, limits and limit on
+    /// steps, and a history with as much room. Takes no memory.
+    pub fn restart(&mut self)
+        ensures { IsNew self.old.program self.old.limits self.old.limit self.new }
+    {
+        self.machine.reopen(&self.program);
+        self.made.clear();
+    }
+
     /// One step of a core, which is one more pair of the history. The program alone aborts transactions in it.
     ///
     /// [`StepFault::NoSuchCore`], where the program has no core of this number; for one that it has,
