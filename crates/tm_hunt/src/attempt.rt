@@ -9,7 +9,7 @@ ghost use Rattle.tm_hunt.specs.Hunt.{IsOver, IsTrialOf};
 ghost use Rattle.tm_pick.specs.Kinds.{AreOfKinds};
 ghost use Rattle.tm_pick.specs.declared.kinds.Kinds.{Kinds};
 
-use crate::one_run::run;
+use crate::one_run::{board_of, run};
 use crate::trial::Trial;
 use std::alloc::{AllocError, Global};
 use thiserror::Error;
@@ -65,17 +65,20 @@ pub enum Attempt {
     Failed(Failure),
 }
 
-/// Makes the run of these picks.
+/// Makes the run of these picks, on the board of its trial.
 pub fn try_run(
     alloc: Global,
     trial: &Trial<'_>,
+    board: &mut Board,
     picker: &mut Picker<'_>,
 ) -> Result<Attempt, HuntFault>
+    requires of_trial { IsTrialOf trial.now board.old }
+    ensures of_trial { IsTrialOf trial.now board.new }
     ensures ok { IfOk result (IsAttempt trial.now picker.old) }
     ensures err { IfErr result (IsRefusal trial.now) }
 {
-    let board = run(alloc, trial, picker)?;
-    judged(alloc, trial, &board)
+    run(trial, board, picker);
+    judged(alloc, trial, board)
 }
 
 /// How many steps a uniform run takes: the length by which priorities fall.
@@ -83,7 +86,8 @@ pub fn usual_length(alloc: Global, trial: &Trial<'_>) -> Result<u32, HuntFault>
     ensures most { IfOk result (λ length. length ≤ trial.now.most) }
     ensures err { IfErr result (IsRefusal trial.now) }
 {
-    let board = run(alloc, trial, &mut Picker::random(0))?;
+    let mut board = board_of(alloc, trial)?;
+    run(trial, &mut board, &mut Picker::random(0));
     Ok(u32::try_from(board.made()).unwrap_or(u32::MAX))
 }
 

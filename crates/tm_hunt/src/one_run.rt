@@ -18,17 +18,24 @@ use tm_hist::{Board, BoardFault};
 use tm_model::{Event, Pick};
 use tm_pick::{Going, Picker, is_waiting};
 
-/// The board of a trial after the steps that are picked: until each core has stopped, or one for a reason that is
-/// checked, or the limit is reached.
-pub fn run(alloc: Global, trial: &Trial<'_>, picker: &mut Picker<'_>) -> Result<Board, BoardFault>
+/// The board of a trial, before its first step.
+pub fn board_of(alloc: Global, trial: &Trial<'_>) -> Result<Board, BoardFault>
     ensures ok { IfOk result (IsTrialOf trial.now) }
-    ensures over { IfOk result (IsOver trial.now) }
-    ensures kinds { IfOk result (λ board. AreOfKinds picker.old (picks_of board.history)) }
     ensures err { IfErr result (IsBoardRefusal trial.now) }
 {
-    let mut board = Board::new(alloc, trial.program, trial.limits, u64::from(trial.most))?;
-    step_all(trial, picker, &mut board);
-    Ok(board)
+    Board::new(alloc, trial.program, trial.limits, u64::from(trial.most))
+}
+
+/// Takes the board of a trial back before its first step, and makes the steps that are picked: until each core has
+/// stopped, or one for a reason that is checked, or the limit is reached.
+pub fn run(trial: &Trial<'_>, board: &mut Board, picker: &mut Picker<'_>)
+    requires of_trial { IsTrialOf trial.now board.old }
+    ensures of_trial { IsTrialOf trial.now board.new }
+    ensures over { IsOver trial.now board.new }
+    ensures kinds { AreOfKinds picker.old (picks_of board.new.history) }
+{
+    board.restart();
+    step_all(trial, picker, board);
 }
 
 // Makes the steps that are picked.

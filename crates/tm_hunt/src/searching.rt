@@ -4,6 +4,7 @@ ghost use Rattle.std.specs.Prelude.{IfErr, IfOk};
 ghost use Rattle.tm_hunt.specs.Attempts.{IsRefusal, IsSearch};
 
 use crate::attempt::{Attempt, Failure, HuntFault, try_run};
+use crate::one_run::board_of;
 use crate::trial::Trial;
 use std::alloc::Global;
 use tm_pick::Plan;
@@ -41,10 +42,11 @@ pub fn first_failing(
     ensures err { IfErr result (IsRefusal trial.now) }
 {
     let cores = trial.program.cores();
+    let mut board = board_of(alloc, trial)?;
     let mut ended = 0;
     let mut cut = 0;
     'runs: for run in first..end {
-        match try_run(alloc, trial, &mut plan.run(run, cores))? {
+        match try_run(alloc, trial, &mut board, &mut plan.run(run, cores))? {
             Attempt::Ended => ended += 1,
             Attempt::Cut => cut += 1,
             Attempt::Failed(failure) => {

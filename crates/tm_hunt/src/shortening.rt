@@ -3,13 +3,16 @@
 ghost use Rattle.std.specs.Prelude.{◌≡◌, ◌≤◌, IfErr, IfOk, IfSome};
 ghost use Rattle.tm_hunt.specs.Attempts.{IsFailure, IsRefusal};
 ghost use Rattle.tm_hunt.specs.Cost.{cost_of};
+ghost use Rattle.tm_hunt.specs.Hunt.{IsTrialOf};
 ghost use Rattle.tm_hunt.specs.Kept.{KeepKinds, KeepsKinds};
 
 use crate::attempt::{Attempt, Failure, HuntFault, try_run};
 use crate::cost::cost;
 use crate::cuts::{burst_end, front_of, joined, last_event, without, without_event};
+use crate::one_run::board_of;
 use crate::trial::Trial;
 use std::alloc::Global;
+use tm_hist::Board;
 use tm_model::Pick;
 use tm_pick::Picker;
 
@@ -33,7 +36,8 @@ pub fn shorten(alloc: Global, trial: &Trial<'_>, best: &mut Failure) -> Result<(
     ensures err { IfErr result (IsRefusal trial.now) }
 {
     let mut front = Vec::from_slice(alloc, best.picks.as_slice())?;
-    shorten_front(alloc, trial, &mut front, best)
+    let mut board = board_of(alloc, trial)?;
+    shorten_front(alloc, trial, &mut board, &mut front, best)
 }
 
 // Makes the front of a schedule shorter.
@@ -41,35 +45,41 @@ pub fn shorten(alloc: Global, trial: &Trial<'_>, best: &mut Failure) -> Result<(
 fn shorten_front(
     alloc: Global,
     trial: &Trial<'_>,
+    board: &mut Board,
     front: &mut Vec<Pick>,
     best: &mut Failure,
 ) -> Result<(), HuntFault>
-    requires { IsFailure trial.now best.old }
+    requires fails { IsFailure trial.now best.old }
+    requires of_trial { IsTrialOf trial.now board.old }
     ensures fails { IsFailure trial.now best.new }
     ensures same { best.new.check ≡ best.old.check }
     ensures simpler { cost_of best.new.picks.items ≤ cost_of best.old.picks.items }
     ensures kinds { KeepKinds front.old.items best.old.picks.items front.new.items best.new.picks.items }
+    ensures of_trial { IsTrialOf trial.now board.new }
     ensures err { IfErr result (IsRefusal trial.now) }
 {
-    cut_behind(alloc, trial, front, best)?;
-    cut_events(alloc, trial, front, best)?;
-    cut_bursts(alloc, trial, front, best)?;
-    cut_steps(alloc, trial, front, best)?;
-    join_bursts(alloc, trial, front, best)?;
-    cut_steps(alloc, trial, front, best)
+    cut_behind(alloc, trial, board, front, best)?;
+    cut_events(alloc, trial, board, front, best)?;
+    cut_bursts(alloc, trial, board, front, best)?;
+    cut_steps(alloc, trial, board, front, best)?;
+    join_bursts(alloc, trial, board, front, best)?;
+    cut_steps(alloc, trial, board, front, best)
 }
 
 // What the run of a front comes to, where it fails.
 fn failure_of(
     alloc: Global,
     trial: &Trial<'_>,
+    board: &mut Board,
     front: &[Pick],
 ) -> Result<Option<Failure>, HuntFault>
+    requires of_trial { IsTrialOf trial.now board.old }
     ensures fails { IfOk result (λ found. IfSome found (IsFailure trial.now)) }
     ensures kinds { IfOk result (λ found. IfSome found (λ failure. KeepsKinds front.now failure.picks.items)) }
+    ensures of_trial { IsTrialOf trial.now board.new }
     ensures err { IfErr result (IsRefusal trial.now) }
 {
-    match try_run(alloc, trial, &mut Picker::front(front))? {
+    match try_run(alloc, trial, board, &mut Picker::front(front))? {
         Attempt::Failed(failure) => Ok(Some(failure)),
         Attempt::Ended | Attempt::Cut => Ok(None),
     }
@@ -80,19 +90,22 @@ fn failure_of(
 fn try_front(
     alloc: Global,
     trial: &Trial<'_>,
+    board: &mut Board,
     front: &mut Vec<Pick>,
     other: Vec<Pick>,
     best: &mut Failure,
 ) -> Result<bool, HuntFault>
     requires fails { IsFailure trial.now best.old }
+    requires of_trial { IsTrialOf trial.now board.old }
     requires kinds { KeepsKinds front.old.items other.items }
     ensures fails { IsFailure trial.now best.new }
     ensures same { best.new.check ≡ best.old.check }
     ensures simpler { cost_of best.new.picks.items ≤ cost_of best.old.picks.items }
     ensures kinds { KeepKinds front.old.items best.old.picks.items front.new.items best.new.picks.items }
+    ensures of_trial { IsTrialOf trial.now board.new }
     ensures err { IfErr result (IsRefusal trial.now) }
 {
-    let Some(failure) = failure_of(alloc, trial, other.as_slice())? else {
+    let Some(failure) = failure_of(alloc, trial, board, other.as_slice())? else {
         return Ok(false);
     };
     if failure.check != best.check {
@@ -112,14 +125,17 @@ fn try_front(
 fn cut_behind(
     alloc: Global,
     trial: &Trial<'_>,
+    board: &mut Board,
     front: &mut Vec<Pick>,
     best: &mut Failure,
 ) -> Result<(), HuntFault>
-    requires { IsFailure trial.now best.old }
+    requires fails { IsFailure trial.now best.old }
+    requires of_trial { IsTrialOf trial.now board.old }
     ensures fails { IsFailure trial.now best.new }
     ensures same { best.new.check ≡ best.old.check }
     ensures simpler { cost_of best.new.picks.items ≤ cost_of best.old.picks.items }
     ensures kinds { KeepKinds front.old.items best.old.picks.items front.new.items best.new.picks.items }
+    ensures of_trial { IsTrialOf trial.now board.new }
     ensures err { IfErr result (IsRefusal trial.now) }
 {
     let mut low = 0;
@@ -130,7 +146,7 @@ fn cut_behind(
         }
         let middle = low + (high - low) / 2;
         let other = front_of(alloc, front.as_slice(), middle)?;
-        if !try_front(alloc, trial, front, other, best)? {
+        if !try_front(alloc, trial, board, front, other, best)? {
             low = middle + 1;
         }
     }
@@ -142,14 +158,17 @@ fn cut_behind(
 fn cut_events(
     alloc: Global,
     trial: &Trial<'_>,
+    board: &mut Board,
     front: &mut Vec<Pick>,
     best: &mut Failure,
 ) -> Result<(), HuntFault>
-    requires { IsFailure trial.now best.old }
+    requires fails { IsFailure trial.now best.old }
+    requires of_trial { IsTrialOf trial.now board.old }
     ensures fails { IsFailure trial.now best.new }
     ensures same { best.new.check ≡ best.old.check }
     ensures simpler { cost_of best.new.picks.items ≤ cost_of best.old.picks.items }
     ensures kinds { KeepKinds front.old.items best.old.picks.items front.new.items best.new.picks.items }
+    ensures of_trial { IsTrialOf trial.now board.new }
     ensures err { IfErr result (IsRefusal trial.now) }
 {
     let mut end = front.len();
@@ -158,7 +177,7 @@ fn cut_events(
             return Ok(());
         };
         let other = without_event(alloc, front.as_slice(), at)?;
-        let _fails = try_front(alloc, trial, front, other, best)?;
+        let _fails = try_front(alloc, trial, board, front, other, best)?;
         end = at;
     }
     Ok(())
@@ -169,14 +188,17 @@ fn cut_events(
 fn cut_bursts(
     alloc: Global,
     trial: &Trial<'_>,
+    board: &mut Board,
     front: &mut Vec<Pick>,
     best: &mut Failure,
 ) -> Result<(), HuntFault>
-    requires { IsFailure trial.now best.old }
+    requires fails { IsFailure trial.now best.old }
+    requires of_trial { IsTrialOf trial.now board.old }
     ensures fails { IsFailure trial.now best.new }
     ensures same { best.new.check ≡ best.old.check }
     ensures simpler { cost_of best.new.picks.items ≤ cost_of best.old.picks.items }
     ensures kinds { KeepKinds front.old.items best.old.picks.items front.new.items best.new.picks.items }
+    ensures of_trial { IsTrialOf trial.now board.new }
     ensures err { IfErr result (IsRefusal trial.now) }
 {
     let mut at = 0;
@@ -186,7 +208,7 @@ fn cut_bursts(
         }
         let end = burst_end(front.as_slice(), at);
         let other = without(alloc, front.as_slice(), at, end)?;
-        if !try_front(alloc, trial, front, other, best)? {
+        if !try_front(alloc, trial, board, front, other, best)? {
             at = end;
         }
     }
@@ -198,14 +220,17 @@ fn cut_bursts(
 fn cut_steps(
     alloc: Global,
     trial: &Trial<'_>,
+    board: &mut Board,
     front: &mut Vec<Pick>,
     best: &mut Failure,
 ) -> Result<(), HuntFault>
-    requires { IsFailure trial.now best.old }
+    requires fails { IsFailure trial.now best.old }
+    requires of_trial { IsTrialOf trial.now board.old }
     ensures fails { IsFailure trial.now best.new }
     ensures same { best.new.check ≡ best.old.check }
     ensures simpler { cost_of best.new.picks.items ≤ cost_of best.old.picks.items }
     ensures kinds { KeepKinds front.old.items best.old.picks.items front.new.items best.new.picks.items }
+    ensures of_trial { IsTrialOf trial.now board.new }
     ensures err { IfErr result (IsRefusal trial.now) }
 {
     let mut size = front.len() / 2;
@@ -222,7 +247,7 @@ fn cut_steps(
         }
         let end = at.saturating_add(size.max(1));
         let other = without(alloc, front.as_slice(), at, end)?;
-        if try_front(alloc, trial, front, other, best)? {
+        if try_front(alloc, trial, board, front, other, best)? {
             was_cut = true;
         } else {
             at = end;
@@ -236,21 +261,24 @@ fn cut_steps(
 fn join_at(
     alloc: Global,
     trial: &Trial<'_>,
+    board: &mut Board,
     front: &mut Vec<Pick>,
     at: usize,
     best: &mut Failure,
 ) -> Result<bool, HuntFault>
-    requires { IsFailure trial.now best.old }
+    requires fails { IsFailure trial.now best.old }
+    requires of_trial { IsTrialOf trial.now board.old }
     ensures fails { IsFailure trial.now best.new }
     ensures same { best.new.check ≡ best.old.check }
     ensures simpler { cost_of best.new.picks.items ≤ cost_of best.old.picks.items }
     ensures kinds { KeepKinds front.old.items best.old.picks.items front.new.items best.new.picks.items }
+    ensures of_trial { IsTrialOf trial.now board.new }
     ensures err { IfErr result (IsRefusal trial.now) }
 {
     let Some(other) = joined(alloc, front.as_slice(), at)? else {
         return Ok(false);
     };
-    try_front(alloc, trial, front, other, best)
+    try_front(alloc, trial, board, front, other, best)
 }
 
 // Moves bursts of one core side by side.
@@ -258,19 +286,22 @@ fn join_at(
 fn join_bursts(
     alloc: Global,
     trial: &Trial<'_>,
+    board: &mut Board,
     front: &mut Vec<Pick>,
     best: &mut Failure,
 ) -> Result<(), HuntFault>
-    requires { IsFailure trial.now best.old }
+    requires fails { IsFailure trial.now best.old }
+    requires of_trial { IsTrialOf trial.now board.old }
     ensures fails { IsFailure trial.now best.new }
     ensures same { best.new.check ≡ best.old.check }
     ensures simpler { cost_of best.new.picks.items ≤ cost_of best.old.picks.items }
     ensures kinds { KeepKinds front.old.items best.old.picks.items front.new.items best.new.picks.items }
+    ensures of_trial { IsTrialOf trial.now board.new }
     ensures err { IfErr result (IsRefusal trial.now) }
 {
     let mut at = 0;
     'tries: for _ in 0..MOST_TRIES {
-        if !join_at(alloc, trial, front, at, best)? {
+        if !join_at(alloc, trial, board, front, at, best)? {
             at = burst_end(front.as_slice(), at);
         }
         if at >= front.len() {

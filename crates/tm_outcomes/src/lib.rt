@@ -8,10 +8,13 @@
 //! over the machine's definitions in `tm_model` alone.
 //!
 //! Two states count as one where memory and what is shown of each core are the same: the machine's steps are a function
-//! of these. A state is kept as the last step of a schedule that leads there; its machine is made anew by a run of that
-//! schedule. A digest only says which states may be the same: they are compared before one is dropped.
+//! of these. A state is kept as the last step of a schedule that leads there. Two machines are kept, each of which comes to a
+//! state by a run of its schedule, from before the first step on. A digest only says which states may be the same: they are
+//! compared before one is dropped.
 #![tactic(auto)]
 
+mod bench;
+mod digest;
 mod fault;
 mod nodes;
 mod place;

@@ -4,11 +4,11 @@ ghost use Rattle.std.specs.Prelude.{◌≡◌, ◌<◌, ◌≤◌, ◌^◌, List
 ghost use Rattle.tm_model.specs.declared.outcome.Pick.{Pick};
 ghost use Rattle.tm_outcomes.specs.Nodes.{HaveSchedules, IsFound, IsTree, schedule_at};
 ghost use Rattle.tm_outcomes.specs.Outcomes.{IsRefusal};
-ghost use Rattle.tm_outcomes.specs.Places.{IsAt};
+ghost use Rattle.tm_outcomes.specs.Places.{IsAt, IsPlaceOf};
 ghost use Rattle.tm_outcomes.specs.declared.trial.Trial.{Trial};
 
 use crate::fault::SearchFault;
-use crate::place::{Place, replay};
+use crate::place::Place;
 use crate::trial::Trial;
 use std::alloc::{AllocError, Global};
 use tm_model::Pick;
@@ -44,36 +44,43 @@ pub fn schedule_of(alloc: Global, nodes: &[Node], index: usize) -> Result<Vec<Pi
     Ok(picks)
 }
 
-/// The place of a node.
+/// Brings a place to the node.
 pub fn place_of(
     alloc: Global,
     trial: &Trial<'_>,
     nodes: &[Node],
     index: usize,
-) -> Result<Place, SearchFault>
+    place: &mut Place,
+) -> Result<(), SearchFault>
     requires within { index < length nodes.now }
     requires few { length nodes.now < 2 ^ 32 }
     requires tree { HaveSchedules trial.now nodes.now }
-    ensures ok { IfOk result (λ place. (schedules : List (List Pick)) → IsTree trial.now nodes.now schedules →
-        IsAt trial.now place (schedule_at schedules index)) }
+    requires place { IsPlaceOf trial.now place.old }
+    ensures place { IsPlaceOf trial.now place.new }
+    ensures ok { IfOk result (λ _. (schedules : List (List Pick)) → IsTree trial.now nodes.now schedules →
+        IsAt trial.now place.new (schedule_at schedules index)) }
     ensures err { IfErr result (IsRefusal trial.now) }
 {
     let schedule = schedule_of(alloc, nodes, index)?;
-    let place = replay(alloc, trial, schedule.as_slice())?;
-    Ok(place)
+    place.replay(trial, schedule.as_slice());
+    Ok(())
 }
 
-/// A node that goes on as this place does, of those with this digest that are reached from the newest of them.
+/// A node that goes on as this place does, of those with this digest that are reached from the newest of them. Each is
+/// looked at by the other place.
 pub fn find(
     alloc: Global,
     trial: &Trial<'_>,
     nodes: &[Node],
     newest: Option<u32>,
     place: &Place,
+    other: &mut Place,
 ) -> Result<Option<usize>, SearchFault>
     requires few { length nodes.now < 2 ^ 32 }
     requires tree { HaveSchedules trial.now nodes.now }
     requires at { (schedule : List Pick) × IsAt trial.now place.now schedule }
+    requires other { IsPlaceOf trial.now other.old }
+    ensures other { IsPlaceOf trial.now other.new }
     ensures ok { IfOk result (λ found. IfSome found (IsFound trial.now nodes.now place.now)) }
     ensures err { IfErr result (IsRefusal trial.now) }
 {
@@ -86,8 +93,8 @@ pub fn find(
         if index >= nodes.len() {
             return Ok(None);
         }
-        let other = place_of(alloc, trial, nodes, index)?;
-        if place.is_alike(&other) {
+        place_of(alloc, trial, nodes, index, other)?;
+        if place.is_alike(other) {
             return Ok(Some(index));
         }
         candidate = nodes[index].older;

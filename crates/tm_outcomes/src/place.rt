@@ -9,15 +9,15 @@ ghost use Rattle.tm_model.specs.Setting.{program_setting, value_at};
 ghost use Rattle.tm_outcomes.specs.Outcomes.{AreThere, IsRefusal, IsThere, trial_setting, value_of};
 ghost use Rattle.tm_model.specs.declared.outcome.Pick.{Pick};
 ghost use Rattle.tm_outcomes.specs.Places.{AreAlike, GoesTo, IsAt, IsCoreAlike, detail_after, has_detail, has_stopped};
-ghost use Rattle.tm_outcomes.specs.Places.{is_open};
+ghost use Rattle.tm_outcomes.specs.Places.{IsPlaceOf, is_open};
 ghost use Rattle.tm_outcomes.specs.Schedules.{HasEnded, Situation};
 
+use crate::digest::{Digest, are_same};
 use crate::fault::SearchFault;
 use crate::trial::{Item, Trial};
 use ia_regs::Regs;
 use ia_word::Width;
 use std::alloc::{AllocError, Global};
-use std::hash::{FoldHasher, Hasher};
 use tm_core::memory::{load, read};
 use tm_core::{CoreState, Machine, MachineFault, NoSuchCore, Outcome, Program};
 use tm_model::Pick;
@@ -101,6 +101,7 @@ impl Place {
         ensures goes { GoesTo (trial_setting trial.now) self.old self.new pick }
         ensures at { (schedule : List Pick) → IsAt trial.now self.old schedule →
             IsAt trial.now self.new (schedule ++ pick ∷ []) }
+        ensures place { IsPlaceOf trial.now self.new }
     {
         let Ok(outcome) = step_by(&mut self.machine, pick) else {
             unreachable!();
@@ -123,18 +124,29 @@ fn step_by(machine: &mut Machine, pick: Pick) -> Result<Outcome, NoSuchCore>
     }
 }
 
-/// The place at the end of a schedule.
-pub fn replay(alloc: Global, trial: &Trial<'_>, schedule: &[Pick]) -> Result<Place, SearchFault>
-    requires cores { All (λ (pick : Pick). pick.core < length trial.now.program.now.entries) schedule.now }
-    requires short { length schedule.now < 2 ^ 32 }
-    ensures ok { IfOk result (λ place. IsAt trial.now place schedule.now) }
-    ensures err { IfErr result (IsRefusal trial.now) }
-{
-    let mut place = Place::opening(alloc, trial)?;
-    for pick in schedule {
-        place.step(trial, *pick);
+impl Place {
+    // Before the first step again.
+    fn reopen(&mut self, trial: &Trial<'_>)
+        requires { IsPlaceOf trial.now self.old }
+        ensures { IsAt trial.now self.new [] }
+    {
+        self.machine.reopen(trial.program);
+        self.details.as_mut_slice().fill(0);
     }
-    Ok(place)
+
+    /// The end of a schedule, from before the first step on.
+    pub fn replay(&mut self, trial: &Trial<'_>, schedule: &[Pick])
+        requires cores { All (λ (pick : Pick). pick.core < length trial.now.program.now.entries) schedule.now }
+        requires short { length schedule.now < 2 ^ 32 }
+        requires place { IsPlaceOf trial.now self.old }
+        ensures at { IsAt trial.now self.new schedule.now }
+        ensures place { IsPlaceOf trial.now self.new }
+    {
+        self.reopen(trial);
+        for pick in schedule {
+            self.step(trial, *pick);
+        }
+    }
 }
 
 // Whether the details of a core count in this.
@@ -183,7 +195,7 @@ impl Place {
                 return false;
             }
         }
-        self.machine.view() == other.machine.view()
+        are_same(self.machine.view(), other.machine.view())
     }
 }
 
@@ -253,18 +265,20 @@ impl Place {
         Ok(values)
     }
 
-    /// A number that is the same for places that are alike.
-    pub fn digest(&self) -> u64 {
-        let mut hasher = FoldHasher::default();
-        hasher.write(self.machine.view());
+    /// A number that is the same for places of a trial that are alike. The code, which no step changes, is left out.
+    pub fn digest(&self, trial: &Trial<'_>) -> u64 {
+        let mut digest = Digest::new();
+        let memory = self.machine.view();
+        let end = trial.program.base() as usize + trial.program.code().len();
+        digest.add_bytes(memory.get(end..).unwrap_or(memory));
         for core in 0..self.machine.cores() {
-            self.digest_core(core, &mut hasher);
+            self.digest_core(core, &mut digest);
         }
-        hasher.finish()
+        digest.value()
     }
 
     // Adds what is known of a core.
-    fn digest_core(&self, core: u8, hasher: &mut FoldHasher) {
+    fn digest_core(&self, core: u8, digest: &mut Digest) {
         let (Ok(state), Ok(base)) = (self.machine.state(core), self.machine.base_regs(core)) else {
             return;
         };
@@ -275,13 +289,13 @@ impl Place {
             CoreState::Condemned(depth) => 10 + depth % 8,
             CoreState::Stopped(_) => 18,
         };
-        hasher.write_u8(kind);
-        hasher.write_u32(base.eip);
+        digest.add(u64::from(kind));
+        digest.add(u64::from(base.eip));
         for register in base.gpr {
-            hasher.write_u32(register);
+            digest.add(u64::from(register));
         }
         if has_detail(state) && usize::from(core) < self.details.len() {
-            hasher.write_u64(self.details[usize::from(core)]);
+            digest.add(self.details[usize::from(core)]);
         }
     }
 }

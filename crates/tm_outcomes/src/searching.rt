@@ -7,11 +7,13 @@ ghost use Rattle.tm_model.specs.declared.outcome.Pick.{Pick};
 ghost use Rattle.tm_outcomes.specs.Nodes.{HasGrown, HaveSchedules, IsFollowed, IsPickOf, IsShown, IsTree, IsUntouched};
 ghost use Rattle.tm_outcomes.specs.Outcomes.{AreDistinct, AreThere, AreTold, IsAllowed, IsNoneOrOneOf, IsRefusal, IsSearch};
 ghost use Rattle.tm_outcomes.specs.Outcomes.{IsTold};
+ghost use Rattle.tm_outcomes.specs.Places.{ArePlacesOf};
+ghost use Rattle.tm_outcomes.specs.declared.trial.Trial.{Trial};
 ghost use Rattle.tm_outcomes.specs.Searching.{HaveDone, IsFollowedIn, IsOneOf, IsThis, IsUnderway};
 
+use crate::bench::Bench;
 use crate::fault::SearchFault;
 use crate::nodes::{Node, find, place_of, schedule_of};
-use crate::place::Place;
 use crate::table::{Told, take_up};
 use crate::trial::{Events, Trial};
 use std::alloc::{AllocError, Global};
@@ -56,12 +58,10 @@ pub struct Followed {
 }
 
 impl Searching {
-    // The opening state.
-    fn opening(alloc: Global, trial: &Trial<'_>) -> Result<Searching, SearchFault>
-        ensures ok { IfOk result (λ search. HaveDone trial.now 1 search 0) }
-        ensures err { IfErr result (IsRefusal trial.now) }
+    // The opening state, which has this digest.
+    fn opening(alloc: Global, digest: u64) -> Result<Searching, AllocError>
+        ensures { IfOk result (λ search. (trial : Trial) → HaveDone trial 1 search 0) }
     {
-        let digest = Place::opening(alloc, trial)?.digest();
         let mut search = Searching {
             nodes: Vec::new(alloc),
             newest: HashMap::new(alloc),
@@ -96,10 +96,12 @@ impl Searching {
         &mut self,
         alloc: Global,
         trial: &Trial<'_>,
+        bench: &mut Bench,
         index: usize,
         pick: Pick,
         most: u32,
     ) -> Result<Followed, SearchFault>
+        requires bench { ArePlacesOf trial.now bench.old }
         requires within { index < length self.old.nodes.items }
         requires is_pick { IsPickOf trial.now pick }
         requires few { length self.old.nodes.items ≤ most }
@@ -110,14 +112,16 @@ impl Searching {
         ensures untouched { IfOk result (λ r. r.was_open ≡ false → (schedules : List (List Pick)) →
             IsTree trial.now self.old.nodes.items schedules → IsUntouched trial.now schedules index pick.core) }
         ensures cut { IfOk result (λ r. r.progress ≡ Progress.IsCut → length self.new.nodes.items ≡ most) }
+        ensures bench { ArePlacesOf trial.now bench.new }
         ensures err { IfErr result (IsRefusal trial.now) }
     {
-        let mut place = place_of(alloc, trial, self.nodes.as_slice(), index)?;
-        let was_open = place.is_open(pick.core);
-        place.step(trial, pick);
-        let digest = place.digest();
+        let Bench { here, other } = bench;
+        place_of(alloc, trial, self.nodes.as_slice(), index, here)?;
+        let was_open = here.is_open(pick.core);
+        here.step(trial, pick);
+        let digest = here.digest(trial);
         let newest = self.newest.get(&digest).copied();
-        if let Some(_known) = find(alloc, trial, self.nodes.as_slice(), newest, &place)? {
+        if let Some(_known) = find(alloc, trial, self.nodes.as_slice(), newest, here, other)? {
             return Ok(Followed {
                 progress: Progress::GoesOn,
                 was_open,
@@ -148,11 +152,13 @@ impl Searching {
         &mut self,
         alloc: Global,
         trial: &Trial<'_>,
+        bench: &mut Bench,
         index: usize,
         core: u8,
         events: &[Event],
         most: u32,
     ) -> Result<Progress, SearchFault>
+        requires bench { ArePlacesOf trial.now bench.old }
         requires within { index < length self.old.nodes.items }
         requires is_core { core < length trial.now.program.now.entries }
         requires allowed { (event : Option Event) → IsNoneOrOneOf events.now event → IsAllowed trial.now.events event }
@@ -162,6 +168,7 @@ impl Searching {
         ensures followed { IfOk result (λ progress. progress ≡ Progress.GoesOn →
             IsFollowedIn trial.now most self.old.nodes.items self.new.nodes.items index core (IsOneOf events.now)) }
         ensures cut { IfOk result (λ progress. progress ≡ Progress.IsCut → length self.new.nodes.items ≡ most) }
+        ensures bench { ArePlacesOf trial.now bench.new }
         ensures err { IfErr result (IsRefusal trial.now) }
     {
         for event in events {
@@ -169,7 +176,7 @@ impl Searching {
                 core,
                 event: Some(*event),
             };
-            let followed = self.follow(alloc, trial, index, pick, most)?;
+            let followed = self.follow(alloc, trial, bench, index, pick, most)?;
             let Progress::GoesOn = followed.progress else {
                 return Ok(Progress::IsCut);
             };
@@ -183,11 +190,13 @@ impl Searching {
         &mut self,
         alloc: Global,
         trial: &Trial<'_>,
+        bench: &mut Bench,
         index: usize,
         core: u8,
         events: &[Event],
         most: u32,
     ) -> Result<Progress, SearchFault>
+        requires bench { ArePlacesOf trial.now bench.old }
         requires within { index < length self.old.nodes.items }
         requires is_core { core < length trial.now.program.now.entries }
         requires allowed { (event : Option Event) → IsNoneOrOneOf events.now event → IsAllowed trial.now.events event }
@@ -198,17 +207,18 @@ impl Searching {
             IsFollowedIn trial.now most self.old.nodes.items self.new.nodes.items index core
             (IsNoneOrOneOf events.now)) }
         ensures cut { IfOk result (λ progress. progress ≡ Progress.IsCut → length self.new.nodes.items ≡ most) }
+        ensures bench { ArePlacesOf trial.now bench.new }
         ensures err { IfErr result (IsRefusal trial.now) }
     {
         let alone = Pick { core, event: None };
-        let followed = self.follow(alloc, trial, index, alone, most)?;
+        let followed = self.follow(alloc, trial, bench, index, alone, most)?;
         let Progress::GoesOn = followed.progress else {
             return Ok(Progress::IsCut);
         };
         if !followed.was_open {
             return Ok(Progress::GoesOn);
         }
-        self.follow_each(alloc, trial, index, core, events, most)
+        self.follow_each(alloc, trial, bench, index, core, events, most)
     }
 
     // Takes up the states after the next step of a core, under all that the trial says.
@@ -216,10 +226,12 @@ impl Searching {
         &mut self,
         alloc: Global,
         trial: &Trial<'_>,
+        bench: &mut Bench,
         index: usize,
         core: u8,
         most: u32,
     ) -> Result<Progress, SearchFault>
+        requires bench { ArePlacesOf trial.now bench.old }
         requires within { index < length self.old.nodes.items }
         requires is_core { core < length trial.now.program.now.entries }
         requires few { length self.old.nodes.items ≤ most }
@@ -229,20 +241,27 @@ impl Searching {
             IsFollowedIn trial.now most self.old.nodes.items self.new.nodes.items index core
             (IsAllowed trial.now.events)) }
         ensures cut { IfOk result (λ progress. progress ≡ Progress.IsCut → length self.new.nodes.items ≡ most) }
+        ensures bench { ArePlacesOf trial.now bench.new }
         ensures err { IfErr result (IsRefusal trial.now) }
     {
         match trial.events {
             Events::Never => {
                 let alone = Pick { core, event: None };
-                Ok(self.follow(alloc, trial, index, alone, most)?.progress)
+                Ok(
+                    self.follow(alloc, trial, bench, index, alone, most)?
+                        .progress,
+                )
             }
-            Events::May(events) => self.follow_any(alloc, trial, index, core, events, most),
+            Events::May(events) => self.follow_any(alloc, trial, bench, index, core, events, most),
             Events::Always(event) => {
                 let under = Pick {
                     core,
                     event: Some(event),
                 };
-                Ok(self.follow(alloc, trial, index, under, most)?.progress)
+                Ok(
+                    self.follow(alloc, trial, bench, index, under, most)?
+                        .progress,
+                )
             }
         }
     }
@@ -250,7 +269,14 @@ impl Searching {
 
 impl Searching {
     // Takes up the outcome of a state, where each core has stopped.
-    fn show(&mut self, alloc: Global, trial: &Trial<'_>, index: usize) -> Result<(), SearchFault>
+    fn show(
+        &mut self,
+        alloc: Global,
+        trial: &Trial<'_>,
+        bench: &mut Bench,
+        index: usize,
+    ) -> Result<(), SearchFault>
+        requires bench { ArePlacesOf trial.now bench.old }
         requires within { index < length self.old.nodes.items }
         requires few { length self.old.nodes.items < 2 ^ 32 }
         requires tree { HaveSchedules trial.now self.old.nodes.items }
@@ -263,13 +289,14 @@ impl Searching {
         ensures once { IfOk result (λ _. AreDistinct self.old.outcomes.items → AreDistinct self.new.outcomes.items) }
         ensures shown { IfOk result (λ _. (schedules : List (List Pick)) → IsTree trial.now self.old.nodes.items schedules →
             IsShown trial.now schedules self.new.outcomes.items index) }
+        ensures bench { ArePlacesOf trial.now bench.new }
         ensures err { IfErr result (IsRefusal trial.now) }
     {
-        let place = place_of(alloc, trial, self.nodes.as_slice(), index)?;
-        if !place.has_ended() {
+        place_of(alloc, trial, self.nodes.as_slice(), index, &mut bench.here)?;
+        if !bench.here.has_ended() {
             return Ok(());
         }
-        let values = place.values(alloc, trial)?;
+        let values = bench.here.values(alloc, trial)?;
         let schedule = schedule_of(alloc, self.nodes.as_slice(), index)?;
         take_up(trial, &mut self.outcomes, values, schedule)?;
         Ok(())
@@ -280,9 +307,11 @@ impl Searching {
         &mut self,
         alloc: Global,
         trial: &Trial<'_>,
+        bench: &mut Bench,
         index: usize,
         most: u32,
     ) -> Result<Progress, SearchFault>
+        requires bench { ArePlacesOf trial.now bench.old }
         requires within { index < length self.old.nodes.items }
         requires there { AreThere trial.now }
         requires done { HaveDone trial.now most self.old index }
@@ -291,11 +320,12 @@ impl Searching {
         ensures cut { IfOk result (λ progress. progress ≡ Progress.IsCut →
             (length self.new.nodes.items ≡ most) × All (IsTold trial.now) self.new.outcomes.items
             × AreDistinct self.new.outcomes.items) }
+        ensures bench { ArePlacesOf trial.now bench.new }
         ensures err { IfErr result (IsRefusal trial.now) }
     {
-        self.show(alloc, trial, index)?;
+        self.show(alloc, trial, bench, index)?;
         for core in 0..trial.program.cores() {
-            let Progress::GoesOn = self.follow_core(alloc, trial, index, core, most)? else {
+            let Progress::GoesOn = self.follow_core(alloc, trial, bench, index, core, most)? else {
                 return Ok(Progress::IsCut);
             };
         }
@@ -326,12 +356,13 @@ pub fn outcomes(alloc: Global, trial: &Trial<'_>, most: u32) -> Result<Search, S
     ensures ok { IfOk result (IsSearch trial.now most) }
     ensures err { IfErr result (IsRefusal trial.now) }
 {
-    let mut search = Searching::opening(alloc, trial)?;
+    let mut bench = Bench::new(alloc, trial)?;
+    let mut search = Searching::opening(alloc, bench.here.digest(trial))?;
     for index in 0..most {
         if index as usize >= search.nodes.len() {
             return Ok(search.end(false));
         }
-        let Progress::GoesOn = search.expand(alloc, trial, index as usize, most)? else {
+        let Progress::GoesOn = search.expand(alloc, trial, &mut bench, index as usize, most)? else {
             return Ok(search.end(true));
         };
     }

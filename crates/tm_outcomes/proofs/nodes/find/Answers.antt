@@ -4,5 +4,5 @@ use Rattle.tm_outcomes.proofs.nodes.find.Goals as goal
 pub returns-then-is_alike-clause-ok : goal.returns-then-is_alike-clause-ok
 returns-then-is_alike-clause-ok c = record {
   within = omega arith;
-  alike = λ schedules tree. (c.in_ok-other.other, (c.in_ok-other.ensures.ok schedules tree, c.is_alike.ensures c.if-is_alike.true));
+  alike = λ schedules tree. (c.place_of.new.place, (c.in_ok-place_of.ensures.ok schedules tree, c.is_alike.ensures c.if-is_alike.true));
 }

@@ -25,6 +25,6 @@ replay-requires-clause-short c =
 
 pub returns-clause-ok : goal.returns-clause-ok
 returns-clause-ok c = λ schedules tree.
-    subst (λ (s : List Pick). IsAt c.args.trial.now c.in_ok-place.place s)
+    subst (λ (s : List Pick). IsAt c.args.trial.now c.replay.new.self s)
     (c.as_slice.ensures.value ∙ c.in_ok-schedule.ensures c.args.trial.now schedules tree)
-    c.in_ok-place.ensures.ok
+    c.replay.ensures.at

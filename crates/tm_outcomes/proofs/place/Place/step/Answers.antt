@@ -67,3 +67,13 @@ returns-clause-at c = λ schedule at.
           (let below = few_next core entries (4294967296 + size) detail details (omega arith) at.details_count at.few
           (let most = c.next_detail-detail.ensures.few size (at.few core (omega arith)) in omega arith) other within in omega arith));
     }
+
+pub returns-clause-place : goal.returns-clause-place
+returns-clause-place c =
+    let at = c.requires.at.1.0 in
+    record {
+      rules = c.in-Ok.ensures.same.rules ∙ at.rules;
+      count = c.in-Ok.ensures.same.cores ∙ at.count;
+      details_count =
+          length-set c.args.self.now.details.items c.from.result c.next_detail-detail.result ∙ at.details_count;
+    }

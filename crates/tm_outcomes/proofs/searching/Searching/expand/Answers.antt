@@ -4,14 +4,25 @@ use Rattle.tm_outcomes.proofs.searching.Searching.expand.Goals as goal
 
 pub loop-core-init : goal.loop-core-init
 loop-core-init c =
-    begins c.args.trial.now c.args.most c.args.index c.args.self.now c.show.new.self (sym (ap (λ v. v.items) c.in_ok-show.ensures.nodes)) c.requires.within
-    c.in_ok-show.ensures.told c.in_ok-show.ensures.once c.in_ok-show.ensures.kept c.in_ok-show.ensures.shown c.requires.done
+    let shown = c.in_ok-show.ensures in
+    record {
+      search = begins c.args.trial.now c.args.most c.args.index c.args.self.now c.show.new.self
+          (sym (ap (λ v. v.items) shown.nodes)) c.requires.within shown.told shown.once shown.kept shown.shown
+          c.requires.done;
+      bench = shown.bench;
+    }
 
 pub loop-core-preserved : goal.loop-core-preserved
 loop-core-preserved c =
-    goes_on c.args.trial.now c.args.most c.args.index c.loop-core.core c.loop-core.self c.follow_core.new.self (sym (ap (λ v. v.items) c.in_ok-follow_core.ensures.outcomes))
-    (c.in_ok-follow_core.ensures.followed c.in-GoesOn.is) c.loop-core.invariant
+    let followed = c.in_ok-follow_core.ensures in
+    record {
+      search = goes_on c.args.trial.now c.args.most c.args.index c.loop-core.core c.loop-core.self
+          c.follow_core.new.self (sym (ap (λ v. v.items) followed.outcomes)) (followed.followed c.in-GoesOn.is)
+          c.loop-core.invariant.search;
+      bench = followed.bench;
+    }
 
 pub returns-clause-goes_on : goal.returns-clause-goes_on
 returns-clause-goes_on c = λ _.
-    ends c.args.trial.now c.args.most c.args.index c.loop-core.core c.loop-core.self (let n = c.cores-core-end.ensures.number in omega arith) c.loop-core.invariant
+    ends c.args.trial.now c.args.most c.args.index c.loop-core.core c.loop-core.self
+    (let n = c.cores-core-end.ensures.number in omega arith) c.loop-core.invariant.search

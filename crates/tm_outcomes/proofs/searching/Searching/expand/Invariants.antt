@@ -1,5 +1,9 @@
+use Rattle.tm_outcomes.specs.Places.{ArePlacesOf}
 use Rattle.tm_outcomes.specs.Searching.{IsUnderway}
 use Rattle.tm_outcomes.proofs.searching.Searching.expand.Given as goal
 
 abbrev pub invariant-loop-core : goal.invariant-loop-core
-invariant-loop-core l = IsUnderway l.trial l.most l.self l.index l.core
+invariant-loop-core l = record {
+  search : IsUnderway l.trial l.most l.self l.index l.core;
+  bench : ArePlacesOf l.trial l.bench;
+}

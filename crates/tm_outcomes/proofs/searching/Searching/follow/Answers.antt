@@ -16,10 +16,10 @@ returns-in-Some-clause-followed c = λ _. record {
   few = c.requires.few;
   grows = λ schedules tree.
       let trial = c.args.trial.now in
-      let before = c.in_ok-place.place in
+      let before = c.place_of.new.place in
       let after = c.step.new.self in
       let at : IsAt trial before (schedule_at schedules c.args.index) =
-      c.in_ok-place.ensures.ok schedules (subst (λ (ns : List Node). IsTree trial ns schedules) (sym c.as_slice.ensures.value) tree) in
+      c.in_ok-place_of.ensures.ok schedules (subst (λ (ns : List Node). IsTree trial ns schedules) (sym c.as_slice.ensures.value) tree) in
       let found = subst (λ (o : Option ℕ). IfSome o (IsFound trial c.as_slice-2.result.now after)) c.in-Some.is c.in_ok-_known.ensures.ok in
       let other = found.alike schedules (subst (λ (ns : List Node). IsTree trial ns schedules) (sym c.as_slice-2.ensures.value) tree) in
       let within : c.in-Some._known < length schedules = (let f = found.within in let t = tree.counted in let e = ap (λ (ns : List Node). length ns) c.as_slice-2.ensures.value in omega arith) in
@@ -41,12 +41,12 @@ returns-clause-followed c = λ _. record {
       subst (λ (ns : List Node). length ns ≤ c.args.most) (sym c.in_ok-add.ensures.nodes) (omega arith));
   grows = λ schedules tree.
       let trial = c.args.trial.now in
-      let before = c.in_ok-place.place in
+      let before = c.place_of.new.place in
       let after = c.step.new.self in
       let index = c.args.index in
       let pick = c.args.pick in
       let at : IsAt trial before (schedule_at schedules index) =
-      c.in_ok-place.ensures.ok schedules (subst (λ (ns : List Node). IsTree trial ns schedules) (sym c.as_slice.ensures.value) tree) in
+      c.in_ok-place_of.ensures.ok schedules (subst (λ (ns : List Node). IsTree trial ns schedules) (sym c.as_slice.ensures.value) tree) in
       let node : Node = record { parent = index; pick = pick; digest = c.digest-digest.result; older = c.copied-newest.result } in
       let added : List Pick = schedule_at schedules index ++ pick ∷ [] in
       let grown : List (List Pick) = schedules ++ added ∷ [] in
@@ -73,8 +73,8 @@ pub is_open-was_open-requires : goal.is_open-was_open-requires
 is_open-was_open-requires c =
     let trial = c.args.trial.now in
     let schedules = c.requires.tree.0 in
-    let at : IsAt trial c.in_ok-place.place (schedule_at schedules c.args.index) =
-    c.in_ok-place.ensures.ok schedules (subst (λ (ns : List Node). IsTree trial ns schedules) (sym c.as_slice.ensures.value) c.requires.tree.1) in
+    let at : IsAt trial c.place_of.new.place (schedule_at schedules c.args.index) =
+    c.in_ok-place_of.ensures.ok schedules (subst (λ (ns : List Node). IsTree trial ns schedules) (sym c.as_slice.ensures.value) c.requires.tree.1) in
     let count = at.count in
     let is_core = c.requires.is_pick.is_core in
     omega arith
@@ -83,20 +83,20 @@ is_open-was_open-requires c =
 pub returns-in-Some-clause-untouched : goal.returns-in-Some-clause-untouched
 returns-in-Some-clause-untouched c = λ closed schedules tree.
     let trial = c.args.trial.now in
-    untouched_at trial schedules c.args.index c.in_ok-place.place c.args.pick.core c.requires.is_pick.is_core
-    (c.in_ok-place.ensures.ok schedules (subst (λ (ns : List Node). IsTree trial ns schedules) (sym c.as_slice.ensures.value) tree))
+    untouched_at trial schedules c.args.index c.place_of.new.place c.args.pick.core c.requires.is_pick.is_core
+    (c.in_ok-place_of.ensures.ok schedules (subst (λ (ns : List Node). IsTree trial ns schedules) (sym c.as_slice.ensures.value) tree))
     (sym c.is_open-was_open.ensures ∙ closed)
 
 pub returns-then-len-most-clause-untouched : goal.returns-then-len-most-clause-untouched
 returns-then-len-most-clause-untouched c = λ closed schedules tree.
     let trial = c.args.trial.now in
-    untouched_at trial schedules c.args.index c.in_ok-place.place c.args.pick.core c.requires.is_pick.is_core
-    (c.in_ok-place.ensures.ok schedules (subst (λ (ns : List Node). IsTree trial ns schedules) (sym c.as_slice.ensures.value) tree))
+    untouched_at trial schedules c.args.index c.place_of.new.place c.args.pick.core c.requires.is_pick.is_core
+    (c.in_ok-place_of.ensures.ok schedules (subst (λ (ns : List Node). IsTree trial ns schedules) (sym c.as_slice.ensures.value) tree))
     (sym c.is_open-was_open.ensures ∙ closed)
 
 pub returns-clause-untouched : goal.returns-clause-untouched
 returns-clause-untouched c = λ closed schedules tree.
     let trial = c.args.trial.now in
-    untouched_at trial schedules c.args.index c.in_ok-place.place c.args.pick.core c.requires.is_pick.is_core
-    (c.in_ok-place.ensures.ok schedules (subst (λ (ns : List Node). IsTree trial ns schedules) (sym c.as_slice.ensures.value) tree))
+    untouched_at trial schedules c.args.index c.place_of.new.place c.args.pick.core c.requires.is_pick.is_core
+    (c.in_ok-place_of.ensures.ok schedules (subst (λ (ns : List Node). IsTree trial ns schedules) (sym c.as_slice.ensures.value) tree))
     (sym c.is_open-was_open.ensures ∙ closed)

@@ -1,4 +1,4 @@
-use Rattle.std.proofs.Common.{◌∙◌, List, Some, take, take_all, refl, sym, subst}
+use Rattle.std.proofs.Common.{◌∙◌, List, Some, take_all, refl, subst}
 use Rattle.std.proofs.lemmas.List.Elements.{Contains-get_or}
 use Rattle.tm_model.specs.declared.outcome.Event.{Event}
 use Rattle.tm_outcomes.specs.Searching.{IsFollowedIn, IsOneOf, IsThis}
@@ -10,6 +10,7 @@ loop-event-init c = record {
   within = c.requires.within;
   few = c.requires.few;
   tree = c.requires.tree;
+  bench = c.requires.bench;
   outcomes = refl;
   followed = nothing_yet c.args.trial.now c.args.most c.args.index c.args.core c.args.self.now.nodes.items c.requires.few;
 }
@@ -35,6 +36,7 @@ loop-event-preserved c =
       within = has_node trial most index core middle after (IsThis _) next so_far.tree so_far.within;
       few = next.few;
       tree = has_tree trial most index core middle after (IsThis _) next so_far.tree;
+      bench = c.in_ok-followed.ensures.bench;
       outcomes = c.in_ok-followed.ensures.outcomes ∙ so_far.outcomes;
       followed = next_of trial most index core c.args.self.now.nodes.items middle after c.args.events.now
           c.loop-event.event-index _ c.requires.within c.loop-event-test.true so_far.followed next;

@@ -1,5 +1,6 @@
 use Rattle.std.proofs.Common.{◌≡◌, ◌<◌, ◌≤◌, length, take}
 use Rattle.tm_outcomes.specs.Nodes.{HaveSchedules}
+use Rattle.tm_outcomes.specs.Places.{ArePlacesOf}
 use Rattle.tm_outcomes.specs.Searching.{IsFollowedIn, IsOneOf}
 use Rattle.tm_outcomes.proofs.searching.Searching.follow_each.Given as goal
 
@@ -9,6 +10,7 @@ invariant-loop-event l = record {
   within : l.index < length l.self.nodes.items;
   few : length l.self.nodes.items ≤ l.most;
   tree : HaveSchedules l.trial l.self.nodes.items;
+  bench : ArePlacesOf l.trial l.bench;
   outcomes : l.self.outcomes ≡ l.initial.self.outcomes;
   followed : IsFollowedIn l.trial l.most l.initial.self.nodes.items l.self.nodes.items l.index l.core
       (IsOneOf (take l.event-index l.events));

@@ -8,10 +8,9 @@ use Rattle.tm_outcomes.specs.declared.table.Told.{Told}
 use Rattle.tm_outcomes.proofs.Trees.{first_tree}
 use Rattle.tm_outcomes.proofs.searching.Searching.opening.Goals as goal
 
-pub returns-clause-ok : goal.returns-clause-ok
-returns-clause-ok c =
-    let trial = c.args.trial.now in
-    let node : Node = record { parent = 0; pick = record { core = 0; event = None }; digest = c.digest-digest.result; older = None } in
+pub returns : goal.returns
+returns c = λ trial.
+    let node : Node = record { parent = 0; pick = record { core = 0; event = None }; digest = c.args.digest; older = None } in
     let nodes : c.add.new.self.nodes.items ≡ node ∷ [] = c.in_ok-add.ensures.nodes ∙ ap (λ (ns : List Node). ns ++ node ∷ []) c.new.ensures.items in
     let none : c.add.new.self.outcomes.items ≡ [] = ap (λ v. v.items) c.in_ok-add.ensures.outcomes ∙ c.new-3.ensures.items in (
       [] ∷ [],
