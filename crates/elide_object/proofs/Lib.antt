@@ -1,2 +1,1 @@
 pub mod Sending
-mod Words

@@ -1,16 +1,15 @@
 //! The option that says a schedule.
 
-ghost use Rattle.std.specs.Prelude.{◌≡◌, ◌≤◌, ◌++◌, ◌∷◌, OnOk, length};
+ghost use Rattle.std.specs.Prelude.{◌++◌, ◌∷◌, OnOk};
 ghost use Rattle.std.specs.List.{flat_map};
 ghost use Rattle.ia_text.specs.Writing.{Wrote};
-ghost use Rattle.tm_schedule.specs.Picks.{event_text, pick_word};
+ghost use Rattle.tm_schedule.specs.Picks.{pick_word};
 ghost use Rattle.elide_shell.specs.Options.{schedule_text, steps_option, steps_text};
 
+use crate::step::step_word;
 use crate::words::put_path;
-use ia_text::page::push;
-use ia_text::text_line::{TextLine, push_number};
 use ia_text::{Failed, Out};
-use tm_model::{Event, Interference, Pick};
+use tm_model::Pick;
 
 /// The most steps of a schedule that is printed in a command line.
 const MOST_SHOWN: usize = 1000;
@@ -63,27 +62,11 @@ fn put_more<O: Out>(picks: &[Pick], out: &mut O) -> Result<(), Failed>
     Ok(())
 }
 
-// Writes the word of a step: its core, and the letter of its event, if any.
+// Writes the word of a step.
 fn put_pick<O: Out>(between: &[u8], pick: Pick, out: &mut O) -> Result<(), Failed>
-    requires { length between.now ≤ 1 }
     ensures { OnOk result (Wrote (O.device out.old) (O.device out.new) (between.now ++ pick_word pick)) }
 {
-    let mut row = TextLine::new();
-    push(&mut row, between);
-    push_number(&mut row, pick.core);
-    push(&mut row, letters_of(pick.event));
-    out.put(row.as_slice())
-}
-
-// The letter of an event, and none for none.
-fn letters_of(event: Option<Event>) -> &'static [u8]
-    ensures text { result.now ≡ event_text event }
-    ensures len { length result.now ≤ 1 }
-{
-    match event {
-        None => b"",
-        Some(Event::Abort(Interference::Interrupt)) => b"i",
-        Some(Event::Abort(Interference::Eviction)) => b"e",
-        Some(Event::Abort(Interference::Snoop)) => b"s",
-    }
+    let word = step_word(pick);
+    out.put(between)?;
+    out.put(word.as_str().as_bytes())
 }

@@ -1,6 +1,6 @@
 use Rattle.std.proofs.Common.{◌≡◌, ◌++◌, ◌∙◌, ap, arith, length, refl}
-use Rattle.elide_object.proofs.Words.{at_ok, decimal_of_small}
-use Rattle.elide_object.proofs.schedule.word_of.Goals as goal
+use Rattle.elide_shell.proofs.Digits.{at_ok, decimal_of_small}
+use Rattle.elide_shell.proofs.step.step_word.Goals as goal
 
 pub returns : goal.returns
 returns c =
