@@ -1,6 +1,15 @@
 //! The command.
 
-use crate::course::{counted, watched};
+ghost use Rattle.std.specs.Prelude.{◌≡◌, ℕ, IfOk, List, OnOk, Option};
+ghost use Rattle.elide_setup.specs.ElideProgram.ProgramFile.{IsFile, IsRead};
+ghost use Rattle.elide_setup.specs.ElideProgram.ProgramFileType.{ProgramFile};
+ghost use Rattle.elide_setup.specs.Made.{HasRun, HasRunCourse, HasRunPlan};
+ghost use Rattle.elide_setup.specs.Recorded.{IsRecorded};
+ghost use Rattle.elide_setup.specs.Schedules.{schedule_made};
+ghost use Rattle.elide_setup.specs.Setup.{IsSetup};
+ghost use Rattle.elide_program.specs.declared.settings.Settings.{Settings};
+
+use crate::course::{Tally, counted, watched};
 use crate::extent::{Extent, rows_of};
 use crate::symbols::Symbols;
 use elide_args::DrawOptions;
@@ -31,7 +40,10 @@ pub fn draw<P: Paths, O: Out, G: Progress>(
     paths: &mut P,
     out: &mut O,
     progress: &mut G,
-) -> Result<(), Refusal> {
+) -> Result<(), Refusal>
+    ensures { OnOk result (HasRun (P.content paths.old) (P.content paths.new) options.now.machine
+        options.now.schedule options.now.«record») }
+{
     let path = record_path(options.record, options.machine.file, paths)?;
     let settings = Settings::read(&options.machine)?;
     let plan = Plan::read(alloc, &options.schedule)?;
@@ -47,7 +59,10 @@ impl<'a> Asked<'a> {
         options: &DrawOptions<'a>,
         path: Option<&'a str>,
         cores: u32,
-    ) -> Result<Asked<'a>, Refusal> {
+    ) -> Result<Asked<'a>, Refusal>
+        ensures file { IfOk result (λ asked. asked.file ≡ options.now.machine.file) }
+        ensures path { IfOk result (λ asked. asked.path ≡ path.entry) }
+    {
         let extent = Extent::read(options.from, options.to)?;
         let rows = rows_of(options.cores, cores)?;
         Ok(Asked {
@@ -69,7 +84,12 @@ fn draw_plan<P: Paths, O: Out, G: Progress>(
     paths: &mut P,
     out: &mut O,
     progress: &mut G,
-) -> Result<(), Refusal> {
+) -> Result<(), Refusal>
+    ensures { OnOk result ((file : ProgramFile) × (given : List ℕ → Option (List ℕ))
+        × IsRead (P.content paths.old asked.now.file.now) file
+        × ((other : List ℕ) → given other ≡ P.content paths.old other)
+        × HasRunPlan given (P.content paths.new) file settings.now plan.entry asked.now.path) }
+{
     let text = read_file(asked.file, paths)?;
     draw_text(
         alloc,
@@ -92,7 +112,10 @@ fn draw_text<P: Paths, O: Out, G: Progress>(
     paths: &mut P,
     out: &mut O,
     progress: &mut G,
-) -> Result<(), Refusal> {
+) -> Result<(), Refusal>
+    ensures { OnOk result ((file : ProgramFile) × IsFile text.now file
+        × HasRunPlan (P.content paths.old) (P.content paths.new) file settings.now plan.entry asked.now.path) }
+{
     let setup = setup_of(alloc, settings, text)?;
     let drawn = draw_setup(alloc, &setup, text, plan, asked, paths, out, progress);
     drop(setup);
@@ -108,7 +131,10 @@ fn draw_setup<P: Paths, O: Out, G: Progress>(
     paths: &mut P,
     out: &mut O,
     progress: &mut G,
-) -> Result<(), Refusal> {
+) -> Result<(), Refusal>
+    ensures { (file : ProgramFile) (settings : Settings) → IsSetup file settings setup.now →
+        OnOk result (HasRunPlan (P.content paths.old) (P.content paths.new) file settings plan.entry asked.now.path) }
+{
     let places = Places::of_text(alloc, text)?;
     let drawn = draw_placed(
         alloc,
@@ -133,7 +159,10 @@ fn draw_placed<P: Paths, O: Out, G: Progress>(
     paths: &mut P,
     out: &mut O,
     progress: &mut G,
-) -> Result<(), Refusal> {
+) -> Result<(), Refusal>
+    ensures { (file : ProgramFile) (settings : Settings) → IsSetup file settings setup.now →
+        OnOk result (HasRunPlan (P.content paths.old) (P.content paths.new) file settings plan.entry asked.now.path) }
+{
     let course = plan.course(alloc, paths)?;
     let drawn = draw_course(alloc, setup, symbols, &course, asked, paths, out, progress);
     drop(course);
@@ -149,16 +178,32 @@ fn draw_course<P: Paths, O: Out, G: Progress>(
     paths: &mut P,
     out: &mut O,
     progress: &mut G,
-) -> Result<(), Refusal> {
+) -> Result<(), Refusal>
+    ensures { OnOk result (HasRunCourse (P.content paths.new) setup.now course.now asked.now.path) }
+{
     let counted = counted(alloc, setup, course, asked.path.is_some(), progress)?;
     let window = asked.extent.window(counted.total)?;
     let timeline = watched(alloc, setup, course, window, progress)?;
-    let drawn = match course.record(asked.path, counted.made.as_slice(), paths) {
-        Ok(()) => write_timeline(&timeline, symbols, asked, out),
-        Err(refusal) => Err(refusal),
-    };
+    let drawn = record_drawn(course, &counted, &timeline, symbols, asked, paths, out);
     drop(timeline);
     drawn
+}
+
+// Writes the schedule that came about, and then a timeline.
+fn record_drawn<P: Paths, O: Out>(
+    course: &Course,
+    counted: &Tally,
+    timeline: &Timeline,
+    symbols: &Symbols<'_>,
+    asked: &Asked<'_>,
+    paths: &mut P,
+    out: &mut O,
+) -> Result<(), Refusal>
+    ensures { OnOk result (IsRecorded (P.content paths.new) asked.now.path
+        (schedule_made course.now counted.now.made.items)) }
+{
+    course.record(asked.path, counted.made.as_slice(), paths)?;
+    write_timeline(timeline, symbols, asked, out)
 }
 
 // Writes a timeline.
@@ -176,7 +221,9 @@ fn write_timeline<O: Out>(
 }
 
 // The program of a text.
-fn setup_of(alloc: Global, settings: &Settings<'_>, text: &[u8]) -> Result<Setup, Refusal> {
+fn setup_of(alloc: Global, settings: &Settings<'_>, text: &[u8]) -> Result<Setup, Refusal>
+    ensures { IfOk result (λ setup. (file : ProgramFile) × IsFile text.now file × IsSetup file settings.now setup) }
+{
     let file = ProgramFile::read(alloc, text)?;
     Setup::of_file(alloc, settings, &file)
 }

@@ -1,6 +1,13 @@
 //! A schedule, run twice: once to count its steps, where it is drawn step by step, and once to watch them.
 
+ghost use Rattle.std.specs.Prelude.{◌≡◌, IfOk, List};
+ghost use Rattle.elide_draw.specs.Watched.{IsTally, IsWatched};
 ghost use Rattle.elide_setup.specs.Runs.{AreMachineSteps};
+ghost use Rattle.elide_setup.specs.Schedules.{AreOf, kept_of, picks_made};
+ghost use Rattle.elide_setup.specs.TmCore.Theorem.{ShownMachine};
+ghost use Rattle.elide_setup.specs.Walks.{Leads};
+ghost use Rattle.tm_model.specs.declared.outcome.Outcome.{Outcome};
+ghost use Rattle.tm_model.specs.declared.outcome.Pick.{Pick};
 
 use crate::watch::Watcher;
 use elide_setup::{
@@ -26,26 +33,40 @@ pub fn counted<G: Progress>(
     course: &Course,
     keeps: bool,
     progress: &mut G,
-) -> Result<Tally, Refusal> {
+) -> Result<Tally, Refusal>
+    ensures { IfOk result (λ tally. IsTally setup.now course.now keeps tally.made.items) }
+{
     match course {
         Course::Listed(steps) => Ok(Tally {
             total: u32::try_from(steps.len()).unwrap_or(u32::MAX),
             made: Vec::new(alloc),
         }),
-        Course::Drawn(_) => {
-            let mut counter = Counter {
-                machine: new_machine(alloc, setup)?,
-                total: 0,
-            };
-            let cores = counter.machine.cores();
-            let walked = course.walk(alloc, cores, keeps, &mut counter, progress);
-            let total = counter.total;
-            drop(counter);
-            match walked {
-                Ok(made) => Ok(Tally { total, made }),
-                Err(refusal) => Err(refusal),
-            }
-        }
+        Course::Drawn(_) => counted_drawn(alloc, setup, course, keeps, progress),
+    }
+}
+
+// The same of a course that is drawn.
+fn counted_drawn<G: Progress>(
+    alloc: Global,
+    setup: &Setup,
+    course: &Course,
+    keeps: bool,
+    progress: &mut G,
+) -> Result<Tally, Refusal>
+    ensures { IfOk result (λ tally. (made : List (Pick × Outcome)) × IsWatched setup.now course.now made
+        × (tally.made.items ≡ kept_of course.now keeps made)) }
+{
+    let mut counter = Counter {
+        machine: new_machine(alloc, setup)?,
+        total: 0,
+    };
+    let cores = counter.machine.cores();
+    let walked = course.walk(alloc, cores, keeps, &mut counter, progress);
+    let total = counter.total;
+    drop(counter);
+    match walked {
+        Ok(made) => Ok(Tally { total, made }),
+        Err(refusal) => Err(refusal),
     }
 }
 
@@ -73,7 +94,9 @@ pub fn watched<G: Progress>(
     course: &Course,
     window: Window,
     progress: &mut G,
-) -> Result<Timeline, Refusal> {
+) -> Result<Timeline, Refusal>
+    ensures { IfOk result (λ _. (made : List (Pick × Outcome)) × IsWatched setup.now course.now made) }
+{
     let machine = new_machine(alloc, setup)?;
     match Timeline::new(alloc, machine.cores(), window) {
         Ok(timeline) => watched_by(alloc, course, Watcher { machine, timeline }, progress),
@@ -89,7 +112,10 @@ fn watched_by<G: Progress>(
     course: &Course,
     mut watcher: Watcher,
     progress: &mut G,
-) -> Result<Timeline, Refusal> {
+) -> Result<Timeline, Refusal>
+    ensures { IfOk result (λ _. (made : List (Pick × Outcome)) × AreOf course.now (picks_made made)
+        × (after : ShownMachine) × Leads AreMachineSteps watcher.machine made after) }
+{
     match watch(alloc, course, &mut watcher, progress) {
         Ok(()) => Ok(watcher.into_timeline()),
         Err(refusal) => {
@@ -105,7 +131,10 @@ fn watch<G: Progress>(
     course: &Course,
     watcher: &mut Watcher,
     progress: &mut G,
-) -> Result<(), Refusal> {
+) -> Result<(), Refusal>
+    ensures { IfOk result (λ _. (made : List (Pick × Outcome)) × AreOf course.now (picks_made made)
+        × Leads AreMachineSteps watcher.old.machine made watcher.new.machine) }
+{
     let cores = watcher.machine.cores();
     course.walk(alloc, cores, false, watcher, progress)?;
     watcher.timeline.finish()?;

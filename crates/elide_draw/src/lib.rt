@@ -1,8 +1,10 @@
 //! `elide draw`.
 //!
-//! Promises no more than safety: what a schedule comes to and whom a step hits is proved of `tm_core`, and what a
-//! picture shows of `tm_timeline`; what is printed, refused and recorded is compared by `doc_tests`. Stands on
-//! `elide_setup`, on `tm_timeline`, and on `elide_places` for the labels of lines.
+//! Promised: the steps that are made are those of FILE's program by the options, along their schedule, and the file of `--record`
+//! is left with the schedule of these steps (`elide_setup`, `specs/Made.antt`). What a schedule comes to and whom a step hits is
+//! proved of `tm_core`, and what a picture shows of `tm_timeline`; that it is told the steps that were made, what is printed and
+//! what is refused is compared by `doc_tests`. Stands on `elide_setup`, on `tm_timeline`, and on `elide_places` for the labels of
+//! lines.
 #![tactic(auto)]
 
 mod command;

@@ -3,6 +3,7 @@ mod Decimal
 pub mod Drawing
 mod EventTexts
 mod Held
+pub mod Made
 pub mod Owing
 pub mod Records
 pub mod Runs

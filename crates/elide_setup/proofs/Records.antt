@@ -27,13 +27,13 @@ recorded_kept content (Some path) (course.Listed listed) steps kept e h = h
 recorded_kept content (Some path) (course.Drawn drawn) steps kept e h = subst (λ (picks : List Pick). IsRecorded content (Some path) picks) e h
 
 -- it is what the options ask to be recorded
-asked_if : (b : Bool) (content : List ℕ → Option (List ℕ)) (path : Option (Bor (List ℕ))) (asked : Course) (steps : List (Pick × Outcome)) → is_list asked ≡ b → AreOf asked (picks_made steps) →
+pub recorded_if : (b : Bool) (content : List ℕ → Option (List ℕ)) (path : Option (Bor (List ℕ))) (asked : Course) (steps : List (Pick × Outcome)) → is_list asked ≡ b → AreOf asked (picks_made steps) →
     IsRecorded content path (schedule_made asked (picks_told steps)) → IsRecorded content path (if b then picks_made steps else picks_told steps)
-asked_if true content path (course.Listed listed) steps e of h = subst (λ (picks : List Pick). IsRecorded content path picks) (sym of) h
-asked_if false content path (course.Listed listed) steps e of h = cc
-asked_if true content path (course.Drawn drawn) steps e of h = cc
-asked_if false content path (course.Drawn drawn) steps e of h = h
+recorded_if true content path (course.Listed listed) steps e of h = subst (λ (picks : List Pick). IsRecorded content path picks) (sym of) h
+recorded_if false content path (course.Listed listed) steps e of h = cc
+recorded_if true content path (course.Drawn drawn) steps e of h = cc
+recorded_if false content path (course.Drawn drawn) steps e of h = h
 
 pub recorded_asked : (content : List ℕ → Option (List ℕ)) (path : Option (Bor (List ℕ))) (options : ScheduleOptions) (asked : Course) (steps : List (Pick × Outcome)) → is_list asked ≡ are_listed options → AreOf asked (picks_made steps) →
     IsRecorded content path (schedule_made asked (picks_told steps)) → IsRecorded content path (schedule_asked options steps)
-recorded_asked content path options asked steps e of h = asked_if (are_listed options) content path asked steps e of h
+recorded_asked content path options asked steps e of h = recorded_if (are_listed options) content path asked steps e of h

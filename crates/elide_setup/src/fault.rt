@@ -59,6 +59,9 @@ pub enum Fault {
     /// There is no memory to read the words of the command line.
     #[error("NoMemory")]
     NoWords,
+    /// A comment of a test cannot be read: its line, from 1.
+    #[error("BadTest")]
+    BadTest(usize),
 }
 
 impl Fault {
@@ -82,6 +85,7 @@ impl Fault {
             Fault::NoSession => 78,
             Fault::Output => 81,
             Fault::NoWords => 83,
+            Fault::BadTest(_) => 84,
         }
     }
 
@@ -93,6 +97,7 @@ impl Fault {
             Fault::Program(fault) => fault.line(),
             Fault::Schedule(ScheduleFault::BadSchedule(line)) => Some(line),
             Fault::Schedule(ScheduleFault::TooManySteps(line)) => Some(line),
+            Fault::BadTest(line) => Some(line),
             _ => None,
         }
     }

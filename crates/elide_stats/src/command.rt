@@ -1,11 +1,23 @@
 //! The command.
 
+ghost use Rattle.std.specs.Prelude.{◌≡◌, ℕ, List, OnOk, Option};
+ghost use Rattle.elide_setup.specs.ElideProgram.ProgramFile.{IsFile, IsRead};
+ghost use Rattle.elide_setup.specs.ElideProgram.ProgramFileType.{ProgramFile};
+ghost use Rattle.elide_setup.specs.Made.{HasRun, HasRunCourse, HasRunPlan};
+ghost use Rattle.elide_setup.specs.Recorded.{IsRecorded};
+ghost use Rattle.elide_setup.specs.Runs.{AreMachineSteps};
+ghost use Rattle.elide_setup.specs.Schedules.{AreOf, picks_made, picks_told, schedule_made};
+ghost use Rattle.elide_setup.specs.TmCore.Theorem.{ShownMachine};
+ghost use Rattle.elide_setup.specs.Walks.{Leads};
+ghost use Rattle.tm_model.specs.declared.outcome.Outcome.{Outcome};
+ghost use Rattle.tm_model.specs.declared.outcome.Pick.{Pick};
+
 use crate::counting::Counting;
 use crate::told::tell_counting;
 use elide_args::StatsOptions;
 use elide_setup::{
-    Course, Paths, Plan, ProgramFile, Progress, Refusal, Settings, Setup, planned, read_file,
-    record_path,
+    Course, Paths, Plan, ProgramFile, Progress, Refusal, Settings, Setup, new_machine, planned,
+    read_file, record_path,
 };
 use ia_text::Out;
 use std::alloc::Global;
@@ -27,7 +39,10 @@ pub fn stats<P: Paths, O: Out, G: Progress>(
     paths: &mut P,
     out: &mut O,
     progress: &mut G,
-) -> Result<(), Refusal> {
+) -> Result<(), Refusal>
+    ensures { OnOk result (HasRun (P.content paths.old) (P.content paths.new) options.now.machine
+        options.now.schedule options.now.«record») }
+{
     let path = record_path(options.record, options.machine.file, paths)?;
     let settings = Settings::read(&options.machine)?;
     let plan = Plan::read(alloc, &options.schedule)?;
@@ -56,7 +71,11 @@ fn stats_of_path<P: Paths, O: Out, G: Progress>(
     paths: &mut P,
     out: &mut O,
     progress: &mut G,
-) -> Result<(), Refusal> {
+) -> Result<(), Refusal>
+    ensures { OnOk result ((file : ProgramFile) × (given : List ℕ → Option (List ℕ))
+        × IsRead (P.content paths.old path.now) file × ((other : List ℕ) → given other ≡ P.content paths.old other)
+        × HasRunPlan given (P.content paths.new) file asked.now.settings plan.entry asked.now.path) }
+{
     let text = read_file(path, paths)?;
     stats_of_text(alloc, text.as_slice(), plan, asked, paths, out, progress)
 }
@@ -70,7 +89,10 @@ fn stats_of_text<P: Paths, O: Out, G: Progress>(
     paths: &mut P,
     out: &mut O,
     progress: &mut G,
-) -> Result<(), Refusal> {
+) -> Result<(), Refusal>
+    ensures { OnOk result ((file : ProgramFile) × IsFile text.now file
+        × HasRunPlan (P.content paths.old) (P.content paths.new) file asked.now.settings plan.entry asked.now.path) }
+{
     let file = ProgramFile::read(alloc, text)?;
     let told = stats_of_file(alloc, &file, plan, asked, paths, out, progress);
     drop(file);
@@ -86,7 +108,10 @@ fn stats_of_file<P: Paths, O: Out, G: Progress>(
     paths: &mut P,
     out: &mut O,
     progress: &mut G,
-) -> Result<(), Refusal> {
+) -> Result<(), Refusal>
+    ensures { OnOk result (HasRunPlan (P.content paths.old) (P.content paths.new) file.now asked.now.settings
+        plan.entry asked.now.path) }
+{
     let (setup, course) = planned(alloc, &asked.settings, plan, file, paths)?;
     stats_of_setup(alloc, &setup, &course, file, asked, paths, out, progress)
 }
@@ -101,8 +126,11 @@ fn stats_of_setup<P: Paths, O: Out, G: Progress>(
     paths: &mut P,
     out: &mut O,
     progress: &mut G,
-) -> Result<(), Refusal> {
-    let mut counting = Counting::new(alloc, &setup.program, setup.limits)?;
+) -> Result<(), Refusal>
+    ensures { OnOk result (HasRunCourse (P.content paths.new) setup.now course.now asked.now.path) }
+{
+    let machine = new_machine(alloc, setup)?;
+    let mut counting = Counting::new(alloc, machine)?;
     let told = stats_of_course(
         alloc,
         &mut counting,
@@ -128,7 +156,11 @@ fn stats_of_course<P: Paths, O: Out, G: Progress>(
     paths: &mut P,
     out: &mut O,
     progress: &mut G,
-) -> Result<(), Refusal> {
+) -> Result<(), Refusal>
+    ensures { OnOk result ((made : List (Pick × Outcome)) × (after : ShownMachine)
+        × AreOf course.now (picks_made made) × Leads AreMachineSteps counting.old.machine made after
+        × IsRecorded (P.content paths.new) asked.now.path (schedule_made course.now (picks_told made))) }
+{
     counting.run_course(alloc, course, asked.path, paths, progress)?;
     tell_counting(alloc, counting, file, asked.is_json, out)
 }

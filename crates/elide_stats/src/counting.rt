@@ -1,14 +1,18 @@
 //! A run whose steps are counted.
 
+ghost use Rattle.std.specs.Prelude.{◌≡◌, IfOk, List};
+ghost use Rattle.elide_setup.specs.Recorded.{IsRecorded};
 ghost use Rattle.elide_setup.specs.Runs.{AreMachineSteps};
+ghost use Rattle.elide_setup.specs.Schedules.{AreOf, picks_made, picks_told, schedule_made};
+ghost use Rattle.elide_setup.specs.Walks.{Leads};
+ghost use Rattle.tm_model.specs.declared.outcome.Outcome.{Outcome};
+ghost use Rattle.tm_model.specs.declared.outcome.Pick.{Pick};
 
 use crate::asked::Asked;
 use crate::hits::{CoreBytes, Hits};
 use elide_setup::{
-    Board, Course, Fault, Limits, Machine, Outcome, Paths, Pick, Progress, Refusal, RunFault,
-    StepMaker,
+    Board, Course, Fault, Machine, Outcome, Paths, Pick, Progress, Refusal, RunFault, StepMaker,
 };
-use ia_image::Program;
 use std::alloc::{AllocError, Global};
 use tm_stats::{Conflicts, RunCounts};
 
@@ -42,20 +46,19 @@ impl StepMaker for Counting {
 }
 
 impl Counting {
-    /// Before the first step of a program.
-    pub fn new(alloc: Global, program: &Program, limits: Limits) -> Result<Counting, Refusal> {
-        let Ok(bytes) = CoreBytes::new(alloc, program.cores()) else {
+    /// Before the first step of a machine.
+    pub fn new(alloc: Global, machine: Machine) -> Result<Counting, Refusal>
+        ensures { IfOk result (λ counting. counting.machine ≡ machine) }
+    {
+        let Ok(bytes) = CoreBytes::new(alloc, machine.cores()) else {
             return Err(no_memory());
         };
-        match Machine::new(alloc, program, limits) {
-            Ok(machine) => Ok(Counting {
-                machine,
-                counts: RunCounts::new(alloc),
-                conflicts: Conflicts::new(alloc),
-                bytes,
-            }),
-            Err(fault) => Err(Refusal::Fault(Fault::Machine(fault))),
-        }
+        Ok(Counting {
+            machine,
+            counts: RunCounts::new(alloc),
+            conflicts: Conflicts::new(alloc),
+            bytes,
+        })
     }
 
     /// Runs a schedule, counts its steps, and writes the schedule that came about where there is a path.
@@ -66,7 +69,11 @@ impl Counting {
         path: Option<&str>,
         paths: &mut P,
         progress: &mut G,
-    ) -> Result<(), Refusal> {
+    ) -> Result<(), Refusal>
+        ensures { IfOk result (λ _. (made : List (Pick × Outcome)) × AreOf course.now (picks_made made)
+            × Leads AreMachineSteps self.old.machine made self.new.machine
+            × IsRecorded (P.content paths.new) path.entry (schedule_made course.now (picks_told made))) }
+    {
         let cores = self.machine.cores();
         course.check_cores(cores)?;
         course.walk_recorded(alloc, cores, path, self, paths, progress)

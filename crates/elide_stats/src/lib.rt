@@ -1,8 +1,9 @@
 //! `elide stats`, and `--stats` of `elide threads`.
 //!
-//! Promises no more than safety: what a schedule comes to, why a transaction aborts and whom a step hits is proved of
-//! `tm_core`, and that counts are those of the steps that were told of `tm_stats`; what is printed is compared by
-//! `doc_tests`. Stands on `elide_report` for what is printed, on `elide_setup`, `tm_core` and `tm_stats`, and on `tm_hist` for
+//! Promised of `stats`: the steps that are made are those of FILE's program by the options, along their schedule, and the file
+//! of `--record` is left with the schedule of these steps (`elide_setup`, `specs/Made.antt`). What a schedule comes to, why a
+//! transaction aborts and whom a step hits is proved of `tm_core`, and that counts are those of the steps that were told of
+//! `tm_stats`; what is printed is compared by `doc_tests`. Stands on `elide_report` for what is printed, on `elide_setup`, `tm_core` and `tm_stats`, and on `tm_hist` for
 //! histories.
 #![tactic(auto)]
 

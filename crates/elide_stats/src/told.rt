@@ -2,7 +2,7 @@
 
 use crate::counting::{Counting, no_memory};
 use elide_report::{Labels, Naming, Report, json_line, put_columns};
-use elide_setup::{Board, Gathered, Lent, ProgramFile, Progress, Refusal};
+use elide_setup::{Board, Fault, Gathered, Lent, Machine, ProgramFile, Progress, Refusal};
 use ia_text::Out;
 use std::alloc::Global;
 
@@ -67,6 +67,14 @@ fn put_json<O: Out>(alloc: Global, report: &Report, out: &mut O) -> Result<(), R
     }
 }
 
+// The machine of a board's program, before its first step.
+fn machine_of(alloc: Global, board: &Board) -> Result<Machine, Refusal> {
+    match Machine::new(alloc, board.program(), board.limits()) {
+        Ok(machine) => Ok(machine),
+        Err(fault) => Err(Refusal::Fault(Fault::Machine(fault))),
+    }
+}
+
 /// Makes the steps of a board again on a machine of their own, and prints what its transactions came to. The file is that
 /// of the board's program.
 pub fn tell_counts<O: Out, G: Progress>(
@@ -77,7 +85,8 @@ pub fn tell_counts<O: Out, G: Progress>(
     out: &mut O,
     progress: &mut G,
 ) -> Result<(), Refusal> {
-    let mut counting = Counting::new(alloc, board.program(), board.limits())?;
+    let machine = machine_of(alloc, board)?;
+    let mut counting = Counting::new(alloc, machine)?;
     let counted = counting.run_history(board, progress);
     progress.end();
     let told = match counted {

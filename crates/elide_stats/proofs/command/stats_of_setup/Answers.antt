@@ -1,0 +1,30 @@
+use Rattle.std.proofs.Common.{[], List, sym, subst}
+use Rattle.std.proofs.lemmas.Result.{on_ok_weaker}
+use Rattle.elide_setup.proofs.Runs.{run_of_all}
+use Rattle.elide_setup.specs.Recorded.{IsRecorded}
+use Rattle.elide_setup.specs.Runs.{AreMachineSteps, IsRunOf}
+use Rattle.elide_setup.specs.Schedules.{AreOf, picks_made, picks_told, schedule_made}
+use Rattle.elide_setup.specs.TmCore.Theorem.{ShownMachine}
+use Rattle.elide_setup.specs.Walks.{Leads}
+use Rattle.tm_model.specs.declared.outcome.Outcome.{Outcome}
+use Rattle.tm_model.specs.declared.outcome.Pick.{Pick}
+use Rattle.elide_stats.proofs.command.stats_of_setup.Goals as goal
+
+pub returns : goal.returns
+returns g c =
+    let setup = c.args.setup.now in
+    let course = c.args.course.now in
+    let left = g.P.Paths.content c.stats_of_course-told.new.paths in
+    let first = c.in_ok-counting.counting.machine in
+    let begun : IsRunOf setup.program setup.limits [] first =
+    subst (λ (m : ShownMachine). IsRunOf setup.program setup.limits [] m) (sym c.in_ok-counting.ensures) c.in_ok-machine.ensures in
+    on_ok_weaker c.stats_of_course-told.result
+    (λ (h : (made : List (Pick × Outcome)) × (after : ShownMachine) × AreOf course (picks_made made) × Leads AreMachineSteps first made after
+    × IsRecorded left c.args.asked.now.path (schedule_made course (picks_told made))). record {
+      made = h.0;
+      steps = h.2;
+      machine = h.1;
+      ran = run_of_all setup.program setup.limits h.0 first h.1 begun h.3;
+      recorded = h.4;
+    })
+    c.stats_of_course-told.ensures
