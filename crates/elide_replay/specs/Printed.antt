@@ -1,6 +1,6 @@
 -- What `elide replay` prints (docs/FORMATS.md, "Printed lines"): the state of the machine that the schedule's steps
 -- made of FILE's program, what is asked for of memory, and whether the second run ended alike.
-use Rattle.std.specs.Prelude.{◌≡◌, ℕ, false, List, [], ◌++◌, Option}
+use Rattle.std.specs.Prelude.{◌≡◌, ℕ, false, true, List, [], ◌++◌, Option}
 use Rattle.std.specs.Io.KnownBytes.{Appends}
 use Rattle.elide_args.specs.declared.subcommand.ReplayOptions.{ReplayOptions}
 use Rattle.tm_model.specs.declared.outcome.Outcome.{Outcome}
@@ -14,11 +14,11 @@ use Rattle.elide_setup.specs.declared.machine.Setup.{Setup}
 use Rattle.elide_setup.specs.declared.shown.ShownMemory.{ShownMemory}
 use Rattle.elide_setup.specs.Runs.{HasMade}
 use Rattle.elide_replay.specs.Replayed.{IsBoardOf}
-use Rattle.elide_replay.specs.Told.{agreement_text}
+use Rattle.elide_replay.specs.Told.{agreement_object, agreement_text}
 use Rattle.elide_replay.specs.declared.agreement.Agreement.TheVariants.{Agrees}
 
 -- the state, and below it what the second run came to, and above both the lines of aborts with their reasons, where
--- these are asked for
+-- these are asked for; or with `--json`, which does not go with reasons, the object of both runs
 pub record IsTold (setup : Setup) (options : ReplayOptions) (board : Board) (before after : Option (List ℕ))
     : Type 0 where
   pub law : IsHistory board
@@ -26,7 +26,12 @@ pub record IsTold (setup : Setup) (options : ReplayOptions) (board : Board) (bef
   pub unexplained : options.explains ≡ false → lines ≡ []
   pub memory : ShownMemory
   pub shown : IsShownOf board.machine.memory setup.parts options.machine.shows.items memory
-  pub wrote : Appends before after (lines ++ (shown_text board.machine memory ++ agreement_text Agrees))
+  pub wrote :
+      options.is_json ≡ false →
+      Appends before after (lines ++ (shown_text board.machine memory ++ agreement_text Agrees))
+  pub object :
+      options.is_json ≡ true → options.explains ≡ false →
+      Appends before after (agreement_object board.machine setup options Agrees)
 
 -- the board is one of the options and of what FILE's content is read as, and made the steps of their schedule; what is
 -- recorded is the schedule that their outcomes tell

@@ -5,6 +5,7 @@ ghost use Rattle.elide_why.specs.TmHist.Board.{stop_shown};
 ghost use Rattle.elide_why.specs.TmHist.Replay.{Replays, memory_of};
 ghost use Rattle.elide_why.specs.TmCore.Theorem.{view_at};
 ghost use Rattle.elide_replay.specs.Alike.{SameCore, SameCores, SameRegs, SameStop};
+ghost use Rattle.elide_replay.specs.Told.{agreement_status, is_agreement};
 
 use elide_why::{Board, CoreState, Machine, Serial};
 use tm_rule::Stop;
@@ -16,6 +17,28 @@ pub enum Agreement {
     Agrees,
     /// Some of them are not.
     Differs,
+}
+
+impl Agreement {
+    /// Whether they did.
+    pub fn is_alike(self) -> bool
+        ensures { result ≡ is_agreement self }
+    {
+        match self {
+            Agreement::Agrees => true,
+            Agreement::Differs => false,
+        }
+    }
+
+    /// The exit status.
+    pub fn status(self) -> u8
+        ensures { result ≡ agreement_status self }
+    {
+        match self {
+            Agreement::Agrees => 0,
+            Agreement::Differs => 1,
+        }
+    }
 }
 
 /// Compares a board's machine with a serial run, which need not be that of the board's history. They agree exactly where

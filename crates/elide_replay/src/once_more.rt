@@ -1,6 +1,6 @@
 //! `elide replay`.
 
-ghost use Rattle.std.specs.Prelude.{◌≡◌, ◌↔◌, ◌++◌, IfOk, List, None, OnOk, false, max};
+ghost use Rattle.std.specs.Prelude.{◌≡◌, ◌↔◌, ◌++◌, IfOk, List, None, OnOk, false, max, true};
 ghost use Rattle.ia_text.specs.Writing.{Wrote};
 ghost use Rattle.tm_model.specs.declared.outcome.Outcome.{Outcome};
 ghost use Rattle.tm_model.specs.declared.outcome.Pick.{Pick};
@@ -12,13 +12,14 @@ ghost use Rattle.elide_setup.specs.Shown.{shown_text};
 ghost use Rattle.elide_replay.specs.Printed.{IsPrinted, IsTold};
 ghost use Rattle.elide_replay.specs.Replayed.{IsBoardOf};
 ghost use Rattle.elide_setup.specs.Runs.{HasMade};
-ghost use Rattle.elide_replay.specs.Told.{agreement_text};
+ghost use Rattle.elide_replay.specs.Told.{agreement_object, agreement_text};
 ghost use Rattle.elide_why.specs.ElideSetup.Shown.{IsWhole};
 ghost use Rattle.elide_why.specs.TmHist.Board.{IsNew};
 ghost use Rattle.elide_why.specs.TmHist.Replay.{Replays};
 
 use crate::agreement::{Agreement, agreement_of};
 use elide_args::ReplayOptions;
+use elide_json::put_replay;
 use elide_places::Places;
 use elide_why::{
     Board, Course, Fault, Gathered, Paths, Progress, Refusal, RunFault, Serial, Setup, ShownMemory,
@@ -29,8 +30,10 @@ use std::alloc::{AllocError, Global};
 use tm_model::Pick;
 
 /// Runs a schedule on a board, and its history again on one memory; prints the aborts with their reasons where they are
-/// asked for, the state, what is asked for of memory, and whether both ended alike, which they always do: a board's history replays.
-/// Gives the device back.
+/// asked for, the state, what is asked for of memory, and whether both ended alike, which they always do: a board's history replays;
+/// as lines, or as one object (docs/JSON.md, "replay"), which has no reasons. Gives the device back.
+///
+/// [`Refusal::Usage`] of `--json`, where reasons are asked for too.
 pub fn replay<P: Paths, O: Out + Drop, G: Progress>(
     alloc: Global,
     options: &ReplayOptions<'_>,
@@ -42,6 +45,9 @@ pub fn replay<P: Paths, O: Out + Drop, G: Progress>(
     ensures printed { IfOk result (λ r. IsPrinted (P.content paths.old) (P.content paths.new) options.now
         (O.device out).contents (O.device r.1).contents) }
 {
+    if options.is_json && options.explains {
+        return Err(Refusal::Usage("--json"));
+    }
     let path = record_path(options.record, options.machine.file, paths)?;
     let (setup, course, places) = begun(alloc, options, paths)?;
     let board = board_of(alloc, &setup, &course, progress)?;
@@ -119,7 +125,7 @@ fn compared<P: Paths, O: Out + Drop, G: Progress>(
             progress,
         )?;
     }
-    let agreement = tell(board, &serial, memory, &mut page)?;
+    let agreement = tell_asked(alloc, options, setup, board, &serial, memory, &mut page)?;
     let out = page.finish()?;
     Ok((agreement, out))
 }
@@ -175,6 +181,56 @@ fn again(alloc: Global, board: &Board) -> Result<Serial, Refusal>
         Ok(serial) => Ok(serial),
         Err(fault) => Err(Refusal::Fault(Fault::Serial(fault))),
     }
+}
+
+// Prints what is asked for of both runs, as lines or as one object.
+fn tell_asked<O: Out>(
+    alloc: Global,
+    options: &ReplayOptions<'_>,
+    setup: &Setup,
+    board: &Board,
+    serial: &Serial,
+    memory: ShownMemory<'_>,
+    out: &mut O,
+) -> Result<Agreement, Refusal>
+    requires { IsWhole memory }
+    ensures agrees { IfOk result (λ agreement. agreement ≡ Agreement.Agrees ↔ Replays board.now serial.now) }
+    ensures lines { IfOk result (λ agreement. options.now.is_json ≡ false → Wrote (O.device out.old) (O.device out.new)
+        (shown_text board.now.machine memory.entry ++ agreement_text agreement)) }
+    ensures object { IfOk result (λ agreement. options.now.is_json ≡ true → Wrote (O.device out.old) (O.device out.new)
+        (agreement_object board.now.machine setup.now options.now agreement)) }
+{
+    if options.is_json {
+        tell_object(alloc, options, setup, board, serial, out)
+    } else {
+        tell(board, serial, memory, out)
+    }
+}
+
+// Prints both runs as one object.
+fn tell_object<O: Out>(
+    alloc: Global,
+    options: &ReplayOptions<'_>,
+    setup: &Setup,
+    board: &Board,
+    serial: &Serial,
+    out: &mut O,
+) -> Result<Agreement, Refusal>
+    ensures agrees { IfOk result (λ agreement. agreement ≡ Agreement.Agrees ↔ Replays board.now serial.now) }
+    ensures told { IfOk result (λ agreement. Wrote (O.device out.old) (O.device out.new)
+        (agreement_object board.now.machine setup.now options.now agreement)) }
+{
+    let agreement = agreement_of(board, serial);
+    put_replay(
+        alloc,
+        board.machine(),
+        &setup.parts,
+        options.machine.shows.as_slice(),
+        agreement.is_alike(),
+        agreement.status(),
+        out,
+    )?;
+    Ok(agreement)
 }
 
 // Prints the state, what is asked for of memory, and whether both runs ended alike.

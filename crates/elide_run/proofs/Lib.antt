@@ -1,3 +1,5 @@
+mod Ends
 mod Printed
+mod Rows
 mod Running
 mod Steps

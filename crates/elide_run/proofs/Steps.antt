@@ -11,7 +11,7 @@ use Rattle.tm_model.specs.declared.outcome.Pick.{Pick}
 use Rattle.elide_setup.specs.Walks.{Leads, PartsLead, steps_in}
 use Rattle.elide_run.specs.Printed.{outcome_lines, trace_text}
 
-same_device : (a b : Device) → b ≡ a → Wrote a b []
+pub same_device : (a b : Device) → b ≡ a → Wrote a b []
 same_device a b e = subst (λ (d : Device). Wrote a d []) (sym e) (wrote_none a)
 
 -- where the outcome of each is written

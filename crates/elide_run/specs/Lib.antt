@@ -1,2 +1,3 @@
 pub mod Halting
+pub mod Object
 pub mod Printed

@@ -35,8 +35,8 @@ pub fn ending_of<O: Out>(machine: &Machine, out: &mut O) -> Result<Ending, Refus
     Ok(ending)
 }
 
-// Whether a core that the machine has stopped.
-fn has_stopped(machine: &Machine, core: u8) -> bool
+/// Whether a core that the machine has stopped.
+pub fn has_stopped(machine: &Machine, core: u8) -> bool
     requires { core < length machine.now.views }
     ensures { result ≡ is_stopped machine.now core }
 {

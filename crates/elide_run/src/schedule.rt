@@ -1,16 +1,18 @@
 //! `elide run`.
 
-ghost use Rattle.std.specs.Prelude.{◌≡◌, ℕ, IfOk, List, false};
+ghost use Rattle.std.specs.Prelude.{◌≡◌, ℕ, IfOk, List, false, true};
 ghost use Rattle.ia_text.specs.Writing.{Wrote};
 ghost use Rattle.elide_setup.specs.Recorded.{IsRecorded};
 ghost use Rattle.elide_setup.specs.Runs.{AreMachineSteps, IsRunOf};
 ghost use Rattle.elide_setup.specs.Schedules.{AreOf, picks_made, picks_told, schedule_made};
 ghost use Rattle.tm_model.specs.declared.outcome.Outcome.{Outcome};
 ghost use Rattle.tm_model.specs.declared.outcome.Pick.{Pick};
+ghost use Rattle.elide_run.specs.Object.{IsObjectPrinted};
 ghost use Rattle.elide_run.specs.Printed.{IsPrinted, IsRunAsAsked, IsTold, outcome_lines, trace_text};
 
 use crate::explained::run_explained;
 use crate::halting::{Ending, ending_of};
+use crate::object::run_object;
 use crate::opening::machine_of;
 use elide_args::RunOptions;
 use elide_why::{
@@ -22,9 +24,31 @@ use std::alloc::Global;
 use tm_model::Pick;
 
 /// Runs a schedule of core steps, and prints the outcomes where they are asked for, the reasons of the aborts where these
-/// are, the state, and what is asked for of memory; and where it is expected that all cores stop, those that did not. Answers whether
-/// there is one then, and gives the device back.
+/// are, the state, and what is asked for of memory; and where it is expected that all cores stop, those that did not: as lines, or
+/// as one object (docs/JSON.md, "run"), which has no reasons. Answers whether there is one then, and gives the device back.
+///
+/// [`Refusal::Usage`] of `--json`, where reasons are asked for too.
 pub fn run<P: Paths, O: Out + Drop, G: Progress>(
+    alloc: Global,
+    options: &RunOptions<'_>,
+    paths: &mut P,
+    out: O,
+    progress: &mut G,
+) -> Result<(Ending, O), Refusal>
+    ensures lines { IfOk result (λ r. options.now.is_json ≡ false → IsPrinted (P.content paths.old) (P.content paths.new)
+        options.now r.0 (O.device out).contents (O.device r.1).contents) }
+    ensures object { IfOk result (λ r. options.now.is_json ≡ true → IsObjectPrinted (P.content paths.old)
+        (P.content paths.new) options.now r.0 (O.device out).contents (O.device r.1).contents) }
+{
+    if options.is_json {
+        run_object(alloc, options, paths, out, progress)
+    } else {
+        run_lines(alloc, options, paths, out, progress)
+    }
+}
+
+// The same as lines.
+fn run_lines<P: Paths, O: Out + Drop, G: Progress>(
     alloc: Global,
     options: &RunOptions<'_>,
     paths: &mut P,

@@ -1,9 +1,11 @@
 -- What `elide threads` prints (docs/FORMATS.md, "Printed lines"): the state of the machine that the workers' history
 -- made of FILE's program, and what is asked for of memory.
-use Rattle.std.specs.Prelude.{◌≡◌, ◌*◌, ℕ, false, List, [], ◌++◌, length, Option, Some, replicate}
+use Rattle.std.specs.Prelude.{◌≡◌, ◌*◌, ℕ, false, true, List, [], ◌++◌, length, Option, Some, replicate}
 use Rattle.std.specs.Io.KnownBytes.{Appends}
 use Rattle.std.specs.Option.{option_copied}
 use Rattle.elide_args.specs.declared.subcommand.ThreadsOptions.{ThreadsOptions}
+use Rattle.elide_json.specs.Objects.{threads_value}
+use Rattle.elide_object.specs.Object.{object_text}
 use Rattle.elide_setup.specs.ElideProgram.Settings.{number_said}
 use Rattle.elide_setup.specs.Setup.{IsAsked}
 use Rattle.elide_setup.specs.Shown.{IsShownOf, shown_text}
@@ -20,16 +22,24 @@ pub record IsWorked (setup : Setup) (budget : ℕ) (board : Board) : Type 0 wher
   pub steps : List ℕ
   pub report : IsReport first (replicate (length first.program.entries) budget) board steps
 
+-- the object of the state and of what is asked for of memory (docs/JSON.md, "threads")
+abbrev pub board_object : Board → Setup → ThreadsOptions → List ℕ
+board_object board setup options =
+    object_text (threads_value board.machine setup.parts options.machine.shows.items)
+
 -- the state, where no counts are asked for in its place, and above it the lines of aborts with their reasons,
--- where these are
+-- where these are; or with `--json`, which does not go with reasons, the object of the state
 pub record IsTold (options : ThreadsOptions) (setup : Setup) (board : Board) (before after : Option (List ℕ))
     : Type 0 where
   pub lines : List ℕ
   pub unexplained : options.explains ≡ false → lines ≡ []
   pub state :
-      options.counts ≡ false → (memory : ShownMemory)
+      options.counts ≡ false → options.is_json ≡ false → (memory : ShownMemory)
       × IsShownOf board.machine.memory setup.parts options.machine.shows.items memory
       × Appends before after (lines ++ shown_text board.machine memory)
+  pub object :
+      options.counts ≡ false → options.is_json ≡ true → options.explains ≡ false →
+      Appends before after (board_object board setup options)
 
 -- of a board that was worked on, of the options and of what FILE's content is read as
 pub record IsPrinted (content : List ℕ → Option (List ℕ)) (options : ThreadsOptions) (before after : Option (List ℕ))

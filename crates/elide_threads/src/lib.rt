@@ -2,7 +2,7 @@
 //!
 //! Promised: what is printed, where the device tells its bytes and no counts are asked for, is the state and what is asked for of
 //! memory, of a board of the options and of FILE's program that workers came back with, each with the budget of the options
-//! (`specs/Printed.antt`); that their history is a run of the machine is proved of `tm_work`. The texts of reasons and counts, and what
+//! (`specs/Printed.antt`), as lines or as one object; that their history is a run of the machine is proved of `tm_work`. The texts of reasons and counts, and what
 //! is recorded, are compared by `doc_tests`. Stands on `elide_setup` and `tm_work`.
 #![tactic(auto)]
 

@@ -1,6 +1,6 @@
 //! The workers of a command.
 
-ghost use Rattle.std.specs.Prelude.{◌≡◌, ◌*◌, ℕ, IfOk, List, MatchResult, None, Some, false, length, replicate};
+ghost use Rattle.std.specs.Prelude.{◌≡◌, ◌*◌, ℕ, IfOk, List, MatchResult, None, Some, false, length, replicate, true};
 ghost use Rattle.std.specs.Option.{option_copied};
 ghost use Rattle.ia_text.specs.Writing.{Wrote};
 ghost use Rattle.elide_setup.specs.ElideProgram.ProgramFile.{IsFile};
@@ -13,13 +13,14 @@ ghost use Rattle.elide_setup.specs.TmHist.Board.{IsNew, ShownBoard as Board};
 ghost use Rattle.elide_setup.specs.declared.machine.Setup.{Setup};
 ghost use Rattle.elide_setup.specs.declared.shown.ShownMemory.{ShownMemory};
 ghost use Rattle.elide_threads.specs.Burst.{burst_said};
-ghost use Rattle.elide_threads.specs.Printed.{IsPrinted, IsTold, IsWorked};
+ghost use Rattle.elide_threads.specs.Printed.{IsPrinted, IsTold, IsWorked, board_object};
 ghost use Rattle.tm_work.specs.Faults.{work_number};
 ghost use Rattle.tm_work.specs.Workers.{IsReport};
 
 use crate::record::Record;
 use crate::watch::Told;
 use elide_args::ThreadsOptions;
+use elide_json::put_threads;
 use elide_places::Places;
 use elide_setup::{
     Board, Fault, Gathered, Paths, ProgramFile, ProgramRefusal, Progress, Refusal, Settings, Setup,
@@ -39,8 +40,10 @@ const FIRST_SEED: u32 = 1;
 
 /// Runs each core on a thread of its own, writes the schedule that came about where it is asked for, and prints the aborts
 /// with their reasons where these are asked for, and then what the transactions came to, or where that is not asked for
-/// the state and what is asked for of memory. While the cores run, `progress` is told how many steps the history has. Gives the
-/// device back.
+/// the state and what is asked for of memory, as lines or as one object (docs/JSON.md, "threads"), which has no reasons. While the
+/// cores run, `progress` is told how many steps the history has. Gives the device back.
+///
+/// [`Refusal::Usage`] of `--json`, where reasons and no counts are asked for too.
 pub fn threads<R: Threads + Wait + Sync + AllocGlobal, P: Paths, O: Out + Drop, G: Progress + Send>(
     rt: &R,
     options: &ThreadsOptions<'_>,
@@ -51,7 +54,7 @@ pub fn threads<R: Threads + Wait + Sync + AllocGlobal, P: Paths, O: Out + Drop, 
     ensures { IfOk result (λ given. IsPrinted (P.content paths.old) options.now
         (O.device out).contents (O.device given).contents) }
 {
-    if options.is_json && !options.counts {
+    if options.is_json && !options.counts && options.explains {
         return Err(Refusal::Usage("--json"));
     }
     let settings = Settings::read(&options.machine)?;
@@ -219,7 +222,7 @@ fn tell_run<O: Out + Drop, G: Progress>(
     if options.counts {
         tell_counts(alloc, board, file, options.is_json, &mut page, progress)?;
     } else {
-        tell(board, setup, options.machine.shows.as_slice(), &mut page)?;
+        tell_asked(alloc, options, board, setup, &mut page)?;
     }
     Ok(page.finish()?)
 }
@@ -346,6 +349,28 @@ fn fault_of(fault: &WorkFault) -> Fault
     match fault {
         WorkFault::SpawnRefused(_, _) => Fault::SpawnRefused,
         WorkFault::NoMemory(_) => Fault::NoWorkers,
+    }
+}
+
+// Prints the state and what is asked for of memory, as lines or as one object.
+fn tell_asked<O: Out>(
+    alloc: Global,
+    options: &ThreadsOptions<'_>,
+    board: &Board,
+    setup: &Setup,
+    out: &mut O,
+) -> Result<(), Refusal>
+    ensures lines { IfOk result (λ _. options.now.is_json ≡ false → (memory : ShownMemory)
+        × IsShownOf board.now.machine.memory setup.now.parts options.now.machine.shows.items memory
+        × Wrote (O.device out.old) (O.device out.new) (shown_text board.now.machine memory)) }
+    ensures object { IfOk result (λ _. options.now.is_json ≡ true → Wrote (O.device out.old) (O.device out.new)
+        (board_object board.now setup.now options.now)) }
+{
+    let texts = options.machine.shows.as_slice();
+    if options.is_json {
+        put_threads(alloc, board.machine(), &setup.parts, texts, out)
+    } else {
+        tell(board, setup, texts, out)
     }
 }
 

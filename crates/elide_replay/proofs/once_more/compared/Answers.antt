@@ -1,4 +1,4 @@
-use Rattle.std.proofs.Common.{◌≡◌, ℕ, false, List, [], ◌++◌, refl, sym, ap, ◌∙◌, subst}
+use Rattle.std.proofs.Common.{◌≡◌, ℕ, false, List, [], ◌++◌, Option, refl, sym, ap, ◌∙◌, subst}
 use Rattle.std.specs.Io.KnownBytes.{Appends}
 use Rattle.ia_text.proofs.Writing.{appends_none}
 use Rattle.ia_text.specs.Writing.{Device}
@@ -6,7 +6,7 @@ use Rattle.elide_setup.specs.Gathering.{told}
 use Rattle.elide_setup.specs.Shown.{shown_text}
 use Rattle.elide_setup.specs.TmCore.Theorem.{ShownMachine as Machine}
 use Rattle.elide_setup.specs.declared.gathered.Gathered.{Gathered}
-use Rattle.elide_replay.specs.Told.{agreement_text}
+use Rattle.elide_replay.specs.Told.{agreement_object, agreement_text}
 use Rattle.elide_replay.specs.declared.agreement.Agreement.{Agreement}
 use Rattle.elide_replay.specs.declared.agreement.Agreement.TheVariants.{Agrees}
 use Rattle.elide_why.proofs.Passing.{both_passed_on}
@@ -32,8 +32,12 @@ returns-clause-told g c =
     let memory = c.in_ok-memory.memory in
     let is = c.in_ok-memory.ensures in
     let agrees : c.in_ok-agreement.agreement ≡ Agrees = c.in_ok-agreement.ensures.agrees.1 c.in_ok-serial.ensures in
-    let rest : Appends (held page).contents (held c.tell.new.out).contents (shown_text c.args.board.now.machine memory ++ agreement_text Agrees) =
-    subst (λ (a : Agreement). Appends (held page).contents (held c.tell.new.out).contents (shown_text c.args.board.now.machine memory ++ agreement_text a)) agrees c.in_ok-agreement.ensures.told.bytes in
+    let page-end : Option (List ℕ) = (held c.tell_asked.new.out).contents in
+    let last : Option (List ℕ) = (g.O.Out.device c.in_ok-out.out).contents in
+    let passed : (text : List ℕ) → Appends (held page).contents page-end text → Appends (g.O.Out.device c.args.out).contents last (above.0 ++ text) =
+    λ text told. both_passed_on (g.O.Out.device c.args.out).contents (held begun).contents (held page).contents page-end last above.0 text
+    c.new-page.ensures.kept above.2 told c.in_ok-out.ensures.kept in
+    let machine = c.args.board.now.machine in
     record {
       law = c.is_run.ensures;
       lines = above.0;
@@ -46,6 +50,9 @@ returns-clause-told g c =
         values = is.values;
         whole = is.whole;
       };
-      wrote = both_passed_on (g.O.Out.device c.args.out).contents (held begun).contents (held page).contents (held c.tell.new.out).contents (g.O.Out.device c.in_ok-out.out).contents above.0 _
-          c.new-page.ensures.kept above.2 rest c.in_ok-out.ensures.kept;
+      wrote = λ no. passed _ (subst (λ (a : Agreement). Appends (held page).contents page-end (shown_text machine memory ++ agreement_text a)) agrees
+          (c.in_ok-agreement.ensures.lines no).bytes);
+      object = λ is plain. subst (λ (lines : List ℕ). Appends (g.O.Out.device c.args.out).contents last (lines ++ agreement_object machine c.args.setup.now c.args.options.now Agrees)) (above.1 plain)
+          (passed _ (subst (λ (a : Agreement). Appends (held page).contents page-end (agreement_object machine c.args.setup.now c.args.options.now a)) agrees
+          (c.in_ok-agreement.ensures.object is).bytes));
     }

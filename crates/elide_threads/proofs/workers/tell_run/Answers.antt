@@ -6,7 +6,8 @@ use Rattle.elide_setup.specs.Gathering.{told}
 use Rattle.elide_setup.specs.Shown.{shown_text}
 use Rattle.elide_setup.specs.declared.gathered.Gathered.{Gathered}
 use Rattle.elide_why.proofs.Passing.{both_passed_on}
-use Rattle.elide_threads.proofs.workers.tell_run.Goals.{in-Some+in_ok-tell_history, in_default, then-options+in_ok-tell_counts, else-options+in_ok-tell}
+use Rattle.elide_threads.specs.Printed.{board_object}
+use Rattle.elide_threads.proofs.workers.tell_run.Goals.{in-Some+in_ok-tell_history, in_default, then-options+in_ok-tell_counts, else-options+in_ok-tell_asked}
 use Rattle.elide_threads.proofs.workers.tell_run.Goals as goal
 
 pub returns : goal.returns
@@ -26,17 +27,29 @@ returns g c =
       | in_default w ↦
           ([], (λ e. refl), subst (λ (m : Gathered g.row.O.Denot). Appends (held begun).contents (held m).contents []) (sym w.page-is) (appends_none (held begun).contents))
     ] in
+    let passed : (text : List ℕ) → Appends (held page).contents (held last).contents text →
+    Appends (g.O.Out.device c.args.out).contents (g.O.Out.device c.in_ok-finish.field-0).contents (above.0 ++ text) =
+    λ text told. both_passed_on (g.O.Out.device c.args.out).contents (held begun).contents (held page).contents (held last).contents
+    (g.O.Out.device c.in_ok-finish.field-0).contents above.0 text c.new-page.ensures.kept above.2 told c.in_ok-finish.ensures.kept in
     record {
       lines = above.0;
       unexplained = above.1;
-      state = λ e. elim c.if-options.branch [
+      state = λ e no. elim c.if-options.branch [
         | then-options+in_ok-tell_counts w ↦ let counts = w.if-options.true in cc
-        | else-options+in_ok-tell w ↦
-            let t = w.in_ok-tell.ensures in (
+        | else-options+in_ok-tell_asked w ↦
+            let t = w.in_ok-tell_asked.ensures.lines no in (
               t.0,
-              record { bytes = t.1.bytes; dumps = t.1.dumps; sums = t.1.sums ∙ w.as_slice.ensures.value; values = t.1.values; whole = t.1.whole },
-              both_passed_on (g.O.Out.device c.args.out).contents (held begun).contents (held page).contents (held last).contents (g.O.Out.device c.in_ok-finish.field-0).contents above.0 (shown_text c.args.board.now.machine t.0)
-                  c.new-page.ensures.kept above.2 (subst (λ (m : Gathered g.row.O.Denot). Appends (held page).contents (held m).contents (shown_text c.args.board.now.machine t.0)) (sym w.page-is) t.2.bytes) c.in_ok-finish.ensures.kept,
+              t.1,
+              passed (shown_text c.args.board.now.machine t.0)
+                  (subst (λ (m : Gathered g.row.O.Denot). Appends (held page).contents (held m).contents (shown_text c.args.board.now.machine t.0)) (sym w.page-is) t.2.bytes),
             )
+      ];
+      object = λ e is plain. elim c.if-options.branch [
+        | then-options+in_ok-tell_counts w ↦ let counts = w.if-options.true in cc
+        | else-options+in_ok-tell_asked w ↦
+            let text = board_object c.args.board.now c.args.setup.now c.args.options.now in
+            subst (λ (lines : List ℕ). Appends (g.O.Out.device c.args.out).contents (g.O.Out.device c.in_ok-finish.field-0).contents (lines ++ text)) (above.1 plain)
+            (passed text (subst (λ (m : Gathered g.row.O.Denot). Appends (held page).contents (held m).contents text) (sym w.page-is)
+            (w.in_ok-tell_asked.ensures.object is).bytes))
       ];
     }

@@ -7,8 +7,8 @@ use Rattle.elide_setup.specs.declared.machine.Setup.{Setup}
 use Rattle.elide_run.specs.Printed.{IsPrinted, IsRunAsAsked, IsTold}
 use Rattle.elide_run.specs.declared.halting.Ending.{Ending}
 use Rattle.elide_run.proofs.Printed.{kept_before}
-use Rattle.elide_run.proofs.schedule.run.Goals.{then-options+in_ok-run_explained, else-options+in_ok-setup}
-use Rattle.elide_run.proofs.schedule.run.Goals as goal
+use Rattle.elide_run.proofs.schedule.run_lines.Goals.{then-options+in_ok-run_explained, else-options+in_ok-setup}
+use Rattle.elide_run.proofs.schedule.run_lines.Goals as goal
 
 pub returns : goal.returns
 returns g c =

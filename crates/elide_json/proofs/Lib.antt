@@ -1,0 +1,4 @@
+mod Floats
+mod Lists
+pub mod RunTexts
+mod Same

@@ -1,0 +1,7 @@
+pub mod Cores
+pub mod Memory
+pub mod Objects
+pub mod Outcomes
+pub mod Sent
+pub mod Shown
+pub mod Words

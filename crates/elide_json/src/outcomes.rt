@@ -1,0 +1,97 @@
+//! The beginning of a run's object: the outcomes of its steps, written as they are made.
+
+ghost use Rattle.std.specs.Prelude.{◌≡◌, ◌++◌, IfOk, OnOk, codes, if◌then◌else◌, string_bytes};
+ghost use Rattle.ia_text.specs.Writing.{Wrote};
+ghost use Rattle.serde_json.specs.Events.{SendsValue};
+ghost use Rattle.serde_json.specs.Written.{comma_if, compact_text};
+ghost use Rattle.elide_json.specs.Outcomes.{outcome_value, row_text, run_front};
+
+use crate::text::text_of;
+use crate::words::{
+    event_of, name_of_outcome, send_optional, send_word, status_of, stop_of_outcome,
+};
+use elide_object::{send_number, send_text};
+use elide_setup::Refusal;
+use ia_text::Out;
+use serde::{Described, Serialize, Serializer};
+use std::alloc::{AllocError, Global};
+use tm_model::Outcome;
+
+// What a step of a core was.
+#[derive(Clone, Copy)]
+struct OutcomeRow {
+    core: u8,
+    outcome: Outcome,
+}
+
+impl Described for OutcomeRow {
+    ghost writes = { λ row. SendsValue (outcome_value row.core row.outcome) };
+}
+
+impl Serialize for OutcomeRow {
+    fn serialize<S: Serializer>(&self, out: &mut S) -> Result<(), S::Error> {
+        let outcome = self.outcome;
+        out.begin_map(Some(5))?;
+        send_number("core", u64::from(self.core), out)?;
+        send_text("outcome", name_of_outcome(outcome), out)?;
+        send_word("stop", stop_of_outcome(outcome), out)?;
+        send_optional("status", status_of(outcome), out)?;
+        send_word("event", event_of(outcome), out)?;
+        out.end_map()
+    }
+}
+
+/// Writes what stands before the outcomes, which are a list where they are asked for, and null where they are not.
+pub fn put_front<O: Out>(traces: bool, out: &mut O) -> Result<(), Refusal>
+    ensures { OnOk result (Wrote (O.device out.old) (O.device out.new) (run_front traces)) }
+{
+    put(b"{\"format\":1,\"command\":\"run\",\"outcomes\":", out)?;
+    put(opening(traces), out)
+}
+
+fn opening(traces: bool) -> &'static [u8]
+    ensures { result.now ≡ (if traces then codes "[" else codes "null") }
+{
+    if traces { b"[" } else { b"null" }
+}
+
+/// Writes the outcome of a step of a core, behind a comma where others stand before it.
+pub fn put_outcome<O: Out>(
+    alloc: Global,
+    is_later: bool,
+    core: u8,
+    outcome: Outcome,
+    out: &mut O,
+) -> Result<(), Refusal>
+    ensures { OnOk result (Wrote (O.device out.old) (O.device out.new) (row_text is_later core outcome)) }
+{
+    let text = text_of_row(alloc, OutcomeRow { core, outcome })?;
+    put_row(is_later, text.as_bytes(), out)
+}
+
+fn text_of_row(alloc: Global, row: OutcomeRow) -> Result<String, AllocError>
+    ensures { IfOk result (λ text. string_bytes text ≡ compact_text (outcome_value row.core row.outcome)) }
+{
+    text_of(alloc, &row)
+}
+
+fn put_row<O: Out>(is_later: bool, text: &[u8], out: &mut O) -> Result<(), Refusal>
+    ensures { OnOk result (Wrote (O.device out.old) (O.device out.new) (comma_if is_later ++ text.now)) }
+{
+    put(comma(is_later), out)?;
+    put(text, out)
+}
+
+fn comma(is_later: bool) -> &'static [u8]
+    ensures { result.now ≡ comma_if is_later }
+{
+    if is_later { b"," } else { b"" }
+}
+
+/// Writes bytes.
+pub fn put<O: Out>(bytes: &[u8], out: &mut O) -> Result<(), Refusal>
+    ensures { OnOk result (Wrote (O.device out.old) (O.device out.new) bytes.now) }
+{
+    out.put(bytes)?;
+    Ok(())
+}

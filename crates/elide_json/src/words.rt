@@ -1,0 +1,150 @@
+//! Words, and members whose value may be missing.
+
+ghost use Rattle.std.specs.Prelude.{◌≡◌, OnOk, option_map};
+ghost use Rattle.std.specs.Option.{option_copied};
+ghost use Rattle.elide_object.specs.Object.{SendsMember};
+ghost use Rattle.elide_json.specs.Words.{number_or_null, outcome_event, outcome_name, outcome_status, outcome_stop};
+ghost use Rattle.elide_json.specs.Words.{state_depth, state_name, state_stop, word_or_null};
+ghost use Rattle.tm_hist.specs.Lines.{interference_word, stop_word};
+
+use serde::Serializer;
+use tm_model::{CoreState, Interference, Outcome};
+use tm_rule::Stop;
+
+/// Sends a word, or null.
+pub fn send_word<S: Serializer>(
+    name: &str,
+    word: Option<&'static str>,
+    out: &mut S,
+) -> Result<(), S::Error>
+    ensures { OnOk result (SendsMember name.now (word_or_null (option_copied word.entry)) (S.written out.old) (S.written out.new)) }
+{
+    out.key(name)?;
+    match word {
+        Some(word) => out.str(word),
+        None => out.unit(),
+    }
+}
+
+/// Sends a number, or null.
+pub fn send_optional<S: Serializer>(
+    name: &str,
+    number: Option<u32>,
+    out: &mut S,
+) -> Result<(), S::Error>
+    ensures { OnOk result (SendsMember name.now (number_or_null number) (S.written out.old) (S.written out.new)) }
+{
+    out.key(name)?;
+    match number {
+        Some(number) => out.u64(u64::from(number)),
+        None => out.unit(),
+    }
+}
+
+/// What a core is doing.
+pub fn name_of_state(state: CoreState) -> &'static str
+    ensures { result.now ≡ state_name state }
+{
+    match state {
+        CoreState::Running => "run",
+        CoreState::Mid => "mid",
+        CoreState::Open(_) => "tx",
+        CoreState::Condemned(_) => "condemned",
+        CoreState::Stopped(_) => "stop",
+    }
+}
+
+/// How deep its transaction is, and 0 where it has none.
+pub fn depth_of(state: CoreState) -> u8
+    ensures { result ≡ state_depth state }
+{
+    match state {
+        CoreState::Open(depth) => depth,
+        CoreState::Condemned(depth) => depth,
+        _ => 0,
+    }
+}
+
+/// Why it has stopped, where it has.
+pub fn stop_of_state(state: CoreState) -> Option<&'static str>
+    ensures { option_copied result ≡ state_stop state }
+{
+    match state {
+        CoreState::Stopped(stop) => Some(stop_text(stop)),
+        _ => None,
+    }
+}
+
+/// What a step was.
+pub fn name_of_outcome(outcome: Outcome) -> &'static str
+    ensures { result.now ≡ outcome_name outcome }
+{
+    match outcome {
+        Outcome::Plain => "plain",
+        Outcome::Loaded => "loaded",
+        Outcome::Stopped(_) => "stopped",
+        Outcome::Idle => "idle",
+        Outcome::Begun => "begun",
+        Outcome::Inside => "inside",
+        Outcome::Committed => "committed",
+        Outcome::Aborted(_) => "aborted",
+        Outcome::AbortedBy(_, _) => "aborted",
+    }
+}
+
+/// Why a core stopped at a step, where it did.
+pub fn stop_of_outcome(outcome: Outcome) -> Option<&'static str>
+    ensures { option_copied result ≡ outcome_stop outcome }
+{
+    match outcome {
+        Outcome::Stopped(stop) => Some(stop_text(stop)),
+        _ => None,
+    }
+}
+
+/// The status of an abort, where a step was one.
+pub fn status_of(outcome: Outcome) -> Option<u32>
+    ensures { result ≡ outcome_status outcome }
+{
+    match outcome {
+        Outcome::Aborted(status) => Some(status),
+        Outcome::AbortedBy(_, status) => Some(status),
+        _ => None,
+    }
+}
+
+/// What aborted a transaction from outside of the program, where a step was that.
+pub fn event_of(outcome: Outcome) -> Option<&'static str>
+    ensures { option_copied result ≡ outcome_event outcome }
+{
+    match outcome {
+        Outcome::AbortedBy(interference, _) => Some(event_text(interference)),
+        _ => None,
+    }
+}
+
+fn event_text(interference: Interference) -> &'static str
+    ensures { result.now ≡ interference_word interference }
+{
+    match interference {
+        Interference::Interrupt => "interrupt",
+        Interference::Eviction => "eviction",
+        Interference::Snoop => "snoop",
+    }
+}
+
+fn stop_text(stop: Stop) -> &'static str
+    ensures { result.now ≡ stop_word stop }
+{
+    match stop {
+        Stop::Divide => "#DE",
+        Stop::Breakpoint => "#BP",
+        Stop::Undefined => "#UD",
+        Stop::Protection => "#GP",
+        Stop::Halt => "HLT",
+        Stop::Range => "range",
+        Stop::CodeStore => "code-store",
+        Stop::Fetch => "fetch",
+        Stop::NotInSubset => "not-in-subset",
+    }
+}

@@ -1,0 +1,54 @@
+use Rattle.std.proofs.Common.{◌∙◌, ◌++◌, ℕ, List, Option, append_assoc, subst}
+use Rattle.std.proofs.lemmas.Result.{IfOk-weaker}
+use Rattle.std.specs.Borrow.{Bor}
+use Rattle.std.specs.Io.KnownBytes.{Appends}
+use Rattle.ia_text.proofs.Writing.{appends_then}
+use Rattle.elide_json.proofs.RunTexts.{run_text}
+use Rattle.elide_json.specs.Outcomes.{run_back, run_front, run_rows}
+use Rattle.elide_setup.proofs.Records.{recorded_asked}
+use Rattle.elide_setup.proofs.Schedules.{asked_before}
+use Rattle.elide_setup.specs.Gathering.{told}
+use Rattle.elide_setup.specs.Recorded.{IsRecorded}
+use Rattle.elide_setup.specs.Schedules.{picks_made, picks_told, schedule_made}
+use Rattle.elide_setup.specs.Setup.{IsAsked}
+use Rattle.elide_setup.specs.declared.gathered.Gathered.{Gathered}
+use Rattle.elide_why.proofs.Passing.{kept_first}
+use Rattle.elide_run.specs.Object.{IsEnd, IsObjectPrinted, end_members}
+use Rattle.elide_run.specs.declared.halting.Ending.{Ending}
+use Rattle.elide_run.proofs.object.run_object.Goals as goal
+
+pub returns : goal.returns
+returns g c =
+    let content : List ℕ → Option (List ℕ) = g.P.Paths.content c.args.paths.now in
+    let left : List ℕ → Option (List ℕ) = g.P.Paths.content c.stepped-made.new.paths in
+    let held : Gathered g.row.O.Denot → Option (List ℕ) = λ m. told (g.O.Out.device m.out).contents (g.O.Out.device m.before.value).contents m.failures m.row.items in
+    let options = c.args.options.now in
+    let setup = c.in_ok-setup.setup in
+    let machine = c.in_ok-machine.machine in
+    let made = c.in_ok-machine.ensures in
+    let first : Option (List ℕ) = (g.O.Out.device c.args.out).contents in
+    let begun : Option (List ℕ) = held c.new-page.result in
+    let between : Option (List ℕ) = held c.in_ok-machine.page in
+    let above : List ℕ = run_front options.traces ++ run_rows options.traces made.0 in
+    IfOk-weaker c.tell_end-told.result
+    (λ (r : Ending × g.row.O.Denot). IsEnd options setup machine r.0 between (g.O.Out.device r.1).contents)
+    (λ (r : Ending × g.row.O.Denot). IsObjectPrinted content left options r.0 first (g.O.Out.device r.1).contents)
+    (λ r end.
+    let last : Option (List ℕ) = (g.O.Out.device r.1).contents in
+    let others = end_members options setup machine r.0 in
+    let back = run_back options.traces others in
+    record {
+      setup = setup;
+      asked = subst (λ (text : Option (List ℕ)). IsAsked text options.machine setup) (c.record_path.ensures.kept options.machine.file.now) c.in_ok-setup.ensures.setup;
+      made = made.0;
+      steps = asked_before content (g.P.Paths.content c.record_path.new.paths) options.schedule (picks_made made.0) c.record_path.ensures.kept (c.in_ok-setup.ensures.course (picks_made made.0) made.1);
+      machine = machine;
+      ran = made.2;
+      recorded = recorded_asked left options.record options.schedule c.in_ok-setup.course made.0 c.in_ok-setup.ensures.listed made.1
+          (subst (λ (path : Option (Bor (List ℕ))). IsRecorded left path (schedule_made c.in_ok-setup.course (picks_told made.0))) c.in_ok-path.ensures.given made.4);
+      came_to = end.came_to;
+      wrote = subst (λ (text : List ℕ). Appends first last text)
+          (append_assoc (run_front options.traces) (run_rows options.traces made.0) back ∙ run_text options.traces made.0 _ _ _)
+          (kept_first first begun last (above ++ back) c.new-page.ensures.kept (appends_then begun between last above back made.3.bytes end.wrote));
+    })
+    c.tell_end-told.ensures

@@ -1,0 +1,245 @@
+//! Runs that are printed as one object. Its outcomes are written as they are made, so that no memory grows with the run.
+
+ghost use Rattle.std.specs.Prelude.{◌≡◌, ◌≤◌, ◌<◌, ◌+◌, ◌++◌, [], ◌∷◌, cond, false, not, true, IfOk, List, OnOk, if◌then◌else◌};
+ghost use Rattle.std.specs.Option.{option_copied};
+ghost use Rattle.arrayvec.specs.ArrayVec.{array_vec_len};
+ghost use Rattle.ia_text.specs.Writing.{Wrote};
+ghost use Rattle.elide_json.specs.Objects.{run_members};
+ghost use Rattle.elide_json.specs.Outcomes.{later_behind, rows_text, run_back, run_front, run_rows};
+ghost use Rattle.elide_setup.specs.Recorded.{IsRecorded};
+ghost use Rattle.elide_setup.specs.Runs.{AreMachineSteps, IsRunOf};
+ghost use Rattle.elide_setup.specs.Schedules.{AreOf, picks_made, picks_told, schedule_made};
+ghost use Rattle.tm_model.specs.declared.outcome.Outcome.{Outcome};
+ghost use Rattle.tm_model.specs.declared.outcome.Pick.{Pick};
+ghost use Rattle.elide_run.specs.Object.{IsEnd, IsObjectPrinted, asked_running, cores_ending, ending_status};
+ghost use Rattle.elide_run.specs.Object.{running_cores};
+
+use crate::halting::{Ending, has_stopped};
+use crate::opening::machine_of;
+use arrayvec::ArrayVec;
+use elide_args::RunOptions;
+use elide_json::{put_back, put_front, put_outcome};
+use elide_why::{
+    Course, Gathered, Machine, Outcome, Paths, Progress, Refusal, Setup, StepMaker, record_path,
+    scheduled,
+};
+use ia_text::Out;
+use std::alloc::Global;
+use tm_model::Pick;
+
+// The numbers of cores.
+type Cores = ArrayVec<u32, 64>;
+
+/// Runs a schedule of core steps, and prints the object of the run. Answers whether a core has not stopped, where all are expected
+/// to, and gives the device back.
+///
+/// [`Refusal::Usage`] of `--json`, where the reasons of the aborts are asked for.
+pub fn run_object<P: Paths, O: Out + Drop, G: Progress>(
+    alloc: Global,
+    options: &RunOptions<'_>,
+    paths: &mut P,
+    out: O,
+    progress: &mut G,
+) -> Result<(Ending, O), Refusal>
+    ensures { IfOk result (λ r. IsObjectPrinted (P.content paths.old) (P.content paths.new) options.now r.0
+        (O.device out).contents (O.device r.1).contents) }
+{
+    if options.explains {
+        return Err(Refusal::Usage("--json"));
+    }
+    let path = record_path(options.record, options.machine.file, paths)?;
+    let (setup, course) = scheduled(alloc, &options.machine, &options.schedule, paths)?;
+    let page = Gathered::new(out);
+    let made = stepped(
+        alloc,
+        options.traces,
+        &setup,
+        &course,
+        path,
+        paths,
+        page,
+        progress,
+    );
+    drop(course);
+    let (machine, page) = made?;
+    let told = tell_end(alloc, &machine, &setup, options, page);
+    drop(machine);
+    drop(setup);
+    told
+}
+
+// The machine behind a run's steps, whose outcomes are written where they are asked for.
+fn stepped<P: Paths, O: Out + Drop, G: Progress>(
+    alloc: Global,
+    traces: bool,
+    setup: &Setup,
+    course: &Course,
+    path: Option<&str>,
+    paths: &mut P,
+    page: Gathered<O>,
+    progress: &mut G,
+) -> Result<(Machine, Gathered<O>), Refusal>
+    ensures { IfOk result (λ r. (made : List (Pick × Outcome)) × AreOf course.now (picks_made made)
+        × IsRunOf setup.now.program setup.now.limits made r.0
+        × Wrote (⟦<Gathered<O> as Out>⟧.device page) (⟦<Gathered<O> as Out>⟧.device r.1)
+        (run_front traces ++ run_rows traces made)
+        × IsRecorded (P.content paths.new) path.entry (schedule_made course.now (picks_told made))) }
+{
+    let mut machine = machine_of(alloc, setup, course)?;
+    let cores = machine.cores();
+    let page = begun(traces, page)?;
+    if !traces {
+        course.walk_recorded(alloc, cores, path, &mut machine, paths, progress)?;
+        return Ok((machine, page));
+    }
+    let mut sending = Sending {
+        alloc,
+        machine,
+        page,
+        is_later: false,
+    };
+    course.walk_recorded(alloc, cores, path, &mut sending, paths, progress)?;
+    let Sending { machine, page, .. } = sending;
+    Ok((machine, page))
+}
+
+// What stands before the outcomes is written.
+fn begun<O: Out + Drop>(traces: bool, page: Gathered<O>) -> Result<Gathered<O>, Refusal>
+    ensures { IfOk result (λ begun. Wrote (⟦<Gathered<O> as Out>⟧.device page) (⟦<Gathered<O> as Out>⟧.device begun)
+        (run_front traces)) }
+{
+    let mut page = page;
+    put_front(traces, &mut page)?;
+    Ok(page)
+}
+
+// A machine whose outcomes are written.
+#[derive(Drop)]
+struct Sending<O> {
+    alloc: Global,
+    machine: Machine,
+    page: Gathered<O>,
+    // Whether one was.
+    is_later: bool,
+}
+
+impl<O: Out> StepMaker for Sending<O> {
+    ghost takes = { λ before steps after. AreMachineSteps before.machine steps after.machine
+        × Wrote (⟦<Gathered<O> as Out>⟧.device before.page) (⟦<Gathered<O> as Out>⟧.device after.page)
+        (rows_text before.is_later steps)
+        × (after.is_later ≡ later_behind before.is_later steps) };
+
+    fn make_step(&mut self, pick: Pick) -> Result<Outcome, Refusal> {
+        let outcome = self.machine.make_step(pick)?;
+        put_outcome(
+            self.alloc,
+            self.is_later,
+            pick.core,
+            outcome,
+            &mut self.page,
+        )?;
+        self.is_later = true;
+        Ok(outcome)
+    }
+}
+
+// Writes what stands behind the outcomes, and hands the text on.
+fn tell_end<O: Out + Drop>(
+    alloc: Global,
+    machine: &Machine,
+    setup: &Setup,
+    options: &RunOptions<'_>,
+    page: Gathered<O>,
+) -> Result<(Ending, O), Refusal>
+    ensures { IfOk result (λ r. IsEnd options.now setup.now machine.now r.0
+        (⟦<Gathered<O> as Out>⟧.device page).contents (O.device r.1).contents) }
+{
+    let mut page = page;
+    let cores = running_of(machine);
+    let ending = ending_of_cores(options.expects_halt, cores.as_slice());
+    put_end(
+        alloc,
+        machine,
+        setup,
+        options,
+        cores.as_slice(),
+        status_of(ending),
+        &mut page,
+    )?;
+    let out = page.finish()?;
+    Ok((ending, out))
+}
+
+fn put_end<O: Out>(
+    alloc: Global,
+    machine: &Machine,
+    setup: &Setup,
+    options: &RunOptions<'_>,
+    cores: &[u32],
+    status: u8,
+    out: &mut O,
+) -> Result<(), Refusal>
+    ensures { OnOk result (Wrote (O.device out.old) (O.device out.new) (run_back options.now.traces
+        (run_members machine.now setup.now.parts options.now.machine.shows.items
+        (asked_running options.now.expects_halt cores.now) status))) }
+{
+    put_back(
+        alloc,
+        options.traces,
+        machine,
+        &setup.parts,
+        options.machine.shows.as_slice(),
+        asked_cores(options.expects_halt, cores),
+        status,
+        out,
+    )
+}
+
+// Those that are told, where they are asked for.
+fn asked_cores(expects_halt: bool, cores: &[u32]) -> Option<&[u32]>
+    ensures { option_copied result ≡ asked_running expects_halt cores.now }
+{
+    if expects_halt { Some(cores) } else { None }
+}
+
+// The numbers of the cores that have not stopped.
+fn running_of(machine: &Machine) -> Cores
+    ensures { result.items ≡ running_cores machine.now }
+{
+    let mut cores = Cores::new();
+    for core in 0..machine.cores() {
+        push_running(&mut cores, core, has_stopped(machine, core));
+    }
+    cores
+}
+
+// Adds a core, unless it has stopped.
+fn push_running(cores: &mut Cores, core: u8, has_stopped: bool)
+    requires { array_vec_len cores.old < 64 }
+    ensures cores { cores.new.items ≡ cores.old.items ++ cond (not has_stopped) (core ∷ []) [] }
+    ensures len { array_vec_len cores.new ≤ array_vec_len cores.old + 1 }
+{
+    if !has_stopped {
+        cores.push(u32::from(core));
+    }
+}
+
+fn ending_of_cores(expects_halt: bool, cores: &[u32]) -> Ending
+    ensures { result ≡ (if expects_halt then cores_ending cores.now else Ending.AsAsked) }
+{
+    if expects_halt && !cores.is_empty() {
+        Ending::RunsOn
+    } else {
+        Ending::AsAsked
+    }
+}
+
+// The exit status.
+fn status_of(ending: Ending) -> u8
+    ensures { result ≡ ending_status ending }
+{
+    match ending {
+        Ending::AsAsked => 0,
+        Ending::RunsOn => 3,
+    }
+}
