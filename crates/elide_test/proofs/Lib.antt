@@ -1,0 +1,4 @@
+pub mod Objects
+pub mod TapTexts
+pub mod Texts
+pub mod Zips

@@ -1,0 +1,15 @@
+use Rattle.std.proofs.Common.{ℕ, List, Option}
+use Rattle.elide_setup.specs.Gathering.{told}
+use Rattle.elide_setup.specs.declared.gathered.Gathered.{Gathered}
+use Rattle.elide_test.proofs.Texts.{passed_on}
+use Rattle.elide_test.specs.Tap.{tap_text}
+use Rattle.elide_test.proofs.telling.put_lines.Goals as goal
+
+pub returns : goal.returns
+returns g c =
+    let files = c.args.files.now in
+    let held : Gathered g.row.O.Denot → Option (List ℕ) = λ m. told (g.O.Out.device m.out).contents
+    (g.O.Out.device m.before.value).contents m.failures m.row.items in
+    passed_on (g.O.Out.device c.args.out).contents (held c.new-page.result) (held c.tell_files.new.out)
+    (g.O.Out.device c.in_ok-out.out).contents (tap_text files) c.new-page.ensures.kept
+    c.in_ok-tell_files.ensures.bytes c.in_ok-out.ensures.kept

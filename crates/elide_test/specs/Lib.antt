@@ -1,0 +1,6 @@
+pub mod Answers
+pub mod Folder
+pub mod Object
+pub mod Printed
+pub mod Tap
+pub mod Tried

@@ -1,0 +1,95 @@
+//! Why nothing more is tried.
+
+ghost use Rattle.std.specs.Prelude.{◌≡◌, ◌+◌, ◌≤◌, ◌++◌, ℕ, List};
+ghost use Rattle.arrayvec.specs.ArrayVec.{array_vec_len};
+
+use crate::report::FileReport;
+use crate::stop::Stop;
+use crate::tap::tell_until;
+use arrayvec::{ArrayString, ArrayVec};
+use elide_program::ProgramFault;
+use elide_setup::{Fault, Gathered, Refusal, push_back, push_front};
+use ia_image::LoadFault;
+use ia_text::page::push;
+use ia_text::{Out, WriteFault};
+use std::fmt::Write;
+
+// The line that tells a fault.
+type Line = ArrayVec<u8, 160>;
+
+// A fault's name. The longest has some 20 bytes.
+type Name = ArrayString<64>;
+
+impl From<Stop> for Refusal {
+    fn from(stop: Stop) -> Refusal {
+        Refusal::Fault(fault_of(stop))
+    }
+}
+
+/// Tells, where JSON is not asked for, the files that were tried and why the next was not, and gives the refusal.
+pub fn refused<O: Out + Drop>(
+    is_json: bool,
+    names: &[String],
+    files: &[FileReport],
+    stop: Stop,
+    out: O,
+) -> Refusal {
+    let fault = fault_of(stop);
+    if is_json {
+        return Refusal::Fault(fault);
+    }
+    let name = match names.get(files.len()) {
+        Some(name) => name.as_str(),
+        None => "",
+    };
+    match bail_out(files, name, fault, out) {
+        Ok(()) => Refusal::Fault(fault),
+        Err(refusal) => refusal,
+    }
+}
+
+// The fault of a file that is not tried.
+fn fault_of(stop: Stop) -> Fault {
+    match stop {
+        Stop::Unread(fault) => Fault::Program(ProgramFault::from(fault)),
+        Stop::BadTest(line) => Fault::BadTest(line),
+        Stop::NoMemory => Fault::Program(ProgramFault::Load(LoadFault::NoMemory)),
+    }
+}
+
+// Tells files, and that the next cannot be tried.
+fn bail_out<O: Out + Drop>(
+    files: &[FileReport],
+    name: &str,
+    fault: Fault,
+    out: O,
+) -> Result<(), Refusal> {
+    let mut page = Gathered::new(out);
+    tell_until(files, &mut page)?;
+    tell_bail(name, fault, &mut page)?;
+    page.finish()?;
+    Ok(())
+}
+
+// `Bail out!`, the file, and the line that tells the fault.
+fn tell_bail<O: Out>(name: &str, fault: Fault, out: &mut O) -> Result<(), WriteFault> {
+    let mut line = Line::new();
+    push_front(&mut line, fault);
+    push_name(&mut line, fault);
+    push_back(&mut line, fault);
+    out.put(b"Bail out! ")?;
+    out.put(name.as_bytes())?;
+    out.put(b": ")?;
+    out.put(line.as_slice())?;
+    Ok(())
+}
+
+fn push_name(line: &mut Line, fault: Fault)
+    requires { array_vec_len line.old + 64 ≤ 160 }
+    ensures { array_vec_len line.new ≤ array_vec_len line.old + 64 }
+{
+    let mut name = Name::new();
+    // A name that is longer is cut short.
+    let _ = write!(name, "{fault}");
+    push(line, name.as_str().as_bytes());
+}

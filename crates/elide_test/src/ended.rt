@@ -1,0 +1,10 @@
+//! What a command came to.
+
+/// How a command ended, and what it printed.
+#[derive(Drop)]
+pub struct Ended {
+    /// The exit status, 0 to 3.
+    pub status: u8,
+    /// What it printed on standard output.
+    pub output: Vec<u8>,
+}

@@ -1,0 +1,82 @@
+//! Whether a test passed, and what differed.
+
+ghost use Rattle.std.specs.Prelude.{◌≡◌, ◌++◌, IfOk, codes, string_bytes};
+ghost use Rattle.std.specs.Fmt.{decimal};
+ghost use Rattle.elide_expect.specs.Tests.{test_content};
+ghost use Rattle.elide_test.specs.Tried.{IsJudged, IsToldOf, TellsVerdict};
+
+use crate::ended::Ended;
+use crate::report::{Difference, TestReport};
+use crate::stop::Stop;
+use crate::words::first_word;
+use elide_expect::{CameTo, Difference as Found, Expected, Test, Verdict};
+use std::alloc::{AllocError, Global};
+
+/// What a test came to, whose command came to this.
+pub fn report_of(alloc: Global, test: &Test<'_>, ended: &Ended) -> Result<TestReport, Stop>
+    ensures { IfOk result (IsJudged (test_content test.now) ended.now) }
+{
+    let came = CameTo::new(alloc, ended.status, ended.output.as_slice())?;
+    let verdict = test.judge(&came);
+    drop(came);
+    told(alloc, test, ended.status, verdict)
+}
+
+// The report of a verdict.
+fn told(alloc: Global, test: &Test<'_>, status: u8, verdict: Verdict) -> Result<TestReport, Stop>
+    ensures { IfOk result (IsToldOf (test_content test.now) status verdict) }
+{
+    let word = first_word(alloc, test)?;
+    let difference = difference_of(alloc, test, verdict)?;
+    Ok(TestReport {
+        line: test.line,
+        word,
+        status,
+        difference,
+    })
+}
+
+// What differed.
+fn difference_of(
+    alloc: Global,
+    test: &Test<'_>,
+    verdict: Verdict,
+) -> Result<Option<Difference>, AllocError>
+    ensures { IfOk result (TellsVerdict (test_content test.now) verdict) }
+{
+    match verdict {
+        Verdict::Passes => Ok(None),
+        Verdict::Differs(Found::Status(status)) => {
+            let expected = status_text(alloc, status)?;
+            Ok(Some(Difference {
+                line: test.line,
+                expected,
+            }))
+        }
+        Verdict::Differs(Found::Unmet(line)) => {
+            let expected = unmet_text(alloc, test.expectations.as_slice(), line)?;
+            Ok(Some(Difference { line, expected }))
+        }
+    }
+}
+
+// The expectation of a status.
+fn status_text(alloc: Global, status: u8) -> Result<String, AllocError>
+    ensures { IfOk result (λ text. string_bytes text ≡ codes "status " ++ decimal status) }
+{
+    format!(in alloc; "status {status}")
+}
+
+// The text of the expectation on a line.
+fn unmet_text(
+    alloc: Global,
+    expectations: &[Expected<'_>],
+    line: usize,
+) -> Result<String, AllocError> {
+    for expected in expectations {
+        if expected.line == line {
+            return String::from_utf8_lossy(alloc, expected.text);
+        }
+    }
+    Ok(String::new(alloc))
+}

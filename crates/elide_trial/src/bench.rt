@@ -1,0 +1,113 @@
+//! Files that are tried side by side.
+
+ghost use Rattle.std.specs.Prelude.{◌≡◌, ◌+◌, ◌<◌, ◌≤◌, IfNone, IfOk, OnSome, length, vec_len};
+ghost use Rattle.std.specs.List.{All};
+ghost use Rattle.std.specs.Thread.{IsSync};
+ghost use Rattle.elide_test.specs.Tried.{IsTried};
+ghost use Rattle.elide_trial.specs.Came.{CameTo};
+
+use crate::trial::try_file;
+use elide_test::{FileReport, SharedPaths, Stop, Trials};
+use std::alloc::{AllocError, Global};
+use std::sync::Wait;
+use std::thread;
+use std::thread::Threads;
+
+/// Tries files, so many side by side, up to the first that cannot be tried.
+pub fn try_all<R: Threads + Wait + Sync + AllocGlobal, S: SharedPaths + Sync>(
+    rt: &R,
+    alloc: Global,
+    paths: &S,
+    jobs: usize,
+    names: &[String],
+) -> Result<Trials, AllocError>
+    requires { 0 < jobs }
+    ensures tried { IfOk result (λ trials.
+        All (IsTried (S.holds paths.now) CameTo) trials.files.items) }
+    ensures whole { IfOk result (λ trials. IfNone trials.stop (vec_len trials.files ≡ length names.now)) }
+{
+    let mut files = Vec::new(alloc);
+    let mut first = 0;
+    'turns: while first < names.len() {
+        let end = block_end(first, jobs, names.len());
+        let block = try_block(rt, alloc, paths, &names[first..end])?;
+        let stop = take(paths, block, &mut files);
+        if stop.is_some() {
+            return Ok(Trials { files, stop });
+        }
+        first = end;
+    }
+    Ok(Trials { files, stop: None })
+}
+
+// Tries each of these files in a thread of its own. The last is the first of the list.
+fn try_block<R: Threads + Wait + Sync + AllocGlobal, S: SharedPaths + Sync>(
+    rt: &R,
+    alloc: Global,
+    paths: &S,
+    names: &[String],
+) -> Result<Vec<Result<FileReport, Stop>>, AllocError>
+    ensures tried { IfOk result (λ block. All (λ file.
+        IfOk file (IsTried (S.holds paths.now) CameTo)) block.items) }
+    ensures len { IfOk result (λ block. vec_len block ≡ length names.now) }
+{
+    let try_one = |index: usize| -> Result<FileReport, Stop>
+        requires { IsSync R.row × (index < length names.now) }
+    { try_from_end(rt, alloc, paths, names, index) };
+    thread::map_indices(rt, alloc, names.len(), &try_one)
+}
+
+// Tries a file, counted from the end.
+fn try_from_end<R: Threads + Wait + Sync + AllocGlobal, S: SharedPaths>(
+    rt: &R,
+    alloc: Global,
+    paths: &S,
+    names: &[String],
+    index: usize,
+) -> Result<FileReport, Stop>
+    requires { index < length names.now }
+    ensures { IfOk result (IsTried (S.holds paths.now) CameTo) }
+{
+    let name = &names[names.len() - 1 - index];
+    try_file(rt, alloc, name.as_str(), paths)
+}
+
+// Takes files from the end of a list, up to one that was not tried.
+fn take<S: SharedPaths>(
+    _paths: &S,
+    block: Vec<Result<FileReport, Stop>>,
+    files: &mut Vec<FileReport>,
+) -> Option<Stop>
+    requires block { All (λ file.
+        IfOk file (IsTried (S.holds _paths.now) CameTo)) block.items }
+    requires files { All (IsTried (S.holds _paths.now) CameTo) files.old.items }
+    ensures tried { All (IsTried (S.holds _paths.now) CameTo) files.new.items }
+    ensures whole { IfNone result (vec_len files.new ≡ vec_len files.old + vec_len block) }
+{
+    let mut rest = block;
+    'files: while let Some(file) = rest.pop() {
+        match file {
+            Ok(file) => {
+                if files.push(file).is_err() {
+                    return Some(Stop::NoMemory);
+                }
+            }
+            Err(stop) => return Some(stop),
+        }
+    }
+    None
+}
+
+// Where the files end that are tried side by side.
+fn block_end(first: usize, jobs: usize, count: usize) -> usize
+    requires some { 0 < jobs }
+    requires within { first < count }
+    ensures more { first < result }
+    ensures most { result ≤ count }
+{
+    if count - first <= jobs {
+        count
+    } else {
+        first + jobs
+    }
+}

@@ -1,0 +1,102 @@
+//! The command line.
+
+ghost use Rattle.std.specs.Prelude.{◌≤◌, IfOk};
+ghost use Rattle.elide_test.specs.Printed.{IsPrinted};
+ghost use Rattle.elide_trial.specs.Came.{CameTo};
+
+use crate::bench::try_all;
+use elide_args::{CommandLine, Subcommand, TestOptions, command_line_of};
+use elide_command::{Paths, Progress, Surroundings, carry_out, end_early, misused, refuse};
+use elide_setup::{Lent, Refusal};
+use elide_test::{Answer, SharedPaths, jobs_of, names_of, tell};
+use ia_text::Out;
+use std::sync::Wait;
+use std::thread::Threads;
+use tm_debug::In;
+
+/// Does what the words say, and gives the exit status, as `elide_command` does, but for `test`, which ends with 0 where each test
+/// passes and with 3 where one fails.
+pub fn command<
+    R: Threads + Wait + Sync + AllocGlobal,
+    P: Paths + SharedPaths + Sync,
+    I: In,
+    O: Out,
+    E: Out,
+    G: Progress + Send,
+>(
+    rt: &R,
+    words: &[&str],
+    paths: &mut P,
+    input: &mut I,
+    out: &mut O,
+    err: &mut E,
+    surroundings: Surroundings,
+    progress: &mut G,
+) -> u8
+    ensures { result ≤ 3 }
+{
+    match command_line_of(rt.alloc(), words, out, err) {
+        Ok(line) => match &line.subcommand {
+            Subcommand::Test(options) => {
+                carry_out_tests(rt, &line, options, paths, out, err, surroundings)
+            }
+            _ => carry_out(rt, &line, paths, input, out, err, surroundings, progress),
+        },
+        Err(end) => end_early(end, surroundings, err),
+    }
+}
+
+// Tries files with tests, and gives the exit status.
+fn carry_out_tests<
+    R: Threads + Wait + Sync + AllocGlobal,
+    P: Paths + SharedPaths + Sync,
+    O: Out,
+    E: Out,
+>(
+    rt: &R,
+    line: &CommandLine<'_>,
+    options: &TestOptions<'_>,
+    paths: &mut P,
+    out: &mut O,
+    err: &mut E,
+    surroundings: Surroundings,
+) -> u8
+    ensures { result ≤ 3 }
+{
+    if let Some(option) = misused(line) {
+        return refuse(
+            rt.alloc(),
+            line,
+            Refusal::Usage(option),
+            paths,
+            surroundings,
+            err,
+        );
+    }
+    match test(rt, options, &*paths, Lent::new(out)) {
+        Ok((Answer::Passes, _)) => 0,
+        Ok((Answer::Fails, _)) => 3,
+        Err(refusal) => refuse(rt.alloc(), line, refusal, paths, surroundings, err),
+    }
+}
+
+/// Carries out the tests of files, prints what they came to, and answers whether each passed. Gives the device back. Up to a file
+/// that cannot be tried the others are told.
+pub fn test<R: Threads + Wait + Sync + AllocGlobal, S: SharedPaths + Sync, O: Out + Drop>(
+    rt: &R,
+    options: &TestOptions<'_>,
+    paths: &S,
+    out: O,
+) -> Result<(Answer, O), Refusal>
+    ensures { IfOk result (λ r. IsPrinted (S.holds paths.now) CameTo options.now.is_json r.0
+        (O.device out).contents (O.device r.1).contents) }
+{
+    if options.files.is_empty() && options.list.is_none() {
+        return Err(Refusal::Usage("FILE"));
+    }
+    let alloc = rt.alloc();
+    let jobs = jobs_of(rt, options.jobs)?;
+    let names = names_of(alloc, options, paths)?;
+    let trials = try_all(rt, alloc, paths, jobs, names.as_slice())?;
+    tell(alloc, options.is_json, names.as_slice(), &trials, out)
+}

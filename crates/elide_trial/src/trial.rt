@@ -1,0 +1,114 @@
+//! A file, whose tests are carried out one after another.
+
+ghost use Rattle.std.specs.Prelude.{◌≡◌, ◌∷◌, ◌++◌, [], IfOk, OnOk, map, string_bytes};
+ghost use Rattle.std.specs.List.{AllZip};
+ghost use Rattle.std.specs.Option.{option_copied};
+ghost use Rattle.elide_expect.specs.Tests.{test_content};
+ghost use Rattle.elide_trial.specs.Came.{CameTo};
+ghost use Rattle.elide_test.specs.Tried.{AreTried, IsTried, WasTried, kind_of, program_or};
+
+use crate::carrier::carried_out;
+use elide_expect::{Kind, Test, read_tests};
+use elide_test::{
+    FileReport, SharedPaths, Stop, TestReport, folder_of, read, report_of, text_of, words_of,
+};
+use std::alloc::{AllocError, Global};
+use std::sync::Wait;
+use std::thread::Threads;
+
+/// Carries out the tests of a file.
+pub fn try_file<R: Threads + Wait + Sync + AllocGlobal, S: SharedPaths>(
+    rt: &R,
+    alloc: Global,
+    path: &str,
+    paths: &S,
+) -> Result<FileReport, Stop>
+    ensures name { IfOk result (λ file. string_bytes file.name ≡ path.now) }
+    ensures tried { IfOk result (IsTried (S.holds paths.now) CameTo) }
+{
+    let name = String::from_str(alloc, path)?;
+    let text = read(path, paths)?;
+    let tests = try_text(rt, alloc, path, text.as_slice(), paths)?;
+    Ok(FileReport { name, tests })
+}
+
+// Carries out the tests of the text of a file.
+fn try_text<R: Threads + Wait + Sync + AllocGlobal, S: SharedPaths>(
+    rt: &R,
+    alloc: Global,
+    path: &str,
+    text: &[u8],
+    paths: &S,
+) -> Result<Vec<TestReport>, Stop>
+    ensures { IfOk result (λ reports. AreTried CameTo path.now text.now reports.items) }
+{
+    let file = read_tests(alloc, text, kind_of(path))?;
+    let (folder, name) = folder_of(path);
+    let program = program_or(name, file.program)?;
+    try_tests(rt, alloc, folder, program, file.tests.as_slice(), paths)
+}
+
+// Where tests stand in a file of this path.
+fn kind_of(path: &str) -> Kind
+    ensures { result ≡ kind_of path.now }
+{
+    if path.as_bytes().ends_with(b".elide") {
+        Kind::Beside
+    } else {
+        Kind::Source
+    }
+}
+
+// FILE of the commands. A program is named on the first line.
+fn program_or<'a>(name: &'a str, program: Option<&'a [u8]>) -> Result<&'a str, Stop>
+    ensures { IfOk result (λ file. file.now ≡ program_or name.now (option_copied program.entry)) }
+{
+    match program {
+        Some(program) => text_of(program, 1),
+        None => Ok(name),
+    }
+}
+
+// Carries out tests one after another.
+fn try_tests<R: Threads + Wait + Sync + AllocGlobal, S: SharedPaths>(
+    rt: &R,
+    alloc: Global,
+    folder: Option<&str>,
+    program: &str,
+    tests: &[Test<'_>],
+    paths: &S,
+) -> Result<Vec<TestReport>, Stop>
+    ensures { IfOk result (λ reports. AllZip (WasTried CameTo (option_copied folder.entry) program.now)
+        (map test_content tests.now) reports.items) }
+{
+    let mut reports = Vec::new(alloc);
+    for test in tests {
+        let report = try_test(rt, alloc, folder, program, test, paths)?;
+        push(&mut reports, report)?;
+    }
+    Ok(reports)
+}
+
+fn push(reports: &mut Vec<TestReport>, report: TestReport) -> Result<(), AllocError>
+    ensures { OnOk result (reports.new.items ≡ reports.old.items ++ report ∷ []) }
+{
+    reports.push(report)?;
+    Ok(())
+}
+
+// Carries out a test.
+fn try_test<R: Threads + Wait + Sync + AllocGlobal, S: SharedPaths>(
+    rt: &R,
+    alloc: Global,
+    folder: Option<&str>,
+    program: &str,
+    test: &Test<'_>,
+    paths: &S,
+) -> Result<TestReport, Stop>
+    ensures { IfOk result (WasTried CameTo (option_copied folder.entry) program.now
+        (test_content test.now)) }
+{
+    let words = words_of(alloc, program, test)?;
+    let ended = carried_out(rt, alloc, folder, words.as_slice(), paths)?;
+    report_of(alloc, test, &ended)
+}
