@@ -1,6 +1,7 @@
 //! `elide` simulates a multicore IA-32 machine with Intel Restricted Transactional Memory.
 //!
-//! `main` hands in the arguments, the files, the standard streams and what the environment asks for; the rest is [`elide_command::command`].
+//! `main` hands in the arguments, the files, the standard streams and what the environment asks for; the rest is
+//! [`elide_trial::command`].
 #![tactic(auto)]
 
 mod ahead;
@@ -9,9 +10,10 @@ mod environment;
 mod progress;
 
 use ahead::ReadAhead;
-use arguments::{MOST, ROOM, Words, words_from};
-use elide_command::{HostPaths, Surroundings, Terminals, command};
-use environment::asks_for_no_colors;
+use arguments::{USUAL_ROOM, Words, read_words};
+use elide_command::{Surroundings, Terminals};
+use elide_trial::{SystemPaths, command};
+use environment::{asks_for_no_colors, asks_for_words};
 use ia_text::{Out, ToWriter};
 use progress::ProgressLine;
 use std::io;
@@ -22,15 +24,15 @@ use tm_debug::FromReader;
 fn main(rt: HostRuntime) -> ExitCode {
     let stderr = rt.stderr();
     let mut err = ToWriter::new(&stderr);
-    let mut row = [0; ROOM];
+    let mut usual = [0; USUAL_ROOM];
+    let mut long = Vec::new(rt.alloc());
     let mut words = Words::new();
-    // The first argument is the program's name.
-    if let Err(not_words) = words_from(&rt, 1, MOST, &mut row, &mut words) {
+    if let Err(not_words) = read_words(&rt, &mut usual, &mut long, &mut words) {
         // A failure here has no further place to be told.
         let _ = err.put(not_words.line());
-        return ExitCode::from(2);
+        return ExitCode::from(not_words.status());
     }
-    let mut paths = HostPaths::new(&rt);
+    let mut paths = SystemPaths::new(&rt);
     let mut input = FromReader::new(ReadAhead::new(rt.stdin()));
     let mut out = ToWriter::new(io::writer(&rt));
     let terminals = Terminals {
@@ -41,6 +43,7 @@ fn main(rt: HostRuntime) -> ExitCode {
     let surroundings = Surroundings {
         terminals,
         is_plain: asks_for_no_colors(&rt),
+        tells_words: asks_for_words(&rt),
     };
     let mut progress = ProgressLine::new(&rt, ToWriter::new(&stderr), terminals.errors);
     let status = command(

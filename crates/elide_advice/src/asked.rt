@@ -89,3 +89,26 @@ fn own_number_text<'s>(subcommand: &'s Subcommand<'_>, name: &str) -> Option<&'s
         _ => None,
     }
 }
+
+/// The value of an option that takes no number alone, where one is given, and no other of the same name.
+pub fn value_text<'s>(subcommand: &'s Subcommand<'_>, name: &str) -> Option<&'s str> {
+    match (subcommand, name) {
+        (Subcommand::Hunt(options), "--runs") => options.runs,
+        (Subcommand::Hunt(options), "--method") => options.method,
+        (Subcommand::Hunt(options), "--stop") => only(options.stops.as_slice()),
+        (Subcommand::Outcomes(options), "--show") => options.show,
+        (Subcommand::Draw(options), "--core") => options.cores,
+        (Subcommand::Explain(options), "FAULT") => options.fault,
+        (other, "--dump") => only(machine_of(other)?.dumps.as_slice()),
+        (other, "--show") => only(machine_of(other)?.shows.as_slice()),
+        _ => None,
+    }
+}
+
+// The one of a list that has no other.
+fn only<'a>(texts: &[&'a str]) -> Option<&'a str> {
+    match texts {
+        [text] => Some(*text),
+        _ => None,
+    }
+}

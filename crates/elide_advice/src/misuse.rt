@@ -1,6 +1,6 @@
 //! Options that are misused.
 
-use crate::asked::{machine_of, number_text, schedule_of};
+use crate::asked::{machine_of, number_text, schedule_of, value_text};
 use crate::draws::{advise_events, advise_seed};
 use crate::machine::cores_of;
 use crate::page::Page;
@@ -23,36 +23,50 @@ pub fn advise_misuse<O: Out>(
         },
         ("--entry", other) => advise_entry(other, page),
         ("--check", Subcommand::Hunt(options)) => advise_check(options, page),
-        ("--stop", _) => writeln!(
-            page,
-            "--stop takes #BP, #DE, #UD, #GP, HLT, range, code-store, fetch or not-in-subset"
-        ),
-        ("--runs", _) => writeln!(page, "--runs takes a count K, or A..B with A below B"),
-        ("--method", _) => writeln!(page, "--method takes uniform, bursts, pct or mix"),
-        ("--show", Subcommand::Outcomes(_)) => writeln!(
-            page,
-            "--show takes registers of cores and symbols, as 'eax@0 count'"
-        ),
-        ("--show", _) => writeln!(
-            page,
-            "--show takes a sum of numbers and of the program's symbols, as 'count' or 'table+8'"
-        ),
-        ("--dump", _) => writeln!(
-            page,
-            "--dump takes AT:BYTES, as 0x1000:4 or 'count:4'; AT is a sum of numbers and of the program's symbols"
-        ),
+        ("--stop" | "--runs" | "--method" | "--show" | "--dump" | "--core", other) => {
+            advise_form(other, name, page)
+        }
         ("--record", _) => writeln!(page, "--record takes another path than FILE"),
         ("--events", other) => advise_events(other, page),
         ("--seed", other) => advise_seed_or_number(other, name, page),
-        ("--json", _) => writeln!(page, "--json goes with --stats"),
+        ("--json", _) => writeln!(page, "--json goes without --why"),
         ("--color", _) => writeln!(page, "--color takes auto, always or never"),
-        ("--core", _) => writeln!(page, "--core takes numbers of cores, each once, as 0,2"),
-        ("FAULT", _) => writeln!(
-            page,
-            "no fault has this number or name; elide explain lists them"
-        ),
+        ("--words", _) => writeln!(page, "--words takes auto, always or never"),
+        ("FAULT", other) => advise_unknown(other, page),
         (number, other) => advise_number(other, number, page),
     }
+}
+
+// How the value of an option is written, and which one was given.
+fn advise_form<O: Out>(
+    subcommand: &Subcommand<'_>,
+    name: &str,
+    page: &mut Page<'_, O>,
+) -> fmt::Result {
+    let form = match (name, subcommand) {
+        ("--stop", _) => "#BP, #DE, #UD, #GP, HLT, range, code-store, fetch or not-in-subset",
+        ("--runs", _) => "a count K, or A..B with A below B",
+        ("--method", _) => "uniform, bursts, pct or mix",
+        ("--core", _) => "numbers of cores, each once, as 0,2",
+        ("--dump", _) => {
+            "AT:BYTES, as 0x1000:4 or 'count:4'; AT is a sum of numbers and of the program's symbols"
+        }
+        (_, Subcommand::Outcomes(_)) => "registers of cores and symbols, as 'eax@0 count'",
+        _ => "a sum of numbers and of the program's symbols, as 'count' or 'table+8'",
+    };
+    match value_text(subcommand, name) {
+        Some(text) => writeln!(page, "{name} {text}: it takes {form}"),
+        None => writeln!(page, "{name} takes {form}"),
+    }
+}
+
+// That there is no such fault.
+fn advise_unknown<O: Out>(subcommand: &Subcommand<'_>, page: &mut Page<'_, O>) -> fmt::Result {
+    let text = value_text(subcommand, "FAULT").unwrap_or("");
+    writeln!(
+        page,
+        "no fault has the number or name '{text}'; elide explain lists them"
+    )
 }
 
 // What a seed goes with, or how its number is written.
@@ -163,8 +177,9 @@ fn advise_check<O: Out>(options: &HuntOptions<'_>, page: &mut Page<'_, O>) -> fm
     if options.checks.is_empty() {
         return writeln!(page, "one of --check, --stop and --expect-halt is wanted");
     }
-    writeln!(
-        page,
-        "--check takes a comparison, as 'count == 6', or bytes, as count:4=06000000"
-    )
+    let form = "a comparison, as 'count == 6', or bytes, as count:4=06000000";
+    match options.checks.as_slice() {
+        [text] => writeln!(page, "--check {text}: it takes {form}"),
+        _ => writeln!(page, "--check takes {form}"),
+    }
 }

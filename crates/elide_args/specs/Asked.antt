@@ -16,10 +16,11 @@ use Rattle.elide_args.specs.declared.subcommand.ScheduleOptions.{ScheduleOptions
 use Rattle.elide_args.specs.declared.subcommand.SessionOptions.{SessionOptions}
 use Rattle.elide_args.specs.declared.subcommand.StatsOptions.{StatsOptions}
 use Rattle.elide_args.specs.declared.subcommand.Subcommand.{Subcommand}
+use Rattle.elide_args.specs.declared.subcommand.TestOptions.{TestOptions}
 use Rattle.elide_args.specs.declared.subcommand.ThreadsOptions.{ThreadsOptions}
 use Rattle.elide_args.specs.declared.subcommand.Subcommand.TheVariants.{Asm, Dis, Run, Threads, Replay, Debug, Gdb}
 use Rattle.elide_args.specs.declared.subcommand.Subcommand.TheVariants.{Hunt}
-use Rattle.elide_args.specs.declared.subcommand.Subcommand.TheVariants.{Outcomes, Stats, Draw, Explain}
+use Rattle.elide_args.specs.declared.subcommand.Subcommand.TheVariants.{Outcomes, Test, Stats, Draw, Explain}
 
 -- the flag of this name: false, unless clap read `true` of it
 pub record IsFlag (found : Found) (name : List ℕ) (flag : Bool) : Type 0 where
@@ -73,6 +74,7 @@ pub record IsRun (found : Found) (options : RunOptions) : Type 0 where
   pub explains : IsFlag found (codes "why") options.explains
   pub halt : IsFlag found (codes "expect-halt") options.expects_halt
   pub path : first_value found (codes "record") ≡ option_copied options.«record»
+  pub json : IsFlag found (codes "json") options.is_json
 
 pub record IsSecondRun (found : Found) (options : ReplayOptions) : Type 0 where
   pub machine : IsMachine found options.machine
@@ -80,6 +82,7 @@ pub record IsSecondRun (found : Found) (options : ReplayOptions) : Type 0 where
   pub schedule : IsSchedule found options.schedule
   pub explains : IsFlag found (codes "why") options.explains
   pub path : first_value found (codes "record") ≡ option_copied options.«record»
+  pub json : IsFlag found (codes "json") options.is_json
 
 pub record IsWork (found : Found) (options : ThreadsOptions) : Type 0 where
   pub machine : IsMachine found options.machine
@@ -114,6 +117,12 @@ pub record IsHunt (found : Found) (options : HuntOptions) : Type 0 where
   pub limit : first_value found (codes "limit") ≡ option_copied options.limit
   pub jobs : first_value found (codes "jobs") ≡ option_copied options.jobs
   pub path : first_value found (codes "record") ≡ option_copied options.«record»
+  pub json : IsFlag found (codes "json") options.is_json
+
+pub record IsTrying (found : Found) (options : TestOptions) : Type 0 where
+  pub files : texts_of options.files.items ≡ values_of found (codes "FILE")
+  pub list : first_value found (codes "list") ≡ option_copied options.list
+  pub jobs : first_value found (codes "jobs") ≡ option_copied options.jobs
   pub json : IsFlag found (codes "json") options.is_json
 
 pub record IsCounting (found : Found) (options : StatsOptions) : Type 0 where
@@ -152,6 +161,7 @@ Asks found name (Debug options) = (name ≡ codes "debug") × IsSession found op
 Asks found name (Gdb options) = (name ≡ codes "gdb") × IsSession found options
 Asks found name (Hunt options) = (name ≡ codes "hunt") × IsHunt found options
 Asks found name (Outcomes options) = (name ≡ codes "outcomes") × IsSearch found options
+Asks found name (Test options) = (name ≡ codes "test") × IsTrying found options
 Asks found name (Stats options) = (name ≡ codes "stats") × IsCounting found options
 Asks found name (Draw options) = (name ≡ codes "draw") × IsPicture found options
 Asks found name (Explain options) =

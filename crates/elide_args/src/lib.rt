@@ -16,6 +16,6 @@ pub use hunt_options::HuntOptions;
 pub use subcommand::{
     AsmOptions, CommandLine, DisOptions, DrawOptions, ExplainOptions, MachineOptions,
     OutcomesOptions, ReplayOptions, RunOptions, ScheduleOptions, SessionOptions, StatsOptions,
-    Subcommand, ThreadsOptions,
+    Subcommand, TestOptions, ThreadsOptions,
 };
 pub use words::{NotASubcommand, command_line_of};

@@ -45,6 +45,7 @@ fn argument<'a>(alloc: Global, option: &OptionText) -> Arg<'a> {
     match option.form {
         Form::Word => plain.required(true),
         Form::FreeWord => plain,
+        Form::FreeWords => plain.action(ArgAction::Append),
         Form::Flag => plain.long(option.name).action(ArgAction::SetTrue),
         Form::Value(value) => with_value(plain, option.name, value),
         Form::Needed(value) => with_value(plain, option.name, value).required(true),

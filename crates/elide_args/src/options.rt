@@ -18,6 +18,8 @@ pub enum Form {
     Word,
     /// A word in its place, which may be left out.
     FreeWord,
+    /// Any number of words in their place.
+    FreeWords,
     /// `--name` alone.
     Flag,
     /// `--name` and a value of this name.
@@ -40,6 +42,24 @@ pub const FILE: OptionText = OptionText {
     name: "FILE",
     form: Form::Word,
     help: "A program: image text, whose first line is `image 1 BASE CODE`, an ELF executable, or else an assembler source",
+};
+
+pub const TESTS: OptionText = OptionText {
+    name: "FILE",
+    form: Form::FreeWords,
+    help: "A source or a `.elide` file with tests in its comments, or a folder, of which the `.asm` and `.elide` files are taken",
+};
+
+pub const TESTS_LISTED: OptionText = OptionText {
+    name: "list",
+    form: Form::Value("PATH"),
+    help: "Takes names from this file, too, one a line",
+};
+
+pub const TESTS_JOBS: OptionText = OptionText {
+    name: "jobs",
+    form: Form::Value("N"),
+    help: "How many files are tried side by side, 1 to 1024 [default: one a processor]",
 };
 
 pub const FAULT: OptionText = OptionText {
@@ -297,7 +317,13 @@ pub const COUNTS: OptionText = OptionText {
 pub const COUNTS_JSON: OptionText = OptionText {
     name: "json",
     form: Form::Flag,
-    help: "With --stats: prints one JSON object in place of columns",
+    help: "Prints one JSON object in place of the lines (docs/JSON.md), with --stats that of `stats`",
+};
+
+pub const WORDS: OptionText = OptionText {
+    name: "words",
+    form: Form::Value("WHEN"),
+    help: "Tells beside a fault where it stands and what is meant: auto, at a terminal or where ELIDE_WORDS is `always`, always or never [default: auto]",
 };
 
 pub const COLOR: OptionText = OptionText {

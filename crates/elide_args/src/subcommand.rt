@@ -9,6 +9,8 @@ pub struct CommandLine<'a> {
     pub subcommand: Subcommand<'a>,
     /// `--color`: when messages and listings are painted.
     pub color: Option<&'a str>,
+    /// `--words`: when it is told beside a fault where it stands and what is meant.
+    pub words: Option<&'a str>,
 }
 
 /// A subcommand with its options.
@@ -32,6 +34,8 @@ pub enum Subcommand<'a> {
     Hunt(HuntOptions<'a>),
     /// `outcomes`.
     Outcomes(OutcomesOptions<'a>),
+    /// `test`.
+    Test(TestOptions<'a>),
     /// `stats`.
     Stats(StatsOptions<'a>),
     /// `draw`.
@@ -73,6 +77,8 @@ pub struct RunOptions<'a> {
     pub expects_halt: bool,
     /// `--record`: the path that the schedule is written to.
     pub record: Option<&'a str>,
+    /// Whether JSON is printed in place of lines.
+    pub is_json: bool,
 }
 
 /// The options of `threads`.
@@ -92,7 +98,7 @@ pub struct ThreadsOptions<'a> {
     pub explains: bool,
     /// `--stats`: whether what the transactions came to is printed in place of the state.
     pub counts: bool,
-    /// `--json`: whether that is printed as JSON in place of columns.
+    /// `--json`: whether what is printed is JSON in place of lines and columns.
     pub is_json: bool,
     /// `--record`: the path that the schedule is written to.
     pub record: Option<&'a str>,
@@ -109,6 +115,8 @@ pub struct ReplayOptions<'a> {
     pub explains: bool,
     /// `--record`: the path that the schedule is written to.
     pub record: Option<&'a str>,
+    /// Whether JSON is printed in place of lines.
+    pub is_json: bool,
 }
 
 /// The options of `debug` and of `gdb`.
@@ -138,6 +146,19 @@ pub struct OutcomesOptions<'a> {
     pub events: Option<&'a str>,
     /// `--limit`: the most states.
     pub limit: Option<&'a str>,
+    /// Whether JSON is printed in place of lines.
+    pub is_json: bool,
+}
+
+/// The options of `test`.
+#[derive(Drop)]
+pub struct TestOptions<'a> {
+    /// The paths of files and folders with tests, in the order of the command line.
+    pub files: Vec<&'a str>,
+    /// `--list`: the path of a file that names more of them, one a line.
+    pub list: Option<&'a str>,
+    /// `--jobs`: how many threads try files.
+    pub jobs: Option<&'a str>,
     /// Whether JSON is printed in place of lines.
     pub is_json: bool,
 }

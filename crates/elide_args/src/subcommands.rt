@@ -5,7 +5,7 @@ use crate::options::{
     EVENT_SEED, EVENT_SEED_OF_CORES, EVENTS, EVENTS_OF_ALL, EVENTS_OF_RUNS, EXPECT_HALT, FAULT,
     FILE, FROM, IN_TURN, JOBS, JSON, JSON_LINES, LABELS, LIMIT, LIST, MEM, METHOD, OptionText,
     RANDOM, READS, RECORD, RECORD_FIRST, RUNS, SCHEDULE, SEED, SHOW, SHOW_VALUE, SOURCE, STATES,
-    STEPS, STOP, TO, TRACE, WHY, WRITES,
+    STEPS, STOP, TESTS, TESTS_JOBS, TESTS_LISTED, TO, TRACE, WHY, WORDS, WRITES,
 };
 
 /// A subcommand.
@@ -22,22 +22,22 @@ pub struct SubcommandText {
 }
 
 /// The subcommands, in the order of the help.
-pub const SUBCOMMANDS: [SubcommandText; 12] = [
-    ASM, DIS, RUN, THREADS, REPLAY, DEBUG, GDB, HUNT, OUTCOMES, STATS, DRAW, EXPLAIN,
+pub const SUBCOMMANDS: [SubcommandText; 13] = [
+    ASM, DIS, RUN, THREADS, REPLAY, DEBUG, GDB, HUNT, OUTCOMES, TEST, STATS, DRAW, EXPLAIN,
 ];
 
 const ASM: SubcommandText = SubcommandText {
     name: "asm",
     about: "Assembles a source and prints its image text",
     example: "Example: elide asm examples/elision.asm --list",
-    options: &[SOURCE, LIST, COLOR],
+    options: &[SOURCE, LIST, WORDS, COLOR],
 };
 
 const DIS: SubcommandText = SubcommandText {
     name: "dis",
     about: "Prints the instructions of a program's code",
     example: "Example: elide dis examples/increment.img",
-    options: &[FILE, LABELS, COLOR],
+    options: &[FILE, LABELS, WORDS, COLOR],
 };
 
 const RUN: SubcommandText = SubcommandText {
@@ -64,6 +64,8 @@ const RUN: SubcommandText = SubcommandText {
         EVENT_SEED,
         LIMIT,
         RECORD,
+        JSON_LINES,
+        WORDS,
         COLOR,
     ],
 };
@@ -89,6 +91,7 @@ const THREADS: SubcommandText = SubcommandText {
         COUNTS,
         COUNTS_JSON,
         RECORD_FIRST,
+        WORDS,
         COLOR,
     ],
 };
@@ -99,7 +102,7 @@ const REPLAY: SubcommandText = SubcommandText {
     example: "Example: elide replay examples/conflict.img --cores 2 --steps \"0 0 1 1 0 0 0 1\"",
     options: &[
         FILE, CORES, MEM, ENTRY, READS, WRITES, DUMP, SHOW_VALUE, STEPS, SCHEDULE, WHY, IN_TURN,
-        RANDOM, EVENTS, EVENT_SEED, LIMIT, RECORD, COLOR,
+        RANDOM, EVENTS, EVENT_SEED, LIMIT, RECORD, JSON_LINES, WORDS, COLOR,
     ],
 };
 
@@ -109,7 +112,7 @@ const DEBUG: SubcommandText = SubcommandText {
     example: "Example: elide debug examples/conflict.img --cores 2 --random 7",
     options: &[
         FILE, CORES, MEM, ENTRY, READS, WRITES, DUMP_READ, STEPS, SCHEDULE, IN_TURN, RANDOM,
-        EVENTS, EVENT_SEED, LIMIT, COLOR,
+        EVENTS, EVENT_SEED, LIMIT, WORDS, COLOR,
     ],
 };
 
@@ -119,7 +122,7 @@ const GDB: SubcommandText = SubcommandText {
     example: "Example: gdb prog.elf -ex 'target remote | elide gdb prog.elf --cores 2'",
     options: &[
         FILE, CORES, MEM, ENTRY, READS, WRITES, STEPS, SCHEDULE, IN_TURN, RANDOM, EVENTS,
-        EVENT_SEED, LIMIT, COLOR,
+        EVENT_SEED, LIMIT, WORDS, COLOR,
     ],
 };
 
@@ -145,6 +148,7 @@ const HUNT: SubcommandText = SubcommandText {
         JOBS,
         RECORD,
         JSON_LINES,
+        WORDS,
         COLOR,
     ],
 };
@@ -164,8 +168,16 @@ const OUTCOMES: SubcommandText = SubcommandText {
         EVENTS_OF_ALL,
         STATES,
         JSON_LINES,
+        WORDS,
         COLOR,
     ],
+};
+
+const TEST: SubcommandText = SubcommandText {
+    name: "test",
+    about: "Carries out the commands in the comments of sources, and compares what came about with what is expected there",
+    example: "Example: elide test examples/litmus",
+    options: &[TESTS, TESTS_LISTED, TESTS_JOBS, JSON_LINES, WORDS, COLOR],
 };
 
 const STATS: SubcommandText = SubcommandText {
@@ -174,7 +186,7 @@ const STATS: SubcommandText = SubcommandText {
     example: "Example: elide stats examples/elision.asm --cores 4 --random 7",
     options: &[
         FILE, CORES, MEM, ENTRY, READS, WRITES, STEPS, SCHEDULE, IN_TURN, RANDOM, EVENTS,
-        EVENT_SEED, LIMIT, RECORD, JSON, COLOR,
+        EVENT_SEED, LIMIT, RECORD, JSON, WORDS, COLOR,
     ],
 };
 
@@ -184,7 +196,7 @@ const DRAW: SubcommandText = SubcommandText {
     example: "Example: elide draw examples/elision.asm --cores 4 --random 7 --from 380 --to 560 > timeline.svg",
     options: &[
         FILE, CORES, MEM, ENTRY, READS, WRITES, STEPS, SCHEDULE, IN_TURN, RANDOM, EVENTS,
-        EVENT_SEED, LIMIT, RECORD, FROM, TO, CORE, COLOR,
+        EVENT_SEED, LIMIT, RECORD, FROM, TO, CORE, WORDS, COLOR,
     ],
 };
 
@@ -192,5 +204,5 @@ const EXPLAIN: SubcommandText = SubcommandText {
     name: "explain",
     about: "Prints what a fault means, and what to do",
     example: "Example: elide explain 16",
-    options: &[FAULT, COLOR],
+    options: &[FAULT, WORDS, COLOR],
 };

@@ -3,7 +3,7 @@
 ghost use Rattle.std.specs.Prelude.{◌≡◌, IfOk, IfSome, Some, codes};
 ghost use Rattle.clap.specs.Matches.{first_value, found_of};
 ghost use Rattle.elide_args.specs.Asked.{Asks, IsCounting, IsHunt, IsMachine, IsPicture, IsSchedule};
-ghost use Rattle.elide_args.specs.Asked.{IsSearch, IsSession, IsShown, IsWork, ShowsNothing};
+ghost use Rattle.elide_args.specs.Asked.{IsSearch, IsSession, IsShown, IsTrying, IsWork, ShowsNothing};
 ghost use Rattle.elide_args.specs.Asked.{texts_of, values_of};
 
 use crate::hunt_options::HuntOptions;
@@ -11,7 +11,7 @@ use crate::line::command_line;
 use crate::subcommand::{
     AsmOptions, CommandLine, DisOptions, DrawOptions, ExplainOptions, MachineOptions,
     OutcomesOptions, ReplayOptions, RunOptions, ScheduleOptions, SessionOptions, StatsOptions,
-    Subcommand, ThreadsOptions,
+    Subcommand, TestOptions, ThreadsOptions,
 };
 use clap::error::ErrorKind;
 use clap::{ArgMatches, Error};
@@ -90,6 +90,7 @@ fn asked<'a>(alloc: Global, matches: &ArgMatches<'a>) -> Option<CommandLine<'a>>
     Some(CommandLine {
         subcommand: any_named(alloc, name, options)?,
         color: options.get_str("color"),
+        words: options.get_str("words"),
     })
 }
 
@@ -99,6 +100,7 @@ fn any_named<'a>(alloc: Global, name: &str, options: &ArgMatches<'a>) -> Option<
 {
     match name {
         "hunt" => Some(Subcommand::Hunt(hunt_of(alloc, options)?)),
+        "test" => Some(Subcommand::Test(test_of(alloc, options)?)),
         "explain" => Some(Subcommand::Explain(ExplainOptions {
             fault: options.get_str("FAULT"),
         })),
@@ -131,6 +133,7 @@ fn subcommand_named<'a>(
             explains: options.get_flag("why"),
             expects_halt: options.get_flag("expect-halt"),
             record: options.get_str("record"),
+            is_json: options.get_flag("json"),
         })),
         "threads" => Some(Subcommand::Threads(threads_of(alloc, file, options)?)),
         "replay" => Some(Subcommand::Replay(ReplayOptions {
@@ -138,6 +141,7 @@ fn subcommand_named<'a>(
             schedule: schedule_of(options),
             explains: options.get_flag("why"),
             record: options.get_str("record"),
+            is_json: options.get_flag("json"),
         })),
         "debug" => Some(Subcommand::Debug(session_of(alloc, file, options)?)),
         "gdb" => Some(Subcommand::Gdb(session_of(alloc, file, options)?)),
@@ -165,6 +169,18 @@ fn hunt_of<'a>(alloc: Global, options: &ArgMatches<'a>) -> Option<HuntOptions<'a
         limit: options.get_str("limit"),
         jobs: options.get_str("jobs"),
         record: options.get_str("record"),
+        is_json: options.get_flag("json"),
+    })
+}
+
+// The options of `test`, where there is memory for its files.
+fn test_of<'a>(alloc: Global, options: &ArgMatches<'a>) -> Option<TestOptions<'a>>
+    ensures { IfSome result (IsTrying (found_of options.now)) }
+{
+    Some(TestOptions {
+        files: several_of(alloc, options, "FILE").ok()?,
+        list: options.get_str("list"),
+        jobs: options.get_str("jobs"),
         is_json: options.get_flag("json"),
     })
 }

@@ -10,10 +10,12 @@
 
 mod answer;
 mod dispatch;
+mod look;
+mod obeying;
 mod surroundings;
 mod telling;
 
-pub use dispatch::command;
+pub use dispatch::{carry_out, command, end_early, misused, refuse};
 pub use elide_program::{HostPaths, Obstacle, Paths, ReadFault, Text};
 pub use elide_setup::{Progress, Silent, Terminals};
 pub use surroundings::Surroundings;

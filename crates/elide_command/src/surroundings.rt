@@ -2,6 +2,7 @@
 
 ghost use Rattle.std.specs.Prelude.{◌≡◌};
 ghost use Rattle.elide_color.specs.Colors.{is_painted};
+ghost use Rattle.elide_command.specs.Telling.{are_told};
 
 use elide_color::{Colors, When};
 use elide_setup::Terminals;
@@ -13,6 +14,8 @@ pub struct Surroundings {
     pub terminals: Terminals,
     /// Whether no colours are asked for: NO_COLOR is set, and not empty (no-color.org).
     pub is_plain: bool,
+    /// Whether it is told beside each fault where it stands and what is meant: ELIDE_WORDS is `always`.
+    pub tells_words: bool,
 }
 
 impl Surroundings {
@@ -20,6 +23,7 @@ impl Surroundings {
     pub const NONE: Surroundings = Surroundings {
         terminals: Terminals::NONE,
         is_plain: false,
+        tells_words: false,
     };
 
     /// Which devices text is painted on.
@@ -30,6 +34,18 @@ impl Surroundings {
         Colors {
             output: when.is_painted(self.terminals.output, self.is_plain),
             errors: when.is_painted(self.terminals.errors, self.is_plain),
+        }
+    }
+
+    /// Whether it is told beside a fault where it stands and what is meant. `--words` has the values of `--color`, and where it is
+    /// not given, ELIDE_WORDS may ask for `always`.
+    pub fn words(self, when: When) -> bool
+        ensures { result ≡ are_told when self.terminals.errors self.tells_words }
+    {
+        match when {
+            When::Auto => self.terminals.errors || self.tells_words,
+            When::Always => true,
+            When::Never => false,
         }
     }
 }

@@ -233,6 +233,11 @@ const FILES: &str = "\
     There is no memory to read the words of the command line.
     To do: give the process more.
     Example: ulimit -v 3000; elide run examples/increment.img --in-turn
+84 BadTest
+    Of `test`: a comment `elide:` or `expect:` on this line of a file cannot be read, or what it says does not go together.
+    No test of that file is carried out.
+    To do: see `Tests` in docs/FORMATS.md.
+    Example: ; expect: nothing
 ";
 
 const EXECUTABLES: &str = "\

@@ -14,13 +14,13 @@ ghost use Rattle.tm_hunt.specs.Cost.{cost_of};
 ghost use Rattle.tm_hunt.specs.Kept.{KeepsKinds};
 ghost use Rattle.tm_hunt.specs.declared.trial.Trial.{Trial};
 ghost use Rattle.elide_object.specs.Object.{object_text};
-ghost use Rattle.elide_hunt.specs.Lines.{failure_text, none_line, search_text};
+ghost use Rattle.elide_hunt.specs.Lines.{search_text};
 ghost use Rattle.elide_hunt.specs.Object.{search_value};
 ghost use Rattle.elide_hunt.specs.Printed.{IsHunted, IsPrinted, IsTold, IsTrialOf, answer_of};
 
 use crate::fault::fault_of;
 use crate::object::tell_object;
-use crate::report::{Counts, counts_of, tell_failure, tell_none};
+use crate::report::{Counts, counts_of, tell_lines};
 use crate::searching::searched;
 use elide_args::HuntOptions;
 use elide_checks::{
@@ -136,32 +136,8 @@ fn put_lines<O: Out + Drop>(
     ensures { IfOk result (λ given. Appends (O.device out).contents (O.device given).contents
         (search_text options.now before search.now)) }
 {
-    match &search.found {
-        Some(found) => put_failure(options, found, before, out),
-        None => put_none(search.ended, search.cut, out),
-    }
-}
-
-fn put_failure<O: Out + Drop>(
-    options: &HuntOptions<'_>,
-    found: &Found,
-    before: Counts,
-    out: O,
-) -> Result<O, Refusal>
-    ensures { IfOk result (λ given. Appends (O.device out).contents (O.device given).contents
-        (failure_text options.now before found.now)) }
-{
     let mut page = Gathered::new(out);
-    tell_failure(options, found, before, &mut page)?;
-    let out = page.finish()?;
-    Ok(out)
-}
-
-fn put_none<O: Out + Drop>(ended: u32, cut: u32, out: O) -> Result<O, Refusal>
-    ensures { IfOk result (λ given. Appends (O.device out).contents (O.device given).contents (none_line ended cut)) }
-{
-    let mut page = Gathered::new(out);
-    tell_none(ended, cut, &mut page)?;
+    tell_lines(options, search, before, &mut page)?;
     let out = page.finish()?;
     Ok(out)
 }

@@ -5,7 +5,7 @@ ghost use Rattle.std.specs.Fmt.{decimal};
 ghost use Rattle.arrayvec.specs.ArrayVec.{array_vec_len};
 ghost use Rattle.ia_text.specs.Writing.{Wrote};
 ghost use Rattle.elide_hunt.specs.Lines.{check_text, counts_line, counts_of, counts_text, events_text};
-ghost use Rattle.elide_hunt.specs.Lines.{failure_text, none_line, run_front};
+ghost use Rattle.elide_hunt.specs.Lines.{failure_text, none_line, run_front, search_text};
 
 use crate::replay::put_line;
 use arrayvec::ArrayVec;
@@ -13,7 +13,7 @@ use elide_args::HuntOptions;
 use ia_text::page::push;
 use ia_text::{Failed, Out};
 use itoa::Buffer;
-use tm_hunt::{Found, events, switches};
+use tm_hunt::{Found, Search, events, switches};
 use tm_model::Pick;
 
 /// How long a schedule is.
@@ -41,8 +41,23 @@ pub fn counts_of(picks: &[Pick]) -> Counts
 // A line of numbers.
 type Line = ArrayVec<u8, 256>;
 
-/// Tells that no run failed, how many ended and how many reached the limit.
-pub fn tell_none<O: Out>(ended: u32, cut: u32, out: &mut O) -> Result<(), Failed>
+/// Prints the lines of a search, with how long the schedule of its failure was.
+pub fn tell_lines<O: Out>(
+    options: &HuntOptions<'_>,
+    search: &Search,
+    before: Counts,
+    out: &mut O,
+) -> Result<(), Failed>
+    ensures { OnOk result (Wrote (O.device out.old) (O.device out.new) (search_text options.now before search.now)) }
+{
+    match &search.found {
+        Some(found) => tell_failure(options, found, before, out),
+        None => tell_none(search.ended, search.cut, out),
+    }
+}
+
+// Tells that no run failed, how many ended and how many reached the limit.
+fn tell_none<O: Out>(ended: u32, cut: u32, out: &mut O) -> Result<(), Failed>
     ensures { OnOk result (Wrote (O.device out.old) (O.device out.new) (none_line ended cut)) }
 {
     let mut line = Line::new();
@@ -73,8 +88,8 @@ fn push_decimal(line: &mut Line, number: u64)
     push(line, Buffer::new().format(number).as_bytes());
 }
 
-/// Tells the run that failed, what it failed, how long its schedule was and is, and the command that replays it.
-pub fn tell_failure<O: Out>(
+// Tells the run that failed, what it failed, how long its schedule was and is, and the command that replays it.
+fn tell_failure<O: Out>(
     options: &HuntOptions<'_>,
     found: &Found,
     before: Counts,

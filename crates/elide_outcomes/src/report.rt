@@ -4,15 +4,15 @@ ghost use Rattle.std.specs.Prelude.{◌≡◌, ◌≤◌, ◌++◌, OnOk, length
 ghost use Rattle.std.specs.List.{flat_map};
 ghost use Rattle.arrayvec.specs.ArrayVec.{array_vec_len};
 ghost use Rattle.ia_text.specs.Writing.{Wrote, Writes};
-ghost use Rattle.tm_schedule.specs.Picks.{event_text};
 ghost use Rattle.elide_outcomes.specs.Lines.{AreInOrder, count_line, counts_text, cut_text, ends_text, outcome_line, outcome_lines};
 ghost use Rattle.elide_outcomes.specs.Lines.{step_text, item_text};
 
+use elide_shell::step_word;
 use ia_text::page::{push, push_eight};
-use ia_text::text_line::{TextLine, push_number};
+use ia_text::text_line::TextLine;
 use ia_text::{Out, WriteFault};
 use itoa::Buffer;
-use tm_outcomes::{Event, Interference, Pick, Search, Told};
+use tm_outcomes::{Pick, Search, Told};
 
 /// Puts outcomes in the order of their values.
 pub fn sort(outcomes: &mut Vec<Told>)
@@ -94,27 +94,12 @@ fn tell_steps<O: Out>(picks: &[Pick], out: &mut O) -> Result<(), WriteFault>
 }
 
 fn tell_step<O: Out>(pick: Pick, out: &mut O) -> Result<(), WriteFault>
-    ensures { Writes (O.device out.old) (O.device out.new) (step_text pick) result }
+    ensures { OnOk result (Wrote (O.device out.old) (O.device out.new) (step_text pick)) }
 {
-    let mut row = TextLine::new();
-    push(&mut row, b" ");
-    push_number(&mut row, pick.core);
-    push(&mut row, letter_of(pick.event));
-    out.put(row.as_slice())?;
+    let word = step_word(pick);
+    out.put(b" ")?;
+    out.put(word.as_str().as_bytes())?;
     Ok(())
-}
-
-// The letter of an event, and nothing for none.
-fn letter_of(event: Option<Event>) -> &'static [u8]
-    ensures letter { result.now ≡ event_text event }
-    ensures len { length result.now ≤ 1 }
-{
-    match event {
-        None => b"",
-        Some(Event::Abort(Interference::Interrupt)) => b"i",
-        Some(Event::Abort(Interference::Eviction)) => b"e",
-        Some(Event::Abort(Interference::Snoop)) => b"s",
-    }
 }
 
 // The last line.

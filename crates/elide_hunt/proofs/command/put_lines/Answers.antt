@@ -1,12 +1,12 @@
 use Rattle.std.proofs.Common.{ℕ, List, Option}
 use Rattle.elide_setup.specs.Gathering.{told}
 use Rattle.elide_setup.specs.declared.gathered.Gathered.{Gathered}
-use Rattle.elide_hunt.specs.Lines.{none_line}
+use Rattle.elide_hunt.specs.Lines.{search_text}
 use Rattle.elide_hunt.proofs.Texts.{passed_on}
-use Rattle.elide_hunt.proofs.command.put_none.Goals as goal
+use Rattle.elide_hunt.proofs.command.put_lines.Goals as goal
 
 pub returns : goal.returns
 returns g c =
     let held : Gathered g.row.O.Denot → Option (List ℕ) = λ m. told (g.O.Out.device m.out).contents (g.O.Out.device m.before.value).contents m.failures m.row.items in
-    passed_on (g.O.Out.device c.args.out).contents (held c.new-page.result) (held c.tell_none.new.out) (g.O.Out.device c.in_ok-out.out).contents
-    (none_line c.args.ended c.args.cut) c.new-page.ensures.kept c.in_ok-tell_none.ensures.bytes c.in_ok-out.ensures.kept
+    passed_on (g.O.Out.device c.args.out).contents (held c.new-page.result) (held c.tell_lines.new.out) (g.O.Out.device c.in_ok-out.out).contents
+    (search_text c.args.options.now c.args.before c.args.search.now) c.new-page.ensures.kept c.in_ok-tell_lines.ensures.bytes c.in_ok-out.ensures.kept
