@@ -7,6 +7,7 @@
             machine.step(0)
             machine.run(10)
             print(machine.regs(0).eax, machine.memory("count", 4), machine.why(1))
+        print(elide.run(program, cores=2, random=7, show="count").values)
         failure = elide.hunt(program, cores=2, check="count == 2")
         found = elide.outcomes(program, "count", cores=2)
 
@@ -15,7 +16,7 @@ Which program is run: see `program_path`.
 """
 
 from ._path import program_path
-from .commands import hunt, outcomes
+from .commands import hunt, outcomes, replay, run, threads
 from .errors import (
     BadAnswer,
     Error,
@@ -28,13 +29,18 @@ from .errors import (
 from .machine import Machine
 from .program import Program
 from .records import (
+    Dump,
     Failure,
     Length,
     Outcome,
     Outcomes,
     Reason,
     Registers,
+    Replay,
+    Run,
     Sets,
+    Shown,
+    State,
     Step,
     Steps,
 )
@@ -43,6 +49,7 @@ __version__ = "0.3.0"
 
 __all__ = [
     "BadAnswer",
+    "Dump",
     "Error",
     "Failure",
     "Fault",
@@ -56,11 +63,18 @@ __all__ = [
     "ProgramNotFound",
     "Reason",
     "Registers",
+    "Replay",
+    "Run",
     "Sets",
+    "Shown",
     "SourceWarning",
+    "State",
     "Step",
     "Steps",
     "hunt",
     "outcomes",
     "program_path",
+    "replay",
+    "run",
+    "threads",
 ]

@@ -5,6 +5,7 @@ import json
 from typing import Any, Callable, Dict, List, Optional, Tuple, Type, TypeVar
 
 from . import records
+from ._lines import REGISTERS
 
 T = TypeVar("T")
 
@@ -59,6 +60,10 @@ class Fields:
         """A text, or None where there is no such field."""
         return self.text(name) if self.has(name) else None
 
+    def maybe_number(self, name: str) -> Optional[int]:
+        """A number, or None where there is no such field."""
+        return self.number(name) if self.has(name) else None
+
     def _get(self, name: str, kind: Type[T]) -> T:
         value = self._fields.get(name)
         # Not isinstance: True is an int of Python's.
@@ -66,6 +71,11 @@ class Fields:
             raise ValueError(f"{name}: {value!r:.60}")
         found: T = value
         return found
+
+
+def is_whole(text: str, status: int) -> bool:
+    """Whether a command that ended with this status printed a whole object."""
+    return text.endswith(f'"status":{status}}}\n')
 
 
 def object_of(text: str, command: str, status: int) -> Fields:
@@ -107,6 +117,82 @@ def outcomes(found: Fields) -> records.Outcomes:
         ),
         states=found.number("states"),
         whole=found.truth("whole"),
+    )
+
+
+def run(found: Fields) -> records.Run:
+    """The object of `run`."""
+    return records.Run(
+        cores=_cores(found),
+        dump=_dump(found),
+        show=_show(found),
+        outcomes=_steps(found),
+        running=found.numbers("running") if found.has("running") else None,
+    )
+
+
+def replay(found: Fields) -> records.Replay:
+    """The object of `replay`."""
+    return records.Replay(_cores(found), _dump(found), _show(found), found.truth("agree"))
+
+
+def threads(found: Fields) -> records.State:
+    """The object of `threads`."""
+    return records.State(_cores(found), _dump(found), _show(found))
+
+
+def _steps(found: Fields) -> Optional[Tuple[records.Step, ...]]:
+    if not found.has("outcomes"):
+        return None
+    return tuple(_step(it, number) for number, it in enumerate(found.inners("outcomes"), 1))
+
+
+def _step(found: Fields, number: int) -> records.Step:
+    return records.Step(
+        number=number,
+        core=found.number("core"),
+        outcome=found.text("outcome"),
+        cause=found.maybe_text("stop"),
+        status=found.maybe_number("status"),
+        event=found.maybe_text("event"),
+    )
+
+
+def _cores(found: Fields) -> Tuple[records.Registers, ...]:
+    return tuple(_core(it) for it in found.inners("cores"))
+
+
+def _core(found: Fields) -> records.Registers:
+    state, stop = found.text("state"), found.maybe_text("stop")
+    eax, ecx, edx, ebx, esp, ebp, esi, edi, eip = (found.number(it) for it in REGISTERS)
+    return records.Registers(
+        found.number("core"),
+        state if stop is None else f"{state}:{stop}",
+        found.number("depth"),
+        eax,
+        ecx,
+        edx,
+        ebx,
+        esp,
+        ebp,
+        esi,
+        edi,
+        eip,
+        found.texts("flags"),
+    )
+
+
+def _dump(found: Fields) -> Tuple[records.Dump, ...]:
+    return tuple(
+        records.Dump(it.number("address"), bytes.fromhex(it.text("bytes")))
+        for it in found.inners("dump")
+    )
+
+
+def _show(found: Fields) -> Tuple[records.Shown, ...]:
+    return tuple(
+        records.Shown(it.text("at"), it.number("address"), it.number("value"))
+        for it in found.inners("show")
     )
 
 

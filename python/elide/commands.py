@@ -1,4 +1,4 @@
-"""Commands of the program that answer once: `hunt` and `outcomes`.
+"""Commands of the program that answer once: `run`, `replay`, `threads`, `hunt` and `outcomes`.
 
 The parameters are the options of these commands, by their names; FORMATS.md has what each takes. A
 program is a Program, or the path of its file. Each call raises Fault and Misuse where the program
@@ -11,12 +11,12 @@ import time
 from typing import Callable, List, Optional, Sequence, Tuple, TypeVar, Union
 
 from . import _json, _options
-from ._options import Address, Schedule, flag, option, several
+from ._options import Address, Schedule, Steps, flag, option, several
 from ._path import PathLike
 from ._process import Process, lines
 from .errors import BadAnswer
 from .program import Program
-from .records import Failure, Outcomes
+from .records import Failure, Outcomes, Replay, Run, State
 
 T = TypeVar("T")
 
@@ -25,6 +25,127 @@ Texts = Union[None, str, Sequence[str]]
 
 # How each object of the program's begins.
 BEGIN = b'{"format":'
+
+
+def run(
+    program: Union[Program, PathLike],
+    cores: int = 1,
+    memory: Optional[int] = None,
+    *,
+    entry: Entry = None,
+    reads: Optional[int] = None,
+    writes: Optional[int] = None,
+    steps: Optional[Steps] = None,
+    schedule: Optional[PathLike] = None,
+    in_turn: bool = False,
+    random: Optional[int] = None,
+    limit: Optional[int] = None,
+    events: Union[None, int, str] = None,
+    seed: Optional[int] = None,
+    dump: Texts = None,
+    show: Texts = None,
+    trace: bool = False,
+    expect_halt: bool = False,
+    record: Optional[PathLike] = None,
+    timeout: Optional[float] = None,
+) -> Run:
+    """Runs a schedule, given by `steps`, `schedule` (a file), `in_turn` or `random`, and gives the
+    state at its end.
+
+    `dump` is one part of memory or several, as `count:4`; `show` is one sum or several, as
+    `table+8`, whose doublewords are shown. With `trace` the outcome of each step is told, with
+    `expect_halt` which cores have not stopped.
+    """
+    options = [
+        *_options.machine(cores, memory, entry, reads, writes),
+        *several("dump", dump),
+        *several("show", show),
+        *flag("trace", trace),
+        *flag("expect-halt", expect_halt),
+        *option("record", record),
+    ]
+    plan = Schedule(
+        steps=steps,
+        schedule=schedule,
+        in_turn=in_turn,
+        random=random,
+        limit=limit,
+        events=events,
+        seed=seed,
+    )
+    return _answer(program, "run", options, plan, timeout, lambda it, _: _json.run(it))
+
+
+def replay(
+    program: Union[Program, PathLike],
+    cores: int = 1,
+    memory: Optional[int] = None,
+    *,
+    entry: Entry = None,
+    reads: Optional[int] = None,
+    writes: Optional[int] = None,
+    steps: Optional[Steps] = None,
+    schedule: Optional[PathLike] = None,
+    in_turn: bool = False,
+    random: Optional[int] = None,
+    limit: Optional[int] = None,
+    events: Union[None, int, str] = None,
+    seed: Optional[int] = None,
+    dump: Texts = None,
+    show: Texts = None,
+    record: Optional[PathLike] = None,
+    timeout: Optional[float] = None,
+) -> Replay:
+    """Runs a schedule as `run` does, and its history once more on one memory, each committed
+    transaction as a whole; gives the state, and whether both came to the same."""
+    options = [
+        *_options.machine(cores, memory, entry, reads, writes),
+        *several("dump", dump),
+        *several("show", show),
+        *option("record", record),
+    ]
+    plan = Schedule(
+        steps=steps,
+        schedule=schedule,
+        in_turn=in_turn,
+        random=random,
+        limit=limit,
+        events=events,
+        seed=seed,
+    )
+    return _answer(program, "replay", options, plan, timeout, lambda it, _: _json.replay(it))
+
+
+def threads(
+    program: Union[Program, PathLike],
+    cores: int = 1,
+    memory: Optional[int] = None,
+    *,
+    budget: int,
+    burst: Optional[int] = None,
+    entry: Entry = None,
+    reads: Optional[int] = None,
+    writes: Optional[int] = None,
+    events: Union[None, int, str] = None,
+    seed: Optional[int] = None,
+    dump: Texts = None,
+    show: Texts = None,
+    record: Optional[PathLike] = None,
+    timeout: Optional[float] = None,
+) -> State:
+    """Runs each core on a thread of its own, in an order that nobody chose, and gives the state at
+    the end. `budget` is the most steps of each core; `record` is a file that the schedule which
+    came about is written to, as `replay` takes it."""
+    options = [
+        *_options.machine(cores, memory, entry, reads, writes),
+        *option("budget", budget),
+        *option("burst", burst),
+        *several("dump", dump),
+        *several("show", show),
+        *option("record", record),
+    ]
+    plan = Schedule(events=events, seed=seed)
+    return _answer(program, "threads", options, plan, timeout, lambda it, _: _json.threads(it))
 
 
 def hunt(
@@ -110,7 +231,7 @@ def _answer(
         command = program.command(name, [*options, *words, "--json"])
         asked = f"elide {name} {program.name}"
         status, text, said = _run(command, asked, timeout)
-    if status not in (0, 3):
+    if status not in (0, 3) and not _json.is_whole(text, status):
         told = "\n".join([text, *said] if text else said)
         raise program.error(status, told, asked, said, plan.name)
     program.tell(said, 3)

@@ -1,7 +1,7 @@
 """What the program answers, as records."""
 
 from dataclasses import dataclass
-from typing import FrozenSet, Iterator, Optional, Tuple
+from typing import Dict, FrozenSet, Iterator, Optional, Tuple
 
 
 @dataclass(frozen=True)
@@ -10,9 +10,9 @@ class Registers:
     its outermost XBEGIN.
 
     `state` is `run`, `mid` (between the two steps of an instruction), `tx`, `condemned`, or `stop:`
-    and the cause. `depth` is how many XBEGINs deep its transaction is, 0 where there is none, and
-    None of a condemned core, of which a session does not tell it. `flags` has the names of those
-    that are set, of CF PF AF ZF SF OF in this order.
+    and the cause. `depth` is how many XBEGINs deep its transaction is, of a condemned core was, 0
+    where there is none, and None of a condemned core in a session, which does not tell it. `flags`
+    has the names of those that are set, of CF PF AF ZF SF OF in this order.
     """
 
     core: int
@@ -118,6 +118,59 @@ class Reason:
 
     def __str__(self) -> str:
         return self.text
+
+
+@dataclass(frozen=True)
+class Dump:
+    """A part of memory: its bytes, and the address of the first."""
+
+    address: int
+    content: bytes
+
+
+@dataclass(frozen=True)
+class Shown:
+    """The doubleword at a sum of symbols and numbers: the sum's text, the address, the value."""
+
+    at: str
+    address: int
+    value: int
+
+
+@dataclass(frozen=True)
+class State:
+    """What a machine has come to: its cores by their numbers, and what `dump` and `show` asked for
+    of its memory, in that order."""
+
+    cores: Tuple[Registers, ...]
+    dump: Tuple[Dump, ...]
+    show: Tuple[Shown, ...]
+
+    @property
+    def values(self) -> Dict[str, int]:
+        """The values of `show`, by the texts that asked for them."""
+        return {it.at: it.value for it in self.show}
+
+
+@dataclass(frozen=True)
+class Run(State):
+    """The end of a run.
+
+    `outcomes` are those of its steps where `trace` was set, else it is None. `running` are the
+    cores that have not stopped where `expect_halt` was set, so that the run failed if there is one,
+    else it is None.
+    """
+
+    outcomes: Optional[Tuple[Step, ...]]
+    running: Optional[Tuple[int, ...]]
+
+
+@dataclass(frozen=True)
+class Replay(State):
+    """The end of a run that was made once more on one memory, each committed transaction as a
+    whole: `agree` says whether both came to the same."""
+
+    agree: bool
 
 
 @dataclass(frozen=True)

@@ -1,5 +1,6 @@
 """Commands that answer once, by the program."""
 
+import dataclasses
 import os
 import pathlib
 import unittest
@@ -11,6 +12,9 @@ import elide
 from .support import COUNTER, ENDLESS, LOST, Case, example
 
 NO_READ = example("faulty/no-read.asm")
+
+# Core 0 commits while core 1 has the counter in its read set.
+CONFLICT = "0 0 1 1 0 0 0 1"
 
 
 class Calls(Case):
@@ -31,6 +35,9 @@ class Calls(Case):
         calls: Tuple[Callable[[], object], ...] = (
             lambda: elide.outcomes(path, "eax@0"),
             lambda: elide.hunt(path, stop="#GP", runs=3),
+            lambda: elide.run(path, steps="0"),
+            lambda: elide.replay(path, steps="0"),
+            lambda: elide.threads(path, budget=1),
         )
         for call in calls:
             with warnings.catch_warnings(record=True) as caught:
@@ -39,6 +46,83 @@ class Calls(Case):
             self.assertEqual([it.category for it in caught], [elide.SourceWarning])
             self.assertTrue(str(caught[0].message).startswith(f"{path}:1: "))
             self.assertEqual(caught[0].filename, __file__)
+
+
+class Runs(Case):
+    """`run`, `replay` and `threads`."""
+
+    def test_a_state(self) -> None:
+        with elide.Program.from_source(COUNTER) as program:
+            done = elide.run(program, 2, steps=CONFLICT, dump="count:8", show=["count", "count+4"])
+            self.assertEqual([it.core for it in done.cores], [0, 1])
+            self.assertEqual([it.state for it in done.cores], ["run", "run"])
+            self.assertEqual([it.eax for it in done.cores], [1, 6])
+            (part,) = done.dump
+            self.assertEqual(part.content, b"\x01" + bytes(7))
+            one, other = done.show
+            self.assertEqual(one, elide.Shown("count", part.address, 1))
+            self.assertEqual(other, elide.Shown("count+4", part.address + 4, 0))
+            self.assertEqual(done.values, {"count": 1, "count+4": 0})
+            self.assertEqual((done.outcomes, done.running), (None, None))
+
+    def test_it_is_the_state_of_a_session(self) -> None:
+        with elide.Program.from_source(COUNTER) as program:
+            for count in range(9):
+                steps = CONFLICT.split()[:count]
+                done = elide.run(program, 2, steps=steps, trace=True)
+                with program.machine(2, steps=steps) as machine:
+                    self.assertEqual(done.outcomes, machine.run(10).steps)
+                    for it in done.cores:
+                        if it.state == "condemned":
+                            self.assertEqual(it.depth, 1)
+                            it = dataclasses.replace(it, depth=None)
+                        self.assertEqual(it, machine.regs(it.core))
+
+    def test_outcomes(self) -> None:
+        with elide.Program.from_source(COUNTER) as program:
+            done = elide.run(program, steps=["0", "0i"], trace=True)
+            begun, aborted = done.outcomes or ()
+            self.assertEqual(begun, elide.Step(1, 0, "begun"))
+            self.assertEqual(aborted, elide.Step(2, 0, "aborted", status=0, event="interrupt"))
+            self.assertEqual(elide.run(program, steps="", trace=True).outcomes, ())
+
+    def test_what_has_not_stopped(self) -> None:
+        with elide.Program.from_source(ENDLESS) as program:
+            done = elide.run(program, 2, in_turn=True, limit=10, expect_halt=True)
+            self.assertEqual(done.running, (0, 1))
+        with elide.Program.from_source("hlt") as program:
+            done = elide.run(program, in_turn=True, expect_halt=True)
+            self.assertEqual(done.running, ())
+            self.assertEqual(done.cores[0].stop, "HLT")
+
+    def test_schedules(self) -> None:
+        record = self.folder + "/schedule.txt"
+        with elide.Program.from_source(COUNTER) as program:
+            for events in (None, "1/2:snoop"):
+                done = elide.run(program, 3, random=7, events=events, trace=True, record=record)
+                self.assertEqual(elide.run(program, 3, schedule=record, trace=True), done)
+            steps = [it.pick for it in done.outcomes or ()]
+            self.assertEqual(elide.run(program, 3, steps=steps, trace=True), done)
+            cut = elide.run(program, 3, in_turn=True, limit=5, trace=True)
+            self.assertEqual([it.core for it in cut.outcomes or ()], [0, 1, 2, 0, 1])
+
+    def test_a_replay(self) -> None:
+        with elide.Program.from_source(COUNTER) as program:
+            done = elide.replay(program, 2, steps=CONFLICT, dump=["count:4"], show="count")
+            self.assertTrue(done.agree)
+            run = elide.run(program, 2, steps=CONFLICT, dump="count:4", show="count")
+            self.assertEqual((done.cores, done.dump, done.show), (run.cores, run.dump, run.show))
+
+    def test_threads(self) -> None:
+        record = self.folder + "/schedule.txt"
+        with elide.Program.from_file(example("elision.asm")) as program:
+            done = elide.threads(program, 4, budget=1_000_000, show="count", record=record)
+            self.assertEqual(done.values, {"count": 4000})
+            self.assertEqual([it.stop for it in done.cores], ["HLT"] * 4)
+            again = elide.replay(program, 4, schedule=record, show="count")
+            self.assertEqual((again.agree, again.cores), (True, done.cores))
+            done = elide.threads(program, 2, budget=10, burst=1, events="1/2", seed=3)
+            self.assertEqual((len(done.cores), done.dump, done.show), (2, (), ()))
 
 
 class Hunts(Case):
@@ -138,6 +222,9 @@ class Refusals(Case):
             calls: Tuple[Callable[[], object], ...] = (
                 lambda: elide.hunt(program, check="0x0 == 1"),
                 lambda: elide.outcomes(program, "eax@0"),
+                lambda: elide.run(program, in_turn=True),
+                lambda: elide.replay(program, in_turn=True),
+                lambda: elide.threads(program, budget=1),
             )
             for call in calls:
                 with self.assertRaises(elide.Fault) as caught:
@@ -154,6 +241,10 @@ class Refusals(Case):
                 (22, lambda: elide.hunt(program, memory=4096, check="count == 2")),
                 (24, lambda: elide.outcomes(program, "count", entry="count")),
                 (81, lambda: elide.hunt(program, check="count == 2", record=nowhere)),
+                (42, lambda: elide.run(program, steps="1")),
+                (55, lambda: elide.threads(program, budget=0)),
+                (80, lambda: elide.replay(program, schedule=nowhere)),
+                (81, lambda: elide.threads(program, budget=1, record=nowhere)),
             )
             for number, call in cases:
                 with self.subTest(number=number), self.assertRaises(elide.Fault) as caught:
@@ -171,6 +262,11 @@ class Refusals(Case):
                 ("--events", lambda: elide.outcomes(program, "count", events="earthquake")),
                 ("--show", lambda: elide.outcomes(program, "exx@0")),
                 ("--show", lambda: elide.outcomes(program, [])),
+                ("--show", lambda: elide.run(program, steps="0", show="nowhere")),
+                ("--dump", lambda: elide.replay(program, steps="0", dump="count")),
+                ("--steps", lambda: elide.run(program, steps="a")),
+                ("--steps", lambda: elide.replay(program)),
+                ("--burst", lambda: elide.threads(program, budget=1, burst=0)),
             )
             for option, call in cases:
                 with self.subTest(option=option), self.assertRaises(elide.Misuse) as caught:

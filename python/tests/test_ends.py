@@ -248,6 +248,21 @@ class NoElide(Case):
         with elide.Program.from_source(COUNTER, elide=path) as program:
             self.assertEqual(elide.outcomes(program, ""), elide.Outcomes((), (), 1, True))
 
+    def test_a_replay_that_differs(self) -> None:
+        """Its status is that of a fault, and its object is whole."""
+        whole = (
+            '{"format":1,"command":"replay","cores":[],"dump":[],"show":[],"agree":false'
+            ',"status":1}'
+        )
+        path = self.fake(f"print({whole!r}); raise SystemExit(1)")
+        with elide.Program.from_source(COUNTER, elide=path) as program:
+            self.assertEqual(elide.replay(program, steps=""), elide.Replay((), (), (), False))
+        for text, status in ((whole[:-1], 1), (whole, 9)):
+            path = self.fake(f"print({text!r}); raise SystemExit({status})")
+            with elide.Program.from_source(COUNTER, elide=path) as program:
+                with self.assertRaises(elide.ProgramEnded):
+                    elide.replay(program, steps="")
+
     def test_a_command_that_never_ends(self) -> None:
         path = self.fake("while True: print('y')")
         with elide.Program.from_source(COUNTER, elide=path) as program:

@@ -20,9 +20,24 @@ FOUND: Dict[str, Any] = {
     "whole": False,
 }
 
+# A core, and what a command shows of a machine.
+CORE: Dict[str, Any] = {
+    "core": 63,
+    "state": "stop",
+    "depth": 0,
+    "stop": "#GP",
+    **{name: number for number, name in enumerate(_lines.REGISTERS)},
+    "flags": ["CF", "OF"],
+}
+SHOWN: Dict[str, Any] = {
+    "cores": [CORE],
+    "dump": [{"address": 256, "bytes": "00ff"}],
+    "show": [{"at": "table+8", "address": 264, "value": 4294967295}],
+}
+
 
 def named(text: str) -> str:
-    return text.replace("/tmp/x.asm", "x.asm")
+    return text.replace("folder/x.asm", "x.asm")
 
 
 class Lines(unittest.TestCase):
@@ -101,7 +116,7 @@ class Objects(unittest.TestCase):
             "before": length,
             "after": length,
             "schedule": ["0", "1i"],
-            "replay": "elide replay /tmp/x.asm",
+            "replay": "elide replay folder/x.asm",
         }
         told = _json.failure(self.fields("hunt", 3, runs=runs, failure=failure), named)
         wanted = elide.Failure(
@@ -123,11 +138,68 @@ class Objects(unittest.TestCase):
         self.assertEqual((told.show, told.states), (("eax@0", "x"), 5))
         self.assertEqual((told.values, told.whole), ({(0, 1)}, False))
 
+    def test_shown(self) -> None:
+        told = _json.threads(self.fields("threads", **SHOWN))
+        (regs,) = told.cores
+        self.assertEqual((regs.core, regs.state, regs.depth), (63, "stop:#GP", 0))
+        self.assertEqual([getattr(regs, name) for name in _lines.REGISTERS], list(range(9)))
+        self.assertEqual((regs.stop, regs.flags), ("#GP", ("CF", "OF")))
+        self.assertEqual(told.dump, (elide.Dump(256, b"\x00\xff"),))
+        self.assertEqual(told.show, (elide.Shown("table+8", 264, 0xFFFFFFFF),))
+        self.assertEqual(told.values, {"table+8": 0xFFFFFFFF})
+
+    def test_states(self) -> None:
+        for state, depth, stop, wanted in (
+            ("run", 0, None, "run"),
+            ("mid", 0, None, "mid"),
+            ("tx", 7, None, "tx"),
+            ("condemned", 2, None, "condemned"),
+            ("stop", 0, "not-in-subset", "stop:not-in-subset"),
+        ):
+            core = {**CORE, "state": state, "depth": depth, "stop": stop}
+            told = _json.threads(self.fields("threads", **{**SHOWN, "cores": [core]}))
+            self.assertEqual((told.cores[0].state, told.cores[0].depth), (wanted, depth))
+
+    def test_run(self) -> None:
+        told = _json.run(self.fields("run", outcomes=None, **SHOWN, running=None))
+        self.assertEqual((told.outcomes, told.running), (None, None))
+        none: Dict[str, Any] = {"stop": None, "status": None, "event": None}
+        outcomes = [
+            {"core": 1, "outcome": "begun", **none},
+            {"core": 1, "outcome": "aborted", **none, "status": 8, "event": "eviction"},
+            {"core": 0, "outcome": "stopped", **none, "stop": "HLT"},
+        ]
+        told = _json.run(self.fields("run", 3, outcomes=outcomes, **SHOWN, running=[1]))
+        wanted = (
+            elide.Step(1, 1, "begun"),
+            elide.Step(2, 1, "aborted", status=8, event="eviction"),
+            elide.Step(3, 0, "stopped", cause="HLT"),
+        )
+        self.assertEqual((told.outcomes, told.running), (wanted, (1,)))
+        told = _json.run(self.fields("run", outcomes=[], **SHOWN, running=[]))
+        self.assertEqual((told.outcomes, told.running), ((), ()))
+
+    def test_replay(self) -> None:
+        for agree in (True, False):
+            told = _json.replay(self.fields("replay", 0 if agree else 1, **SHOWN, agree=agree))
+            self.assertEqual((told.agree, told.values), (agree, {"table+8": 0xFFFFFFFF}))
+
+    def test_whole(self) -> None:
+        text = '{"format":1,"status":3}\n'
+        self.assertTrue(_json.is_whole(text, 3))
+        for other, status in ((text, 0), (text[:-1], 3), ("", 0), (text + "more\n", 3)):
+            self.assertFalse(_json.is_whole(other, status))
+
     def test_fields_that_are_added(self) -> None:
         one = {**FOUND["outcomes"][0], "new": 1}
         found: Dict[str, Any] = {**FOUND, "outcomes": [one], "new": {}}
         told = _json.outcomes(self.fields("outcomes", 3, **found))
         self.assertEqual(told, _json.outcomes(self.fields("outcomes", 3, **FOUND)))
+        more: Dict[str, Any] = {
+            name: [{**it, "new": []} for it in rows] for name, rows in SHOWN.items()
+        }
+        shown = _json.threads(self.fields("threads", **more, new="1"))
+        self.assertEqual(shown, _json.threads(self.fields("threads", **SHOWN)))
 
     def test_fields_of_other_types(self) -> None:
         for field, value in (
@@ -143,6 +215,27 @@ class Objects(unittest.TestCase):
             with self.subTest(field=field, value=value), self.assertRaises(ValueError) as caught:
                 _json.outcomes(self.fields("outcomes", 3, **found))
             self.assertIn(field, str(caught.exception))
+
+    def test_shown_of_other_types(self) -> None:
+        core: Dict[str, Any]
+        for core in ({"eax": "0"}, {"state": None}, {"depth": True}, {"flags": "CF"}, {"stop": 1}):
+            with self.subTest(core=core), self.assertRaises(ValueError):
+                cores = [{**CORE, **core}]
+                _json.threads(self.fields("threads", **{**SHOWN, "cores": cores}))
+        shown: Dict[str, Any]
+        for shown in (
+            {"cores": None},
+            {"cores": [1]},
+            {"dump": [{"address": 0, "bytes": "0g"}]},
+            {"show": [{"at": "x", "address": 0, "value": None}]},
+        ):
+            with self.subTest(shown=shown), self.assertRaises(ValueError):
+                _json.threads(self.fields("threads", **{**SHOWN, **shown}))
+        with self.assertRaises(ValueError):
+            _json.replay(self.fields("replay", **SHOWN))
+        for running in (1, ["1"], [True]):
+            with self.subTest(running=running), self.assertRaises(ValueError):
+                _json.run(self.fields("run", outcomes=None, **SHOWN, running=running))
 
 
 if __name__ == "__main__":
