@@ -15,3 +15,14 @@ failed: hlt
 
 section .data
 count:  dd 0
+
+; elide: run --cores 2 --steps "0 0 1 1 0 0 0 1" --trace --show count
+; expect: line 0 committed
+; expect: line 1 aborted 00000006
+; expect: line count=00000001 1
+; elide: run --cores 2 --steps "0 0 1 1 1 1 1 0" --trace --show count
+; expect: line 1 committed
+; expect: line 0 aborted 00000006
+; expect: line count=00000001 1
+; elide: outcomes --cores 2 --show "count eax@1"
+; expect: exactly 1 1 | 1 6 | 2 1 | 2 2

@@ -17,3 +17,9 @@ failed: test eax, 2             ; may a retry succeed?
 
 section .data
 count:  dd 0
+
+; elide: run --steps "0 0 0 0 0 0" --trace --show count
+; expect: line 0 begun
+; expect: line 0 aborted 00000000
+; expect: line 0 stopped HLT
+; expect: line count=00000001 1

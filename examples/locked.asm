@@ -10,3 +10,8 @@ start:  lock inc dword [count]
 
 section .data
 count:  dd 0
+
+; elide: run --cores 2 --steps "0 1 0 1" --show count
+; expect: line count=00000002 2
+; elide: outcomes --cores 2 --show count
+; expect: exactly 2

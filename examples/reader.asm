@@ -16,3 +16,8 @@ reader: mov eax, [count]
 
 section .data
 count:  dd 0
+
+; elide: run --cores 2 --entry writer,reader --steps "0 0 1 0" --trace --show count
+; expect: line 1 plain
+; expect: line 0 aborted 00000006
+; expect: line count=00000000 0

@@ -40,3 +40,11 @@ section .data
 mutex:  dd 0
         align 64
 count:  dd 0
+
+; elide: hunt --cores 2 --check "count == 6" --events draw
+; expect: status 3
+; expect: line run ... fails --check count == 6
+; elide: outcomes --cores 2 --entry once,once --show count --events interrupt,snoop --mem 12288 --reads 4 --writes 4
+; expect: exactly 2
+; elide: outcomes --cores 2 --entry once,once --show count --events eviction --mem 12288 --reads 4 --writes 4
+; expect: exactly 0 | 1 | 2

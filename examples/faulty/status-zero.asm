@@ -39,3 +39,11 @@ section .data
 mutex:  dd 0
         align 64
 count:  dd 0
+
+; elide: hunt --cores 2 --check "count == 6" --events draw
+; expect: status 3
+; expect: line run ... fails --check count == 6
+; elide: outcomes --cores 2 --entry once,once --show count
+; expect: exactly 2
+; elide: outcomes --cores 2 --entry once,once --show count --events interrupt
+; expect: exactly 0 | 1 | 2

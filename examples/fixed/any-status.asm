@@ -48,3 +48,8 @@ section .data
 mutex:  dd 0
         align 64
 count:  dd 0
+
+; elide: hunt --cores 2 --check "count == 6" --events draw --expect-halt --limit 10000 --runs 1000
+; expect: no failure
+; elide: outcomes --cores 2 --entry once,once --show count --events interrupt,eviction,snoop --mem 12288 --reads 4 --writes 4
+; expect: exactly 2

@@ -24,3 +24,6 @@ section .data
 first:  dd 0
         align 64
 second: dd 0
+
+; elide: hunt --cores 2 --stop "#BP"
+; expect: no failure

@@ -19,3 +19,6 @@ section .data
 x:      dd 0
         align 64
 y:      dd 0
+
+; elide: outcomes --cores 2 --entry first,second --show "eax@0 eax@1"
+; expect: exactly 0 1 | 1 0 | 1 1

@@ -2,7 +2,8 @@
 
 use crate::reply::{ALL, reply_to};
 use doc_lines::{CommandWords, Exercise, is_as_shown, line_of};
-use elide_command::HostPaths;
+use elide_command::Paths;
+use elide_trial::SharedPaths;
 use std::rt::Files;
 use std::sync::Wait;
 use std::thread::Threads;
@@ -18,15 +19,16 @@ pub enum Verdict {
 }
 
 /// Runs a command: `./elide` or `cat`.
-pub fn run<R: Threads + Wait + Sync + AllocGlobal + Files>(
+pub fn run<R: Threads + Wait + Sync + AllocGlobal + Files, P: Paths + SharedPaths + Sync>(
     rt: &R,
     exercise: &Exercise<'_>,
+    paths: &mut P,
 ) -> io::Result<Verdict> {
     let alloc = rt.alloc();
     let line = line_of(alloc, exercise.command)?;
     let said = match line.words.as_slice().split_first() {
         Some((first, rest)) if first.as_str() == "cat" => cat(rt, rest)?,
-        Some((_elide, rest)) => elide(rt, rest, &line)?,
+        Some((_elide, rest)) => elide(rt, rest, &line, paths)?,
         None => String::new(alloc),
     };
     if is_as_shown(alloc, exercise.wanted.as_slice(), said.as_str())? {
@@ -45,17 +47,17 @@ fn cat<R: AllocGlobal + Files>(rt: &R, words: &[String]) -> io::Result<String> {
 }
 
 // What `elide` prints on both of its outputs, but for what goes to a file.
-fn elide<R: Threads + Wait + Sync + AllocGlobal + Files>(
+fn elide<R: Threads + Wait + Sync + AllocGlobal + Files, P: Paths + SharedPaths + Sync>(
     rt: &R,
     words: &[String],
     line: &CommandWords,
+    paths: &mut P,
 ) -> io::Result<String> {
     let given = match &line.input {
         Some(path) => fs::read(rt, path.as_str())?,
         None => Vec::new(rt.alloc()),
     };
-    let mut paths = HostPaths::new(rt);
-    let told = reply_to(rt, words, &mut paths, given.as_slice(), ALL)?;
+    let told = reply_to(rt, words, paths, given.as_slice(), ALL)?;
     let mut said = told.out;
     if let Some(path) = &line.output {
         fs::write(rt, path.as_str(), said.as_str())?;

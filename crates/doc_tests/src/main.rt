@@ -5,7 +5,7 @@
 //! a command, up to the next one or the block's end; a line `...` there stands for any lines. The table, `rows.txt`, says
 //! its form at its head; its commands run over files in memory, and status, standard output and standard error are compared.
 //!
-//! Promises no more than safety: it is a test. Stands on `elide_command`, whose commands it runs, and on `doc_lines`.
+//! Promises no more than safety: it is a test. Stands on `elide_trial`, whose commands it runs, and on `doc_lines`.
 #![tactic(auto)]
 
 mod exercise;
@@ -14,6 +14,8 @@ mod reply;
 mod rows;
 
 use doc_lines::{exercises, parts};
+use elide_command::Paths;
+use elide_trial::{SharedPaths, SystemPaths};
 use exercise::{Verdict, run};
 use rows::Course;
 use std::io::Write;
@@ -37,9 +39,11 @@ const TABLE: &str = "rows.txt";
 
 fn main(rt: HostRuntime) -> io::Result<ExitCode> {
     let mut out = io::writer(&rt);
+    // Made here, where it is known of the runtime itself that threads may share it.
+    let mut paths = SystemPaths::new(&rt);
     let mut wrong = 0usize;
     for path in DOCUMENTS {
-        wrong = wrong.saturating_add(check(&rt, path, &mut out)?);
+        wrong = wrong.saturating_add(check(&rt, path, &mut paths, &mut out)?);
     }
     wrong = wrong.saturating_add(check_rows(&rt, TABLE, &mut out)?);
     Ok(if wrong == 0 {
@@ -50,16 +54,17 @@ fn main(rt: HostRuntime) -> io::Result<ExitCode> {
 }
 
 // Runs the commands of one document, and answers how many print something else.
-fn check<R: Threads + Wait + Sync + AllocGlobal + Files, W: Write>(
+fn check<R: Threads + Wait + Sync + AllocGlobal + Files, P: Paths + SharedPaths + Sync, W: Write>(
     rt: &R,
     path: &str,
+    paths: &mut P,
     out: &mut W,
 ) -> io::Result<usize> {
     let text = fs::read_to_string(rt, path)?;
     let exercises = exercises(rt.alloc(), &text)?;
     let mut wrong = 0usize;
     for exercise in &exercises {
-        match run(rt, exercise)? {
+        match run(rt, exercise, paths)? {
             Verdict::AsShown => {}
             Verdict::Otherwise(said) => {
                 wrong = wrong.saturating_add(1);

@@ -3,6 +3,7 @@
 ghost use Rattle.std.specs.Prelude.{◌≤◌, IfOk, None, length};
 
 use elide_command::{Obstacle, Paths, ReadFault, Text};
+use elide_trial::SharedPaths;
 use ia_text::{Failed, ToVec};
 use std::alloc::{AllocError, Global};
 use std::collections::BTreeMap;
@@ -48,18 +49,7 @@ impl Paths for Memory {
     ghost content = { λ _ _. None };
 
     fn read(&mut self, path: &str, most: usize) -> Result<Vec<u8>, ReadFault> {
-        match self.files.get(path) {
-            Some(Content::Bytes(bytes)) if bytes.len() <= most => {
-                match bytes.as_slice().to_vec(self.alloc) {
-                    Ok(bytes) => Ok(bytes),
-                    Err(_) => Err(ReadFault::NoMemory),
-                }
-            }
-            Some(Content::Large(size)) if *size <= most => Err(ReadFault::NoMemory),
-            Some(Content::Bytes(_) | Content::Large(_)) => Err(ReadFault::TooLong),
-            Some(Content::Folder) => Err(ReadFault::Failed(Obstacle::Folder)),
-            None => Err(ReadFault::Failed(Obstacle::Missing)),
-        }
+        self.read_shared(path, most)
     }
 
     fn write<T: Text>(&mut self, path: &str, text: &T) -> Result<(), Failed> {
@@ -75,4 +65,44 @@ impl Paths for Memory {
     fn is_same_file(&mut self, path: &str, other: &str) -> bool {
         path == other
     }
+}
+
+impl SharedPaths for Memory {
+    ghost holds = { λ _ _. None };
+
+    fn read_shared(&self, path: &str, most: usize) -> Result<Vec<u8>, ReadFault> {
+        match self.files.get(path) {
+            Some(Content::Bytes(bytes)) if bytes.len() <= most => {
+                match bytes.as_slice().to_vec(self.alloc) {
+                    Ok(bytes) => Ok(bytes),
+                    Err(_) => Err(ReadFault::NoMemory),
+                }
+            }
+            Some(Content::Large(size)) if *size <= most => Err(ReadFault::NoMemory),
+            Some(Content::Bytes(_) | Content::Large(_)) => Err(ReadFault::TooLong),
+            Some(Content::Folder) => Err(ReadFault::Failed(Obstacle::Folder)),
+            None => Err(ReadFault::Failed(Obstacle::Missing)),
+        }
+    }
+
+    fn is_folder(&self, path: &str) -> bool {
+        matches!(self.files.get(path), Some(Content::Folder))
+    }
+
+    fn names_in(&self, folder: &str) -> Result<Vec<String>, ReadFault> {
+        let mut names = Vec::new(self.alloc);
+        for (path, _content) in &self.files {
+            if let Some((before, name)) = path.rsplit_once('/')
+                && before == folder
+            {
+                push_name(self.alloc, name, &mut names).map_err(|_| ReadFault::NoMemory)?;
+            }
+        }
+        Ok(names)
+    }
+}
+
+fn push_name(alloc: Global, name: &str, names: &mut Vec<String>) -> Result<(), AllocError> {
+    names.push(name.to_owned(alloc)?)?;
+    Ok(())
 }

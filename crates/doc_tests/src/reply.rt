@@ -1,7 +1,8 @@
 //! What a command line of `elide` comes to.
 
 use doc_lines::{Devices, Room, Told};
-use elide_command::{Paths, Silent, Surroundings, Terminals, command};
+use elide_command::{Paths, Silent, Surroundings, Terminals};
+use elide_trial::{SharedPaths, command};
 use ia_text::ToWriter;
 use std::alloc::{AllocError, Global};
 use std::io;
@@ -41,7 +42,7 @@ pub const ALL: Room = Room {
 };
 
 /// Runs a command over these files and this input; its input gives and its outputs take so many bytes and then fail.
-pub fn reply_to<R: Threads + Wait + Sync + AllocGlobal, P: Paths>(
+pub fn reply_to<R: Threads + Wait + Sync + AllocGlobal, P: Paths + SharedPaths + Sync>(
     rt: &R,
     words: &[String],
     paths: &mut P,
@@ -80,10 +81,12 @@ fn surroundings_of(devices: Devices) -> Surroundings {
         Devices::PlainTerminal => Surroundings {
             terminals: Terminals::ALL,
             is_plain: true,
+            tells_words: false,
         },
         Devices::Terminal => Surroundings {
             terminals: Terminals::ALL,
             is_plain: false,
+            tells_words: false,
         },
     }
 }

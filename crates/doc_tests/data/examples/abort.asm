@@ -12,3 +12,9 @@ failed: mov ebx, eax
         cmp ebx, 0x5a
         jne start
         hlt
+
+; elide: run --steps "0 0 0 0 0 0 0" --trace
+; expect: line 0 begun
+; expect: line 0 aborted 5a000001
+; expect: line 0 stopped HLT
+; expect: line core 0 stop:HLT eax=5a000001 ... ebx=0000005a ...

@@ -16,3 +16,12 @@ section .data
 first:  dd 0
         align 64
 second: dd 0
+
+; elide: run --writes 1 --steps "0 0 0" --trace --show first --show second
+; expect: line 0 aborted 00000008
+; expect: line first=00000000 0
+; expect: line second=00000000 0
+; elide: run --writes 2 --steps "0 0 0 0" --trace --show first --show second
+; expect: line 0 committed
+; expect: line first=00000001 1
+; expect: line second=00000002 2

@@ -17,3 +17,10 @@ reader: mov ebx, [count]        ; before the store
 
 section .data
 count:  dd 0
+
+; elide: run --cores 2 --entry writer,reader --steps "0 1 0 0 1" --trace --show count
+; expect: line 0 begun
+; expect: line 0 inside
+; expect: line 0 committed
+; expect: line core 1 run eax=00000001 ... ebx=00000000 ...
+; expect: line count=00000001 1

@@ -10,3 +10,8 @@ deeper: xbegin inner
         jmp deeper
 inner:  ud2                     ; never reached: an abort takes the outermost fallback
 outer:  hlt
+
+; elide: run --steps "0 0 0 0 0 0 0 0 0 0 0 0 0 0 0" --trace
+; expect: line 0 aborted 00000028
+; expect: line 0 stopped HLT
+; expect: line core 0 stop:HLT eax=00000028 ...

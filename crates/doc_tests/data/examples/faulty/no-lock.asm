@@ -24,3 +24,7 @@ section .data
 mutex:  dd 0
         align 64
 count:  dd 0
+
+; elide: hunt --cores 2 --check "count == 6"
+; expect: status 3
+; expect: line run ... fails --check count == 6

@@ -30,3 +30,7 @@ section .data
 first:  dd 0
         align 64
 second: dd 0
+
+; elide: hunt --cores 2 --stop "#BP"
+; expect: status 3
+; expect: line run ... fails --stop #BP

@@ -31,3 +31,6 @@ section .data
 mutex:  dd 0
         align 64
 count:  dd 0
+
+; elide: hunt --cores 2 --check "count == 6" --expect-halt --limit 10000
+; expect: no failure

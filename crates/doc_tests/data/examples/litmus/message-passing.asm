@@ -18,3 +18,6 @@ section .data
 message: dd 0
         align 64
 flag:   dd 0
+
+; elide: outcomes --cores 2 --entry writer,reader --show "eax@1 ebx@1"
+; expect: exactly 0 0 | 0 1 | 1 1
