@@ -3,18 +3,19 @@
 # The options of a subcommand.
 _elide_options() {
     case $1 in
-    asm) echo '--help --list --color' ;;
-    dis) echo '--help --labels --color' ;;
-    run) echo '--help --cores --mem --entry --reads --writes --dump --show --steps --schedule --trace --why --expect-halt --in-turn --random --events --seed --limit --record --color' ;;
-    threads) echo '--help --cores --mem --entry --reads --writes --dump --show --budget --burst --events --seed --why --stats --json --record --color' ;;
-    replay) echo '--help --cores --mem --entry --reads --writes --dump --show --steps --schedule --why --in-turn --random --events --seed --limit --record --color' ;;
-    debug) echo '--help --cores --mem --entry --reads --writes --dump --steps --schedule --in-turn --random --events --seed --limit --color' ;;
-    gdb) echo '--help --cores --mem --entry --reads --writes --steps --schedule --in-turn --random --events --seed --limit --color' ;;
-    hunt) echo '--help --cores --mem --entry --reads --writes --check --stop --expect-halt --runs --seed --method --events --limit --jobs --record --json --color' ;;
-    outcomes) echo '--help --cores --mem --entry --reads --writes --show --events --limit --json --color' ;;
-    stats) echo '--help --cores --mem --entry --reads --writes --steps --schedule --in-turn --random --events --seed --limit --record --json --color' ;;
-    draw) echo '--help --cores --mem --entry --reads --writes --steps --schedule --in-turn --random --events --seed --limit --record --from --to --core --color' ;;
-    explain) echo '--help --color' ;;
+    asm) echo '--help --list --words --color' ;;
+    dis) echo '--help --labels --words --color' ;;
+    run) echo '--help --cores --mem --entry --reads --writes --dump --show --steps --schedule --trace --why --expect-halt --in-turn --random --events --seed --limit --record --json --words --color' ;;
+    threads) echo '--help --cores --mem --entry --reads --writes --dump --show --budget --burst --events --seed --why --stats --json --record --words --color' ;;
+    replay) echo '--help --cores --mem --entry --reads --writes --dump --show --steps --schedule --why --in-turn --random --events --seed --limit --record --json --words --color' ;;
+    debug) echo '--help --cores --mem --entry --reads --writes --dump --steps --schedule --in-turn --random --events --seed --limit --words --color' ;;
+    gdb) echo '--help --cores --mem --entry --reads --writes --steps --schedule --in-turn --random --events --seed --limit --words --color' ;;
+    hunt) echo '--help --cores --mem --entry --reads --writes --check --stop --expect-halt --runs --seed --method --events --limit --jobs --record --json --words --color' ;;
+    outcomes) echo '--help --cores --mem --entry --reads --writes --show --events --limit --json --words --color' ;;
+    test) echo '--help --list --jobs --json --words --color' ;;
+    stats) echo '--help --cores --mem --entry --reads --writes --steps --schedule --in-turn --random --events --seed --limit --record --json --words --color' ;;
+    draw) echo '--help --cores --mem --entry --reads --writes --steps --schedule --in-turn --random --events --seed --limit --record --from --to --core --words --color' ;;
+    explain) echo '--help --words --color' ;;
     esac
 }
 
@@ -29,21 +30,36 @@ _elide_value() {
     'debug --schedule' | \
     'gdb --schedule' | \
     'hunt --record' | \
+    'test --list' | \
     'stats --schedule' | \
     'stats --record' | \
     'draw --schedule' | \
     'draw --record') echo path ;;
+    'asm --words' | \
     'asm --color' | \
+    'dis --words' | \
     'dis --color' | \
+    'run --words' | \
     'run --color' | \
+    'threads --words' | \
     'threads --color' | \
+    'replay --words' | \
     'replay --color' | \
+    'debug --words' | \
     'debug --color' | \
+    'gdb --words' | \
     'gdb --color' | \
+    'hunt --words' | \
     'hunt --color' | \
+    'outcomes --words' | \
     'outcomes --color' | \
+    'test --words' | \
+    'test --color' | \
+    'stats --words' | \
     'stats --color' | \
+    'draw --words' | \
     'draw --color' | \
+    'explain --words' | \
     'explain --color') echo 'auto always never' ;;
     'hunt --method') echo 'uniform bursts pct mix' ;;
     'run --cores' | \
@@ -122,6 +138,7 @@ _elide_value() {
     'outcomes --show' | \
     'outcomes --events' | \
     'outcomes --limit' | \
+    'test --jobs' | \
     'stats --cores' | \
     'stats --mem' | \
     'stats --entry' | \
@@ -150,12 +167,12 @@ _elide_value() {
 
 _elide_takes_file() {
     case $1 in
-    asm | dis | run | threads | replay | debug | gdb | hunt | outcomes | stats | draw) return 0 ;;
+    asm | dis | run | threads | replay | debug | gdb | hunt | outcomes | test | stats | draw) return 0 ;;
     *) return 1 ;;
     esac
 }
 
-_elide_commands='asm dis run threads replay debug gdb hunt outcomes stats draw explain help'
+_elide_commands='asm dis run threads replay debug gdb hunt outcomes test stats draw explain help'
 
 # What a word behind the subcommand can be, or `files` where it is one's path.
 _elide_choices() {

@@ -6,11 +6,13 @@ complete -c elide -n __fish_use_subcommand -l version -d 'Print version'
 complete -c elide -n __fish_use_subcommand -f -a asm -d 'Assembles a source and prints its image text'
 complete -c elide -n '__fish_seen_subcommand_from asm' -l help -d 'Print help'
 complete -c elide -n '__fish_seen_subcommand_from asm' -l list -d 'Prints the listing in place of the image text'
+complete -c elide -n '__fish_seen_subcommand_from asm' -l words -x -a 'auto always never' -d 'Tells beside a fault where it stands and what is meant: auto, at a terminal or where ELIDE_WORDS is `always`, always or never [default: auto]'
 complete -c elide -n '__fish_seen_subcommand_from asm' -l color -x -a 'auto always never' -d 'Paints messages and listings: auto, where it is a terminal\'s and NO_COLOR is not set, always or never [default: auto]'
 
 complete -c elide -n __fish_use_subcommand -f -a dis -d 'Prints the instructions of a program\'s code'
 complete -c elide -n '__fish_seen_subcommand_from dis' -l help -d 'Print help'
 complete -c elide -n '__fish_seen_subcommand_from dis' -l labels -d 'Prints each label above the instruction that it stands before'
+complete -c elide -n '__fish_seen_subcommand_from dis' -l words -x -a 'auto always never' -d 'Tells beside a fault where it stands and what is meant: auto, at a terminal or where ELIDE_WORDS is `always`, always or never [default: auto]'
 complete -c elide -n '__fish_seen_subcommand_from dis' -l color -x -a 'auto always never' -d 'Paints messages and listings: auto, where it is a terminal\'s and NO_COLOR is not set, always or never [default: auto]'
 
 complete -c elide -n __fish_use_subcommand -f -a run -d 'Runs a schedule of core steps and prints the state'
@@ -33,6 +35,8 @@ complete -c elide -n '__fish_seen_subcommand_from run' -l events -x -d 'Aborts f
 complete -c elide -n '__fish_seen_subcommand_from run' -l seed -x -d 'What --events are drawn from where there is no --random [default: 1]'
 complete -c elide -n '__fish_seen_subcommand_from run' -l limit -x -d 'The most steps of a run [default: 1000000]'
 complete -c elide -n '__fish_seen_subcommand_from run' -l record -r -F -d 'Writes the schedule that came about to this file'
+complete -c elide -n '__fish_seen_subcommand_from run' -l json -d 'Prints one JSON object in place of the lines (docs/JSON.md)'
+complete -c elide -n '__fish_seen_subcommand_from run' -l words -x -a 'auto always never' -d 'Tells beside a fault where it stands and what is meant: auto, at a terminal or where ELIDE_WORDS is `always`, always or never [default: auto]'
 complete -c elide -n '__fish_seen_subcommand_from run' -l color -x -a 'auto always never' -d 'Paints messages and listings: auto, where it is a terminal\'s and NO_COLOR is not set, always or never [default: auto]'
 
 complete -c elide -n __fish_use_subcommand -f -a threads -d 'Runs each core on a thread of its own and prints the state'
@@ -50,8 +54,9 @@ complete -c elide -n '__fish_seen_subcommand_from threads' -l events -x -d 'Abor
 complete -c elide -n '__fish_seen_subcommand_from threads' -l seed -x -d 'What --events are drawn from [default: 1]'
 complete -c elide -n '__fish_seen_subcommand_from threads' -l why -d 'Prints each abort with its reason before the state: who hit it, on which line, and when it began'
 complete -c elide -n '__fish_seen_subcommand_from threads' -l stats -d 'Prints what the transactions came to, by the place of their XBEGIN, in place of the state'
-complete -c elide -n '__fish_seen_subcommand_from threads' -l json -d 'With --stats: prints one JSON object in place of columns'
+complete -c elide -n '__fish_seen_subcommand_from threads' -l json -d 'Prints one JSON object in place of the lines (docs/JSON.md), with --stats that of `stats`'
 complete -c elide -n '__fish_seen_subcommand_from threads' -l record -r -F -d 'Writes the schedule that came about to this file, before the state is printed'
+complete -c elide -n '__fish_seen_subcommand_from threads' -l words -x -a 'auto always never' -d 'Tells beside a fault where it stands and what is meant: auto, at a terminal or where ELIDE_WORDS is `always`, always or never [default: auto]'
 complete -c elide -n '__fish_seen_subcommand_from threads' -l color -x -a 'auto always never' -d 'Paints messages and listings: auto, where it is a terminal\'s and NO_COLOR is not set, always or never [default: auto]'
 
 complete -c elide -n __fish_use_subcommand -f -a replay -d 'Runs a schedule, compares it with a serial run on one memory, and prints the state and `agree` or `differ`'
@@ -72,6 +77,8 @@ complete -c elide -n '__fish_seen_subcommand_from replay' -l events -x -d 'Abort
 complete -c elide -n '__fish_seen_subcommand_from replay' -l seed -x -d 'What --events are drawn from where there is no --random [default: 1]'
 complete -c elide -n '__fish_seen_subcommand_from replay' -l limit -x -d 'The most steps of a run [default: 1000000]'
 complete -c elide -n '__fish_seen_subcommand_from replay' -l record -r -F -d 'Writes the schedule that came about to this file'
+complete -c elide -n '__fish_seen_subcommand_from replay' -l json -d 'Prints one JSON object in place of the lines (docs/JSON.md)'
+complete -c elide -n '__fish_seen_subcommand_from replay' -l words -x -a 'auto always never' -d 'Tells beside a fault where it stands and what is meant: auto, at a terminal or where ELIDE_WORDS is `always`, always or never [default: auto]'
 complete -c elide -n '__fish_seen_subcommand_from replay' -l color -x -a 'auto always never' -d 'Paints messages and listings: auto, where it is a terminal\'s and NO_COLOR is not set, always or never [default: auto]'
 
 complete -c elide -n __fish_use_subcommand -f -a debug -d 'Answers commands that are read from standard input, of which `help` prints a list; goes along a schedule, and back'
@@ -89,6 +96,7 @@ complete -c elide -n '__fish_seen_subcommand_from debug' -l random -x -d 'The sc
 complete -c elide -n '__fish_seen_subcommand_from debug' -l events -x -d 'Aborts from outside: one step in N comes under an event, `interrupt` or those of interrupt, eviction and snoop that are named; `1`: each step'
 complete -c elide -n '__fish_seen_subcommand_from debug' -l seed -x -d 'What --events are drawn from where there is no --random [default: 1]'
 complete -c elide -n '__fish_seen_subcommand_from debug' -l limit -x -d 'The most steps of a run [default: 1000000]'
+complete -c elide -n '__fish_seen_subcommand_from debug' -l words -x -a 'auto always never' -d 'Tells beside a fault where it stands and what is meant: auto, at a terminal or where ELIDE_WORDS is `always`, always or never [default: auto]'
 complete -c elide -n '__fish_seen_subcommand_from debug' -l color -x -a 'auto always never' -d 'Paints messages and listings: auto, where it is a terminal\'s and NO_COLOR is not set, always or never [default: auto]'
 
 complete -c elide -n __fish_use_subcommand -f -a gdb -d 'Speaks gdb\'s remote protocol on standard input and output: each core is a thread, and gdb goes back, too'
@@ -105,6 +113,7 @@ complete -c elide -n '__fish_seen_subcommand_from gdb' -l random -x -d 'The sche
 complete -c elide -n '__fish_seen_subcommand_from gdb' -l events -x -d 'Aborts from outside: one step in N comes under an event, `interrupt` or those of interrupt, eviction and snoop that are named; `1`: each step'
 complete -c elide -n '__fish_seen_subcommand_from gdb' -l seed -x -d 'What --events are drawn from where there is no --random [default: 1]'
 complete -c elide -n '__fish_seen_subcommand_from gdb' -l limit -x -d 'The most steps of a run [default: 1000000]'
+complete -c elide -n '__fish_seen_subcommand_from gdb' -l words -x -a 'auto always never' -d 'Tells beside a fault where it stands and what is meant: auto, at a terminal or where ELIDE_WORDS is `always`, always or never [default: auto]'
 complete -c elide -n '__fish_seen_subcommand_from gdb' -l color -x -a 'auto always never' -d 'Paints messages and listings: auto, where it is a terminal\'s and NO_COLOR is not set, always or never [default: auto]'
 
 complete -c elide -n __fish_use_subcommand -f -a hunt -d 'Runs a program by many random schedules until a check fails, and shortens the schedule that fails'
@@ -125,6 +134,7 @@ complete -c elide -n '__fish_seen_subcommand_from hunt' -l limit -x -d 'The most
 complete -c elide -n '__fish_seen_subcommand_from hunt' -l jobs -x -d 'How many threads make runs, 1 to 1024 [default: one a processor]'
 complete -c elide -n '__fish_seen_subcommand_from hunt' -l record -r -F -d 'Writes the schedule that came about to this file'
 complete -c elide -n '__fish_seen_subcommand_from hunt' -l json -d 'Prints one JSON object in place of the lines (docs/JSON.md)'
+complete -c elide -n '__fish_seen_subcommand_from hunt' -l words -x -a 'auto always never' -d 'Tells beside a fault where it stands and what is meant: auto, at a terminal or where ELIDE_WORDS is `always`, always or never [default: auto]'
 complete -c elide -n '__fish_seen_subcommand_from hunt' -l color -x -a 'auto always never' -d 'Paints messages and listings: auto, where it is a terminal\'s and NO_COLOR is not set, always or never [default: auto]'
 
 complete -c elide -n __fish_use_subcommand -f -a outcomes -d 'Searches all schedules of a small program and prints each outcome'
@@ -138,7 +148,16 @@ complete -c elide -n '__fish_seen_subcommand_from outcomes' -l show -x -d 'What 
 complete -c elide -n '__fish_seen_subcommand_from outcomes' -l events -x -d 'Aborts from outside: each of the kinds (interrupt, eviction, snoop) at each step of each transaction; `always`: each step under an interrupt'
 complete -c elide -n '__fish_seen_subcommand_from outcomes' -l limit -x -d 'The most states; where there are more, the status is 3 [default: 1000000]'
 complete -c elide -n '__fish_seen_subcommand_from outcomes' -l json -d 'Prints one JSON object in place of the lines (docs/JSON.md)'
+complete -c elide -n '__fish_seen_subcommand_from outcomes' -l words -x -a 'auto always never' -d 'Tells beside a fault where it stands and what is meant: auto, at a terminal or where ELIDE_WORDS is `always`, always or never [default: auto]'
 complete -c elide -n '__fish_seen_subcommand_from outcomes' -l color -x -a 'auto always never' -d 'Paints messages and listings: auto, where it is a terminal\'s and NO_COLOR is not set, always or never [default: auto]'
+
+complete -c elide -n __fish_use_subcommand -f -a test -d 'Carries out the commands in the comments of sources, and compares what came about with what is expected there'
+complete -c elide -n '__fish_seen_subcommand_from test' -l help -d 'Print help'
+complete -c elide -n '__fish_seen_subcommand_from test' -l list -r -F -d 'Takes names from this file, too, one a line'
+complete -c elide -n '__fish_seen_subcommand_from test' -l jobs -x -d 'How many files are tried side by side, 1 to 1024 [default: one a processor]'
+complete -c elide -n '__fish_seen_subcommand_from test' -l json -d 'Prints one JSON object in place of the lines (docs/JSON.md)'
+complete -c elide -n '__fish_seen_subcommand_from test' -l words -x -a 'auto always never' -d 'Tells beside a fault where it stands and what is meant: auto, at a terminal or where ELIDE_WORDS is `always`, always or never [default: auto]'
+complete -c elide -n '__fish_seen_subcommand_from test' -l color -x -a 'auto always never' -d 'Paints messages and listings: auto, where it is a terminal\'s and NO_COLOR is not set, always or never [default: auto]'
 
 complete -c elide -n __fish_use_subcommand -f -a stats -d 'Runs a schedule of core steps and prints what its transactions came to, by the place of their XBEGIN'
 complete -c elide -n '__fish_seen_subcommand_from stats' -l help -d 'Print help'
@@ -156,6 +175,7 @@ complete -c elide -n '__fish_seen_subcommand_from stats' -l seed -x -d 'What --e
 complete -c elide -n '__fish_seen_subcommand_from stats' -l limit -x -d 'The most steps of a run [default: 1000000]'
 complete -c elide -n '__fish_seen_subcommand_from stats' -l record -r -F -d 'Writes the schedule that came about to this file'
 complete -c elide -n '__fish_seen_subcommand_from stats' -l json -d 'Prints one JSON object in place of columns'
+complete -c elide -n '__fish_seen_subcommand_from stats' -l words -x -a 'auto always never' -d 'Tells beside a fault where it stands and what is meant: auto, at a terminal or where ELIDE_WORDS is `always`, always or never [default: auto]'
 complete -c elide -n '__fish_seen_subcommand_from stats' -l color -x -a 'auto always never' -d 'Paints messages and listings: auto, where it is a terminal\'s and NO_COLOR is not set, always or never [default: auto]'
 
 complete -c elide -n __fish_use_subcommand -f -a draw -d 'Runs a schedule of core steps and draws a timeline of it, as SVG'
@@ -176,12 +196,14 @@ complete -c elide -n '__fish_seen_subcommand_from draw' -l record -r -F -d 'Writ
 complete -c elide -n '__fish_seen_subcommand_from draw' -l from -x -d 'The first step that is drawn, counted from 1 [default: 1]'
 complete -c elide -n '__fish_seen_subcommand_from draw' -l to -x -d 'The last step that is drawn [default: the last]'
 complete -c elide -n '__fish_seen_subcommand_from draw' -l core -x -d 'The cores that are drawn, in this order [default: all]'
+complete -c elide -n '__fish_seen_subcommand_from draw' -l words -x -a 'auto always never' -d 'Tells beside a fault where it stands and what is meant: auto, at a terminal or where ELIDE_WORDS is `always`, always or never [default: auto]'
 complete -c elide -n '__fish_seen_subcommand_from draw' -l color -x -a 'auto always never' -d 'Paints messages and listings: auto, where it is a terminal\'s and NO_COLOR is not set, always or never [default: auto]'
 
 complete -c elide -n __fish_use_subcommand -f -a explain -d 'Prints what a fault means, and what to do'
 complete -c elide -n '__fish_seen_subcommand_from explain' -l help -d 'Print help'
 complete -c elide -n '__fish_seen_subcommand_from explain' -f
+complete -c elide -n '__fish_seen_subcommand_from explain' -l words -x -a 'auto always never' -d 'Tells beside a fault where it stands and what is meant: auto, at a terminal or where ELIDE_WORDS is `always`, always or never [default: auto]'
 complete -c elide -n '__fish_seen_subcommand_from explain' -l color -x -a 'auto always never' -d 'Paints messages and listings: auto, where it is a terminal\'s and NO_COLOR is not set, always or never [default: auto]'
 
 complete -c elide -n __fish_use_subcommand -f -a help -d 'Print this message or the help of the given subcommand'
-complete -c elide -n '__fish_seen_subcommand_from help' -f -a 'asm dis run threads replay debug gdb hunt outcomes stats draw explain'
+complete -c elide -n '__fish_seen_subcommand_from help' -f -a 'asm dis run threads replay debug gdb hunt outcomes test stats draw explain'
