@@ -8,9 +8,9 @@ $1 == "command" {
     name[++count] = $2
 }
 
-$1 == "option" && $4 ~ /Word$/ { if ($3 == "FILE") files = files $2 " | " }
+$1 == "option" && $4 ~ /Words?$/ { if ($3 == "FILE") files = files $2 " | " }
 
-$1 == "option" && $4 !~ /Word$/ {
+$1 == "option" && $4 !~ /Words?$/ {
     options[$2] = options[$2] " --" $3
     if ($8 != "") {
         if (!($8 in chosen)) sets[++set_count] = $8

@@ -86,7 +86,7 @@ function the_text(name, field) {
 # The column `FORM`, and how many texts go with it.
 function form_of(name,    form) {
     form = word[name, "form", words[name, "form"]]
-    if (form ~ /^(Word|FreeWord|Flag)$/ && texts[name, "form"] == 0) return form
+    if (form ~ /^(Word|FreeWords?|Flag)$/ && texts[name, "form"] == 0) return form
     if (form ~ /^(Value|Needed|Several)$/ && texts[name, "form"] == 1) return form
     if (form == "Default" && texts[name, "form"] == 2) return form
     fail(name ": an unknown form of an option")

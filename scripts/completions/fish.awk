@@ -22,9 +22,9 @@ $1 == "command" {
 }
 
 # A word that is no file's path.
-$1 == "option" && $4 ~ /Word$/ && $3 != "FILE" { print within($2) " -f" }
+$1 == "option" && $4 ~ /Words?$/ && $3 != "FILE" { print within($2) " -f" }
 
-$1 == "option" && $4 !~ /Word$/ {
+$1 == "option" && $4 !~ /Words?$/ {
     print within($2) " -l " $3 ($4 == "Flag" ? "" : $5 == "PATH" ? " -r -F" : " -x") ($8 == "" ? "" : " -a " quoted($8)) " -d " quoted($7)
 }
 

@@ -23,6 +23,7 @@ function italic(text) { return "\\fI" roff(text) "\\fR" }
 function usage() {
     if ($4 == "Word") return italic($3)
     if ($4 == "FreeWord") return "[" italic($3) "]"
+    if ($4 == "FreeWords") return "[" italic($3) "..]"
     if ($4 == "Flag") return bold("--" $3)
     return bold("--" $3) " " italic($5)
 }

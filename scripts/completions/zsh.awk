@@ -31,6 +31,7 @@ function action(value) {
 function spec(    value) {
     if ($4 == "Word") return "1:" $3 ":" action($3)
     if ($4 == "FreeWord") return "1::" $3 ":" action($3)
+    if ($4 == "FreeWords") return "*:" $3 ":" action($3)
     value = $4 == "Flag" ? "" : ":" coloned($5) ":" action($5)
     return ($4 == "Several" ? "*" : "") "--" $3 "[" described($7) "]" value
 }

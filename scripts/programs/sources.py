@@ -85,3 +85,14 @@ def watched():
     """The files and folders in which a change may make another program, or another claim."""
     folders = [f"crates/{name}/{part}" for name in below(all_crates(), TOP) for part in STATED]
     return ["crates.txt", *[it for it in folders if os.path.isdir(f"{HERE}/{it}")]]
+
+
+def changed_since(at):
+    """The first file or folder of these that was changed or put there since, in seconds since 1970, or out of which one was taken;
+    nothing where none was. The time of a change of its state tells of a file that has an older time of its own, too."""
+    for top in watched():
+        parts = [f"{folder}/{it}" for folder, folders, files in os.walk(f"{HERE}/{top}") for it in (*folders, *files)]
+        for it in (f"{HERE}/{top}", *parts):
+            if os.lstat(it).st_ctime >= at:
+                return os.path.relpath(it, HERE)
+    return None
