@@ -166,8 +166,8 @@ const HISTORY: &str = "\
 
 const WORK: &str = "\
 60 SpawnRefused
-    The system started no thread for a core.
-    To do: raise the limit on threads (ulimit -u), or ask for fewer cores.
+    The system started no thread for a core: it allows no further one, or there is no memory for its stack.
+    To do: raise the limit on threads (ulimit -u), give the process more memory, or ask for fewer cores.
     Example: elide threads with 64 cores in a container of 16 threads
 61 NoMemory
     There is no memory for the workers or the record.
