@@ -9,7 +9,7 @@ use Rattle.elide_expect.specs.declared.judge.Difference.TheVariants as differenc
 use Rattle.elide_expect.specs.declared.judge.Verdict.{Verdict}
 use Rattle.elide_expect.specs.declared.judge.Verdict.TheVariants.{Differs, Passes}
 use Rattle.elide_expect.specs.Expectations.{Wanted, Line, NoFailure, Outcomes, Status}
-use Rattle.elide_expect.specs.Patterns.{meets, some_end}
+use Rattle.elide_expect.specs.Patterns.{meets, place_of, some_end}
 use Rattle.elide_expect.specs.Tests.{TestContent}
 
 -- the lines that a command printed
@@ -34,10 +34,19 @@ is_found lines front = list_any (λ line. shows front line.now) lines
 abbrev pub is_listed : List (List ℕ) → List ℕ → Bool
 is_listed fronts line = not (is_outcome line) || list_any (λ front. shows front line) fronts
 
+-- two spaces stand first at this place, or nowhere: the values before them are as long as a front of this length
+abbrev pub ends_front : Option ℕ → ℕ → Bool
+ends_front None size = true
+ends_front (Some place) size = place + 1 == size
+
+-- each line is of no outcome, or of one with as many values as this front
+abbrev pub are_as_long : Lines → List ℕ → Bool
+are_as_long lines front = list_all (λ line. ends_front (place_of (codes "  ") line.now) (length front)) lines
+
 abbrev pub are_met : Rule → List (List ℕ) → Lines → Bool
 are_met Exactly fronts lines = list_all (is_found lines) fronts && list_all (λ line. is_listed fronts line.now) lines
 are_met AtLeast fronts lines = list_all (is_found lines) fronts
-are_met Never fronts lines = not (list_any (is_found lines) fronts)
+are_met Never fronts lines = not (list_any (is_found lines) fronts) && list_all (are_as_long lines) fronts
 
 -- ---- lines
 

@@ -1,12 +1,12 @@
 //! Whether what a command came to meets what is expected.
 
-ghost use Rattle.std.specs.Prelude.{◌≡◌, ◌≤◌, ◌∷◌, ℕ, List, true, false, filter_map, IfOk, IfSome, IfNone, length, map, drop, position};
+ghost use Rattle.std.specs.Prelude.{◌≡◌, ◌≤◌, ◌∷◌, ℕ, List, true, false, codes, filter_map, IfOk, IfSome, IfNone, length, map, drop, position};
 ghost use Rattle.std.specs.List.{cons_option, list_all, list_any};
 ghost use Rattle.ia_lex.specs.Lines.{lines_of};
 ghost use Rattle.elide_expect.specs.Expectations.{wanted};
-ghost use Rattle.elide_expect.specs.Judged.{IsVerdict, are_met, finds_none, is_found, is_listed, is_met, is_outcome, shows};
-ghost use Rattle.elide_expect.specs.Judged.{IsFirst, are_each_met, have_lines, in_order, pattern_of, wanted_status};
-ghost use Rattle.elide_expect.specs.Patterns.{meets};
+ghost use Rattle.elide_expect.specs.Judged.{IsVerdict, are_as_long, are_met, ends_front, finds_none, is_found, is_listed, is_met, is_outcome};
+ghost use Rattle.elide_expect.specs.Judged.{IsFirst, are_each_met, have_lines, in_order, pattern_of, shows, wanted_status};
+ghost use Rattle.elide_expect.specs.Patterns.{meets, place_of};
 ghost use Rattle.elide_expect.specs.Tests.{test_content, the_line, the_wanted};
 ghost use Rattle.elide_expect.specs.Words.{texts};
 
@@ -118,13 +118,40 @@ fn one_found(fronts: &[Vec<u8>], lines: &[&[u8]]) -> bool
     false
 }
 
+// Whether a line is of no outcome, or of one with as many values as a front.
+fn is_as_long(front: &[u8], line: &[u8]) -> bool
+    ensures { result ≡ ends_front (place_of (codes "  ") line.now) (length front.now) }
+{
+    match place_of(b"  ", line) {
+        Some(place) => place + 1 == front.len(),
+        None => true,
+    }
+}
+
+fn are_as_long(lines: &[&[u8]], front: &[u8]) -> bool
+    ensures { result ≡ are_as_long lines.now front.now }
+{
+    lines.iter().all(|line| is_as_long(front, line))
+}
+
+fn all_as_long(fronts: &[Vec<u8>], lines: &[&[u8]]) -> bool
+    ensures { result ≡ list_all (are_as_long lines.now) (texts fronts.now) }
+{
+    for front in fronts {
+        if !are_as_long(lines, front) {
+            return false;
+        }
+    }
+    true
+}
+
 fn are_met(rule: Rule, fronts: &[Vec<u8>], lines: &[&[u8]]) -> bool
     ensures { result ≡ are_met rule (texts fronts.now) lines.now }
 {
     match rule {
         Rule::Exactly => all_found(fronts, lines) && all_listed(fronts, lines),
         Rule::AtLeast => all_found(fronts, lines),
-        Rule::Never => !one_found(fronts, lines),
+        Rule::Never => !one_found(fronts, lines) && all_as_long(fronts, lines),
     }
 }
 

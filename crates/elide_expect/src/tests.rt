@@ -113,6 +113,21 @@ fn verdicts_of_outcomes(rt: HostRuntime) {
         ),
         unmet(3)
     );
+    let fewer = b";elide: outcomes\n;expect: never 3";
+    assert_eq!(rt; verdict(alloc, fewer, 0, third), unmet(2));
+    assert_eq!(rt;
+        verdict(alloc, fewer, 0, b"0 outcomes in 1 states\n"),
+        Some(Verdict::Passes)
+    );
+    assert_eq!(rt;
+        verdict(
+            alloc,
+            b";elide: outcomes\n;expect: never 3 3",
+            0,
+            b"00000001  1234567  0\n1 outcomes in 1234567 states\n"
+        ),
+        unmet(2)
+    );
 }
 
 #[test]
