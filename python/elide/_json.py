@@ -144,12 +144,12 @@ def threads(found: Fields) -> records.State:
 def _steps(found: Fields) -> Optional[Tuple[records.Step, ...]]:
     if not found.has("outcomes"):
         return None
-    return tuple(_step(it, number) for number, it in enumerate(found.inners("outcomes"), 1))
+    return tuple(_step(it) for it in found.inners("outcomes"))
 
 
-def _step(found: Fields, number: int) -> records.Step:
+def _step(found: Fields) -> records.Step:
     return records.Step(
-        number=number,
+        number=found.number("step"),
         core=found.number("core"),
         outcome=found.text("outcome"),
         cause=found.maybe_text("stop"),

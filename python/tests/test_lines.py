@@ -165,15 +165,15 @@ class Objects(unittest.TestCase):
         self.assertEqual((told.outcomes, told.running), (None, None))
         none: Dict[str, Any] = {"stop": None, "status": None, "event": None}
         outcomes = [
-            {"core": 1, "outcome": "begun", **none},
-            {"core": 1, "outcome": "aborted", **none, "status": 8, "event": "eviction"},
-            {"core": 0, "outcome": "stopped", **none, "stop": "HLT"},
+            {"step": 1, "core": 1, "outcome": "begun", **none},
+            {"step": 2, "core": 1, "outcome": "aborted", **none, "status": 8, "event": "eviction"},
+            {"step": 7, "core": 0, "outcome": "stopped", **none, "stop": "HLT"},
         ]
         told = _json.run(self.fields("run", 3, outcomes=outcomes, **SHOWN, running=[1]))
         wanted = (
             elide.Step(1, 1, "begun"),
             elide.Step(2, 1, "aborted", status=8, event="eviction"),
-            elide.Step(3, 0, "stopped", cause="HLT"),
+            elide.Step(7, 0, "stopped", cause="HLT"),
         )
         self.assertEqual((told.outcomes, told.running), (wanted, (1,)))
         told = _json.run(self.fields("run", outcomes=[], **SHOWN, running=[]))

@@ -1,5 +1,5 @@
 -- No value of the objects is a float.
-use Rattle.std.proofs.Common.{◌≡◌, ℕ, Bool, false, List, ◌||◌, Option, Some, None, codes, length, refl}
+use Rattle.std.proofs.Common.{◌≡◌, ℕ, false, List, Option, Some, None, codes, length, refl}
 use Rattle.std.specs.List.{range_with_len}
 use Rattle.std.specs.Option.{option_copied}
 use Rattle.elide_object.proofs.Sending.{no_float_both, no_float_items}
@@ -29,9 +29,9 @@ no_float_number : (number : Option ℕ) → has_float (number_or_null number) �
 no_float_number None = refl
 no_float_number (Some number) = refl
 
-pub no_float_outcome : (core : ℕ) (outcome : Outcome) → has_float (outcome_value core outcome) ≡ false
+pub no_float_outcome : (step core : ℕ) (outcome : Outcome) → has_float (outcome_value step core outcome) ≡ false
 unfolding outcome_value
-no_float_outcome core outcome =
+no_float_outcome step core outcome =
     no_float_both (has_float (word_or_null (outcome_stop outcome))) _ (no_float_word (outcome_stop outcome))
     (no_float_both (has_float (number_or_null (outcome_status outcome))) _ (no_float_number (outcome_status outcome))
     (no_float_both (has_float (word_or_null (outcome_event outcome))) false (no_float_word (outcome_event outcome)) refl))

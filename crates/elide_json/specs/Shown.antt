@@ -1,5 +1,5 @@
 -- What the objects of commands stand for, as they are sent.
-use Rattle.std.specs.Prelude.{ℕ, List, Option, codes}
+use Rattle.std.specs.Prelude.{codes}
 use Rattle.std.specs.Option.{option_copied}
 use Rattle.elide_object.specs.Object.{list_value}
 use Rattle.serde_json.specs.Data.{Data, Members, boolean, member, object}

@@ -5,10 +5,8 @@ use Rattle.serde_json.specs.Data.{Data, null, string}
 use Rattle.tm_hist.specs.Lines.{interference_word, stop_word}
 use Rattle.tm_model.specs.declared.outcome.CoreState.{CoreState}
 use Rattle.tm_model.specs.declared.outcome.CoreState.TheVariants as state
-use Rattle.tm_model.specs.declared.outcome.Interference.{Interference}
 use Rattle.tm_model.specs.declared.outcome.Outcome.{Outcome}
 use Rattle.tm_model.specs.declared.outcome.Outcome.TheVariants as outcome
-use Rattle.tm_rule.specs.declared.kinds.Stop.{Stop}
 
 -- a word, or a number, where there is one
 abbrev pub word_or_null : Option (List ℕ) → Data

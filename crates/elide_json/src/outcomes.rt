@@ -1,6 +1,6 @@
 //! The beginning of a run's object: the outcomes of its steps, written as they are made.
 
-ghost use Rattle.std.specs.Prelude.{◌≡◌, ◌++◌, IfOk, OnOk, codes, if◌then◌else◌, string_bytes};
+ghost use Rattle.std.specs.Prelude.{◌≡◌, ◌++◌, IfOk, OnOk, codes, if◌then◌else◌, nat_lt, string_bytes};
 ghost use Rattle.ia_text.specs.Writing.{Wrote};
 ghost use Rattle.serde_json.specs.Events.{SendsValue};
 ghost use Rattle.serde_json.specs.Written.{comma_if, compact_text};
@@ -20,18 +20,21 @@ use tm_model::Outcome;
 // What a step of a core was.
 #[derive(Clone, Copy)]
 struct OutcomeRow {
+    // The step, from 1.
+    step: u64,
     core: u8,
     outcome: Outcome,
 }
 
 impl Described for OutcomeRow {
-    ghost writes = { λ row. SendsValue (outcome_value row.core row.outcome) };
+    ghost writes = { λ row. SendsValue (outcome_value row.step row.core row.outcome) };
 }
 
 impl Serialize for OutcomeRow {
     fn serialize<S: Serializer>(&self, out: &mut S) -> Result<(), S::Error> {
         let outcome = self.outcome;
-        out.begin_map(Some(5))?;
+        out.begin_map(Some(6))?;
+        send_number("step", self.step, out)?;
         send_number("core", u64::from(self.core), out)?;
         send_text("outcome", name_of_outcome(outcome), out)?;
         send_word("stop", stop_of_outcome(outcome), out)?;
@@ -55,37 +58,43 @@ fn opening(traces: bool) -> &'static [u8]
     if traces { b"[" } else { b"null" }
 }
 
-/// Writes the outcome of a step of a core, behind a comma where others stand before it.
+/// Writes the outcome of the step of this number, from 1, which was this core's, behind a comma where others stand before it.
 pub fn put_outcome<O: Out>(
     alloc: Global,
-    is_later: bool,
+    step: u64,
     core: u8,
     outcome: Outcome,
     out: &mut O,
 ) -> Result<(), Refusal>
-    ensures { OnOk result (Wrote (O.device out.old) (O.device out.new) (row_text is_later core outcome)) }
+    ensures { OnOk result (Wrote (O.device out.old) (O.device out.new) (row_text step core outcome)) }
 {
-    let text = text_of_row(alloc, OutcomeRow { core, outcome })?;
-    put_row(is_later, text.as_bytes(), out)
+    let row = OutcomeRow {
+        step,
+        core,
+        outcome,
+    };
+    let text = text_of_row(alloc, row)?;
+    put_row(step, text.as_bytes(), out)
 }
 
 fn text_of_row(alloc: Global, row: OutcomeRow) -> Result<String, AllocError>
-    ensures { IfOk result (λ text. string_bytes text ≡ compact_text (outcome_value row.core row.outcome)) }
+    ensures { IfOk result (λ text. string_bytes text ≡ compact_text (outcome_value row.step row.core row.outcome)) }
 {
     text_of(alloc, &row)
 }
 
-fn put_row<O: Out>(is_later: bool, text: &[u8], out: &mut O) -> Result<(), Refusal>
-    ensures { OnOk result (Wrote (O.device out.old) (O.device out.new) (comma_if is_later ++ text.now)) }
+fn put_row<O: Out>(step: u64, text: &[u8], out: &mut O) -> Result<(), Refusal>
+    ensures { OnOk result (Wrote (O.device out.old) (O.device out.new) (comma_if (nat_lt 1 step) ++ text.now)) }
 {
-    put(comma(is_later), out)?;
+    put(comma(step), out)?;
     put(text, out)
 }
 
-fn comma(is_later: bool) -> &'static [u8]
-    ensures { result.now ≡ comma_if is_later }
+// What stands before the outcome of the step of this number.
+fn comma(step: u64) -> &'static [u8]
+    ensures { result.now ≡ comma_if (nat_lt 1 step) }
 {
-    if is_later { b"," } else { b"" }
+    if step > 1 { b"," } else { b"" }
 }
 
 /// Writes bytes.

@@ -1,13 +1,12 @@
 -- The cores that have not stopped, and what a run came to by them.
-use Rattle.std.proofs.Common.{◌≡◌, ◌∙◌, ℕ, ◌+◌, Bool, true, false, not, List, Option, None, Some, [], ◌∷◌, ◌++◌, ap, if◌then◌else◌, length, map, map-id, refl, sym, zero-add}
+use Rattle.std.proofs.Common.{◌≡◌, ◌∙◌, ℕ, ◌+◌, Bool, true, false, not, List, Option, None, Some, [], ◌∷◌, ◌++◌, ap, if◌then◌else◌, length, map-id, refl, sym, zero-add}
 use Rattle.std.proofs.lemmas.List.FromFn.{filter_of_map_range_with_len_more}
 use Rattle.std.specs.Io.KnownBytes.{Appends, Keeps}
 use Rattle.std.specs.List.{filter, list_all, range_with_len}
 use Rattle.std.specs.Prelude.{cond}
 use Rattle.elide_setup.specs.TmCore.Theorem.{ShownMachine as Machine}
-use Rattle.elide_run.specs.Halting.{asked_ending, halt_ending, is_stopped}
+use Rattle.elide_run.specs.Halting.{asked_ending, is_stopped}
 use Rattle.elide_run.specs.Object.{cores_ending, running_cores}
-use Rattle.elide_run.specs.declared.halting.Ending.{Ending}
 use Rattle.elide_run.specs.declared.halting.Ending.TheVariants.{AsAsked, RunsOn}
 
 first_case : (p : ℕ → Bool) (is : Bool) (core : ℕ) (cores : List ℕ) → p core ≡ is →

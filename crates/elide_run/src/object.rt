@@ -1,11 +1,11 @@
 //! Runs that are printed as one object. Its outcomes are written as they are made, so that no memory grows with the run.
 
-ghost use Rattle.std.specs.Prelude.{◌≡◌, ◌≤◌, ◌<◌, ◌+◌, ◌++◌, [], ◌∷◌, cond, false, not, true, IfOk, List, OnOk, if◌then◌else◌};
+ghost use Rattle.std.specs.Prelude.{◌≡◌, ◌≤◌, ◌<◌, ◌+◌, ◌++◌, ◌^◌, [], ◌∷◌, cond, false, length, not, true, IfOk, List, OnErr, OnOk, if◌then◌else◌};
 ghost use Rattle.std.specs.Option.{option_copied};
 ghost use Rattle.arrayvec.specs.ArrayVec.{array_vec_len};
 ghost use Rattle.ia_text.specs.Writing.{Wrote};
 ghost use Rattle.elide_json.specs.Objects.{run_members};
-ghost use Rattle.elide_json.specs.Outcomes.{later_behind, rows_text, run_back, run_front, run_rows};
+ghost use Rattle.elide_json.specs.Outcomes.{rows_text, run_back, run_front, run_rows};
 ghost use Rattle.elide_setup.specs.Recorded.{IsRecorded};
 ghost use Rattle.elide_setup.specs.Runs.{AreMachineSteps, IsRunOf};
 ghost use Rattle.elide_setup.specs.Schedules.{AreOf, picks_made, picks_told, schedule_made};
@@ -20,8 +20,8 @@ use arrayvec::ArrayVec;
 use elide_args::RunOptions;
 use elide_json::{put_back, put_front, put_outcome};
 use elide_why::{
-    Course, Gathered, Machine, Outcome, Paths, Progress, Refusal, Setup, StepMaker, record_path,
-    scheduled,
+    Course, Fault, Gathered, Machine, Outcome, Paths, Progress, Refusal, RunFault, Setup,
+    StepMaker, record_path, scheduled,
 };
 use ia_text::Out;
 use std::alloc::Global;
@@ -96,7 +96,7 @@ fn stepped<P: Paths, O: Out + Drop, G: Progress>(
         alloc,
         machine,
         page,
-        is_later: false,
+        made: 0,
     };
     course.walk_recorded(alloc, cores, path, &mut sending, paths, progress)?;
     let Sending { machine, page, .. } = sending;
@@ -119,27 +119,33 @@ struct Sending<O> {
     alloc: Global,
     machine: Machine,
     page: Gathered<O>,
-    // Whether one was.
-    is_later: bool,
+    // How many were.
+    made: u64,
 }
 
 impl<O: Out> StepMaker for Sending<O> {
     ghost takes = { λ before steps after. AreMachineSteps before.machine steps after.machine
         × Wrote (⟦<Gathered<O> as Out>⟧.device before.page) (⟦<Gathered<O> as Out>⟧.device after.page)
-        (rows_text before.is_later steps)
-        × (after.is_later ≡ later_behind before.is_later steps) };
+        (rows_text before.made steps)
+        × (after.made ≡ before.made + length steps) };
 
     fn make_step(&mut self, pick: Pick) -> Result<Outcome, Refusal> {
         let outcome = self.machine.make_step(pick)?;
-        put_outcome(
-            self.alloc,
-            self.is_later,
-            pick.core,
-            outcome,
-            &mut self.page,
-        )?;
-        self.is_later = true;
+        let step = number_behind(self.made)?;
+        put_outcome(self.alloc, step, pick.core, outcome, &mut self.page)?;
+        self.made = step;
         Ok(outcome)
+    }
+}
+
+// The number of the step behind so many others. No run comes to where there is none.
+fn number_behind(made: u64) -> Result<u64, Refusal>
+    ensures number { IfOk result (λ step. step ≡ made + 1) }
+    ensures none { OnErr result (made + 1 ≡ 2 ^ 64) }
+{
+    match made.checked_add(1) {
+        Some(step) => Ok(step),
+        None => Err(Refusal::Fault(Fault::Run(RunFault::NoMemory))),
     }
 }
 

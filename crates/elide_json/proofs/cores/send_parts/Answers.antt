@@ -3,7 +3,6 @@ use Rattle.std.proofs.lemmas.Result.{on_ok_weaker}
 use Rattle.elide_object.specs.Object.{number_value, text_list}
 use Rattle.elide_object.proofs.Sending.{sent_equal, sent_member}
 use Rattle.serde_json.specs.Data.{member, no_members}
-use Rattle.serde_json.specs.Events.{SendsMembers}
 use Rattle.elide_json.specs.Cores.{core_object, flag_names, regs_members}
 use Rattle.elide_json.proofs.cores.send_parts.Goals as goal
 

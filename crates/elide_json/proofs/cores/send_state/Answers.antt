@@ -1,5 +1,4 @@
 use Rattle.std.proofs.Common.{codes, ◌∙◌}
-use Rattle.std.specs.Option.{option_copied}
 use Rattle.std.proofs.lemmas.Result.{on_ok_weaker}
 use Rattle.elide_object.specs.Object.{number_value}
 use Rattle.elide_object.proofs.Sending.{sent_equal}

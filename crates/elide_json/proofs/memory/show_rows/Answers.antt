@@ -1,5 +1,4 @@
-use Rattle.std.proofs.Common.{◌≡◌, rules, ◌∙◌, ap, arith, map, length, take_all, ℕ, List, [], Bor}
-use Rattle.std.proofs.Common.{slice_index_or as get_or}
+use Rattle.std.proofs.Common.{rules, ◌∙◌, ap, arith, map, take_all, ℕ, List, [], Bor}
 use Rattle.std.specs.List.{zip}
 use Rattle.std.proofs.lemmas.Slice.Zip.{length-zip}
 use Rattle.elide_json.specs.Memory.{show_at, show_row}

@@ -9,7 +9,6 @@ use Rattle.elide_json.proofs.RunTexts.{some_text}
 use Rattle.elide_json.proofs.Same.{shown_same}
 use Rattle.elide_json.specs.Memory.{AreRowsOf}
 use Rattle.elide_json.specs.Objects.{run_members, running_value, status_member}
-use Rattle.elide_json.specs.Outcomes.{run_back}
 use Rattle.elide_json.proofs.objects.put_back.Goals as goal
 
 pub put_others-requires : goal.put_others-requires

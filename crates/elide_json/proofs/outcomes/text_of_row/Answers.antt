@@ -7,5 +7,6 @@ pub returns : goal.returns
 returns c =
     let row = c.args.row in
     IfOk-weaker c.text_of.result _ _
-    (λ text texts. texts (outcome_value row.core row.outcome) (λ log sent. sent) (no_float_outcome row.core row.outcome))
+    (λ text texts. texts (outcome_value row.step row.core row.outcome) (λ log sent. sent)
+    (no_float_outcome row.step row.core row.outcome))
     c.text_of.ensures

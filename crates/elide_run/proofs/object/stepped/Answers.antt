@@ -19,7 +19,7 @@ returns g c =
     let made = c.in_ok-walk_recorded-2.ensures in
     let all = rowed made.0 _ _ made.2 (λ m. m.machine)
     (λ m. record { contents = told (g.O.Out.device m.page.out).contents (g.O.Out.device m.page.before.value).contents m.page.failures m.page.row.items; failures = m.page.failures })
-    (λ m. m.is_later) (λ _ _ _ h. h) in (
+    (λ m. m.made) (λ _ _ _ h. h) in (
       made.0,
       made.1,
       run_of_all c.args.setup.now.program c.args.setup.now.limits made.0 c.in_ok-machine.machine c.walk_recorded-2.new.maker.machine

@@ -1,4 +1,4 @@
-use Rattle.std.proofs.Common.{codes, ◌∙◌}
+use Rattle.std.proofs.Common.{codes}
 use Rattle.std.proofs.lemmas.Result.{on_ok_weaker}
 use Rattle.elide_object.specs.Object.{number_value}
 use Rattle.elide_object.proofs.Sending.{sent_equal}
@@ -12,7 +12,8 @@ unfolding outcome_value
 returns g c =
     let written = g.S.Serializer.written in
     let outcome = c.args.self.now.outcome in
-    let core = sent_equal (codes "core") number_value _ c.args.self.now.core _ _ c.from.ensures c.in_ok-send_number.ensures in
+    let step = c.in_ok-send_number.ensures in
+    let core = sent_equal (codes "core") number_value _ c.args.self.now.core _ _ c.from.ensures c.in_ok-send_number-2.ensures in
     let name = sent_equal (codes "outcome") string _ (outcome_name outcome) _ _ c.name_of_outcome.ensures
     c.in_ok-send_text.ensures in
     let stop = sent_equal (codes "stop") word_or_null _ (outcome_stop outcome) _ _ c.stop_of_outcome.ensures
@@ -25,31 +26,37 @@ returns g c =
       written c.begin_map.new.self,
       c.in_ok-begin_map.ensures,
       (
-        core.0,
+        step.0,
         written c.send_number.new.out,
-        core.1,
-        core.2,
+        step.1,
+        step.2,
         (
-          name.0,
-          written c.send_text.new.out,
-          name.1,
-          name.2,
+          core.0,
+          written c.send_number-2.new.out,
+          core.1,
+          core.2,
           (
-            stop.0,
-            written c.send_word.new.out,
-            stop.1,
-            stop.2,
+            name.0,
+            written c.send_text.new.out,
+            name.1,
+            name.2,
             (
-              status.0,
-              written c.send_optional.new.out,
-              status.1,
-              status.2,
+              stop.0,
+              written c.send_word.new.out,
+              stop.1,
+              stop.2,
               (
-                event.0,
-                written c.send_word-2.new.out,
-                event.1,
-                event.2,
-                ended,
+                status.0,
+                written c.send_optional.new.out,
+                status.1,
+                status.2,
+                (
+                  event.0,
+                  written c.send_word-2.new.out,
+                  event.1,
+                  event.2,
+                  ended,
+                ),
               ),
             ),
           ),

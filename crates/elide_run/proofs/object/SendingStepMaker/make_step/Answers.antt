@@ -1,10 +1,10 @@
-use Rattle.std.proofs.Common.{refl}
 use Rattle.elide_run.proofs.Rows.{row_one}
 use Rattle.elide_run.proofs.object.SendingStepMaker.make_step.Goals as goal
 
 pub returns : goal.returns
 returns g c = (
   c.in_ok-outcome.ensures,
-  row_one _ _ c.args.self.now.is_later c.args.pick c.in_ok-outcome.outcome c.in_ok-put_outcome.ensures,
-  refl,
+  row_one _ _ c.args.self.now.made c.in_ok-step.step c.args.pick c.in_ok-outcome.outcome c.in_ok-step.ensures.number
+      c.in_ok-put_outcome.ensures,
+  c.in_ok-step.ensures.number,
 )
