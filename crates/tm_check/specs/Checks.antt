@@ -1,23 +1,18 @@
 -- What is checked of a run at its end (docs/FORMATS.md, "Checks").
-use Rattle.std.specs.Prelude.{◌≡◌, ℕ, ◌+◌, ◌<◌, ◌≤◌, Bool, true, not, List, Some, All, length, nat_eq, nat_lt}
-use Rattle.std.specs.Prelude.{nat_le, slice_get, slice_range}
-use Rattle.ia_word.specs.Operand.{operand_of}
-use Rattle.ia_word.specs.declared.width.Width.TheVariants.{D}
-use Rattle.tm_hist.specs.TmModel.Access.{addresses_of, bytes_at}
+use Rattle.std.specs.Prelude.{◌≡◌, ℕ, ◌<◌, List, Some, All, slice_get}
+use Rattle.tm_condition.specs.Conditions.{Compares, Holds, seen_of, value_of}
+use Rattle.tm_condition.specs.declared.item.Item.{Item}
+use Rattle.tm_condition.specs.declared.item.Item.TheVariants.{Number}
 use Rattle.tm_hist.specs.TmRule.Stop.{Stop}
 use Rattle.tm_hist.specs.Board.{IsFull, IsStopped, ShownBoard as Board, stop_shown}
 use Rattle.tm_hist.specs.Machine.{core_count, shown_state}
+use Rattle.tm_check.specs.Counts.{count_in}
 use Rattle.tm_check.specs.declared.check.Check.{Check}
-use Rattle.tm_check.specs.declared.check.Check.TheVariants.{Compare, Bytes, NoStop, AllStop}
-use Rattle.tm_check.specs.declared.check.Comparison.{Comparison}
-use Rattle.tm_check.specs.declared.check.Comparison.TheVariants.{Equal, NotEqual, Below, AtMost}
-
--- two numbers compare so
-abbrev pub compares : Comparison → ℕ → ℕ → Bool
-compares Equal a b = nat_eq a b
-compares NotEqual a b = not (nat_eq a b)
-compares Below a b = nat_lt a b
-compares AtMost a b = nat_le a b
+use Rattle.tm_check.specs.declared.check.Check.TheVariants.{Demanded, Forbidden, NoStop, AllStop}
+use Rattle.tm_check.specs.declared.clause.Quantity.{Quantity}
+use Rattle.tm_check.specs.declared.clause.Quantity.TheVariants as quantity
+use Rattle.tm_check.specs.declared.clause.RunClause.{RunClause}
+use Rattle.tm_check.specs.declared.clause.RunClause.TheVariants.{OfMachine, Compare}
 
 -- each core has stopped
 abbrev pub HasEnded : Board → Type 0
@@ -28,22 +23,25 @@ abbrev pub StopsBy : Board → Stop → Type 0
 StopsBy board why =
     (core : ℕ) × (core < core_count board.machine) × (stop_shown (shown_state board.machine core) ≡ Some why)
 
--- the doubleword at an address is there, and compares so with a number
-abbrev pub ComparesAt : List ℕ → ℕ → Comparison → ℕ → Type 0
-ComparesAt memory address comparison number =
-    (address + 4 ≤ length memory)
-    × (compares comparison (operand_of D (bytes_at memory (addresses_of address D))) number ≡ true)
+-- a value of a run's end as one of a machine: a count of its history is a number
+abbrev pub item_of : Board → Quantity → Item
+item_of board (quantity.OfMachine item) = item
+item_of board (quantity.OfRun count) = Number (count_in count board.history)
 
--- these bytes stand at an address
-abbrev pub StandsAt : List ℕ → ℕ → List ℕ → Type 0
-StandsAt memory address bytes =
-    (address + length bytes ≤ length memory) × (slice_range memory address (address + length bytes) ≡ bytes)
+-- a condition holds at a run's end
+abbrev pub HoldsAt : Board → RunClause → Type 0
+HoldsAt board (OfMachine clause) = Holds (seen_of board.machine) clause
+HoldsAt board (Compare left comparison right) =
+    Compares comparison (value_of (seen_of board.machine) (item_of board left))
+    (value_of (seen_of board.machine) (item_of board right))
 
--- A check is violated. Memory is checked where each core has stopped.
+abbrev pub AllHold : Board → List RunClause → Type 0
+AllHold board clauses = All (HoldsAt board) clauses
+
+-- A check is violated. Conditions are judged where each core has stopped.
 abbrev pub IsViolated : Board → Check → Type 0
-IsViolated board (Compare address comparison number) =
-    HasEnded board × ¬ (ComparesAt board.machine.memory address comparison number)
-IsViolated board (Bytes address bytes) = HasEnded board × ¬ (StandsAt board.machine.memory address bytes.now)
+IsViolated board (Demanded clauses) = HasEnded board × ¬ (AllHold board clauses.items)
+IsViolated board (Forbidden clauses) = HasEnded board × AllHold board clauses.items
 IsViolated board (NoStop why) = StopsBy board why
 IsViolated board AllStop = IsFull board × ¬ (HasEnded board)
 

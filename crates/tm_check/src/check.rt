@@ -3,67 +3,32 @@
 ghost use Rattle.std.specs.Prelude.{◌≡◌, ◌↔◌, ◌<◌, IsTrue, IsNone, IfSome};
 ghost use Rattle.tm_hist.specs.Board.{stop_shown};
 ghost use Rattle.tm_hist.specs.Machine.{core_count, shown_state};
-ghost use Rattle.tm_check.specs.Checks.{ComparesAt, HasEnded, IsViolated, IsViolatedAt, NoneViolated, StandsAt};
-ghost use Rattle.tm_check.specs.Checks.{StopsBy, compares};
+ghost use Rattle.tm_check.specs.Checks.{AllHold, HasEnded, IsViolated, IsViolatedAt, NoneViolated, StopsBy};
 
-use ia_word::Width;
-use tm_hist::memory::read;
+use crate::clause::RunClause;
 use tm_hist::{Board, CoreState, Machine, Stop};
 
-/// How two numbers are compared, without sign.
-#[derive(Clone, Copy, PartialEq, Eq, Debug)]
-pub enum Comparison {
-    /// `==`.
-    Equal,
-    /// `!=`.
-    NotEqual,
-    /// `<`.
-    Below,
-    /// `<=`.
-    AtMost,
-}
-
-impl Comparison {
-    /// Whether two numbers compare so.
-    pub fn holds(self, left: u32, right: u32) -> bool
-        ensures { result ≡ compares self left right }
-    {
-        match self {
-            Comparison::Equal => left == right,
-            Comparison::NotEqual => left != right,
-            Comparison::Below => left < right,
-            Comparison::AtMost => left <= right,
-        }
-    }
-}
-
-/// What is checked of a run at its end. Memory is checked where each core has stopped; a check on bytes that are not
-/// there is violated.
-#[derive(Clone, Copy, Debug)]
-pub enum Check<'a> {
-    /// The doubleword at this address compares so with this number.
-    Compare(u32, Comparison, u32),
-    /// These bytes stand at this address.
-    Bytes(u32, &'a [u8]),
+/// What is checked of a run at its end. Conditions are judged where each core has stopped; what is not there meets none.
+#[derive(Debug, Drop)]
+pub enum Check {
+    /// All of these conditions hold.
+    Demanded(Vec<RunClause>),
+    /// Not all of these conditions hold.
+    Forbidden(Vec<RunClause>),
     /// No core stops for this reason.
     NoStop(Stop),
     /// Each core stops before the limit on steps.
     AllStop,
 }
 
-impl Check<'_> {
+impl Check {
     /// Whether the check is violated.
     pub fn is_violated(&self, board: &Board) -> bool
         ensures { IsTrue result ↔ IsViolated board.now self.now }
     {
         match self {
-            Check::Compare(address, comparison, number) => {
-                has_ended(board)
-                    && !compares_at(board.machine().view(), *address, *comparison, *number)
-            }
-            Check::Bytes(address, bytes) => {
-                has_ended(board) && !stands_at(board.machine().view(), *address, bytes)
-            }
+            Check::Demanded(clauses) => has_ended(board) && !all_hold(clauses.as_slice(), board),
+            Check::Forbidden(clauses) => has_ended(board) && all_hold(clauses.as_slice(), board),
             Check::NoStop(why) => stops_by(board, *why),
             Check::AllStop => board.is_full() && !has_ended(board),
         }
@@ -82,25 +47,16 @@ pub fn has_ended(board: &Board) -> bool
     true
 }
 
-// Whether the doubleword at an address is there, and compares so with a number.
-fn compares_at(memory: &[u8], address: u32, comparison: Comparison, number: u32) -> bool
-    ensures { IsTrue result ↔ ComparesAt memory.now address comparison number }
+// Whether each of some conditions holds.
+fn all_hold(clauses: &[RunClause], board: &Board) -> bool
+    ensures { IsTrue result ↔ AllHold board.now clauses.now }
 {
-    if address as usize + 4 > memory.len() {
-        return false;
+    for clause in clauses {
+        if !clause.holds(board) {
+            return false;
+        }
     }
-    comparison.holds(read(memory, address, Width::D), number)
-}
-
-// Whether these bytes stand at an address.
-fn stands_at(memory: &[u8], address: u32, bytes: &[u8]) -> bool
-    ensures { IsTrue result ↔ StandsAt memory.now address bytes.now }
-{
-    let at = address as usize;
-    if bytes.len() > memory.len() || at > memory.len() - bytes.len() {
-        return false;
-    }
-    &memory[at..at + bytes.len()] == bytes
+    true
 }
 
 // Whether some core has stopped for this reason.
@@ -127,7 +83,7 @@ fn stop_of(machine: &Machine, core: u8) -> Option<Stop>
 }
 
 /// The first check that is violated, by its index.
-pub fn first_violated(checks: &[Check<'_>], board: &Board) -> Option<usize>
+pub fn first_violated(checks: &[Check], board: &Board) -> Option<usize>
     ensures some { IfSome result (IsViolatedAt board.now checks.now) }
     ensures none { IsNone result → NoneViolated board.now checks.now }
 {

@@ -39,7 +39,8 @@ compares AtLeast a b = nat_le b a
 -- the doubleword at an address, where it is in memory
 abbrev pub doubleword_of : List ℕ → ℕ → Option ℕ
 doubleword_of memory address =
-    if nat_le (address + 4) (length memory) then Some (operand_of D (bytes_at memory (addresses_of address D))) else None
+    if nat_le (address + 4) (length memory) then Some (operand_of D (bytes_at memory (addresses_of address D)))
+    else None
 
 -- a register of a core, where there is such a core and register; the doubleword at an address; a number
 abbrev pub value_of : Seen → Item → Option ℕ

@@ -153,7 +153,7 @@ fn step_under(board: &mut Board, core: u8, event: Event) -> Outcome
 }
 
 // Whether a core that stops for this reason violates a check.
-fn is_checked(checks: &[Check<'_>], why: Stop) -> bool {
+fn is_checked(checks: &[Check], why: Stop) -> bool {
     for check in checks {
         if let Check::NoStop(other) = check {
             if *other == why {

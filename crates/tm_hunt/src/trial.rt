@@ -14,5 +14,5 @@ pub struct Trial<'a> {
     /// The most steps of a run, 1 to 16,777,216.
     pub most: u32,
     /// What is checked of each run at its end.
-    pub checks: &'a [Check<'a>],
+    pub checks: &'a [Check],
 }
