@@ -10,7 +10,7 @@ _elide_options() {
     replay) echo '--help --cores --mem --entry --reads --writes --dump --show --steps --schedule --why --in-turn --random --events --seed --limit --record --json --words --color' ;;
     debug) echo '--help --cores --mem --entry --reads --writes --dump --steps --schedule --in-turn --random --events --seed --limit --words --color' ;;
     gdb) echo '--help --cores --mem --entry --reads --writes --steps --schedule --in-turn --random --events --seed --limit --words --color' ;;
-    hunt) echo '--help --cores --mem --entry --reads --writes --check --stop --expect-halt --runs --seed --method --events --limit --jobs --record --json --words --color' ;;
+    hunt) echo '--help --cores --mem --entry --reads --writes --check --forbid --stop --expect-halt --runs --seed --method --events --limit --jobs --record --json --words --color' ;;
     outcomes) echo '--help --cores --mem --entry --reads --writes --show --events --limit --json --words --color' ;;
     test) echo '--help --list --jobs --json --words --color' ;;
     stats) echo '--help --cores --mem --entry --reads --writes --steps --schedule --in-turn --random --events --seed --limit --record --json --words --color' ;;
@@ -124,6 +124,7 @@ _elide_value() {
     'hunt --reads' | \
     'hunt --writes' | \
     'hunt --check' | \
+    'hunt --forbid' | \
     'hunt --stop' | \
     'hunt --runs' | \
     'hunt --seed' | \

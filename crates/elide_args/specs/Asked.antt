@@ -108,6 +108,7 @@ pub record IsHunt (found : Found) (options : HuntOptions) : Type 0 where
   pub machine : IsMachine found options.machine
   pub nothing : ShowsNothing options.machine
   pub checks : texts_of options.checks.items ≡ values_of found (codes "check")
+  pub forbids : texts_of options.forbids.items ≡ values_of found (codes "forbid")
   pub stops : texts_of options.stops.items ≡ values_of found (codes "stop")
   pub halt : IsFlag found (codes "expect-halt") options.expects_halt
   pub runs : first_value found (codes "runs") ≡ option_copied options.runs

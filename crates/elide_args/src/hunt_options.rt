@@ -7,8 +7,10 @@ use crate::subcommand::MachineOptions;
 pub struct HuntOptions<'a> {
     /// The machine.
     pub machine: MachineOptions<'a>,
-    /// `--check`: what memory holds at the end.
+    /// `--check`: what is to hold at the end.
     pub checks: Vec<&'a str>,
+    /// `--forbid`: what is not to hold at the end.
+    pub forbids: Vec<&'a str>,
     /// `--stop`: what no core stops for.
     pub stops: Vec<&'a str>,
     /// Whether a run that reaches the limit fails.

@@ -233,7 +233,13 @@ pub const RECORD_FIRST: OptionText = OptionText {
 pub const CHECK: OptionText = OptionText {
     name: "check",
     form: Form::Several("CHECK"),
-    help: "What memory holds where all cores have stopped: `SUM == N`, also with !=, < and <=, of a doubleword, or `SUM:N=HEX` of bytes; a sum is of symbols and numbers",
+    help: "What holds where all cores have stopped: `count == 6`, also with !=, <, <=, > and >=, or `count:4=06000000` of bytes; several with && between. Beside doublewords at labels and numbers there are `&count`, `eax@0`, `commits@*` and `aborts:conflict@1`",
+};
+
+pub const FORBID: OptionText = OptionText {
+    name: "forbid",
+    form: Form::Several("CHECK"),
+    help: "What does not hold where all cores have stopped, written as of --check",
 };
 
 pub const STOP: OptionText = OptionText {

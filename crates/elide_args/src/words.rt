@@ -160,6 +160,7 @@ fn hunt_of<'a>(alloc: Global, options: &ArgMatches<'a>) -> Option<HuntOptions<'a
     Some(HuntOptions {
         machine: machine_of(alloc, file, options),
         checks: several_of(alloc, options, "check").ok()?,
+        forbids: several_of(alloc, options, "forbid").ok()?,
         stops: several_of(alloc, options, "stop").ok()?,
         expects_halt: options.get_flag("expect-halt"),
         runs: options.get_str("runs"),
