@@ -1,2 +1,5 @@
 mod Zips
-mod Shown
+mod Named
+mod Asked
+mod Parts
+mod Words

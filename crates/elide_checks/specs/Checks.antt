@@ -1,50 +1,28 @@
 -- The checks that the options say (docs/FORMATS.md, "Checks").
-use Rattle.std.specs.Prelude.{◌≡◌, ℕ, Bool, true, false, List, [], ◌∷◌, ◌++◌, codes, Some, Ok, length}
+use Rattle.std.specs.Prelude.{◌≡◌, ℕ, Bool, true, false, List, [], ◌∷◌, ◌++◌}
 use Rattle.std.specs.List.{AllZip}
-use Rattle.std.specs.Str.{trim}
-use Rattle.hex.specs.Hex.{decode_of}
 use Rattle.elide_args.specs.declared.hunt_options.HuntOptions.{HuntOptions}
 use Rattle.elide_setup.specs.ElideProgram.ProgramFileType.{ProgramFile}
-use Rattle.elide_setup.specs.ElideProgram.Settings.{word32}
-use Rattle.elide_program.specs.Sums.{IsSum}
 use Rattle.elide_setup.specs.TmHist.Lines.{stop_word}
 use Rattle.tm_rule.specs.declared.kinds.Stop.{Stop}
 use Rattle.tm_check.specs.declared.check.Check.{Check}
-use Rattle.tm_check.specs.declared.check.Check.TheVariants.{Compare, Bytes, NoStop, AllStop}
-use Rattle.tm_check.specs.declared.check.Comparison.{Comparison}
-use Rattle.tm_check.specs.declared.check.Comparison.TheVariants.{Equal, NotEqual, Below, AtMost}
+use Rattle.tm_check.specs.declared.check.Check.TheVariants.{Demanded, Forbidden, NoStop, AllStop}
+use Rattle.elide_checks.specs.Conditions.{IsCondition}
+use Rattle.elide_checks.specs.Constants.{is_constant}
 
-abbrev pub comparison_word : Comparison → List ℕ
-comparison_word Equal = codes "=="
-comparison_word NotEqual = codes "!="
-comparison_word Below = codes "<"
-comparison_word AtMost = codes "<="
+-- the check of a `--check`: its condition is to hold
+abbrev pub IsDemanded : ProgramFile → (List ℕ → Bool) → List ℕ → Check → Type 0
+IsDemanded file constants text (Demanded clauses) = IsCondition file constants text clauses.items
+IsDemanded file constants text (Forbidden clauses) = ⊥
+IsDemanded file constants text (NoStop why) = ⊥
+IsDemanded file constants text AllStop = ⊥
 
--- `SUM == N`: the sums of an address and of a number
-pub record IsComparison (file : ProgramFile) (text : List ℕ) (address : ℕ) (comparison : Comparison) (number : ℕ)
-    : Type 0 where
-  pub left : List ℕ
-  pub right : List ℕ
-  pub whole : text ≡ left ++ (comparison_word comparison ++ right)
-  pub at : IsSum file left (Some address)
-  pub to : IsSum file right (Some number)
-
--- `SUM:N=HEX`: the sum of an address, and as many bytes as are said, two hex digits each
-pub record AreBytes (file : ProgramFile) (text : List ℕ) (address : ℕ) (bytes : List ℕ) : Type 0 where
-  pub place : List ℕ
-  pub count : List ℕ
-  pub digits : List ℕ
-  pub whole : text ≡ place ++ (58 ∷ count ++ 61 ∷ digits)
-  pub at : IsSum file place (Some address)
-  pub many : word32 (trim count) ≡ Some (length bytes)
-  pub are : decode_of (trim digits) ≡ Ok bytes
-
--- the check of a `--check`
-abbrev pub IsCheck : ProgramFile → List ℕ → Check → Type 0
-IsCheck file text (Compare address comparison number) = IsComparison file text address comparison number
-IsCheck file text (Bytes address bytes) = AreBytes file text address bytes.now
-IsCheck file text (NoStop why) = ⊥
-IsCheck file text AllStop = ⊥
+-- that of a `--forbid`: its condition is not to hold
+abbrev pub IsForbidden : ProgramFile → (List ℕ → Bool) → List ℕ → Check → Type 0
+IsForbidden file constants text (Demanded clauses) = ⊥
+IsForbidden file constants text (Forbidden clauses) = IsCondition file constants text clauses.items
+IsForbidden file constants text (NoStop why) = ⊥
+IsForbidden file constants text AllStop = ⊥
 
 -- that of a `--stop`: no stop for the reason of this word
 abbrev pub IsStopCheck : List ℕ → Check → Type 0
@@ -55,10 +33,18 @@ abbrev pub halt_checks : Bool → List Check
 halt_checks true = AllStop ∷ []
 halt_checks false = []
 
--- those of `--check`, of `--stop`, and of `--expect-halt`, in the order of the command line
-pub record AreChecks (file : ProgramFile) (options : HuntOptions) (checks : List Check) : Type 0 where
-  pub memory : List Check
+-- those of `--check`, of `--forbid`, of `--stop`, and of `--expect-halt`, each in the order of the command line, by the
+-- symbols of a program and a test which of them are numbers
+pub record AreChecksBy (file : ProgramFile) (constants : List ℕ → Bool) (options : HuntOptions) (checks : List Check)
+    : Type 0 where
+  pub demanded : List Check
+  pub forbidden : List Check
   pub stops : List Check
-  pub whole : checks ≡ memory ++ (stops ++ halt_checks options.expects_halt)
-  pub of_memory : AllZip (λ text check. IsCheck file text.now check) options.checks.items memory
+  pub whole : checks ≡ demanded ++ (forbidden ++ (stops ++ halt_checks options.expects_halt))
+  pub of_demanded : AllZip (λ text check. IsDemanded file constants text.now check) options.checks.items demanded
+  pub of_forbidden : AllZip (λ text check. IsForbidden file constants text.now check) options.forbids.items forbidden
   pub of_stops : AllZip (λ word check. IsStopCheck word.now check) options.stops.items stops
+
+-- by the symbols of the program that a text is read as
+abbrev pub AreChecks : List ℕ → ProgramFile → HuntOptions → List Check → Type 0
+AreChecks text file options checks = AreChecksBy file (is_constant text file) options checks

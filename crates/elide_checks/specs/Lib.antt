@@ -1,3 +1,7 @@
+pub mod Constants
+pub mod EquNames
+pub mod Counts
+pub mod Items
+pub mod Conditions
 pub mod Checks
-pub mod Demands
 pub mod Runs

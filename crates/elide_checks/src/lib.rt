@@ -1,17 +1,29 @@
 //! What is asked of a search for a bad schedule: its checks, and which runs it makes.
 //!
-//! Promised: the checks are those that the options say, in their order (`specs/Checks.antt`), and the runs those of `--runs`
-//! (`specs/Runs.antt`). Which options are misuse, the method and the limit on steps are compared by `doc_tests`. Stands on
-//! `elide_setup`, and on `tm_check`, whose checks it makes.
+//! Promised: the checks are those that the options say, in their order (`specs/Checks.antt`): each condition the
+//! comparisons and bytes of its text (`specs/Conditions.antt`), each side of a comparison the item of its words
+//! (`specs/Items.antt`, `specs/Counts.antt`), in which the names that a source gives by `equ` are numbers and all others
+//! labels (`specs/Constants.antt`); and the runs are those of `--runs` (`specs/Runs.antt`). Which options are misuse, where a
+//! text that is no condition is at fault, the method and the limit on steps are compared by `doc_tests`. Stands on
+//! `elide_setup`, on `ia_source`, which reads a source's names once more, and on `tm_check`, whose checks it makes.
 #![tactic(auto)]
 
+mod bytes;
+mod conditions;
+mod constants;
+mod counts;
 mod cut;
 mod demands;
+mod items;
+mod misread;
 mod orders;
+mod reach;
+mod row;
 
 pub use demands::Demands;
 pub use elide_setup::{
     Fault, Gathered, Lent, Paths, ProgramFile, Progress, Refusal, RunFault, Settings, Setup,
     read_file, record, record_path,
 };
+pub use misread::{Misread, Wanted, first_misread};
 pub use orders::Orders;

@@ -1,10 +1,10 @@
 use Rattle.std.proofs.Common.{◌≡◌, ◌++◌, List, take}
 use Rattle.std.specs.List.{AllZip}
-use Rattle.elide_checks.specs.Demands.{IsStopDemand}
-use Rattle.elide_checks.specs.declared.demands.Demand.{Demand}
+use Rattle.tm_check.specs.declared.check.Check.{Check}
+use Rattle.elide_checks.specs.Checks.{IsStopCheck}
 use Rattle.elide_checks.proofs.demands.add_stops.Given as goal
 
--- each option so far has its demand
+-- each option so far has its check
 abbrev pub invariant-loop-word : goal.invariant-loop-word
-invariant-loop-word l = (stops : List Demand) × (l.demands.items ≡ l.initial.demands.items ++ stops)
-    × AllZip (λ word demand. IsStopDemand word.now demand) (take l.word-index l.words) stops
+invariant-loop-word l = (more : List Check) × (l.checks.items ≡ l.initial.checks.items ++ more)
+    × AllZip (λ word check. IsStopCheck word.now check) (take l.word-index l.words) more

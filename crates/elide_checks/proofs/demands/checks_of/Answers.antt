@@ -1,11 +1,30 @@
-use Rattle.std.proofs.Common.{subst}
-use Rattle.elide_checks.specs.Demands.{IsCheckOf}
-use Rattle.elide_checks.specs.declared.demands.Demand.{Demand}
-use Rattle.elide_checks.proofs.Zips.{zip_added}
+use Rattle.std.proofs.Common.{ℕ, Bool, List, Bor, subst}
+use Rattle.std.specs.List.{AllZip}
+use Rattle.tm_check.specs.declared.check.Check.{Check}
+use Rattle.elide_checks.specs.Checks.{IsDemanded, IsForbidden, IsStopCheck}
+use Rattle.elide_checks.specs.Constants.{is_among}
+use Rattle.elide_checks.proofs.Asked.{joined}
 use Rattle.elide_checks.proofs.demands.checks_of.Goals as goal
 
-pub loop-demand-preserved : goal.loop-demand-preserved
-loop-demand-preserved c =
-    zip_added IsCheckOf c.args.demands.now c.loop-demand.checks.items c.add.new.row.items c.loop-demand.demand-index c.demand-item.result
-    c.in_ok-check.check c.loop-demand-test.true c.loop-demand.invariant
-    (subst (λ (demand : Demand). IsCheckOf demand c.in_ok-check.check) c.demand-item.is c.in_ok-check.ensures) c.in_ok-add.ensures
+pub returns : goal.returns
+returns c =
+    let file = c.args.scope.now.file.now in
+    let names : List ℕ → Bool = is_among c.args.scope.now.constants.now.names.items in
+    let demanded = c.in_ok-add_demanded.ensures in
+    let forbidden = c.in_ok-add_forbidden.ensures in
+    let stops = c.in_ok-add_stops.ensures in
+    record {
+      demanded = demanded.0;
+      forbidden = forbidden.0;
+      stops = stops.0;
+      whole = joined _ _ _ _ _ _ _ _ c.new-checks.ensures.items demanded.1 forbidden.1 stops.1 _ c.in_ok-add_halt.ensures;
+      of_demanded =
+          subst (λ (l : List (Bor (List ℕ))). AllZip (λ (text : Bor (List ℕ)) (check : Check). IsDemanded file names text.now check) l demanded.0)
+          c.as_slice.ensures.value demanded.2;
+      of_forbidden =
+          subst (λ (l : List (Bor (List ℕ))). AllZip (λ (text : Bor (List ℕ)) (check : Check). IsForbidden file names text.now check) l forbidden.0)
+          c.as_slice-2.ensures.value forbidden.2;
+      of_stops =
+          subst (λ (l : List (Bor (List ℕ))). AllZip (λ (word : Bor (List ℕ)) (check : Check). IsStopCheck word.now check) l stops.0)
+          c.as_slice-3.ensures.value stops.2;
+    }

@@ -1,5 +1,5 @@
 use Rattle.std.proofs.Common.{rules, ◌∷◌, ◌++◌, ◌∙◌, ap, append_assoc, Some, sym}
-use Rattle.elide_checks.proofs.demands.bytes_of.Goals as goal
+use Rattle.elide_checks.proofs.bytes.bytes_of.Goals as goal
 
 pub returns-in-Some-2 : goal.returns-in-Some-2
 returns-in-Some-2 c =

@@ -1,0 +1,24 @@
+-- The checks that the options say.
+use Rattle.std.proofs.Common.{◌≡◌, ℕ, Bool, List, [], ◌++◌, append_assoc, ◌∙◌, ap, sym, subst}
+use Rattle.elide_args.specs.declared.hunt_options.HuntOptions.{HuntOptions}
+use Rattle.elide_setup.specs.ElideProgram.ProgramFileType.{ProgramFile}
+use Rattle.ia_item.specs.declared.name.Name.{Name}
+use Rattle.tm_check.specs.declared.check.Check.{Check}
+use Rattle.elide_checks.specs.Checks.{AreChecks, AreChecksBy}
+use Rattle.elide_checks.specs.Constants.{is_among, is_constant}
+
+-- the names that are kept are those of the program
+pub by_names : (text : List ℕ) (file : ProgramFile) (options : HuntOptions) (names : List Name) (checks : List Check) →
+    ((name : List ℕ) → is_among names name ≡ is_constant text file name) →
+    AreChecksBy file (is_among names) options checks → AreChecks text file options checks
+by_names text file options names checks same are =
+    let each : is_among names ≡ is_constant text file = λ i name. same name i in
+    subst (λ (constants : List ℕ → Bool). AreChecksBy file constants options checks) each are
+
+-- four parts one behind the other
+pub joined : (none one two three four : List Check) (a b c : List Check) → none ≡ [] → one ≡ none ++ a → two ≡ one ++ b → three ≡ two ++ c →
+    (last : List Check) → four ≡ three ++ last → four ≡ a ++ (b ++ (c ++ last))
+joined none one two three four a b c empty x y z last w =
+    let first : one ≡ a = x ∙ ap (λ l. l ++ a) empty in
+    w ∙ ap (λ l. l ++ last) (z ∙ ap (λ l. l ++ c) (y ∙ ap (λ l. l ++ b) first))
+    ∙ ap (λ l. l ++ last) (append_assoc a b c) ∙ append_assoc a (b ++ c) last ∙ ap (λ l. a ++ l) (append_assoc b c last)

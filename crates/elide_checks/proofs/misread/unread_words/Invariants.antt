@@ -1,0 +1,11 @@
+use Rattle.std.proofs.Common.{length}
+use denote.Text.{Utf8}
+use denote.Shadow.{shadow}
+use Rattle.elide_checks.proofs.misread.unread_words.Given as goal
+
+-- the rest is text
+abbrev pub invariant-parts : goal.invariant-parts
+invariant-parts l = shadow (Utf8 l.rest)
+
+abbrev pub decreases-parts : goal.decreases-parts
+decreases-parts l = length l.rest

@@ -1,0 +1,52 @@
+//! Bytes in memory, as a text says them.
+
+ghost use Rattle.std.specs.Prelude.{◌≡◌, IfOk, IfSome, Ok, length};
+ghost use Rattle.std.specs.Str.{trim};
+ghost use Rattle.hex.specs.Hex.{decode_of};
+ghost use Rattle.elide_checks.specs.Conditions.{AreBytes};
+
+use crate::cut::cut;
+use elide_setup::{ProgramFile, number_of, sum_of};
+use std::alloc::{AllocError, Global};
+
+/// Bytes at an address, as many as are said, in hex digits.
+pub fn bytes_of(
+    alloc: Global,
+    text: &str,
+    file: &ProgramFile<'_>,
+) -> Result<Option<(u32, Vec<u8>)>, AllocError>
+    ensures { IfOk result (λ found. IfSome found (λ parts. AreBytes file.now text.now parts.0 parts.1.items)) }
+{
+    let Some((place, digits)) = cut(text, "=") else {
+        return Ok(None);
+    };
+    let Some((at, count)) = cut(place, ":") else {
+        return Ok(None);
+    };
+    let Some(address) = sum_of(at, file) else {
+        return Ok(None);
+    };
+    let Ok(count) = number_of(Some(count.trim()), "--check") else {
+        return Ok(None);
+    };
+    match decoded(alloc, digits, count)? {
+        Some(bytes) => Ok(Some((address, bytes))),
+        None => Ok(None),
+    }
+}
+
+// So many bytes in hex digits, around which spaces may stand.
+fn decoded(alloc: Global, digits: &str, count: u32) -> Result<Option<Vec<u8>>, AllocError>
+    ensures { IfOk result (λ bytes. IfSome bytes (λ found. (length found.items ≡ count)
+        × (decode_of (trim digits.now) ≡ Ok found.items))) }
+{
+    let digits = digits.trim().as_bytes();
+    if digits.len() != count as usize * 2 {
+        return Ok(None);
+    }
+    let mut bytes = vec![in alloc; 0; count as usize]?;
+    match hex::decode_to_slice(digits, &mut bytes) {
+        Ok(()) => Ok(Some(bytes)),
+        Err(_) => Ok(None),
+    }
+}

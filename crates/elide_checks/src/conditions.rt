@@ -1,0 +1,132 @@
+//! Conditions, as a text says them.
+
+ghost use Rattle.std.specs.Prelude.{◌≡◌, ◌++◌, ◌∷◌, ℕ, [], Bool, IfOk, IfSome, List, OnOk};
+ghost use Rattle.elide_checks.specs.Conditions.{IsClause, IsComparison, IsCondition, comparison_word};
+ghost use Rattle.elide_checks.specs.Constants.{is_among};
+ghost use Rattle.elide_setup.specs.ElideProgram.ProgramFileType.{ProgramFile as ProgramFileOf};
+ghost use Rattle.tm_check.specs.declared.clause.RunClause.{RunClause as RunClauseOf};
+
+use crate::bytes::bytes_of;
+use crate::cut::cut;
+use crate::items::{Scope, Side, item_of};
+use crate::row::add;
+use elide_setup::Refusal;
+use std::alloc::{AllocError, Global};
+use tm_check::{Clause, Comparison, Quantity, RunClause};
+
+/// What a text says: comparisons and bytes, with `&&` between them. Anything else is a misuse of the option of this name.
+pub fn condition_of(
+    alloc: Global,
+    text: &str,
+    scope: &Scope<'_, '_, '_>,
+    name: &'static str,
+) -> Result<Vec<RunClause>, Refusal>
+    ensures { IfOk result (λ clauses. IsCondition scope.now.file.now (is_among scope.now.constants.now.names.items)
+        text.now clauses.items) }
+{
+    let mut clauses = Vec::new(alloc);
+    let mut rest = text;
+    'clauses: while let Some((first, more)) = cut(rest, "&&") {
+        add_clause(alloc, &mut clauses, first, scope, name)?;
+        rest = more;
+    }
+    add_clause(alloc, &mut clauses, rest, scope, name)?;
+    Ok(clauses)
+}
+
+// Adds what one part of a condition says.
+fn add_clause(
+    alloc: Global,
+    clauses: &mut Vec<RunClause>,
+    text: &str,
+    scope: &Scope<'_, '_, '_>,
+    name: &'static str,
+) -> Result<(), Refusal>
+    ensures { OnOk result ((clause : RunClauseOf) × (clauses.new.items ≡ clauses.old.items ++ clause ∷ [])
+        × IsClause scope.now.file.now (is_among scope.now.constants.now.names.items) text.now clause) }
+{
+    match clause_of(alloc, text, scope)? {
+        Some(clause) => {
+            add(clauses, clause)?;
+            Ok(())
+        }
+        None => Err(Refusal::Usage(name)),
+    }
+}
+
+/// What one part of a condition says: a comparison, or bytes.
+pub fn clause_of(
+    alloc: Global,
+    text: &str,
+    scope: &Scope<'_, '_, '_>,
+) -> Result<Option<RunClause>, AllocError>
+    ensures { IfOk result (λ found. IfSome found (IsClause scope.now.file.now
+        (is_among scope.now.constants.now.names.items) text.now)) }
+{
+    if let Some((before, comparison, behind)) = compared(text) {
+        return Ok(comparison_of(before, comparison, behind, scope));
+    }
+    match bytes_of(alloc, text, scope.file)? {
+        Some((address, bytes)) => Ok(Some(RunClause::OfMachine(Clause::Bytes(address, bytes)))),
+        None => Ok(None),
+    }
+}
+
+/// The two sides of a comparison.
+pub fn compared(text: &str) -> Option<(&str, Comparison, &str)>
+    ensures { IfSome result (λ parts. text.now ≡ parts.0.now ++ (comparison_word parts.1 ++ parts.2.now)) }
+{
+    if let Some((before, behind)) = cut(text, "==") {
+        return Some((before, Comparison::Equal, behind));
+    }
+    if let Some((before, behind)) = cut(text, "!=") {
+        return Some((before, Comparison::NotEqual, behind));
+    }
+    if let Some((before, behind)) = cut(text, "<=") {
+        return Some((before, Comparison::AtMost, behind));
+    }
+    if let Some((before, behind)) = cut(text, ">=") {
+        return Some((before, Comparison::AtLeast, behind));
+    }
+    ordered(text)
+}
+
+// The two sides of `<` or `>`.
+fn ordered(text: &str) -> Option<(&str, Comparison, &str)>
+    ensures { IfSome result (λ parts. text.now ≡ parts.0.now ++ (comparison_word parts.1 ++ parts.2.now)) }
+{
+    if let Some((before, behind)) = cut(text, "<") {
+        return Some((before, Comparison::Below, behind));
+    }
+    let (before, behind) = cut(text, ">")?;
+    Some((before, Comparison::Above, behind))
+}
+
+// The comparison of two items.
+fn comparison_of(
+    before: &str,
+    comparison: Comparison,
+    behind: &str,
+    scope: &Scope<'_, '_, '_>,
+) -> Option<RunClause>
+    ensures { IfSome result (λ clause. (text : List ℕ) →
+        text ≡ before.now ++ (comparison_word comparison ++ behind.now) →
+        IsClause scope.now.file.now (is_among scope.now.constants.now.names.items) text clause) }
+{
+    let left = item_of(before.trim(), Side::Left, scope)?;
+    let right = item_of(behind.trim(), Side::Right, scope)?;
+    Some(clause_between(left, comparison, right))
+}
+
+// The comparison of two values: one of a machine alone where both are of it.
+fn clause_between(left: Quantity, comparison: Comparison, right: Quantity) -> RunClause
+    ensures { (file : ProgramFileOf) (constants : List ℕ → Bool) (text : List ℕ) →
+        IsComparison file constants text left comparison right → IsClause file constants text result }
+{
+    match (left, right) {
+        (Quantity::OfMachine(left), Quantity::OfMachine(right)) => {
+            RunClause::OfMachine(Clause::Compare(left, comparison, right))
+        }
+        (left, right) => RunClause::Compare(left, comparison, right),
+    }
+}
