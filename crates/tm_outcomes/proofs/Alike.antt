@@ -18,6 +18,7 @@ use Rattle.tm_model.specs.declared.outcome.CoreState.{CoreState}
 use Rattle.tm_model.specs.declared.outcome.CoreState.TheVariants.{Running, Mid, Open, Condemned, Stopped as AtStop}
 use Rattle.tm_outcomes.specs.Outcomes.{regs_of}
 use Rattle.tm_outcomes.specs.Places.{detail_of, has_detail, has_stopped, is_open}
+use Rattle.tm_outcomes.specs.Verdicts.{HasStoppedBy}
 
 -- what is shown of a core, by what a place knows of it
 abbrev pub view_from : Setting → List ℕ → CoreState → Regs → ℕ → Option View
@@ -139,6 +140,41 @@ stopped_is setting memory (Halted regs stop) (Some depth) view e halted = absurd
 stopped_is setting memory (Closed regs) doom view e halted = absurd (let h : Closed regs ≡ Halted halted.0 halted.1.0 = halted.1.1 in cc)
 stopped_is setting memory (Midway regs value) doom view e halted = absurd (let h : Midway regs value ≡ Halted halted.0 halted.1.0 = halted.1.1 in cc)
 stopped_is setting memory (Opened regs steps) doom view e halted = absurd (let h : Opened regs steps ≡ Halted halted.0 halted.1.0 = halted.1.1 in cc)
+
+-- ---- why they have
+
+other_mode : (core : Core) (mode : CoreState) (why : Stop) (view : View) → has_stopped mode ≡ false → view.mode ≡ mode →
+    view.mode ≡ AtStop why → HasStoppedBy core why
+other_mode core mode why view goes is stopped =
+    absurd (false≢true (sym goes ∙ ap has_stopped (sym is ∙ stopped)))
+
+pub stopped_by : (setting : Setting) (memory : List ℕ) (core : Core) (doom : Option ℕ) (view : View) (why : Stop) →
+    view_of setting memory core doom ≡ Some view → view.mode ≡ AtStop why → HasStoppedBy core why
+stopped_by setting memory (Halted regs stop) None view why e is =
+    let mode : view.mode ≡ AtStop stop = outside_mode (AtStop stop) regs view e in
+    let same : stop ≡ why = (let both : AtStop stop ≡ AtStop why = sym mode ∙ is in cc) in
+    (regs, ap (Halted regs) same)
+stopped_by setting memory (Closed regs) None view why e is = other_mode _ Running why view refl (outside_mode Running regs view e) is
+stopped_by setting memory (Midway regs value) None view why e is =
+    other_mode _ Mid why view refl (base_midway regs value (setting.outside regs value) view e).1 is
+stopped_by setting memory (Opened regs steps) None view why e is =
+    let known = base_inside regs (isolated_body setting regs memory steps) view e in
+    other_mode _ (Open known.1.0) why view refl known.1.1 is
+stopped_by setting memory (Opened regs steps) (Some depth) view why e is =
+    other_mode _ (Condemned depth) why view refl (outside_mode (Condemned depth) regs view e) is
+stopped_by setting memory (Closed regs) (Some depth) view why e is = absurd (cc)
+stopped_by setting memory (Midway regs value) (Some depth) view why e is = absurd (cc)
+stopped_by setting memory (Halted regs stop) (Some depth) view why e is = absurd (cc)
+
+pub by_stop : (setting : Setting) (memory : List ℕ) (core : Core) (doom : Option ℕ) (view : View) (why : Stop) →
+    view_of setting memory core doom ≡ Some view → HasStoppedBy core why → view.mode ≡ AtStop why
+by_stop setting memory (Halted regs stop) None view why e halted =
+    let same : stop ≡ why = (let h : Halted regs stop ≡ Halted halted.0 why = halted.1 in cc) in
+    outside_mode (AtStop stop) regs view e ∙ ap (λ (s : Stop). AtStop s) same
+by_stop setting memory (Halted regs stop) (Some depth) view why e halted = absurd (cc)
+by_stop setting memory (Closed regs) doom view why e halted = absurd (let h : Closed regs ≡ Halted halted.0 why = halted.1 in cc)
+by_stop setting memory (Midway regs value) doom view why e halted = absurd (let h : Midway regs value ≡ Halted halted.0 why = halted.1 in cc)
+by_stop setting memory (Opened regs steps) doom view why e halted = absurd (let h : Opened regs steps ≡ Halted halted.0 why = halted.1 in cc)
 
 -- ---- cores that no event aborts
 

@@ -1,28 +1,30 @@
 -- A node whose core's steps are followed under several events, one after another.
 use Rattle.std.proofs.Common.{◌≡◌, ◌⊎◌, inl, inr, ℕ, ◌+◌, ◌<◌, ◌≤◌, List, [], ◌∷◌, ◌++◌, Option, Some, None, Result, length, get_or}
-use Rattle.std.proofs.Common.{take, take_all, append_assoc, refl, sym, ap, ◌∙◌, subst, arith, length-append}
+use Rattle.std.proofs.Common.{take, append_assoc, refl, sym, ap, ◌∙◌, subst, arith, length-append}
 use Rattle.std.proofs.lemmas.List.{append-nil, take_more}
 use Rattle.std.proofs.lemmas.List.Elements.{Contains-push_cases}
 use Rattle.std.proofs.lemmas.Result.{IfOk-weaker}
 use Rattle.std.specs.Result.{IfOk}
 use Rattle.tm_model.specs.declared.outcome.Event.{Event}
 use Rattle.tm_model.specs.declared.outcome.Pick.{Pick}
-use Rattle.tm_outcomes.specs.Nodes.{HasGrown, HaveSchedules, IsFollowed, IsTree, IsUntouched}
+use Rattle.tm_outcomes.specs.Nodes.{HaveSchedules, IsFollowed, IsTree, IsUntouched}
 use Rattle.tm_outcomes.specs.Outcomes.{IsNoneOrOneOf}
-use Rattle.tm_outcomes.specs.Searching.{Grows, IsFollowedIn, IsOneOf, IsThis}
+use Rattle.tm_outcomes.specs.Searching.{IsFollowedIn, IsOneOf, IsThis}
 use Rattle.tm_outcomes.specs.declared.fault.SearchFault.{SearchFault}
-use Rattle.tm_outcomes.specs.declared.nodes.Node.{Node}
+use Rattle.tm_outcomes.specs.declared.links.Link.{Link}
 use Rattle.tm_outcomes.specs.declared.searching.Progress.{Progress}
 use Rattle.tm_outcomes.specs.declared.searching.Progress.TheVariants.{GoesOn}
+use Rattle.tm_outcomes.specs.declared.searching.Searching.{Searching}
 use Rattle.tm_outcomes.specs.declared.trial.Trial.{Trial}
-use Rattle.tm_outcomes.proofs.Follows.{followed_grown, untouched_grown}
+use Rattle.tm_outcomes.proofs.Follows.{followed_grown, followed_more, untouched_grown}
 
 -- a pick that is followed, by its core and its event
-pub under_this : (trial : Trial) (schedules : List (List Pick)) (index : ℕ) (pick : Pick) →
-    IsFollowed trial schedules index pick → (event : Option Event) → IsThis pick.event event →
-    IsFollowed trial schedules index (record { core = pick.core; event = event })
-under_this trial schedules index pick followed event is =
-    subst (λ (e : Option Event). IsFollowed trial schedules index (record { core = pick.core; event = e })) (sym is) followed
+pub under_this : (trial : Trial) (schedules : List (List Pick)) (links : List Link) (index : ℕ) (pick : Pick) →
+    IsFollowed trial schedules links index pick → (event : Option Event) → IsThis pick.event event →
+    IsFollowed trial schedules links index (record { core = pick.core; event = event })
+under_this trial schedules links index pick followed event is =
+    subst (λ (e : Option Event). IsFollowed trial schedules links index (record { core = pick.core; event = e })) (sym is)
+    followed
 
 -- none of no events
 none_of : (event : Option Event) → IsOneOf [] event → ⊥
@@ -40,15 +42,16 @@ either_of events event (Some one) is = elim (Contains-push_cases events event on
 
 module _ (trial : Trial) (most index core : ℕ) where
   -- the tree is there still, and the node in it
-  pub has_tree : (before after : List Node) (under : Option Event → Type 0) →
-      IsFollowedIn trial most before after index core under → HaveSchedules trial before → HaveSchedules trial after
+  pub has_tree : (before after : Searching) (under : Option Event → Type 0) →
+      IsFollowedIn trial most before after index core under → HaveSchedules trial before.nodes.items →
+      HaveSchedules trial after.nodes.items
   has_tree before after under followed tree =
       let step = followed.grows tree.0 tree.1 in
       (step.grown, step.has_grown.tree)
 
-  pub has_node : (before after : List Node) (under : Option Event → Type 0) →
-      IsFollowedIn trial most before after index core under → HaveSchedules trial before → index < length before →
-      index < length after
+  pub has_node : (before after : Searching) (under : Option Event → Type 0) →
+      IsFollowedIn trial most before after index core under → HaveSchedules trial before.nodes.items →
+      index < length before.nodes.items → index < length after.nodes.items
   has_node before after under followed tree within =
       let step = followed.grows tree.0 tree.1 in
       let counted = tree.1.counted in
@@ -58,39 +61,44 @@ module _ (trial : Trial) (most index core : ℕ) where
       omega arith
 
   -- under no event so far
-  pub nothing_yet : (nodes : List Node) → length nodes ≤ most →
-      IsFollowedIn trial most nodes nodes index core (IsOneOf [])
-  nothing_yet nodes few = record {
+  pub nothing_yet : (search : Searching) → length search.nodes.items ≤ most →
+      IsFollowedIn trial most search search index core (IsOneOf [])
+  nothing_yet search few = record {
     few = few;
+    kept = λ from to link. link;
     grows = λ schedules tree. record {
       grown = schedules;
       has_grown = record { tree = tree; more = []; grown = sym (append-nil schedules) };
+      steps = λ all. all;
       followed = λ event is. absurd (none_of event is);
     };
   }
 
   -- under fewer events
-  pub under_fewer : (before after : List Node) (under fewer : Option Event → Type 0) →
+  pub under_fewer : (before after : Searching) (under fewer : Option Event → Type 0) →
       ((event : Option Event) → fewer event → under event) → IsFollowedIn trial most before after index core under →
       IsFollowedIn trial most before after index core fewer
   under_fewer before after under fewer among followed = record {
     few = followed.few;
+    kept = followed.kept;
     grows = λ schedules tree.
         let step = followed.grows schedules tree in
         record {
           grown = step.grown;
           has_grown = step.has_grown;
+          steps = step.steps;
           followed = λ event is. step.followed event (among event is);
         };
   }
 
   -- under the ones, and then under the others
-  pub then_under : (before middle after : List Node) (first second : Option Event → Type 0) → index < length before →
-      IsFollowedIn trial most before middle index core first →
+  pub then_under : (before middle after : Searching) (first second : Option Event → Type 0) →
+      index < length before.nodes.items → IsFollowedIn trial most before middle index core first →
       IsFollowedIn trial most middle after index core second →
       IsFollowedIn trial most before after index core (λ event. first event ⊎ second event)
   then_under before middle after first second within one other = record {
     few = other.few;
+    kept = λ from to link. other.kept from to (one.kept from to link);
     grows = λ schedules tree.
         let begun = one.grows schedules tree in
         let ended = other.grows begun.grown begun.has_grown.tree in
@@ -108,19 +116,22 @@ module _ (trial : Trial) (most index core : ℕ) where
                 ∙ (ap (λ (g : List (List Pick)). g ++ more) begun.has_grown.grown
                 ∙ append_assoc schedules begun.has_grown.more more);
           };
+          steps = λ all. ended.steps (begun.steps all);
           followed = λ event is. elim is [
             | inl earlier ↦
                 let pick : Pick = record { core = core; event = event } in
-                subst (λ (g : List (List Pick)). IsFollowed trial g index pick) (sym ended.has_grown.grown)
-                (followed_grown trial begun.grown more index pick here (begun.followed event earlier))
+                subst (λ (g : List (List Pick)). IsFollowed trial g after.links.items index pick) (sym ended.has_grown.grown)
+                (followed_grown trial begun.grown more after.links.items index pick here
+                (followed_more trial begun.grown middle.links.items after.links.items index pick other.kept
+                (begun.followed event earlier)))
             | inr later ↦ ended.followed event later
           ];
         };
   }
 
   -- under one event more of a list
-  pub next_of : (before middle after : List Node) (events : List Event) (at : ℕ) (default : Event) →
-      index < length before → at < length events →
+  pub next_of : (before middle after : Searching) (events : List Event) (at : ℕ) (default : Event) →
+      index < length before.nodes.items → at < length events →
       IsFollowedIn trial most before middle index core (IsOneOf (take at events)) →
       IsFollowedIn trial most middle after index core (IsThis (Some (get_or events at default))) →
       IsFollowedIn trial most before after index core (IsOneOf (take (at + 1) events))
@@ -133,7 +144,7 @@ module _ (trial : Trial) (most index core : ℕ) where
       (then_under before middle after (IsOneOf (take at events)) (IsThis (Some event)) within so_far next)
 
   -- under none, and under each event of a list
-  pub none_and_each : (before middle after : List Node) (events : List Event) → index < length before →
+  pub none_and_each : (before middle after : Searching) (events : List Event) → index < length before.nodes.items →
       IsFollowedIn trial most before middle index core (IsThis None) →
       IsFollowedIn trial most middle after index core (IsOneOf events) →
       IsFollowedIn trial most before after index core (IsNoneOrOneOf events)
@@ -146,12 +157,13 @@ module _ (trial : Trial) (most index core : ℕ) where
       none_or_one (Some one) is = inr is
 
   -- where no event makes another step, what was followed under none was followed under each
-  pub none_for_each : (before after : List Node) (events : List Event) → index < length before →
-      ((schedules : List (List Pick)) → IsTree trial before schedules → IsUntouched trial schedules index core) →
+  pub none_for_each : (before after : Searching) (events : List Event) → index < length before.nodes.items →
+      ((schedules : List (List Pick)) → IsTree trial before.nodes.items schedules → IsUntouched trial schedules index core) →
       IsFollowedIn trial most before after index core (IsThis None) →
       IsFollowedIn trial most before after index core (IsNoneOrOneOf events)
   none_for_each before after events within untouched alone = record {
     few = alone.few;
+    kept = alone.kept;
     grows = λ schedules tree.
         let step = alone.grows schedules tree in
         let counted = tree.counted in
@@ -161,22 +173,23 @@ module _ (trial : Trial) (most index core : ℕ) where
         record {
           grown = step.grown;
           has_grown = step.has_grown;
+          steps = step.steps;
           followed = λ event is. alike step.grown same (step.followed None refl) event;
         };
   }
     where
       alike : (schedules : List (List Pick)) → IsUntouched trial schedules index core →
-          IsFollowed trial schedules index (record { core = core; event = None }) → (event : Option Event) →
-          IsFollowed trial schedules index (record { core = core; event = event })
+          IsFollowed trial schedules after.links.items index (record { core = core; event = None }) →
+          (event : Option Event) →
+          IsFollowed trial schedules after.links.items index (record { core = core; event = event })
       alike schedules same followed None = followed
-      alike schedules same followed (Some event) = λ now leads.
-          let step = followed now leads in
-          record {
-            next = step.next;
-            is_next = same now leads event ∙ step.is_next;
-            index = step.index;
-            leads = step.leads;
-          }
+      alike schedules same followed (Some event) = record {
+        to = followed.to;
+        is_link = followed.is_link;
+        along = λ now leads.
+            let step = followed.along now leads in
+            record { next = step.next; is_next = same now leads event ∙ step.is_next; leads = step.leads };
+      }
 
 -- a search that goes on has done the one, and so the other
 pub does : (done more : Type 0) → (done → more) → (r : Result Progress SearchFault) →

@@ -5,7 +5,6 @@ use Rattle.tm_core.specs.Theorem.{ShownMachine, StandsFor, machine_setting, view
 use Rattle.tm_model.specs.Setting.{Setting}
 use Rattle.tm_model.specs.Shown.{view_of}
 use Rattle.tm_model.specs.Steps.{step}
-use Rattle.tm_model.specs.declared.outcome.Event.{Event}
 use Rattle.tm_model.specs.declared.outcome.Outcome.{Outcome}
 use Rattle.tm_model.specs.declared.outcome.Pick.{Pick}
 use Rattle.tm_outcomes.specs.Nodes.{AreSame, IsUntouched, LeadsTo, schedule_at}

@@ -7,5 +7,11 @@ pub mod Tables
 pub mod Trees
 pub mod Follows
 pub mod Grown
+pub mod Joined
+pub mod Stopping
+pub mod Sourcing
+pub mod Passing
 pub mod Complete
+pub mod Ways
+pub mod Telling
 pub mod Underway

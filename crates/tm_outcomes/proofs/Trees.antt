@@ -6,7 +6,8 @@ use Rattle.std.proofs.lemmas.Bool.{cases_lt}
 use Rattle.std.proofs.lemmas.List.{get_or_append_left}
 use Rattle.std.proofs.lemmas.List.Elements.{All-append, All-cons, All-nil}
 use Rattle.tm_model.specs.declared.outcome.Pick.{Pick}
-use Rattle.tm_outcomes.specs.Nodes.{IsPickOf, IsTree, no_node, node_at, schedule_at}
+use Rattle.tm_outcomes.specs.Nodes.{HasRun, IsPickOf, IsTree, no_node, node_at, schedule_at}
+use Rattle.tm_outcomes.specs.Outcomes.{trial_opening}
 use Rattle.tm_outcomes.specs.declared.nodes.Node.{Node}
 use Rattle.tm_outcomes.specs.declared.trial.Trial.{Trial}
 
@@ -32,8 +33,9 @@ each P nodes node before here index below =
 
 pub grows : (trial : Trial) (nodes : List Node) (schedules : List (List Pick)) (node : Node) →
     IsTree trial nodes schedules → node.parent < length nodes → IsPickOf trial node.pick →
+    HasRun trial (schedule_at schedules node.parent ++ node.pick ∷ []) →
     IsTree trial (nodes ++ node ∷ []) (schedules ++ (schedule_at schedules node.parent ++ node.pick ∷ []) ∷ [])
-grows trial nodes schedules node tree lower is_pick =
+grows trial nodes schedules node tree lower is_pick has_run =
     let added : List Pick = schedule_at schedules node.parent ++ node.pick ∷ [] in
     let nodes_now : List Node = nodes ++ node ∷ [] in
     let now : List (List Pick) = schedules ++ added ∷ [] in
@@ -68,6 +70,9 @@ grows trial nodes schedules node tree lower is_pick =
           (λ i last. subst (λ (s : List Pick). All (IsPickOf trial) s) (sym (new i last))
           (All-append (IsPickOf trial) (schedule_at schedules node.parent) (node.pick ∷ []) (tree.picks node.parent lower)
           (All-cons (IsPickOf trial) node.pick [] is_pick (All-nil (IsPickOf trial)))));
+      runs = each (λ i. HasRun trial (schedule_at now i)) nodes node
+          (λ i less. subst (λ (s : List Pick). HasRun trial s) (sym (old i less)) (tree.runs i less))
+          (λ i last. subst (λ (s : List Pick). HasRun trial s) (sym (new i last)) has_run);
     }
 
 only : (index : ℕ) → index < 1 → 0 ≡ index
@@ -83,4 +88,6 @@ first_tree trial node = record {
   short = λ index below. subst (λ i. length (schedule_at ([] ∷ []) i) ≤ i) (only index below) (omega arith);
   picks = λ index below. subst (λ i. All (IsPickOf trial) (schedule_at ([] ∷ []) i)) (only index below)
       (All-nil (IsPickOf trial));
+  runs = λ index below. subst (λ i. HasRun trial (schedule_at ([] ∷ []) i)) (only index below)
+      (trial_opening trial, refl, refl);
 }

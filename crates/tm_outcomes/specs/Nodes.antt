@@ -1,15 +1,19 @@
 -- The states that a search has met, each as the last step of a schedule that leads there, and the node of the rest.
-use Rattle.std.specs.Prelude.{◌≡◌, ℕ, ◌<◌, ◌≤◌, List, [], ◌∷◌, ◌++◌, All, Option, Some, None, length, map}
+use Rattle.std.specs.Prelude.{◌≡◌, ℕ, ◌<◌, ◌≤◌, List, [], ◌∷◌, ◌++◌, All, Contains, Some, None, length, map}
 use Rattle.std.specs.Prelude.{slice_index_or}
 use Rattle.tm_model.specs.declared.outcome.Event.{Event}
 use Rattle.tm_model.specs.declared.outcome.Pick.{Pick}
 use Rattle.tm_model.specs.Shown.{view_of}
+use Rattle.tm_rule.specs.declared.kinds.Stop.{Stop}
+use Rattle.tm_outcomes.specs.Links.{IsLink, LiesWithin}
 use Rattle.tm_outcomes.specs.Outcomes.{AreTold, IsAllowed, trial_opening, trial_setting, value_of}
 use Rattle.tm_outcomes.specs.Places.{AreAlike, IsAt}
 use Rattle.tm_outcomes.specs.Schedules.{HasEnded, Situation, after_pick, after_schedule}
+use Rattle.tm_outcomes.specs.Verdicts.{IsStopTold, StopsBy}
+use Rattle.tm_outcomes.specs.declared.findings.Findings.{Findings}
+use Rattle.tm_outcomes.specs.declared.links.Link.{Link}
 use Rattle.tm_outcomes.specs.declared.nodes.Node.{Node}
 use Rattle.tm_outcomes.specs.declared.place.Place.{Place}
-use Rattle.tm_outcomes.specs.declared.table.Told.{Told}
 use Rattle.tm_outcomes.specs.declared.trial.Trial.{Trial}
 
 abbrev pub no_node : Node
@@ -26,6 +30,12 @@ pub record IsPickOf (trial : Trial) (pick : Pick) : Type 0 where
   pub is_core : pick.core < length trial.program.now.entries
   pub allowed : IsAllowed trial.events pick.event
 
+-- a schedule that can be run
+abbrev pub HasRun : Trial → List Pick → Type 0
+HasRun trial schedule =
+    (now : Situation) × (after_schedule (trial_setting trial) (trial_opening trial) schedule ≡ Some now)
+    × (now.state.count ≡ length trial.program.now.entries)
+
 -- these are the schedules of the nodes
 pub record IsTree (trial : Trial) (nodes : List Node) (schedules : List (List Pick)) : Type 0 where
   pub counted : length schedules ≡ length nodes
@@ -37,6 +47,7 @@ pub record IsTree (trial : Trial) (nodes : List Node) (schedules : List (List Pi
       ≡ schedule_at schedules (node_at nodes index).parent ++ (node_at nodes index).pick ∷ []
   pub short : (index : ℕ) → index < length nodes → length (schedule_at schedules index) ≤ index
   pub picks : (index : ℕ) → index < length nodes → All (IsPickOf trial) (schedule_at schedules index)
+  pub runs : (index : ℕ) → index < length nodes → HasRun trial (schedule_at schedules index)
 
 abbrev pub HaveSchedules : Trial → List Node → Type 0
 HaveSchedules trial nodes = (schedules : List (List Pick)) × IsTree trial nodes schedules
@@ -59,16 +70,31 @@ pub record LeadsTo (trial : Trial) (schedules : List (List Pick)) (index : ℕ) 
   pub same : AreSame trial end now
   pub count : now.state.count ≡ length trial.program.now.entries
 
--- some node leads to the situation after this pick
-pub record GoesOnBy (trial : Trial) (schedules : List (List Pick)) (now : Situation) (pick : Pick) : Type 0 where
+-- this node leads to the situation after this pick
+pub record GoesOnTo (trial : Trial) (schedules : List (List Pick)) (now : Situation) (pick : Pick) (to : ℕ)
+    : Type 0 where
   pub next : Situation
   pub is_next : after_pick (trial_setting trial) now pick ≡ Some next
-  pub index : ℕ
-  pub leads : LeadsTo trial schedules index next
+  pub leads : LeadsTo trial schedules to next
 
-abbrev pub IsFollowed : Trial → List (List Pick) → ℕ → Pick → Type 0
-IsFollowed trial schedules index pick =
-    (now : Situation) → LeadsTo trial schedules index now → GoesOnBy trial schedules now pick
+-- a pick leads from the one node to the other
+abbrev pub LeadsAlong : Trial → List (List Pick) → ℕ → Pick → ℕ → Type 0
+LeadsAlong trial schedules from pick to =
+    (now : Situation) → LeadsTo trial schedules from now → GoesOnTo trial schedules now pick to
+
+-- there is a link from the node along which the pick leads
+pub record IsFollowed (trial : Trial) (schedules : List (List Pick)) (links : List Link) (index : ℕ) (pick : Pick)
+    : Type 0 where
+  pub to : ℕ
+  pub is_link : IsLink links index to
+  pub along : LeadsAlong trial schedules index pick to
+
+-- a link along which some pick leads
+pub record IsStep (trial : Trial) (schedules : List (List Pick)) (link : Link) : Type 0 where
+  pub within : LiesWithin (length schedules) link
+  pub pick : Pick
+  pub is_pick : IsPickOf trial pick
+  pub along : LeadsAlong trial schedules link.from pick link.to
 
 -- the next step of a core is under each event what it is under none
 abbrev pub IsUntouched : Trial → List (List Pick) → ℕ → ℕ → Type 0
@@ -77,17 +103,26 @@ IsUntouched trial schedules index core =
     after_pick (trial_setting trial) now (record { core = core; event = Some event })
     ≡ after_pick (trial_setting trial) now (record { core = core; event = None })
 
--- where each core has stopped, the outcome is told
-abbrev pub IsShown : Trial → List (List Pick) → List Told → ℕ → Type 0
-IsShown trial schedules all index =
-    (now : Situation) → LeadsTo trial schedules index now → HasEnded now.state →
-    AreTold all (map (value_of now.state) trial.items.now)
+-- a node at which each core has stopped
+pub record IsEnd (trial : Trial) (schedules : List (List Pick)) (index : ℕ) : Type 0 where
+  pub within : index < length schedules
+  pub ended : (now : Situation) → LeadsTo trial schedules index now → HasEnded now.state
+
+-- what is to be found at a node is found
+pub record IsShown (trial : Trial) (schedules : List (List Pick)) (found : Findings) (index : ℕ) : Type 0 where
+  pub outcome : (now : Situation) → LeadsTo trial schedules index now → HasEnded now.state →
+      AreTold found.outcomes.items (map (value_of now.state) trial.items.now)
+  pub end : (now : Situation) → LeadsTo trial schedules index now → HasEnded now.state →
+      Contains found.ends.items index
+  pub stops : (now : Situation) → LeadsTo trial schedules index now → (why : Stop) → Contains trial.stops.now why →
+      StopsBy now.state why → IsStopTold found.stops.items why
 
 -- the nodes up to an index are done
-pub record IsExplored (trial : Trial) (schedules : List (List Pick)) (all : List Told) (done : ℕ) : Type 0 where
+pub record IsExplored (trial : Trial) (schedules : List (List Pick)) (links : List Link) (found : Findings) (done : ℕ)
+    : Type 0 where
   pub followed : (index : ℕ) → index < done → (pick : Pick) → IsPickOf trial pick →
-      IsFollowed trial schedules index pick
-  pub shown : (index : ℕ) → index < done → IsShown trial schedules all index
+      IsFollowed trial schedules links index pick
+  pub shown : (index : ℕ) → index < done → IsShown trial schedules found index
 
 -- the schedules of a tree that has grown from another
 pub record HasGrown (trial : Trial) (nodes : List Node) (before after : List (List Pick)) : Type 0 where

@@ -1,20 +1,47 @@
 -- A search while it goes on.
-use Rattle.std.specs.Prelude.{◌≡◌, ℕ, ◌<◌, ◌≤◌, List, All, Contains, Option, Some, None, length}
+use Rattle.std.specs.Prelude.{◌≡◌, ◌≢◌, ℕ, ◌<◌, ◌≤◌, Bool, true, false, List, All, Contains, Option, Some, None, length}
+use Rattle.std.specs.List.{AllPairs}
 use Rattle.tm_model.specs.declared.outcome.Event.{Event}
 use Rattle.tm_model.specs.declared.outcome.Pick.{Pick}
-use Rattle.tm_outcomes.specs.Nodes.{HasGrown, IsExplored, IsFollowed, IsShown, IsTree}
+use Rattle.tm_outcomes.specs.Links.{IsLink}
+use Rattle.tm_outcomes.specs.Marks.{AreMarks, IsMarked}
+use Rattle.tm_outcomes.specs.Nodes.{HasGrown, IsEnd, IsExplored, IsFollowed, IsShown, IsStep, IsTree, schedule_at}
 use Rattle.tm_outcomes.specs.Outcomes.{AreDistinct, IsAllowed, IsTold}
+use Rattle.tm_outcomes.specs.Verdicts.{IsStop}
+use Rattle.tm_outcomes.specs.declared.findings.Findings.{Findings}
+use Rattle.tm_outcomes.specs.declared.links.Link.{Link}
 use Rattle.tm_outcomes.specs.declared.nodes.Node.{Node}
+use Rattle.tm_outcomes.specs.declared.searching.Search.{Search}
 use Rattle.tm_outcomes.specs.declared.searching.Searching.{Searching}
+use Rattle.tm_outcomes.specs.declared.stops.ReachedStop.{ReachedStop}
+use Rattle.tm_outcomes.specs.declared.stuck.Stuck.{Stuck}
 use Rattle.tm_outcomes.specs.declared.trial.Trial.{Trial}
+
+-- stops that were looked for and found, each once
+pub record AreStops (trial : Trial) (stops : List ReachedStop) : Type 0 where
+  pub told : All (IsStop trial) stops
+  pub once : AllPairs (λ one other. one.why ≢ other.why) stops
+
+-- what was found is so, and is found once
+pub record AreFindings (trial : Trial) (found : Findings) : Type 0 where
+  pub told : All (IsTold trial) found.outcomes.items
+  pub once : AreDistinct found.outcomes.items
+  pub stops : AreStops trial found.stops.items
+
+-- at one node more all is found, and nothing is lost
+pub record Shows (trial : Trial) (schedules : List (List Pick)) (before after : Findings) (index : ℕ) : Type 0 where
+  pub shown : IsShown trial schedules after index
+  pub ends : All (IsEnd trial schedules) before.ends.items → All (IsEnd trial schedules) after.ends.items
+  pub kept : (other : ℕ) → IsShown trial schedules before other → IsShown trial schedules after other
 
 -- the nodes up to this index are done, with these schedules
 pub record IsSearching (trial : Trial) (most : ℕ) (search : Searching) (schedules : List (List Pick)) (done : ℕ)
     : Type 0 where
   pub tree : IsTree trial search.nodes.items schedules
-  pub explored : IsExplored trial schedules search.outcomes.items done
-  pub told : All (IsTold trial) search.outcomes.items
-  pub once : AreDistinct search.outcomes.items
+  pub steps : All (IsStep trial schedules) search.links.items
+  pub ends : All (IsEnd trial schedules) search.found.ends.items
+  pub explored : IsExplored trial schedules search.links.items search.found done
+  pub found : AreFindings trial search.found
   pub few : length search.nodes.items ≤ most
 
 -- this event, or none where it is none
@@ -27,17 +54,19 @@ IsOneOf events None = ⊥
 IsOneOf events (Some event) = Contains events event
 
 -- a node's step by this core under each of these events is followed in a tree that has grown from another
-pub record Grows (trial : Trial) (before after : List Node) (schedules : List (List Pick)) (index core : ℕ)
+pub record Grows (trial : Trial) (before after : Searching) (schedules : List (List Pick)) (index core : ℕ)
     (under : Option Event → Type 0) : Type 0 where
   pub grown : List (List Pick)
-  pub has_grown : HasGrown trial after schedules grown
+  pub has_grown : HasGrown trial after.nodes.items schedules grown
+  pub steps : All (IsStep trial schedules) before.links.items → All (IsStep trial grown) after.links.items
   pub followed : (event : Option Event) → under event →
-      IsFollowed trial grown index (record { core = core; event = event })
+      IsFollowed trial grown after.links.items index (record { core = core; event = event })
 
-pub record IsFollowedIn (trial : Trial) (most : ℕ) (before after : List Node) (index core : ℕ)
+pub record IsFollowedIn (trial : Trial) (most : ℕ) (before after : Searching) (index core : ℕ)
     (under : Option Event → Type 0) : Type 0 where
-  pub few : length after ≤ most
-  pub grows : (schedules : List (List Pick)) → IsTree trial before schedules →
+  pub few : length after.nodes.items ≤ most
+  pub kept : (from to : ℕ) → IsLink before.links.items from to → IsLink after.links.items from to
+  pub grows : (schedules : List (List Pick)) → IsTree trial before.nodes.items schedules →
       Grows trial before after schedules index core under
 
 -- the same while the steps of a node are followed: those of the cores below one
@@ -46,8 +75,52 @@ pub record IsUnderway (trial : Trial) (most : ℕ) (search : Searching) (index c
   pub searching : IsSearching trial most search schedules index
   pub within : index < length search.nodes.items
   pub followed : (other : ℕ) → other < core → (event : Option Event) → IsAllowed trial.events event →
-      IsFollowed trial schedules index (record { core = other; event = event })
-  pub shown : IsShown trial schedules search.outcomes.items index
+      IsFollowed trial schedules search.links.items index (record { core = other; event = event })
+  pub shown : IsShown trial schedules search.found index
 
 abbrev pub HaveDone : Trial → ℕ → Searching → ℕ → Type 0
 HaveDone trial most search done = (schedules : List (List Pick)) × IsSearching trial most search schedules done
+
+-- ---- what it came to
+
+-- all of its nodes are done
+pub record IsOver (trial : Trial) (most : ℕ) (search : Searching) : Type 0 where
+  pub done : ℕ
+  pub schedules : List (List Pick)
+  pub searching : IsSearching trial most search schedules done
+  pub whole : length search.nodes.items ≤ done
+
+-- the schedule of a node from which no link leads on to an end
+pub record IsWayless (nodes : List Node) (marked : List Bool) (stuck : Stuck) : Type 0 where
+  pub node : ℕ
+  pub within : node < length nodes
+  pub not_marked : ¬ IsMarked marked node
+  pub schedule : (trial : Trial) (schedules : List (List Pick)) → IsTree trial nodes schedules →
+      stuck.schedule.items ≡ schedule_at schedules node
+
+-- none where each node is marked
+abbrev pub TellsWayless : List Node → List Bool → Option Stuck → Type 0
+TellsWayless nodes marked None = (node : ℕ) → node < length nodes → IsMarked marked node
+TellsWayless nodes marked (Some stuck) = IsWayless nodes marked stuck
+
+-- by marks that were passed on from the ends
+pub record TellsStuck (nodes : List Node) (links : List Link) (ends : List ℕ) (stuck : Option Stuck) : Type 0 where
+  pub marked : List Bool
+  pub marks : AreMarks links ends (length nodes) marked
+  pub tells : TellsWayless nodes marked stuck
+
+-- what a search that is over tells
+pub record IsWholeOf (search : Searching) (told : Search) : Type 0 where
+  pub outcomes : told.outcomes ≡ search.found.outcomes
+  pub stops : told.stops ≡ search.found.stops
+  pub states : told.states ≡ length search.nodes.items
+  pub is_cut : told.is_cut ≡ false
+  pub stuck : TellsStuck search.nodes.items search.links.items search.found.ends.items told.stuck
+
+-- what a search that is cut tells
+pub record IsCutOf (search : Searching) (told : Search) : Type 0 where
+  pub outcomes : told.outcomes ≡ search.found.outcomes
+  pub stops : told.stops ≡ search.found.stops
+  pub states : told.states ≡ length search.nodes.items
+  pub is_cut : told.is_cut ≡ true
+  pub stuck : told.stuck ≡ None

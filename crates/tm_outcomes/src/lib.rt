@@ -3,9 +3,10 @@
 //! A [`Trial`] is a program, and what is shown of it where each core has stopped. [`outcomes`] searches the states that
 //! its schedules lead to, breadth first, and goes on from each but once. Promised: each outcome that is told is that of
 //! the schedule beside it, run from the program's opening state, and none is told twice; and where the search is not cut
-//! at its limit on states, no schedule of any length has another. How many states show an outcome, and how many there are,
-//! is compared by `doc_tests`. The words for it stand in `specs/Schedules.antt` and `specs/Outcomes.antt`,
-//! over the machine's definitions in `tm_model` alone.
+//! at its limit on states, no schedule of any length has another. It also tells a schedule behind which none leads on to
+//! an end, and one to each stop that is looked for; where it is not cut and tells none, there is none. How many states show
+//! an outcome or have no way to an end, and how many there are, is compared by `doc_tests`. The words for it stand in
+//! `specs/Schedules.antt`, `specs/Outcomes.antt` and `specs/Verdicts.antt`, over the machine's definitions in `tm_model` alone.
 //!
 //! Two states count as one where memory and what is shown of each core are the same: the machine's steps are a function
 //! of these. A state is kept as the last step of a schedule that leads there. Two machines are kept, each of which comes to a
@@ -16,14 +17,22 @@
 mod bench;
 mod digest;
 mod fault;
+mod findings;
+mod links;
+mod marks;
 mod nodes;
 mod place;
 mod searching;
+mod stops;
+mod stuck;
 mod table;
 mod trial;
 
 pub use fault::SearchFault;
 pub use searching::{Search, outcomes};
+pub use stops::ReachedStop;
+pub use stuck::Stuck;
 pub use table::Told;
 pub use tm_model::{Event, Interference, Pick};
+pub use tm_rule::Stop;
 pub use trial::{Events, Item, Trial};

@@ -11,6 +11,7 @@ ghost use Rattle.tm_model.specs.declared.outcome.Pick.{Pick};
 ghost use Rattle.tm_outcomes.specs.Places.{AreAlike, GoesTo, IsAt, IsCoreAlike, detail_after, has_detail, has_stopped};
 ghost use Rattle.tm_outcomes.specs.Places.{IsPlaceOf, is_open};
 ghost use Rattle.tm_outcomes.specs.Schedules.{HasEnded, Situation};
+ghost use Rattle.tm_outcomes.specs.Verdicts.{StopsBy};
 
 use crate::digest::{Digest, are_same};
 use crate::fault::SearchFault;
@@ -21,7 +22,7 @@ use std::alloc::{AllocError, Global};
 use tm_core::memory::{load, read};
 use tm_core::{CoreState, Machine, MachineFault, NoSuchCore, Outcome, Program};
 use tm_model::Pick;
-use tm_rule::{Code, fetch, load_at};
+use tm_rule::{Code, Stop, fetch, load_at};
 
 /// A machine, and of each core what the machine does not show: the value that the first of two steps has loaded, or how
 /// many steps the open transaction has made.
@@ -233,6 +234,30 @@ impl Place {
             }
         }
         true
+    }
+
+    // Whether a core has stopped for this reason.
+    fn has_stopped_by(&self, core: u8, why: Stop) -> bool
+        requires { core < length self.now.machine.views }
+        ensures { IsTrue result ↔ ((view_at self.now.machine core).mode ≡ CoreState.Stopped why) }
+    {
+        match self.machine.state(core) {
+            Ok(state) => state == CoreState::Stopped(why),
+            Err(_) => unreachable!(),
+        }
+    }
+
+    /// Whether some core has stopped for this reason.
+    pub fn stops_by(&self, why: Stop) -> bool
+        ensures { (now : Situation) → StandsFor self.now.machine now.state now.doomed →
+            (IsTrue result ↔ StopsBy now.state why) }
+    {
+        for core in 0..self.machine.cores() {
+            if self.has_stopped_by(core, why) {
+                return true;
+            }
+        }
+        false
     }
 
     // The value of an item.

@@ -1,20 +1,26 @@
 //! The search.
 
-ghost use Rattle.std.specs.Prelude.{◌≡◌, ◌<◌, ◌≤◌, ◌+◌, ◌++◌, ◌∷◌, ◌^◌, [], ℕ, All, IfErr, IfOk, List, true, false, length};
+ghost use Rattle.std.specs.Prelude.{◌≡◌, ◌<◌, ◌≤◌, ◌+◌, ◌++◌, ◌∷◌, ◌^◌, [], ℕ, All, IfErr, IfOk, List, OnOk, false, length};
 ghost use Rattle.std.specs.Prelude.{Option};
 ghost use Rattle.tm_model.specs.declared.outcome.Event.{Event};
 ghost use Rattle.tm_model.specs.declared.outcome.Pick.{Pick};
-ghost use Rattle.tm_outcomes.specs.Nodes.{HasGrown, HaveSchedules, IsFollowed, IsPickOf, IsShown, IsTree, IsUntouched};
-ghost use Rattle.tm_outcomes.specs.Outcomes.{AreDistinct, AreThere, AreTold, IsAllowed, IsNoneOrOneOf, IsRefusal, IsSearch};
-ghost use Rattle.tm_outcomes.specs.Outcomes.{IsTold};
+ghost use Rattle.tm_outcomes.specs.Links.{LiesWithin};
+ghost use Rattle.tm_outcomes.specs.Nodes.{HaveSchedules, IsPickOf, IsTree, IsUntouched};
+ghost use Rattle.tm_outcomes.specs.Outcomes.{AreThere, IsAllowed, IsNoneOrOneOf, IsRefusal, IsSearch};
 ghost use Rattle.tm_outcomes.specs.Places.{ArePlacesOf};
+ghost use Rattle.tm_outcomes.specs.Searching.{AreFindings, HaveDone, IsCutOf, IsFollowedIn, IsOneOf, IsOver, IsThis, IsWholeOf};
+ghost use Rattle.tm_outcomes.specs.Verdicts.{IsVerdict};
+ghost use Rattle.tm_outcomes.specs.declared.links.Link.{Link};
 ghost use Rattle.tm_outcomes.specs.declared.trial.Trial.{Trial};
-ghost use Rattle.tm_outcomes.specs.Searching.{HaveDone, IsFollowedIn, IsOneOf, IsThis, IsUnderway};
 
 use crate::bench::Bench;
 use crate::fault::SearchFault;
-use crate::nodes::{Node, find, place_of, schedule_of};
-use crate::table::{Told, take_up};
+use crate::findings::Findings;
+use crate::links::Link;
+use crate::nodes::{Node, find, place_of};
+use crate::stops::ReachedStop;
+use crate::stuck::{Stuck, stuck_of};
+use crate::table::Told;
 use crate::trial::{Events, Trial};
 use std::alloc::{AllocError, Global};
 use std::collections::HashMap;
@@ -29,14 +35,21 @@ pub struct Search {
     pub states: u32,
     /// Whether the search ended at its limit on states.
     pub is_cut: bool,
+    /// The states from which no schedule leads to an end, where there are such. None is told of a search that was cut.
+    pub stuck: Option<Stuck>,
+    /// The stops that were looked for and found, in the order in which they were.
+    pub stops: Vec<ReachedStop>,
 }
 
-/// The states and the outcomes that were found so far.
+/// The states that were met so far, and what was found at them.
 #[derive(Drop)]
 pub struct Searching {
     pub nodes: Vec<Node>,
+    /// Of each digest the newest node.
     pub newest: HashMap<u64, u32>,
-    pub outcomes: Vec<Told>,
+    /// The steps that were followed.
+    pub links: Vec<Link>,
+    pub found: Findings,
 }
 
 /// Whether a search goes on.
@@ -65,7 +78,8 @@ impl Searching {
         let mut search = Searching {
             nodes: Vec::new(alloc),
             newest: HashMap::new(alloc),
-            outcomes: Vec::new(alloc),
+            links: Vec::new(alloc),
+            found: Findings::new(alloc),
         };
         search.add(Node {
             parent: 0,
@@ -83,11 +97,28 @@ impl Searching {
     fn add(&mut self, node: Node) -> Result<(), AllocError>
         requires { length self.old.nodes.items < 2 ^ 32 }
         ensures nodes { IfOk result (λ _. self.new.nodes.items ≡ self.old.nodes.items ++ node ∷ []) }
-        ensures outcomes { self.new.outcomes ≡ self.old.outcomes }
+        ensures links { self.new.links ≡ self.old.links }
+        ensures found { self.new.found ≡ self.old.found }
     {
         let number = self.nodes.len() as u32;
         self.nodes.push(node)?;
         self.newest.insert(node.digest, number)?;
+        Ok(())
+    }
+
+    // Adds a link.
+    fn join(&mut self, from: usize, to: usize) -> Result<(), AllocError>
+        requires from { from < 2 ^ 32 }
+        requires to { to < 2 ^ 32 }
+        ensures links { IfOk result (λ _. self.new.links.items
+            ≡ self.old.links.items ++ record { from = from; to = to } ∷ []) }
+        ensures nodes { self.new.nodes ≡ self.old.nodes }
+        ensures found { self.new.found ≡ self.old.found }
+    {
+        self.links.push(Link {
+            from: from as u32,
+            to: to as u32,
+        })?;
         Ok(())
     }
 
@@ -106,9 +137,9 @@ impl Searching {
         requires is_pick { IsPickOf trial.now pick }
         requires few { length self.old.nodes.items ≤ most }
         requires tree { HaveSchedules trial.now self.old.nodes.items }
-        ensures outcomes { self.new.outcomes ≡ self.old.outcomes }
+        ensures found { self.new.found ≡ self.old.found }
         ensures followed { IfOk result (λ r. r.progress ≡ Progress.GoesOn →
-            IsFollowedIn trial.now most self.old.nodes.items self.new.nodes.items index pick.core (IsThis pick.event)) }
+            IsFollowedIn trial.now most self.old self.new index pick.core (IsThis pick.event)) }
         ensures untouched { IfOk result (λ r. r.was_open ≡ false → (schedules : List (List Pick)) →
             IsTree trial.now self.old.nodes.items schedules → IsUntouched trial.now schedules index pick.core) }
         ensures cut { IfOk result (λ r. r.progress ≡ Progress.IsCut → length self.new.nodes.items ≡ most) }
@@ -121,7 +152,8 @@ impl Searching {
         here.step(trial, pick);
         let digest = here.digest(trial);
         let newest = self.newest.get(&digest).copied();
-        if let Some(_known) = find(alloc, trial, self.nodes.as_slice(), newest, here, other)? {
+        if let Some(known) = find(alloc, trial, self.nodes.as_slice(), newest, here, other)? {
+            self.join(index, known)?;
             return Ok(Followed {
                 progress: Progress::GoesOn,
                 was_open,
@@ -133,6 +165,8 @@ impl Searching {
                 was_open,
             });
         }
+        let number = self.nodes.len();
+        self.join(index, number)?;
         self.add(Node {
             parent: index as u32,
             pick,
@@ -164,9 +198,9 @@ impl Searching {
         requires allowed { (event : Option Event) → IsNoneOrOneOf events.now event → IsAllowed trial.now.events event }
         requires few { length self.old.nodes.items ≤ most }
         requires tree { HaveSchedules trial.now self.old.nodes.items }
-        ensures outcomes { self.new.outcomes ≡ self.old.outcomes }
+        ensures found { self.new.found ≡ self.old.found }
         ensures followed { IfOk result (λ progress. progress ≡ Progress.GoesOn →
-            IsFollowedIn trial.now most self.old.nodes.items self.new.nodes.items index core (IsOneOf events.now)) }
+            IsFollowedIn trial.now most self.old self.new index core (IsOneOf events.now)) }
         ensures cut { IfOk result (λ progress. progress ≡ Progress.IsCut → length self.new.nodes.items ≡ most) }
         ensures bench { ArePlacesOf trial.now bench.new }
         ensures err { IfErr result (IsRefusal trial.now) }
@@ -202,9 +236,9 @@ impl Searching {
         requires allowed { (event : Option Event) → IsNoneOrOneOf events.now event → IsAllowed trial.now.events event }
         requires few { length self.old.nodes.items ≤ most }
         requires tree { HaveSchedules trial.now self.old.nodes.items }
-        ensures outcomes { self.new.outcomes ≡ self.old.outcomes }
+        ensures found { self.new.found ≡ self.old.found }
         ensures followed { IfOk result (λ progress. progress ≡ Progress.GoesOn →
-            IsFollowedIn trial.now most self.old.nodes.items self.new.nodes.items index core
+            IsFollowedIn trial.now most self.old self.new index core
             (IsNoneOrOneOf events.now)) }
         ensures cut { IfOk result (λ progress. progress ≡ Progress.IsCut → length self.new.nodes.items ≡ most) }
         ensures bench { ArePlacesOf trial.now bench.new }
@@ -236,9 +270,9 @@ impl Searching {
         requires is_core { core < length trial.now.program.now.entries }
         requires few { length self.old.nodes.items ≤ most }
         requires tree { HaveSchedules trial.now self.old.nodes.items }
-        ensures outcomes { self.new.outcomes ≡ self.old.outcomes }
+        ensures found { self.new.found ≡ self.old.found }
         ensures followed { IfOk result (λ progress. progress ≡ Progress.GoesOn →
-            IsFollowedIn trial.now most self.old.nodes.items self.new.nodes.items index core
+            IsFollowedIn trial.now most self.old self.new index core
             (IsAllowed trial.now.events)) }
         ensures cut { IfOk result (λ progress. progress ≡ Progress.IsCut → length self.new.nodes.items ≡ most) }
         ensures bench { ArePlacesOf trial.now bench.new }
@@ -268,40 +302,6 @@ impl Searching {
 }
 
 impl Searching {
-    // Takes up the outcome of a state, where each core has stopped.
-    fn show(
-        &mut self,
-        alloc: Global,
-        trial: &Trial<'_>,
-        bench: &mut Bench,
-        index: usize,
-    ) -> Result<(), SearchFault>
-        requires bench { ArePlacesOf trial.now bench.old }
-        requires within { index < length self.old.nodes.items }
-        requires few { length self.old.nodes.items < 2 ^ 32 }
-        requires tree { HaveSchedules trial.now self.old.nodes.items }
-        requires there { AreThere trial.now }
-        requires told { All (IsTold trial.now) self.old.outcomes.items }
-        ensures nodes { self.new.nodes ≡ self.old.nodes }
-        ensures told { IfOk result (λ _. All (IsTold trial.now) self.new.outcomes.items) }
-        ensures kept { IfOk result (λ _. (values : List ℕ) → AreTold self.old.outcomes.items values →
-            AreTold self.new.outcomes.items values) }
-        ensures once { IfOk result (λ _. AreDistinct self.old.outcomes.items → AreDistinct self.new.outcomes.items) }
-        ensures shown { IfOk result (λ _. (schedules : List (List Pick)) → IsTree trial.now self.old.nodes.items schedules →
-            IsShown trial.now schedules self.new.outcomes.items index) }
-        ensures bench { ArePlacesOf trial.now bench.new }
-        ensures err { IfErr result (IsRefusal trial.now) }
-    {
-        place_of(alloc, trial, self.nodes.as_slice(), index, &mut bench.here)?;
-        if !bench.here.has_ended() {
-            return Ok(());
-        }
-        let values = bench.here.values(alloc, trial)?;
-        let schedule = schedule_of(alloc, self.nodes.as_slice(), index)?;
-        take_up(trial, &mut self.outcomes, values, schedule)?;
-        Ok(())
-    }
-
     // Takes up what a state shows, and the states after the next step of each core.
     fn expand(
         &mut self,
@@ -318,12 +318,12 @@ impl Searching {
         ensures goes_on { IfOk result (λ progress. progress ≡ Progress.GoesOn →
             HaveDone trial.now most self.new (index + 1)) }
         ensures cut { IfOk result (λ progress. progress ≡ Progress.IsCut →
-            (length self.new.nodes.items ≡ most) × All (IsTold trial.now) self.new.outcomes.items
-            × AreDistinct self.new.outcomes.items) }
+            (length self.new.nodes.items ≡ most) × AreFindings trial.now self.new.found) }
         ensures bench { ArePlacesOf trial.now bench.new }
         ensures err { IfErr result (IsRefusal trial.now) }
     {
-        self.show(alloc, trial, bench, index)?;
+        self.found
+            .show(alloc, trial, bench, self.nodes.as_slice(), index)?;
         for core in 0..trial.program.cores() {
             let Progress::GoesOn = self.follow_core(alloc, trial, bench, index, core, most)? else {
                 return Ok(Progress::IsCut);
@@ -332,39 +332,123 @@ impl Searching {
         Ok(Progress::GoesOn)
     }
 
-    // What it came to.
-    fn end(self, is_cut: bool) -> Search
-        requires { length self.nodes.items < 2 ^ 32 }
-        ensures outcomes { result.outcomes ≡ self.outcomes }
-        ensures states { result.states ≡ length self.nodes.items }
-        ensures is_cut { result.is_cut ≡ is_cut }
+    // What it came to where it is over. The map, which takes most of its memory, goes before the marks come.
+    fn whole(self, alloc: Global) -> Result<Search, AllocError>
+        requires few { length self.nodes.items < 2 ^ 32 }
+        requires tree { (trial : Trial) × HaveSchedules trial self.nodes.items }
+        requires links { All (LiesWithin (length self.nodes.items)) self.links.items }
+        requires ends { All (λ node. node < length self.nodes.items) self.found.ends.items }
+        ensures { IfOk result (IsWholeOf self) }
     {
-        let states = self.nodes.len() as u32;
+        let Searching {
+            nodes,
+            newest,
+            links,
+            found,
+        } = self;
+        drop(newest);
+        let Findings {
+            outcomes,
+            ends,
+            stops,
+        } = found;
+        let stuck = stuck_of(alloc, nodes.as_slice(), links.as_slice(), ends.as_slice())?;
+        Ok(Search {
+            outcomes,
+            states: nodes.len() as u32,
+            is_cut: false,
+            stuck,
+            stops,
+        })
+    }
+
+    // The same where it was cut.
+    fn cut(self) -> Search
+        requires { length self.nodes.items < 2 ^ 32 }
+        ensures { IsCutOf self result }
+    {
+        let Searching {
+            nodes,
+            newest,
+            links,
+            found,
+        } = self;
+        drop(newest);
+        drop(links);
+        let Findings {
+            outcomes,
+            ends,
+            stops,
+        } = found;
+        drop(ends);
         Search {
-            outcomes: self.outcomes,
-            states,
-            is_cut,
+            outcomes,
+            states: nodes.len() as u32,
+            is_cut: true,
+            stuck: None,
+            stops,
         }
     }
 }
 
+// A search that went on as far as it does, and whether it was cut.
+struct Explored {
+    search: Searching,
+    progress: Progress,
+}
+
+// Takes up one state after another.
+fn explore(
+    alloc: Global,
+    trial: &Trial<'_>,
+    bench: &mut Bench,
+    most: u32,
+) -> Result<Explored, SearchFault>
+    requires bench { ArePlacesOf trial.now bench.old }
+    requires there { AreThere trial.now }
+    requires some { 1 ≤ most }
+    ensures whole { IfOk result (λ explored. explored.progress ≡ Progress.GoesOn → IsOver trial.now most explored.search) }
+    ensures cut { IfOk result (λ explored. explored.progress ≡ Progress.IsCut →
+        (length explored.search.nodes.items ≡ most) × AreFindings trial.now explored.search.found) }
+    ensures err { IfErr result (IsRefusal trial.now) }
+{
+    let mut search = Searching::opening(alloc, bench.here.digest(trial))?;
+    for index in 0..most {
+        if index as usize >= search.nodes.len() {
+            return Ok(Explored {
+                search,
+                progress: Progress::GoesOn,
+            });
+        }
+        let Progress::GoesOn = search.expand(alloc, trial, bench, index as usize, most)? else {
+            return Ok(Explored {
+                search,
+                progress: Progress::IsCut,
+            });
+        };
+    }
+    Ok(Explored {
+        search,
+        progress: Progress::GoesOn,
+    })
+}
+
 /// Searches all schedules whose steps come under what the trial says, breadth first, each state once, up to a limit on
-/// states: 1 or more.
+/// states: 1 or more. Of a search that is not cut it is also known which states have no way to an end.
 pub fn outcomes(alloc: Global, trial: &Trial<'_>, most: u32) -> Result<Search, SearchFault>
     requires there { AreThere trial.now }
     requires some { 1 ≤ most }
     ensures ok { IfOk result (IsSearch trial.now most) }
+    ensures verdict { IfOk result (IsVerdict trial.now) }
     ensures err { IfErr result (IsRefusal trial.now) }
 {
     let mut bench = Bench::new(alloc, trial)?;
-    let mut search = Searching::opening(alloc, bench.here.digest(trial))?;
-    for index in 0..most {
-        if index as usize >= search.nodes.len() {
-            return Ok(search.end(false));
-        }
-        let Progress::GoesOn = search.expand(alloc, trial, &mut bench, index as usize, most)? else {
-            return Ok(search.end(true));
-        };
-    }
-    Ok(search.end(false))
+    let explored = explore(alloc, trial, &mut bench, most)?;
+    drop(bench);
+    let Explored { search, progress } = explored;
+    let Progress::GoesOn = progress else {
+        return Ok(search.cut());
+    };
+    let told = search.whole(alloc)?;
+    Ok(told)
 }

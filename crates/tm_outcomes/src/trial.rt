@@ -5,6 +5,7 @@ ghost use Rattle.tm_outcomes.specs.Outcomes.{AreThere, IsThere};
 
 use tm_core::{Limits, Program};
 use tm_model::Event;
+use tm_rule::Stop;
 
 /// A part of what an outcome shows.
 #[derive(Clone, Copy, PartialEq, Eq, Debug)]
@@ -26,7 +27,7 @@ pub enum Events<'a> {
     Always(Event),
 }
 
-/// A program, what its steps come under, and what is shown of it where each core has stopped.
+/// A program, what its steps come under, what is shown of it where each core has stopped, and which stops are looked for.
 #[derive(Clone, Copy)]
 pub struct Trial<'a> {
     /// The program.
@@ -37,6 +38,8 @@ pub struct Trial<'a> {
     pub items: &'a [Item],
     /// What each step comes under.
     pub events: Events<'a>,
+    /// The reasons to stop that are looked for.
+    pub stops: &'a [Stop],
 }
 
 impl Trial<'_> {

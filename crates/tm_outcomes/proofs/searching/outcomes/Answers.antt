@@ -1,64 +1,64 @@
-use Rattle.std.proofs.Common.{◌≡◌, List, sym, ap, ◌∙◌, subst, arith}
-use Rattle.std.specs.Prelude.{All}
-use Rattle.std.proofs.lemmas.Bool.{false≢true}
-use Rattle.tm_outcomes.specs.Outcomes.{AreDistinct, AreTold, IsTold}
-use Rattle.tm_outcomes.specs.declared.table.Told.{Told}
-use Rattle.tm_outcomes.proofs.Complete.{all_told}
+use Rattle.std.proofs.Common.{ℕ, ◌<◌, length, arith}
+use Rattle.std.proofs.lemmas.List.Elements.{All-weaker}
+use Rattle.tm_outcomes.specs.Links.{LiesWithin}
+use Rattle.tm_outcomes.specs.Nodes.{IsEnd, IsStep}
+use Rattle.tm_outcomes.specs.declared.links.Link.{Link}
+use Rattle.tm_outcomes.proofs.Telling.{is_cut_search, is_cut_verdict, is_search, is_verdict}
 use Rattle.tm_outcomes.proofs.searching.outcomes.Goals as goal
 
-pub loop-index-init : goal.loop-index-init
-loop-index-init c =
-    let opened = c.in_ok-search.ensures c.args.trial.now in
-    record {
-      done = (
-        opened.0,
-        record {
-          tree = opened.1.tree;
-          explored = opened.1.explored;
-          told = opened.1.told;
-          once = opened.1.once;
-          few = let few = opened.1.few in let some = c.requires.some in omega arith;
-        },
-      );
-      bench = c.in_ok-bench.ensures.ok;
-    }
+pub cut-requires : goal.cut-requires
+cut-requires c = (let full = (c.in_ok-explored.ensures.cut c.in_default.is).0 in omega arith)
 
 pub returns-in_default-clause-ok : goal.returns-in_default-clause-ok
 returns-in_default-clause-ok c =
-    let cut = c.in_ok-expand.ensures.cut c.in_default.is in
-    let outcomes : c.expand.new.self.outcomes.items ≡ c.end-in_default.result.outcomes.items =
-    sym (ap (λ v. v.items) c.end-in_default.ensures.outcomes) in
-    let states : c.end-in_default.result.states ≡ c.args.most = c.end-in_default.ensures.states ∙ cut.0 in
-    record {
-      told = subst (λ (all : List Told). All (IsTold c.args.trial.now) all) outcomes cut.1;
-      once = subst (λ (all : List Told). AreDistinct all) outcomes cut.2;
-      whole = λ whole. absurd (false≢true (sym whole ∙ c.end-in_default.ensures.is_cut));
-      limit = λ _. states;
-      few = omega arith;
-    }
+    let cut = c.in_ok-explored.ensures.cut c.in_default.is in
+    is_cut_search c.args.trial.now c.args.most c.in_ok-explored.explored.search c.cut.result cut.0 cut.1 c.cut.ensures
 
-pub returns-then-index-len-clause-ok : goal.returns-then-index-len-clause-ok
-returns-then-index-len-clause-ok c =
-    let done = c.loop-index.invariant.done in
-    let outcomes : c.loop-index.search.outcomes.items ≡ c.end.result.outcomes.items = sym (ap (λ v. v.items) c.end.ensures.outcomes) in
-    record {
-      told = subst (λ (all : List Told). All (IsTold c.args.trial.now) all) outcomes done.1.told;
-      once = subst (λ (all : List Told). AreDistinct all) outcomes done.1.once;
-      whole = λ _ schedule values outcome. subst (λ (all : List Told). AreTold all values) outcomes
-          (all_told c.args.trial.now c.args.most c.loop-index.index c.loop-index.search done.0 done.1 (omega arith) schedule values outcome);
-      limit = λ cut. absurd (false≢true (sym c.end.ensures.is_cut ∙ cut));
-      few = (let f = done.1.few in let s = c.end.ensures.states in omega arith);
-    }
+pub returns-in_default-clause-verdict : goal.returns-in_default-clause-verdict
+returns-in_default-clause-verdict c =
+    let cut = c.in_ok-explored.ensures.cut c.in_default.is in
+    is_cut_verdict c.args.trial.now c.args.most c.in_ok-explored.explored.search c.cut.result cut.0 cut.1 c.cut.ensures
+
+pub whole-requires-clause-few : goal.whole-requires-clause-few
+whole-requires-clause-few c =
+    let over = c.in_ok-explored.ensures.whole c.in-GoesOn.is in
+    let few = over.searching.few in
+    omega arith
+
+pub whole-requires-clause-tree : goal.whole-requires-clause-tree
+whole-requires-clause-tree c =
+    let over = c.in_ok-explored.ensures.whole c.in-GoesOn.is in
+    (c.args.trial.now, (over.schedules, over.searching.tree))
+
+pub whole-requires-clause-links : goal.whole-requires-clause-links
+whole-requires-clause-links c =
+    let over = c.in_ok-explored.ensures.whole c.in-GoesOn.is in
+    let nodes = length c.in_ok-explored.explored.search.nodes.items in
+    let counted = over.searching.tree.counted in
+    All-weaker (IsStep c.args.trial.now over.schedules) (LiesWithin nodes)
+    (λ (link : Link) is. record {
+      from = (let b = is.within.from in omega arith);
+      to = (let b = is.within.to in omega arith);
+    })
+    c.in_ok-explored.explored.search.links.items over.searching.steps
+
+pub whole-requires-clause-ends : goal.whole-requires-clause-ends
+whole-requires-clause-ends c =
+    let over = c.in_ok-explored.ensures.whole c.in-GoesOn.is in
+    let nodes = length c.in_ok-explored.explored.search.nodes.items in
+    let counted = over.searching.tree.counted in
+    All-weaker (IsEnd c.args.trial.now over.schedules) (λ (node : ℕ). node < nodes)
+    (λ (node : ℕ) is. (let b = is.within in omega arith))
+    c.in_ok-explored.explored.search.found.ends.items over.searching.ends
 
 pub returns-clause-ok : goal.returns-clause-ok
 returns-clause-ok c =
-    let done = c.loop-index.invariant.done in
-    let outcomes : c.loop-index.search.outcomes.items ≡ c.end-2.result.outcomes.items = sym (ap (λ v. v.items) c.end-2.ensures.outcomes) in
-    record {
-      told = subst (λ (all : List Told). All (IsTold c.args.trial.now) all) outcomes done.1.told;
-      once = subst (λ (all : List Told). AreDistinct all) outcomes done.1.once;
-      whole = λ _ schedule values outcome. subst (λ (all : List Told). AreTold all values) outcomes
-          (all_told c.args.trial.now c.args.most c.loop-index.index c.loop-index.search done.0 done.1 (let f = done.1.few in omega arith) schedule values outcome);
-      limit = λ cut. absurd (false≢true (sym c.end-2.ensures.is_cut ∙ cut));
-      few = (let f = done.1.few in let s = c.end-2.ensures.states in omega arith);
-    }
+    let over = c.in_ok-explored.ensures.whole c.in-GoesOn.is in
+    is_search c.args.trial.now c.args.most over.done c.in_ok-explored.explored.search over.schedules c.in_ok-told.told
+    over.searching over.whole c.in_ok-told.ensures
+
+pub returns-clause-verdict : goal.returns-clause-verdict
+returns-clause-verdict c =
+    let over = c.in_ok-explored.ensures.whole c.in-GoesOn.is in
+    is_verdict c.args.trial.now c.args.most over.done c.in_ok-explored.explored.search over.schedules c.in_ok-told.told
+    over.searching over.whole c.in_ok-told.ensures

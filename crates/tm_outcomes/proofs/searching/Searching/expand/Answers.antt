@@ -1,4 +1,6 @@
-use Rattle.std.proofs.Common.{sym, ap, arith}
+use Rattle.std.proofs.Common.{List, refl, sym, subst, arith}
+use Rattle.tm_outcomes.specs.Nodes.{IsTree}
+use Rattle.tm_outcomes.specs.declared.nodes.Node.{Node}
 use Rattle.tm_outcomes.proofs.Underway.{begins, ends, goes_on}
 use Rattle.tm_outcomes.proofs.searching.Searching.expand.Goals as goal
 
@@ -6,8 +8,8 @@ pub loop-core-init : goal.loop-core-init
 loop-core-init c =
     let shown = c.in_ok-show.ensures in
     record {
-      search = begins c.args.trial.now c.args.most c.args.index c.args.self.now c.show.new.self
-          (sym (ap (λ v. v.items) shown.nodes)) c.requires.within shown.told shown.once shown.kept shown.shown
+      search = begins c.args.trial.now c.args.most c.args.index c.args.self.now _ refl refl c.requires.within shown.found
+          (λ schedules tree. shown.shows schedules (subst (λ (ns : List Node). IsTree c.args.trial.now ns schedules) (sym c.as_slice.ensures.value) tree))
           c.requires.done;
       bench = shown.bench;
     }
@@ -17,7 +19,7 @@ loop-core-preserved c =
     let followed = c.in_ok-follow_core.ensures in
     record {
       search = goes_on c.args.trial.now c.args.most c.args.index c.loop-core.core c.loop-core.self
-          c.follow_core.new.self (sym (ap (λ v. v.items) followed.outcomes)) (followed.followed c.in-GoesOn.is)
+          c.follow_core.new.self (sym followed.found) (followed.followed c.in-GoesOn.is)
           c.loop-core.invariant.search;
       bench = followed.bench;
     }

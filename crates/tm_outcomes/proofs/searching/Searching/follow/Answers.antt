@@ -1,73 +1,71 @@
-use Rattle.std.proofs.Common.{◌≡◌, ◌<◌, ◌≤◌, ◌+◌, ℕ, List, Option, [], ◌∷◌, ◌++◌, length, refl, sym, ap, ◌∙◌, subst, arith, length-append}
+use Rattle.std.proofs.Common.{◌≡◌, ◌<◌, ◌+◌, ℕ, List, Option, [], ◌∷◌, ◌++◌, length, refl, sym, ap, ◌∙◌, subst, arith, length-append}
 use Rattle.std.specs.Prelude.{IfSome}
-use Rattle.std.proofs.lemmas.List.{append-nil}
 use Rattle.tm_model.specs.declared.outcome.Pick.{Pick}
 use Rattle.tm_outcomes.specs.Nodes.{IsFound, IsTree, schedule_at}
 use Rattle.tm_outcomes.specs.Places.{IsAt}
 use Rattle.tm_outcomes.specs.declared.nodes.Node.{Node}
 use Rattle.tm_outcomes.proofs.Follows.{follows}
-use Rattle.tm_outcomes.proofs.Grown.{under_this}
+use Rattle.tm_outcomes.proofs.Joined.{to_known, to_new}
 use Rattle.tm_outcomes.proofs.Leads.{alike_stands, untouched_at}
-use Rattle.tm_outcomes.proofs.Trees.{grows, schedule_new, schedule_old}
+use Rattle.tm_outcomes.proofs.Trees.{schedule_new, schedule_old}
 use Rattle.tm_outcomes.proofs.searching.Searching.follow.Goals as goal
 
 pub returns-in-Some-clause-followed : goal.returns-in-Some-clause-followed
-returns-in-Some-clause-followed c = λ _. record {
-  few = c.requires.few;
-  grows = λ schedules tree.
-      let trial = c.args.trial.now in
-      let before = c.place_of.new.place in
-      let after = c.step.new.self in
-      let at : IsAt trial before (schedule_at schedules c.args.index) =
-      c.in_ok-place_of.ensures.ok schedules (subst (λ (ns : List Node). IsTree trial ns schedules) (sym c.as_slice.ensures.value) tree) in
-      let found = subst (λ (o : Option ℕ). IfSome o (IsFound trial c.as_slice-2.result.now after)) c.in-Some.is c.in_ok-_known.ensures.ok in
-      let other = found.alike schedules (subst (λ (ns : List Node). IsTree trial ns schedules) (sym c.as_slice-2.ensures.value) tree) in
-      let within : c.in-Some._known < length schedules = (let f = found.within in let t = tree.counted in let e = ap (λ (ns : List Node). length ns) c.as_slice-2.ensures.value in omega arith) in
-      record {
-        grown = schedules;
-        has_grown = record { tree = tree; more = []; grown = sym (append-nil schedules) };
-        followed = under_this trial schedules c.args.index c.args.pick
-            (follows trial schedules c.args.index c.args.pick before after other.0 c.in-Some._known at c.step.ensures.goes within
-            other.1.0
-            (λ now stands. alike_stands trial after other.0 (schedule_at schedules c.args.index ++ c.args.pick ∷ []) _ now
-            (c.step.ensures.at (schedule_at schedules c.args.index) at) other.1.0 other.1.1 stands));
-      };
-}
+returns-in-Some-clause-followed c = λ _.
+    let trial = c.args.trial.now in
+    let index = c.args.index in
+    let pick = c.args.pick in
+    let old = c.args.self.now in
+    let nodes = old.nodes.items in
+    let found = subst (λ (o : Option ℕ). IfSome o (IsFound trial c.as_slice-2.result.now c.step.new.self)) c.in-Some.is c.in_ok-known.ensures.ok in
+    let there : c.in-Some.known < length nodes =
+    (let f = found.within in let e = ap (λ (ns : List Node). length ns) c.as_slice-2.ensures.value in omega arith) in
+    to_known trial c.args.most index c.in-Some.known pick old c.join.new.self (ap (λ v. v.items) c.in_ok-join.ensures.nodes)
+    c.in_ok-join.ensures.links c.requires.few c.requires.within there c.requires.is_pick
+    (λ schedules tree.
+    let before = c.place_of.new.place in
+    let after = c.step.new.self in
+    let at : IsAt trial before (schedule_at schedules index) =
+    c.in_ok-place_of.ensures.ok schedules (subst (λ (ns : List Node). IsTree trial ns schedules) (sym c.as_slice.ensures.value) tree) in
+    let other = found.alike schedules (subst (λ (ns : List Node). IsTree trial ns schedules) (sym c.as_slice-2.ensures.value) tree) in
+    follows trial schedules index pick before after other.0 c.in-Some.known at c.step.ensures.goes
+    (let t = tree.counted in omega arith) other.1.0
+    (λ now stands. alike_stands trial after other.0 (schedule_at schedules index ++ pick ∷ []) _ now
+    (c.step.ensures.at (schedule_at schedules index) at) other.1.0 other.1.1 stands))
 
 pub returns-clause-followed : goal.returns-clause-followed
-returns-clause-followed c = λ _. record {
-  few = (let node : Node = record { parent = c.args.index; pick = c.args.pick; digest = c.digest-digest.result; older = c.copied-newest.result } in
-      let long : length (c.args.self.now.nodes.items ++ node ∷ []) ≡ length c.args.self.now.nodes.items + 1 = length-append c.args.self.now.nodes.items (node ∷ []) in
-      subst (λ (ns : List Node). length ns ≤ c.args.most) (sym c.in_ok-add.ensures.nodes) (omega arith));
-  grows = λ schedules tree.
-      let trial = c.args.trial.now in
-      let before = c.place_of.new.place in
-      let after = c.step.new.self in
-      let index = c.args.index in
-      let pick = c.args.pick in
-      let at : IsAt trial before (schedule_at schedules index) =
-      c.in_ok-place_of.ensures.ok schedules (subst (λ (ns : List Node). IsTree trial ns schedules) (sym c.as_slice.ensures.value) tree) in
-      let node : Node = record { parent = index; pick = pick; digest = c.digest-digest.result; older = c.copied-newest.result } in
-      let added : List Pick = schedule_at schedules index ++ pick ∷ [] in
-      let grown : List (List Pick) = schedules ++ added ∷ [] in
-      let counted = tree.counted in
-      let longer : length grown ≡ length schedules + 1 = length-append schedules (added ∷ []) in
-      let here : schedule_at grown index ≡ schedule_at schedules index = schedule_old schedules (added ∷ []) index (let w = c.requires.within in omega arith) in
-      let new : schedule_at grown (length schedules) ≡ added = schedule_new schedules added (length schedules) refl in
-      record {
-        grown = grown;
-        has_grown = record {
-          tree = subst (λ (ns : List Node). IsTree trial ns grown) (sym c.in_ok-add.ensures.nodes) (grows trial c.args.self.now.nodes.items schedules node tree c.requires.within c.requires.is_pick);
-          more = added ∷ [];
-          grown = refl;
-        };
-        followed = under_this trial grown index pick
-            (follows trial grown index pick before after after (length schedules)
-            (subst (λ (s : List Pick). IsAt trial before s) (sym here) at) c.step.ensures.goes (omega arith)
-            (subst (λ (s : List Pick). IsAt trial after s) (sym new) (c.step.ensures.at (schedule_at schedules index) at))
-            (λ now stands. stands));
-      };
-}
+returns-clause-followed c = λ _.
+    let trial = c.args.trial.now in
+    let index = c.args.index in
+    let pick = c.args.pick in
+    let old = c.args.self.now in
+    let node : Node = record { parent = index; pick = pick; digest = c.digest-digest.result; older = c.copied-newest.result } in
+    let joined = c.in_ok-join-2.ensures in
+    let place = c.place_of.new.place in
+    to_new trial c.args.most index pick node old c.add.new.self refl refl
+    (c.in_ok-add.ensures.nodes ∙ ap (λ v. v.items ++ node ∷ []) joined.nodes)
+    (ap (λ v. v.items) c.in_ok-add.ensures.links ∙ joined.links
+    ∙ ap (λ (n : ℕ). old.links.items ++ record { from = index; to = n } ∷ [])
+    (let e : c.len-number.result ≡ length old.nodes.items = omega arith in e)) (omega arith) c.requires.within c.requires.is_pick
+    (λ schedules tree.
+    let at : IsAt trial place (schedule_at schedules index) =
+    c.in_ok-place_of.ensures.ok schedules (subst (λ (ns : List Node). IsTree trial ns schedules) (sym c.as_slice.ensures.value) tree) in
+    let after = c.step.ensures.at (schedule_at schedules index) at in
+    (after.now, after.is_run, sym after.stands.same_count ∙ after.count))
+    (λ schedules tree.
+    let after = c.step.new.self in
+    let at : IsAt trial place (schedule_at schedules index) =
+    c.in_ok-place_of.ensures.ok schedules (subst (λ (ns : List Node). IsTree trial ns schedules) (sym c.as_slice.ensures.value) tree) in
+    let added : List Pick = schedule_at schedules index ++ pick ∷ [] in
+    let grown : List (List Pick) = schedules ++ added ∷ [] in
+    let counted = tree.counted in
+    let longer : length grown ≡ length schedules + 1 = length-append schedules (added ∷ []) in
+    let here : schedule_at grown index ≡ schedule_at schedules index = schedule_old schedules (added ∷ []) index (let w = c.requires.within in omega arith) in
+    let new : schedule_at grown (length schedules) ≡ added = schedule_new schedules added (length schedules) refl in
+    follows trial grown index pick place after after (length schedules)
+    (subst (λ (s : List Pick). IsAt trial place s) (sym here) at) c.step.ensures.goes (omega arith)
+    (subst (λ (s : List Pick). IsAt trial after s) (sym new) (c.step.ensures.at (schedule_at schedules index) at))
+    (λ now stands. stands))
 
 pub is_open-was_open-requires : goal.is_open-was_open-requires
 is_open-was_open-requires c =

@@ -14,17 +14,17 @@ not_so false e = refl
 
 pub returns-then-not-followed-clause-followed : goal.returns-then-not-followed-clause-followed
 returns-then-not-followed-clause-followed c = λ _.
-    none_for_each c.args.trial.now c.args.most c.args.index c.args.core c.args.self.now.nodes.items
-    c.follow.new.self.nodes.items c.args.events.now c.requires.within
+    none_for_each c.args.trial.now c.args.most c.args.index c.args.core c.args.self.now
+    c.follow.new.self c.args.events.now c.requires.within
     (c.in_ok-followed.ensures.untouched (not_so c.in_ok-followed.followed.was_open c.if-not-followed.true)) (c.in_ok-followed.ensures.followed c.in-GoesOn.is)
 
 pub returns-clause-followed : goal.returns-clause-followed
 returns-clause-followed c =
     let trial = c.args.trial.now in
     let events = c.args.events.now in
-    let before = c.args.self.now.nodes.items in
-    let middle = c.follow.new.self.nodes.items in
-    let after = c.follow_each.new.self.nodes.items in
+    let before = c.args.self.now in
+    let middle = c.follow.new.self in
+    let after = c.follow_each.new.self in
     does (IsFollowedIn trial c.args.most middle after c.args.index c.args.core (IsOneOf events))
     (IsFollowedIn trial c.args.most before after c.args.index c.args.core (IsNoneOrOneOf events))
     (λ each. none_and_each trial c.args.most c.args.index c.args.core before middle after events c.requires.within

@@ -9,8 +9,8 @@ use Rattle.tm_outcomes.proofs.searching.Searching.follow_core.Goals as goal
 pub returns-in_ok-follow-in-Never-clause-followed : goal.returns-in_ok-follow-in-Never-clause-followed
 returns-in_ok-follow-in-Never-clause-followed c = λ on.
     let trial = c.args.trial.now in
-    let before = c.args.self.now.nodes.items in
-    let after = c.follow.new.self.nodes.items in
+    let before = c.args.self.now in
+    let after = c.follow.new.self in
     subst (λ (events : Events). IsFollowedIn trial c.args.most before after c.args.index c.args.core (IsAllowed events))
     (sym c.in-Never.is)
     (under_fewer trial c.args.most c.args.index c.args.core before after (IsThis None) (IsAllowed Never)
@@ -19,8 +19,8 @@ returns-in_ok-follow-in-Never-clause-followed c = λ on.
 pub returns-in-May-clause-followed : goal.returns-in-May-clause-followed
 returns-in-May-clause-followed c =
     let trial = c.args.trial.now in
-    let before = c.args.self.now.nodes.items in
-    let after = c.follow_any.new.self.nodes.items in
+    let before = c.args.self.now in
+    let after = c.follow_any.new.self in
     does (IsFollowedIn trial c.args.most before after c.args.index c.args.core (IsNoneOrOneOf c.in-May.events.now))
     (IsFollowedIn trial c.args.most before after c.args.index c.args.core (IsAllowed trial.events))
     (λ all. subst (λ (events : Events). IsFollowedIn trial c.args.most before after c.args.index c.args.core
@@ -30,8 +30,8 @@ returns-in-May-clause-followed c =
 pub returns-in_ok-follow-in-Always-clause-followed : goal.returns-in_ok-follow-in-Always-clause-followed
 returns-in_ok-follow-in-Always-clause-followed c = λ on.
     let trial = c.args.trial.now in
-    let before = c.args.self.now.nodes.items in
-    let after = c.follow-in-Always.new.self.nodes.items in
+    let before = c.args.self.now in
+    let after = c.follow-in-Always.new.self in
     subst (λ (events : Events). IsFollowedIn trial c.args.most before after c.args.index c.args.core (IsAllowed events))
     (sym c.in-Always.is)
     (under_fewer trial c.args.most c.args.index c.args.core before after (IsThis (Some c.in-Always.event))

@@ -11,8 +11,8 @@ loop-event-init c = record {
   few = c.requires.few;
   tree = c.requires.tree;
   bench = c.requires.bench;
-  outcomes = refl;
-  followed = nothing_yet c.args.trial.now c.args.most c.args.index c.args.core c.args.self.now.nodes.items c.requires.few;
+  found = refl;
+  followed = nothing_yet c.args.trial.now c.args.most c.args.index c.args.core c.args.self.now c.requires.few;
 }
 
 pub follow-requires-clause-is_pick : goal.follow-requires-clause-is_pick
@@ -28,8 +28,8 @@ loop-event-preserved c =
     let most = c.args.most in
     let index = c.args.index in
     let core = c.args.core in
-    let middle = c.loop-event.self.nodes.items in
-    let after = c.follow.new.self.nodes.items in
+    let middle = c.loop-event.self in
+    let after = c.follow.new.self in
     let so_far = c.loop-event.invariant in
     let next = c.in_ok-followed.ensures.followed c.in-GoesOn.is in
     record {
@@ -37,14 +37,14 @@ loop-event-preserved c =
       few = next.few;
       tree = has_tree trial most index core middle after (IsThis _) next so_far.tree;
       bench = c.in_ok-followed.ensures.bench;
-      outcomes = c.in_ok-followed.ensures.outcomes ∙ so_far.outcomes;
-      followed = next_of trial most index core c.args.self.now.nodes.items middle after c.args.events.now
+      found = c.in_ok-followed.ensures.found ∙ so_far.found;
+      followed = next_of trial most index core c.args.self.now middle after c.args.events.now
           c.loop-event.event-index _ c.requires.within c.loop-event-test.true so_far.followed next;
     }
 
 pub returns-clause-followed : goal.returns-clause-followed
 returns-clause-followed c = λ _.
     let trial = c.args.trial.now in
-    subst (λ (events : List Event). IsFollowedIn trial c.args.most c.args.self.now.nodes.items
-    c.loop-event.self.nodes.items c.args.index c.args.core (IsOneOf events))
+    subst (λ (events : List Event). IsFollowedIn trial c.args.most c.args.self.now
+    c.loop-event.self c.args.index c.args.core (IsOneOf events))
     (take_all c.loop-event.event-index c.args.events.now c.loop-event-test.false) c.loop-event.invariant.followed

@@ -11,7 +11,7 @@ invariant-loop-event l = record {
   few : length l.self.nodes.items ≤ l.most;
   tree : HaveSchedules l.trial l.self.nodes.items;
   bench : ArePlacesOf l.trial l.bench;
-  outcomes : l.self.outcomes ≡ l.initial.self.outcomes;
-  followed : IsFollowedIn l.trial l.most l.initial.self.nodes.items l.self.nodes.items l.index l.core
+  found : l.self.found ≡ l.initial.self.found;
+  followed : IsFollowedIn l.trial l.most l.initial.self l.self l.index l.core
       (IsOneOf (take l.event-index l.events));
 }

@@ -1,9 +1,14 @@
-use Rattle.std.proofs.Common.{◌≡◌, ◌≤◌, List, None, [], ◌∷◌, ◌++◌, length, sym, ap, ◌∙◌, subst, arith}
+use Rattle.std.proofs.Common.{◌≡◌, ◌≤◌, List, None, [], ◌∷◌, ◌++◌, ℕ, length, sym, ap, ◌∙◌, subst, arith}
 use Rattle.std.specs.Prelude.{All}
 use Rattle.std.proofs.lemmas.List.Elements.{All-nil}
-use Rattle.tm_outcomes.specs.Nodes.{IsTree}
+use Rattle.tm_outcomes.specs.Nodes.{IsEnd, IsStep, IsTree}
 use Rattle.tm_outcomes.specs.Outcomes.{AreDistinct, IsTold}
+use Rattle.tm_outcomes.specs.Searching.{AreStops}
+use Rattle.tm_outcomes.specs.Verdicts.{IsStop}
+use Rattle.tm_outcomes.specs.declared.findings.Findings.{Findings}
+use Rattle.tm_outcomes.specs.declared.links.Link.{Link}
 use Rattle.tm_outcomes.specs.declared.nodes.Node.{Node}
+use Rattle.tm_outcomes.specs.declared.stops.ReachedStop.{ReachedStop}
 use Rattle.tm_outcomes.specs.declared.table.Told.{Told}
 use Rattle.tm_outcomes.proofs.Trees.{first_tree}
 use Rattle.tm_outcomes.proofs.searching.Searching.opening.Goals as goal
@@ -12,13 +17,23 @@ pub returns : goal.returns
 returns c = λ trial.
     let node : Node = record { parent = 0; pick = record { core = 0; event = None }; digest = c.args.digest; older = None } in
     let nodes : c.add.new.self.nodes.items ≡ node ∷ [] = c.in_ok-add.ensures.nodes ∙ ap (λ (ns : List Node). ns ++ node ∷ []) c.new.ensures.items in
-    let none : c.add.new.self.outcomes.items ≡ [] = ap (λ v. v.items) c.in_ok-add.ensures.outcomes ∙ c.new-3.ensures.items in (
+    let links : c.add.new.self.links.items ≡ [] = ap (λ v. v.items) c.in_ok-add.ensures.links ∙ c.new-3.ensures.items in
+    let found = c.in_ok-add.ensures.found in
+    let outcomes : c.add.new.self.found.outcomes.items ≡ [] = ap (λ (f : Findings). f.outcomes.items) found ∙ c.new-4.ensures.outcomes in
+    let ends : c.add.new.self.found.ends.items ≡ [] = ap (λ (f : Findings). f.ends.items) found ∙ c.new-4.ensures.ends in
+    let stops : c.add.new.self.found.stops.items ≡ [] = ap (λ (f : Findings). f.stops.items) found ∙ c.new-4.ensures.stops in (
       [] ∷ [],
       record {
         tree = subst (λ (ns : List Node). IsTree trial ns ([] ∷ [])) (sym nodes) (first_tree trial node);
+        steps = subst (λ (ls : List Link). All (IsStep trial ([] ∷ [])) ls) (sym links) (All-nil (IsStep trial ([] ∷ [])));
+        ends = subst (λ (es : List ℕ). All (IsEnd trial ([] ∷ [])) es) (sym ends) (All-nil (IsEnd trial ([] ∷ [])));
         explored = record { followed = λ index below. absurd (omega arith); shown = λ index below. absurd (omega arith) };
-        told = subst (λ (os : List Told). All (IsTold trial) os) (sym none) (All-nil (IsTold trial));
-        once = subst (λ (os : List Told). AreDistinct os) (sym none) tt;
+        found = record {
+          told = subst (λ (os : List Told). All (IsTold trial) os) (sym outcomes) (All-nil (IsTold trial));
+          once = subst (λ (os : List Told). AreDistinct os) (sym outcomes) tt;
+          stops = subst (λ (ss : List ReachedStop). AreStops trial ss) (sym stops)
+              (record { told = All-nil (IsStop trial); once = λ i j d before below. absurd (omega arith) });
+        };
         few = subst (λ (ns : List Node). length ns ≤ 1) (sym nodes) (omega arith);
       },
     )

@@ -1,6 +1,6 @@
 use Rattle.tm_outcomes.specs.Places.{ArePlacesOf}
 use Rattle.tm_outcomes.specs.Searching.{HaveDone}
-use Rattle.tm_outcomes.proofs.searching.outcomes.Given as goal
+use Rattle.tm_outcomes.proofs.searching.explore.Given as goal
 
 abbrev pub invariant-loop-index : goal.invariant-loop-index
 invariant-loop-index l = record {

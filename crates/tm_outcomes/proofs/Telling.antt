@@ -1,0 +1,75 @@
+-- What a search tells that is over, and one that is cut.
+use Rattle.std.proofs.Common.{◌≡◌, ℕ, ◌≤◌, List, Option, length, sym, ap, ◌∙◌, subst, arith}
+use Rattle.std.specs.Prelude.{All, IfSome}
+use Rattle.std.proofs.lemmas.Bool.{false≢true}
+use Rattle.tm_model.specs.declared.outcome.Pick.{Pick}
+use Rattle.tm_outcomes.specs.Outcomes.{AreDistinct, AreTold, IsSearch, IsTold}
+use Rattle.tm_outcomes.specs.Searching.{AreFindings, AreStops, IsCutOf, IsSearching, IsWholeOf, TellsWayless}
+use Rattle.tm_outcomes.specs.Verdicts.{IsStopTold, IsStuck, IsVerdict}
+use Rattle.tm_outcomes.specs.declared.searching.Search.{Search}
+use Rattle.tm_outcomes.specs.declared.searching.Searching.{Searching}
+use Rattle.tm_outcomes.specs.declared.stops.ReachedStop.{ReachedStop}
+use Rattle.tm_outcomes.specs.declared.stuck.Stuck.{Stuck}
+use Rattle.tm_outcomes.specs.declared.table.Told.{Told}
+use Rattle.tm_outcomes.specs.declared.trial.Trial.{Trial}
+use Rattle.tm_outcomes.proofs.Complete.{all_told, met}
+use Rattle.tm_outcomes.proofs.Ways.{is_free, is_stuck}
+
+module _ (trial : Trial) (most done : ℕ) (search : Searching) (schedules : List (List Pick)) (told : Search)
+    (searching : IsSearching trial most search schedules done) (whole : length search.nodes.items ≤ done)
+    (of : IsWholeOf search told) where
+  pub is_search : IsSearch trial most told
+  is_search =
+      let outcomes : search.found.outcomes.items ≡ told.outcomes.items = sym (ap (λ v. v.items) of.outcomes) in
+      record {
+        told = subst (λ (all : List Told). All (IsTold trial) all) outcomes searching.found.told;
+        once = subst (λ (all : List Told). AreDistinct all) outcomes searching.found.once;
+        whole = λ _ schedule values outcome. subst (λ (all : List Told). AreTold all values) outcomes
+            (all_told trial most done search schedules searching whole schedule values outcome);
+        limit = λ cut. absurd (false≢true (sym of.is_cut ∙ cut));
+        few = (let f = searching.few in let s = of.states in omega arith);
+      }
+
+  pub is_verdict : IsVerdict trial told
+  is_verdict =
+      let stops : search.found.stops.items ≡ told.stops.items = sym (ap (λ v. v.items) of.stops) in
+      let all : AreStops trial told.stops.items = subst (λ (s : List ReachedStop). AreStops trial s) stops searching.found.stops in
+      let counted = searching.tree.counted in
+      record {
+        stuck = is_stuck trial most done search schedules searching whole of.stuck.marked of.stuck.marks told.stuck of.stuck.tells;
+        free = λ _ none. is_free trial most done search schedules searching whole of.stuck.marked of.stuck.marks
+            (subst (λ (o : Option Stuck). TellsWayless search.nodes.items of.stuck.marked o) none of.stuck.tells);
+        cut = λ cut. absurd (false≢true (sym of.is_cut ∙ cut));
+        stops = all.told;
+        once = all.once;
+        no_stop = λ _ schedule now reached why asked stopped.
+            let there = met trial most done search schedules searching whole schedule now reached in
+            subst (λ (s : List ReachedStop). IsStopTold s why) stops
+            ((searching.explored.shown there.0 (let w = there.1.within in omega arith)).stops now there.1 why asked stopped);
+      }
+
+module _ (trial : Trial) (most : ℕ) (search : Searching) (told : Search) (full : length search.nodes.items ≡ most)
+    (found : AreFindings trial search.found) (of : IsCutOf search told) where
+  pub is_cut_search : IsSearch trial most told
+  is_cut_search =
+      let outcomes : search.found.outcomes.items ≡ told.outcomes.items = sym (ap (λ v. v.items) of.outcomes) in
+      record {
+        told = subst (λ (all : List Told). All (IsTold trial) all) outcomes found.told;
+        once = subst (λ (all : List Told). AreDistinct all) outcomes found.once;
+        whole = λ whole. absurd (false≢true (sym whole ∙ of.is_cut));
+        limit = λ _. of.states ∙ full;
+        few = (let s = of.states in omega arith);
+      }
+
+  pub is_cut_verdict : IsVerdict trial told
+  is_cut_verdict =
+      let stops : search.found.stops.items ≡ told.stops.items = sym (ap (λ v. v.items) of.stops) in
+      let all : AreStops trial told.stops.items = subst (λ (s : List ReachedStop). AreStops trial s) stops found.stops in
+      record {
+        stuck = subst (λ (o : Option Stuck). IfSome o (λ s. IsStuck trial s.schedule.items)) (sym of.stuck) tt;
+        free = λ whole. absurd (false≢true (sym whole ∙ of.is_cut));
+        cut = λ _. of.stuck;
+        stops = all.told;
+        once = all.once;
+        no_stop = λ whole. absurd (false≢true (sym whole ∙ of.is_cut));
+      }

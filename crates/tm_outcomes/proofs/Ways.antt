@@ -1,0 +1,92 @@
+-- Nodes with a way to an end, and nodes without one.
+use Rattle.std.proofs.Common.{◌≡◌, ℕ, ◌<◌, ◌≤◌, Bool, List, [], ◌∷◌, Option, Some, None, length, refl, sym, ap, ◌∙◌, subst, arith}
+use Rattle.std.specs.Prelude.{All, IfSome, option_and_then}
+use Rattle.std.proofs.lemmas.List.Elements.{All-cons, All-contains, All-head, All-nil, All-tail, All-weaker}
+use Rattle.tm_model.specs.declared.outcome.Pick.{Pick}
+use Rattle.tm_outcomes.specs.Links.{IsWay}
+use Rattle.tm_outcomes.specs.Marks.{AreMarks, IsMarked}
+use Rattle.tm_outcomes.specs.Nodes.{IsEnd, IsFollowed, IsPickOf, IsStep, LeadsTo, schedule_at}
+use Rattle.tm_outcomes.specs.Outcomes.{AreAllowed, trial_opening, trial_setting}
+use Rattle.tm_outcomes.specs.Schedules.{HasEnded, Situation, after_pick, after_schedule}
+use Rattle.tm_outcomes.specs.Searching.{IsSearching, TellsWayless}
+use Rattle.tm_outcomes.specs.Verdicts.{CanEnd, IsReached, IsStuck}
+use Rattle.tm_outcomes.specs.declared.links.Link.{Link}
+use Rattle.tm_outcomes.specs.declared.searching.Searching.{Searching}
+use Rattle.tm_outcomes.specs.declared.stuck.Stuck.{Stuck}
+use Rattle.tm_outcomes.specs.declared.trial.Trial.{Trial}
+use Rattle.tm_outcomes.proofs.Complete.{IsAllowedIn, leads_here, met, split, steps_to}
+use Rattle.tm_outcomes.proofs.Somes.{same_in}
+
+-- along a way to an end some schedule goes on to it
+pub can_end : (trial : Trial) (schedules : List (List Pick)) (links : List Link) (ends : List ℕ) → All (IsStep trial schedules) links →
+    All (IsEnd trial schedules) ends → (way : List ℕ) (node : ℕ) (now : Situation) → IsWay links ends node way →
+    LeadsTo trial schedules node now → CanEnd trial now
+can_end trial schedules links ends steps are_ends [] node now is leads = record {
+  schedule = [];
+  allowed = All-nil (IsAllowedIn trial);
+  end = now;
+  is_run = refl;
+  has_ended = (All-contains (IsEnd trial schedules) ends node are_ends is).ended now leads;
+}
+can_end trial schedules links ends steps are_ends (next ∷ way) node now is leads =
+    let link : Link = record { from = node; to = next } in
+    let step : IsStep trial schedules link = All-contains (IsStep trial schedules) links link steps is.0 in
+    let goes = step.along now leads in
+    let rest = can_end trial schedules links ends steps are_ends way next goes.next is.1 goes.leads in
+    record {
+      schedule = step.pick ∷ rest.schedule;
+      allowed = All-cons (IsAllowedIn trial) step.pick rest.schedule step.is_pick.allowed rest.allowed;
+      end = rest.end;
+      is_run = ap (option_and_then (λ after. after_schedule (trial_setting trial) after rest.schedule)) goes.is_next ∙ rest.is_run;
+      has_ended = rest.has_ended;
+    }
+
+module _ (trial : Trial) (most done : ℕ) (search : Searching) (schedules : List (List Pick))
+    (searching : IsSearching trial most search schedules done) (whole : length search.nodes.items ≤ done)
+    (marked : List Bool) (marks : AreMarks search.links.items search.found.ends.items (length search.nodes.items) marked) where
+  followed : (index : ℕ) → index < length schedules → (pick : Pick) → IsPickOf trial pick →
+      IsFollowed trial schedules search.links.items index pick
+  followed index below = (let counted = searching.tree.counted in searching.explored.followed index (omega arith))
+
+  -- from a node that is not marked no schedule leads to an end
+  never_ends : (picks : List Pick) (now end : Situation) (node : ℕ) → ¬ IsMarked marked node → LeadsTo trial schedules node now →
+      AreAllowed trial picks → after_schedule (trial_setting trial) now picks ≡ Some end → HasEnded end.state → ⊥
+  never_ends [] now end node not_marked leads allowed e has_ended =
+      let counted = searching.tree.counted in
+      let ended : HasEnded now.state = subst (λ (x : Situation). HasEnded x.state) (sym (same_in e)) has_ended in
+      not_marked (marks.ended node
+      ((searching.explored.shown node (let w = leads.within in omega arith)).end now leads ended))
+  never_ends (pick ∷ picks) now end node not_marked leads allowed e has_ended =
+      let setting = trial_setting trial in
+      let parts = split (after_pick setting now pick) (λ next. after_schedule setting next picks) end e in
+      let step = steps_to trial schedules search.links.items followed pick now parts.0 node
+      (All-head (IsAllowedIn trial) pick picks allowed) leads parts.1.0 in
+      never_ends picks parts.0 end step.to (λ is. not_marked (marks.passed node step.to step.is_link is)) step.leads
+      (All-tail (IsAllowedIn trial) pick picks allowed) parts.1.1 has_ended
+
+  pub is_stuck : (stuck : Option Stuck) → TellsWayless search.nodes.items marked stuck →
+      IfSome stuck (λ told. IsStuck trial told.schedule.items)
+  is_stuck None tells = tt
+  is_stuck (Some stuck) tells =
+      let tree = searching.tree in
+      let counted = tree.counted in
+      let run = tree.runs tells.node tells.within in
+      let same : schedule_at schedules tells.node ≡ stuck.schedule.items = sym (tells.schedule trial schedules tree) in
+      let leads = leads_here trial schedules tells.node run.0 (let w = tells.within in omega arith) run.1 run.2 in (
+        run.0,
+        record {
+          allowed = subst (λ (s : List Pick). AreAllowed trial s) same
+              (All-weaker (IsPickOf trial) (IsAllowedIn trial) (λ (pick : Pick) is. is.allowed)
+              (schedule_at schedules tells.node) (tree.picks tells.node tells.within));
+          is_run = subst (λ (s : List Pick). after_schedule (trial_setting trial) (trial_opening trial) s ≡ Some run.0) same run.1;
+        },
+        λ can. never_ends can.schedule run.0 can.end tells.node tells.not_marked leads can.allowed can.is_run can.has_ended,
+      )
+
+  pub is_free : TellsWayless search.nodes.items marked None → (schedule : List Pick) (now : Situation) → IsReached trial schedule now →
+      CanEnd trial now
+  is_free all schedule now reached =
+      let counted = searching.tree.counted in
+      let there = met trial most done search schedules searching whole schedule now reached in
+      let way = marks.ways there.0 (all there.0 (let w = there.1.within in omega arith)) in
+      can_end trial schedules search.links.items search.found.ends.items searching.steps searching.ends way.0 there.0 now way.1 there.1

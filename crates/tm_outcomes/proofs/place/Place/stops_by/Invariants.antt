@@ -1,0 +1,7 @@
+use Rattle.std.proofs.Common.{◌≢◌, ℕ, ◌<◌}
+use Rattle.tm_core.specs.Theorem.{view_at}
+use Rattle.tm_model.specs.declared.outcome.CoreState.TheVariants.{Stopped}
+use Rattle.tm_outcomes.proofs.place.Place.stops_by.Given as goal
+
+abbrev pub invariant-loop-core : goal.invariant-loop-core
+invariant-loop-core l = (core : ℕ) → core < l.core → (view_at l.self.machine core).mode ≢ Stopped l.why

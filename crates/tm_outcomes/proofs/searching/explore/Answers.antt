@@ -1,0 +1,38 @@
+use Rattle.std.proofs.Common.{arith}
+use Rattle.tm_outcomes.proofs.searching.explore.Goals as goal
+
+pub loop-index-init : goal.loop-index-init
+loop-index-init c =
+    let opened = c.in_ok-search.ensures c.args.trial.now in
+    record {
+      done = (
+        opened.0,
+        record {
+          tree = opened.1.tree;
+          steps = opened.1.steps;
+          ends = opened.1.ends;
+          explored = opened.1.explored;
+          found = opened.1.found;
+          few = let few = opened.1.few in let some = c.requires.some in omega arith;
+        },
+      );
+      bench = c.requires.bench;
+    }
+
+pub returns-then-index-len-clause-whole : goal.returns-then-index-len-clause-whole
+returns-then-index-len-clause-whole c = λ _.
+    let done = c.loop-index.invariant.done in
+    record { done = c.loop-index.index; schedules = done.0; searching = done.1; whole = omega arith }
+
+pub returns-in_default-clause-cut : goal.returns-in_default-clause-cut
+returns-in_default-clause-cut c = λ _. c.in_ok-expand.ensures.cut c.in_default.is
+
+pub returns-clause-whole : goal.returns-clause-whole
+returns-clause-whole c = λ _.
+    let done = c.loop-index.invariant.done in
+    record {
+      done = c.loop-index.index;
+      schedules = done.0;
+      searching = done.1;
+      whole = (let few = done.1.few in omega arith);
+    }

@@ -1,0 +1,83 @@
+//! What was found at the states of a search.
+
+ghost use Rattle.std.specs.Prelude.{◌≡◌, ◌<◌, ◌^◌, ◌++◌, ◌∷◌, [], IfErr, IfOk, List, OnOk, length};
+ghost use Rattle.tm_model.specs.declared.outcome.Pick.{Pick};
+ghost use Rattle.tm_outcomes.specs.Nodes.{HaveSchedules, IsTree};
+ghost use Rattle.tm_outcomes.specs.Outcomes.{AreThere, IsRefusal};
+ghost use Rattle.tm_outcomes.specs.Places.{ArePlacesOf};
+ghost use Rattle.tm_outcomes.specs.Searching.{AreFindings, Shows};
+
+use crate::bench::Bench;
+use crate::fault::SearchFault;
+use crate::nodes::{Node, place_of, schedule_of};
+use crate::stops::{ReachedStop, take_up_stops};
+use crate::table::{Told, take_up};
+use crate::trial::Trial;
+use std::alloc::{AllocError, Global};
+
+/// What was found so far.
+#[derive(Drop)]
+pub struct Findings {
+    /// The outcomes.
+    pub outcomes: Vec<Told>,
+    /// The nodes of states where each core has stopped.
+    pub ends: Vec<u32>,
+    /// The stops that are looked for.
+    pub stops: Vec<ReachedStop>,
+}
+
+impl Findings {
+    /// None.
+    pub fn new(alloc: Global) -> Findings
+        ensures outcomes { result.outcomes.items ≡ [] }
+        ensures ends { result.ends.items ≡ [] }
+        ensures stops { result.stops.items ≡ [] }
+    {
+        Findings {
+            outcomes: Vec::new(alloc),
+            ends: Vec::new(alloc),
+            stops: Vec::new(alloc),
+        }
+    }
+
+    /// Takes up what is found at the state of a node.
+    pub fn show(
+        &mut self,
+        alloc: Global,
+        trial: &Trial<'_>,
+        bench: &mut Bench,
+        nodes: &[Node],
+        index: usize,
+    ) -> Result<(), SearchFault>
+        requires bench { ArePlacesOf trial.now bench.old }
+        requires within { index < length nodes.now }
+        requires few { length nodes.now < 2 ^ 32 }
+        requires tree { HaveSchedules trial.now nodes.now }
+        requires there { AreThere trial.now }
+        requires found { AreFindings trial.now self.old }
+        ensures found { OnOk result (AreFindings trial.now self.new) }
+        ensures shows { OnOk result ((schedules : List (List Pick)) → IsTree trial.now nodes.now schedules →
+            Shows trial.now schedules self.old self.new index) }
+        ensures bench { ArePlacesOf trial.now bench.new }
+        ensures err { IfErr result (IsRefusal trial.now) }
+    {
+        place_of(alloc, trial, nodes, index, &mut bench.here)?;
+        take_up_stops(alloc, trial, nodes, index, &bench.here, &mut self.stops)?;
+        if !bench.here.has_ended() {
+            return Ok(());
+        }
+        add_end(&mut self.ends, index as u32)?;
+        let values = bench.here.values(alloc, trial)?;
+        let schedule = schedule_of(alloc, nodes, index)?;
+        take_up(trial, &mut self.outcomes, values, schedule)?;
+        Ok(())
+    }
+}
+
+// Adds the node of a state where each core has stopped.
+fn add_end(ends: &mut Vec<u32>, node: u32) -> Result<(), AllocError>
+    ensures { IfOk result (λ _. ends.new.items ≡ ends.old.items ++ node ∷ []) }
+{
+    ends.push(node)?;
+    Ok(())
+}
