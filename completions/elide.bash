@@ -11,7 +11,7 @@ _elide_options() {
     debug) echo '--help --cores --mem --entry --reads --writes --dump --steps --schedule --in-turn --random --events --seed --limit --words --color' ;;
     gdb) echo '--help --cores --mem --entry --reads --writes --steps --schedule --in-turn --random --events --seed --limit --words --color' ;;
     hunt) echo '--help --cores --mem --entry --reads --writes --check --forbid --stop --expect-halt --runs --seed --method --events --limit --jobs --record --json --words --color' ;;
-    outcomes) echo '--help --cores --mem --entry --reads --writes --show --events --limit --json --words --color' ;;
+    outcomes) echo '--help --cores --mem --entry --reads --writes --show --events --limit --stop --stuck --json --words --color' ;;
     test) echo '--help --list --jobs --json --words --color' ;;
     stats) echo '--help --cores --mem --entry --reads --writes --steps --schedule --in-turn --random --events --seed --limit --record --json --words --color' ;;
     draw) echo '--help --cores --mem --entry --reads --writes --steps --schedule --in-turn --random --events --seed --limit --record --from --to --core --words --color' ;;
@@ -139,6 +139,7 @@ _elide_value() {
     'outcomes --show' | \
     'outcomes --events' | \
     'outcomes --limit' | \
+    'outcomes --stop' | \
     'test --jobs' | \
     'stats --cores' | \
     'stats --mem' | \

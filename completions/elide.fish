@@ -148,6 +148,8 @@ complete -c elide -n '__fish_seen_subcommand_from outcomes' -l writes -x -d 'Lin
 complete -c elide -n '__fish_seen_subcommand_from outcomes' -l show -x -d 'What is shown where all cores have stopped: registers of cores, as eax@0, and doublewords at sums of symbols and numbers'
 complete -c elide -n '__fish_seen_subcommand_from outcomes' -l events -x -d 'Aborts from outside: each of the kinds (interrupt, eviction, snoop) at each step of each transaction; `always`: each step under an interrupt'
 complete -c elide -n '__fish_seen_subcommand_from outcomes' -l limit -x -d 'The most states; where there are more, the status is 3 [default: 1000000]'
+complete -c elide -n '__fish_seen_subcommand_from outcomes' -l stop -x -d 'Tells a schedule after which a core has stopped for this reason (status 3): #BP (INT3), #DE, #UD, #GP, HLT, range, code-store, fetch or not-in-subset'
+complete -c elide -n '__fish_seen_subcommand_from outcomes' -l stuck -d 'Tells a schedule after which none leads on to an end, where there is one (status 3)'
 complete -c elide -n '__fish_seen_subcommand_from outcomes' -l json -d 'Prints one JSON object in place of the lines (docs/JSON.md)'
 complete -c elide -n '__fish_seen_subcommand_from outcomes' -l words -x -a 'auto always never' -d 'Tells beside a fault where it stands and what is meant: auto, at a terminal or where ELIDE_WORDS is `always`, always or never [default: auto]'
 complete -c elide -n '__fish_seen_subcommand_from outcomes' -l color -x -a 'auto always never' -d 'Paints messages and listings: auto, where it is a terminal\'s and NO_COLOR is not set, always or never [default: auto]'

@@ -102,6 +102,8 @@ pub record IsSearch (found : Found) (options : OutcomesOptions) : Type 0 where
   pub show : first_value found (codes "show") ≡ option_copied options.show
   pub events : first_value found (codes "events") ≡ option_copied options.events
   pub limit : first_value found (codes "limit") ≡ option_copied options.limit
+  pub stops : texts_of options.stops.items ≡ values_of found (codes "stop")
+  pub stuck : IsFlag found (codes "stuck") options.asks_stuck
   pub json : IsFlag found (codes "json") options.is_json
 
 pub record IsHunt (found : Found) (options : HuntOptions) : Type 0 where

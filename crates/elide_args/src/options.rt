@@ -278,6 +278,18 @@ pub const SHOW: OptionText = OptionText {
     help: "What is shown where all cores have stopped: registers of cores, as eax@0, and doublewords at sums of symbols and numbers",
 };
 
+pub const STOP_OF_ALL: OptionText = OptionText {
+    name: "stop",
+    form: Form::Several("CAUSE"),
+    help: "Tells a schedule after which a core has stopped for this reason (status 3): #BP (INT3), #DE, #UD, #GP, HLT, range, code-store, fetch or not-in-subset",
+};
+
+pub const STUCK: OptionText = OptionText {
+    name: "stuck",
+    form: Form::Flag,
+    help: "Tells a schedule after which none leads on to an end, where there is one (status 3)",
+};
+
 pub const STATES: OptionText = OptionText {
     name: "limit",
     form: Form::Value("N"),

@@ -146,6 +146,10 @@ pub struct OutcomesOptions<'a> {
     pub events: Option<&'a str>,
     /// `--limit`: the most states.
     pub limit: Option<&'a str>,
+    /// `--stop`: the reasons to stop that are looked for, in the order of the command line.
+    pub stops: Vec<&'a str>,
+    /// `--stuck`: whether states without a way to an end fail the search.
+    pub asks_stuck: bool,
     /// Whether JSON is printed in place of lines.
     pub is_json: bool,
 }

@@ -100,6 +100,7 @@ fn any_named<'a>(alloc: Global, name: &str, options: &ArgMatches<'a>) -> Option<
 {
     match name {
         "hunt" => Some(Subcommand::Hunt(hunt_of(alloc, options)?)),
+        "outcomes" => Some(Subcommand::Outcomes(search_of(alloc, options)?)),
         "test" => Some(Subcommand::Test(test_of(alloc, options)?)),
         "explain" => Some(Subcommand::Explain(ExplainOptions {
             fault: options.get_str("FAULT"),
@@ -145,7 +146,6 @@ fn subcommand_named<'a>(
         })),
         "debug" => Some(Subcommand::Debug(session_of(alloc, file, options)?)),
         "gdb" => Some(Subcommand::Gdb(session_of(alloc, file, options)?)),
-        "outcomes" => Some(Subcommand::Outcomes(search_of(alloc, file, options))),
         "stats" => Some(Subcommand::Stats(stats_of(alloc, file, options))),
         "draw" => Some(Subcommand::Draw(draw_of(alloc, file, options))),
         _ => None,
@@ -170,6 +170,22 @@ fn hunt_of<'a>(alloc: Global, options: &ArgMatches<'a>) -> Option<HuntOptions<'a
         limit: options.get_str("limit"),
         jobs: options.get_str("jobs"),
         record: options.get_str("record"),
+        is_json: options.get_flag("json"),
+    })
+}
+
+// The options of `outcomes`, the same.
+fn search_of<'a>(alloc: Global, options: &ArgMatches<'a>) -> Option<OutcomesOptions<'a>>
+    ensures { IfSome result (IsSearch (found_of options.now)) }
+{
+    let file = options.get_str("FILE")?;
+    Some(OutcomesOptions {
+        machine: machine_of(alloc, file, options),
+        show: options.get_str("show"),
+        events: options.get_str("events"),
+        limit: options.get_str("limit"),
+        stops: several_of(alloc, options, "stop").ok()?,
+        asks_stuck: options.get_flag("stuck"),
         is_json: options.get_flag("json"),
     })
 }
@@ -219,19 +235,6 @@ fn threads_of<'a>(
         is_json: options.get_flag("json"),
         record: options.get_str("record"),
     })
-}
-
-fn search_of<'a>(alloc: Global, file: &'a str, options: &ArgMatches<'a>) -> OutcomesOptions<'a>
-    requires { first_value (found_of options.now) (codes "FILE") ≡ Some file.now }
-    ensures { IsSearch (found_of options.now) result }
-{
-    OutcomesOptions {
-        machine: machine_of(alloc, file, options),
-        show: options.get_str("show"),
-        events: options.get_str("events"),
-        limit: options.get_str("limit"),
-        is_json: options.get_flag("json"),
-    }
 }
 
 fn stats_of<'a>(alloc: Global, file: &'a str, options: &ArgMatches<'a>) -> StatsOptions<'a>

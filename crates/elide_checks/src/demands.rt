@@ -136,8 +136,8 @@ fn add_halt(checks: &mut Vec<Check>, expects_halt: bool) -> Result<(), AllocErro
     Ok(())
 }
 
-// A reason to stop by its word.
-fn stop_of(word: &str) -> Result<Stop, Refusal>
+/// A reason to stop by the word of `--stop`. Another word is a misuse.
+pub fn stop_of(word: &str) -> Result<Stop, Refusal>
     ensures { IfOk result (λ why. stop_word why ≡ word.now) }
 {
     match word {

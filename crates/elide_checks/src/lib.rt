@@ -20,7 +20,7 @@ mod orders;
 mod reach;
 mod row;
 
-pub use demands::Demands;
+pub use demands::{Demands, stop_of};
 pub use elide_setup::{
     Fault, Gathered, Lent, Paths, ProgramFile, Progress, Refusal, RunFault, Settings, Setup,
     read_file, record, record_path,

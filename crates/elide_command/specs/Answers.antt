@@ -3,8 +3,8 @@
 use Rattle.std.specs.Prelude.{◌≡◌, ℕ, Result, Ok, Err, MatchResult}
 use Rattle.elide_hunt.specs.declared.command.Answer.{Answer as Hunted}
 use Rattle.elide_hunt.specs.declared.command.Answer.TheVariants as hunted
-use Rattle.elide_outcomes.specs.declared.command.Answer.{Answer as Searched}
-use Rattle.elide_outcomes.specs.declared.command.Answer.TheVariants as searched
+use Rattle.elide_outcomes.specs.declared.verdict.Answer.{Answer as Searched}
+use Rattle.elide_outcomes.specs.declared.verdict.Answer.TheVariants as searched
 use Rattle.elide_replay.specs.declared.agreement.Agreement.{Agreement}
 use Rattle.elide_replay.specs.declared.agreement.Agreement.TheVariants as agreement
 use Rattle.elide_run.specs.declared.halting.Ending.{Ending}
@@ -30,6 +30,7 @@ sought_answer hunted.Failed = Fails
 abbrev pub searched_answer : Searched → Answer
 searched_answer searched.Whole = Done
 searched_answer searched.Cut = Fails
+searched_answer searched.Faulty = Fails
 
 abbrev pub replayed_answer : Agreement → Answer
 replayed_answer agreement.Agrees = Done

@@ -71,7 +71,7 @@ pub fn searched<O: Drop>(end: Result<(Searched, O), Refusal>) -> Result<Answer, 
 {
     match end? {
         (Searched::Whole, _) => Ok(Answer::Done),
-        (Searched::Cut, _) => Ok(Answer::Fails),
+        (Searched::Cut | Searched::Faulty, _) => Ok(Answer::Fails),
     }
 }
 

@@ -2,3 +2,4 @@ mod Objects
 mod Printed
 mod Trials
 mod Words
+mod Zips

@@ -11,40 +11,23 @@ use Rattle.elide_setup.specs.declared.fault.Refusal.{Refusal}
 use Rattle.elide_setup.specs.declared.machine.Setup.{Setup}
 use Rattle.tm_outcomes.specs.declared.searching.Search.{Search}
 use Rattle.tm_outcomes.specs.declared.trial.Trial.{Trial}
-use Rattle.elide_outcomes.specs.Printed.{IsFound, IsTold, IsTrialOf, IsWritten, answer_of}
-use Rattle.elide_outcomes.specs.declared.command.Answer.{Answer}
+use Rattle.elide_outcomes.specs.Printed.{IsFound, IsTrialOf}
 use Rattle.elide_outcomes.specs.declared.command.Asked.{Asked}
 
 abbrev pub IsFoundOf : ProgramFile → Settings → Asked → Search → Type 0
 IsFoundOf file settings asked found =
     (trial : Trial) × (setup : Setup) × IsSetup file settings setup
-    × IsTrialOf file setup (option_copied asked.show) asked.under trial
+    × IsTrialOf file setup (option_copied asked.show) asked.under asked.stops.now trial
     × IsFound trial asked.most found
 
 abbrev pub IsFoundOfText : List ℕ → Settings → Asked → Search → Type 0
 IsFoundOfText text settings asked found =
     (file : ProgramFile) × IsFile text file × (trial : Trial) × (setup : Setup) × IsSetup file settings setup
-    × IsTrialOf file setup (option_copied asked.show) asked.under trial
+    × IsTrialOf file setup (option_copied asked.show) asked.under asked.stops.now trial
     × IsFound trial asked.most found
 
 pub found_of_file : (file : ProgramFile) (settings : Settings) (asked : Asked) (trial : Trial) (setup : Setup)
     (r : Result Search Refusal) → IfOk r (IsFound trial asked.most) → IsSetup file settings setup →
-    IsTrialOf file setup (option_copied asked.show) asked.under trial → IfOk r (IsFoundOf file settings asked)
+    IsTrialOf file setup (option_copied asked.show) asked.under asked.stops.now trial → IfOk r (IsFoundOf file settings asked)
 found_of_file file settings asked trial setup r found made shows =
     IfOk-weaker r (IsFound trial asked.most) (IsFoundOf file settings asked) (λ search is. (trial, setup, made, shows, is)) found
-
--- what was found and written was told
-pub told_of_found : (trial : Trial) (most : ℕ) (is_json : Bool) (show : Option (List ℕ)) (answer : Answer) (found : Search)
-    (before after : Option (List ℕ)) → IsFound trial most found → answer ≡ answer_of found.is_cut →
-    IsWritten is_json show found.outcomes.items found.states found.is_cut before after →
-    IsTold trial most is_json show answer before after
-told_of_found trial most is_json show answer found before after is came_to wrote = record {
-  there = is.there;
-  search = is.search;
-  searched = is.searched;
-  came_to = came_to ∙ ap answer_of is.cut;
-  told = found.outcomes.items;
-  order = is.order;
-  wrote = subst (λ (states : ℕ). IsWritten is_json show found.outcomes.items states is.search.is_cut before after) is.states
-      (subst (λ (is_cut : Bool). IsWritten is_json show found.outcomes.items found.states is_cut before after) is.cut wrote);
-}

@@ -1,12 +1,17 @@
 -- The lines that `elide outcomes` prints (docs/FORMATS.md, "Outcomes"), and their order.
-use Rattle.std.specs.Prelude.{ℕ, Bool, List, [], ◌++◌, codes, if◌then◌else◌, IsPermutation, IsSorted}
+use Rattle.std.specs.Prelude.{ℕ, Bool, List, [], ◌++◌, codes, length, Option, Some, None, if◌then◌else◌}
+use Rattle.std.specs.Prelude.{IsPermutation, IsSorted}
 use Rattle.std.specs.Cmp.Lexicographic.{slice_cmp}
 use Rattle.std.specs.Fmt.{decimal}
 use Rattle.std.specs.List.{flat_map}
 use Rattle.std.specs.Ordering.{nat_cmp}
 use Rattle.ia_text.specs.Number.{eight_digits}
 use Rattle.ia_text.specs.TextLine.{line_end}
+use Rattle.elide_setup.specs.TmHist.Lines.{stop_word}
 use Rattle.tm_model.specs.declared.outcome.Pick.{Pick}
+use Rattle.tm_outcomes.specs.declared.searching.Search.{Search}
+use Rattle.tm_outcomes.specs.declared.stops.ReachedStop.{ReachedStop}
+use Rattle.tm_outcomes.specs.declared.stuck.Stuck.{Stuck}
 use Rattle.tm_outcomes.specs.declared.table.Told.{Told}
 use Rattle.tm_schedule.specs.Picks.{pick_word}
 
@@ -31,17 +36,51 @@ outcome_line told =
 abbrev pub outcome_lines : List Told → List ℕ
 outcome_lines outcomes = flat_map outcome_line outcomes
 
--- behind them, where the search ended at its limit
-abbrev pub cut_text : Bool → List ℕ
-cut_text is_cut = if is_cut then codes ": cut at the limit, there may be more" else []
+-- a reason to stop that was looked for, and a schedule that leads there
+abbrev pub stop_line : ReachedStop → List ℕ
+stop_line told =
+    codes "stop  " ++ stop_word told.why ++ codes " " ++ flat_map step_text told.schedule.items ++ line_end
+
+abbrev pub stop_lines : List ReachedStop → List ℕ
+stop_lines stops = flat_map stop_line stops
+
+-- how many states have no way to an end, and a schedule that leads to one
+abbrev pub stuck_line : Stuck → List ℕ
+stuck_line stuck =
+    codes "stuck " ++ ends_text stuck.states ++ flat_map step_text stuck.schedule.items ++ line_end
+
+-- where there are such
+abbrev pub stuck_text : Option Stuck → List ℕ
+stuck_text None = []
+stuck_text (Some stuck) = stuck_line stuck
+
+-- where it is asked for
+abbrev pub stuck_lines : Bool → Option Stuck → List ℕ
+stuck_lines asks_stuck stuck = if asks_stuck then stuck_text stuck else []
 
 -- how many outcomes there are, and how many states were found
 abbrev pub counts_text : ℕ → ℕ → List ℕ
 counts_text outcomes states = decimal outcomes ++ codes " outcomes in " ++ decimal states ++ codes " states"
 
+-- behind them, where there are states without a way to an end
+abbrev pub wayless_text : Option Stuck → List ℕ
+wayless_text None = []
+wayless_text (Some stuck) = codes ", " ++ decimal stuck.states ++ codes " of them without a way to an end"
+
+-- behind them, where the search ended at its limit
+abbrev pub cut_text : Bool → List ℕ
+cut_text is_cut = if is_cut then codes ": cut at the limit, there may be more" else []
+
 -- the last line
-abbrev pub count_line : ℕ → ℕ → Bool → List ℕ
-count_line outcomes states is_cut = counts_text outcomes states ++ cut_text is_cut ++ line_end
+abbrev pub count_line : ℕ → ℕ → Option Stuck → Bool → List ℕ
+count_line outcomes states stuck is_cut =
+    counts_text outcomes states ++ wayless_text stuck ++ cut_text is_cut ++ line_end
+
+-- the lines of a search whose outcomes stand in this order
+abbrev pub search_text : Bool → Search → List ℕ
+search_text asks_stuck search =
+    outcome_lines search.outcomes.items ++ stop_lines search.stops.items ++ stuck_lines asks_stuck search.stuck
+    ++ count_line (length search.outcomes.items) search.states search.stuck search.is_cut
 
 -- those that were found, each once, in the order of their values: the first item decides, where it is alike the next
 pub record AreInOrder (found told : List Told) : Type 0 where

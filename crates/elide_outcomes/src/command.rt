@@ -8,30 +8,25 @@ ghost use Rattle.elide_setup.specs.Setup.{IsSetup};
 ghost use Rattle.elide_setup.specs.declared.machine.Setup.{Setup};
 ghost use Rattle.tm_outcomes.specs.Outcomes.{AreThere, IsSearch};
 ghost use Rattle.tm_outcomes.specs.declared.trial.Trial.{Trial};
-ghost use Rattle.elide_outcomes.specs.Printed.{IsFound, IsLimit, IsPrinted, IsTrialOf, IsWritten, answer_of};
+ghost use Rattle.tm_outcomes.specs.Verdicts.{IsVerdict};
+ghost use Rattle.elide_outcomes.specs.Printed.{IsFound, IsLimit, IsPrinted, IsTrialOf, IsWritten};
+ghost use Rattle.elide_outcomes.specs.Stops.{AreStops};
 
 use crate::items::items_of;
 use crate::object::tell_object;
 use crate::report::{sort, tell};
+use crate::stops::stops_of;
 use crate::under::Under;
+use crate::verdict::Answer;
 use elide_args::OutcomesOptions;
 use elide_program::{Paths, ProgramFile, Settings, number_of, read_file};
 use elide_setup::{Fault, Gathered, MachineFault, Refusal, RunFault, Setup};
 use ia_text::Out;
 use std::alloc::Global;
-use tm_outcomes::{Search, SearchFault, Trial, outcomes as searched};
+use tm_outcomes::{Search, SearchFault, Stop, Trial, outcomes as searched};
 
-/// The most states by default: at 32 bytes a state some 50 million bytes.
+/// The most states by default: at some 50 bytes a state and 8 a link, of two cores some 70 million bytes.
 const USUAL_LIMIT: u32 = 1_000_000;
-
-/// What a search came to.
-#[derive(Clone, Copy, PartialEq, Eq)]
-pub enum Answer {
-    /// All outcomes are told.
-    Whole,
-    /// The limit on states was reached.
-    Cut,
-}
 
 /// What is asked of a search, beside its machine.
 #[derive(Clone, Copy)]
@@ -40,19 +35,10 @@ pub struct Asked<'a> {
     pub show: Option<&'a str>,
     /// What the steps come under.
     pub under: Under,
+    /// `--stop`: the reasons to stop that are looked for.
+    pub stops: &'a [Stop],
     /// The most states.
     pub most: u32,
-    /// Whether JSON is printed in place of lines.
-    pub is_json: bool,
-}
-
-impl Answer {
-    // That of a search which was cut, or was not.
-    fn of(is_cut: bool) -> Answer
-        ensures { result ≡ answer_of is_cut }
-    {
-        if is_cut { Answer::Cut } else { Answer::Whole }
-    }
 }
 
 /// Searches all schedules of a program, and prints each outcome in the order of its values. Gives the device back.
@@ -81,35 +67,53 @@ fn outcomes_of_options<P: Paths, O: Out>(
     ensures { IfOk result (λ answer. IsPrinted (P.content paths.old) options.now answer
         (O.device out.old).contents (O.device out.new).contents) }
 {
+    let stops = stops_of(alloc, options.stops.as_slice())?;
+    let answer = outcomes_with_stops(alloc, options, stops.as_slice(), paths, out);
+    drop(stops);
+    answer
+}
+
+// The same with the stops that are looked for.
+fn outcomes_with_stops<P: Paths, O: Out>(
+    alloc: Global,
+    options: &OutcomesOptions<'_>,
+    stops: &[Stop],
+    paths: &mut P,
+    out: &mut O,
+) -> Result<Answer, Refusal>
+    requires { AreStops options.now.stops.items stops.now }
+    ensures { IfOk result (λ answer. IsPrinted (P.content paths.old) options.now answer
+        (O.device out.old).contents (O.device out.new).contents) }
+{
     let settings = Settings::read(&options.machine)?;
     let under = Under::read(options.events)?;
     let most = limit_of(options.limit)?;
     let asked = Asked {
         show: options.show,
         under,
+        stops,
         most,
-        is_json: options.is_json,
     };
     let text = read_file(options.machine.file, paths)?;
     let search = search_of_text(alloc, &asked, &settings, text.as_slice())?;
-    write(alloc, &asked, &search, out)?;
-    Ok(Answer::of(search.is_cut))
+    write(alloc, options, &search, out)?;
+    Ok(Answer::of(options.asks_stuck, &search))
 }
 
 // Prints what was found, in the form that is asked for.
 fn write<O: Out>(
     alloc: Global,
-    asked: &Asked<'_>,
+    options: &OutcomesOptions<'_>,
     search: &Search,
     out: &mut O,
 ) -> Result<(), Refusal>
-    ensures { OnOk result (IsWritten asked.now.is_json (option_copied asked.now.show) search.now.outcomes.items
-        search.now.states search.now.is_cut (O.device out.old).contents (O.device out.new).contents) }
+    ensures { OnOk result (IsWritten options.now.is_json (option_copied options.now.show) options.now.asks_stuck
+        search.now (O.device out.old).contents (O.device out.new).contents) }
 {
-    if asked.is_json {
-        tell_object(alloc, asked.show, search, out)
+    if options.is_json {
+        tell_object(alloc, options.show, options.asks_stuck, search, out)
     } else {
-        tell(search, out)?;
+        tell(options.asks_stuck, search, out)?;
         Ok(())
     }
 }
@@ -124,7 +128,7 @@ fn search_of_text(
     requires { 1 ≤ asked.now.most }
     ensures { IfOk result (λ search. (file : ProgramFile) × IsFile text.now file × (trial : Trial)
         × (setup : Setup) × IsSetup file settings.now setup
-        × IsTrialOf file setup (option_copied asked.now.show) asked.now.under trial
+        × IsTrialOf file setup (option_copied asked.now.show) asked.now.under asked.now.stops.now trial
         × IsFound trial asked.now.most search) }
 {
     let file = ProgramFile::read(alloc, text)?;
@@ -142,7 +146,7 @@ fn search_of_file(
 ) -> Result<Search, Refusal>
     requires { 1 ≤ asked.now.most }
     ensures { IfOk result (λ search. (trial : Trial) × (setup : Setup) × IsSetup file.now settings.now setup
-        × IsTrialOf file.now setup (option_copied asked.now.show) asked.now.under trial
+        × IsTrialOf file.now setup (option_copied asked.now.show) asked.now.under asked.now.stops.now trial
         × IsFound trial asked.now.most search) }
 {
     let items = items_of(alloc, asked.show, file)?;
@@ -154,6 +158,7 @@ fn search_of_file(
         limits: setup.limits,
         items: items.as_slice(),
         events,
+        stops: asked.stops,
     };
     sorted(alloc, &trial, asked.most)
 }
@@ -186,6 +191,7 @@ fn search(alloc: Global, trial: &Trial<'_>, most: u32) -> Result<Search, Refusal
     requires { 1 ≤ most }
     ensures there { OnOk result (AreThere trial.now) }
     ensures found { IfOk result (IsSearch trial.now most) }
+    ensures verdict { IfOk result (IsVerdict trial.now) }
 {
     if !trial.has_all() {
         return Err(Refusal::Fault(Fault::OutOfRange));

@@ -2,14 +2,16 @@
 //!
 //! [`tell_object`] is the one call. The words of `--show` come first, then the whole text is made, and then it is written.
 
-ghost use Rattle.std.specs.Prelude.{◌≡◌, IfOk, OnOk, codes, string_bytes};
+ghost use Rattle.std.specs.Prelude.{◌≡◌, IfOk, OnOk, Some, codes, string_bytes};
 ghost use Rattle.std.specs.Option.{option_copied};
 ghost use Rattle.elide_args.specs.Asked.{texts_of};
 ghost use Rattle.elide_object.specs.Object.{SendsMember, list_value, object_text};
 ghost use Rattle.serde_json.specs.Events.{SendsValue};
-ghost use Rattle.elide_outcomes.specs.Object.{IsObjectWritten, outcome_value, search_status, search_value};
+ghost use Rattle.elide_setup.specs.TmHist.Lines.{stop_word};
+ghost use Rattle.elide_outcomes.specs.Object.{IsObjectWritten, outcome_value, search_value, stop_value, stuck_value};
 
 use crate::shown::words_of;
+use crate::verdict::Answer;
 use elide_object::{
     object_line, send_flag, send_number, send_numbers, send_schedule, send_text, send_texts,
 };
@@ -17,20 +19,22 @@ use elide_setup::{Fault, Refusal, RunFault};
 use ia_text::Out;
 use serde::{Described, Serialize, Serializer};
 use std::alloc::{AllocError, Global};
-use tm_outcomes::{Search, Told};
+use tm_outcomes::{ReachedStop, Search, Stop, Stuck, Told};
 
 /// Prints the object of a search whose outcomes stand in the order in which they are told, with the words of `--show`.
 pub fn tell_object<O: Out>(
     alloc: Global,
     show: Option<&str>,
+    asks_stuck: bool,
     search: &Search,
     out: &mut O,
 ) -> Result<(), Refusal>
-    ensures { OnOk result (IsObjectWritten (option_copied show.entry) search.now.outcomes.items search.now.states
-        search.now.is_cut (O.device out.old).contents (O.device out.new).contents) }
+    ensures { OnOk result (IsObjectWritten (option_copied show.entry) asks_stuck search.now
+        (O.device out.old).contents (O.device out.new).contents) }
 {
     let words = words_of(alloc, show)?;
-    match line_of(alloc, words.as_slice(), search) {
+    let status = Answer::of(asks_stuck, search).status();
+    match line_of(alloc, words.as_slice(), status, search) {
         Ok(line) => {
             out.put(line.as_bytes())?;
             Ok(())
@@ -39,45 +43,47 @@ pub fn tell_object<O: Out>(
     }
 }
 
-fn line_of(alloc: Global, show: &[&str], search: &Search) -> Result<String, AllocError>
-    ensures { IfOk result (λ line. string_bytes line ≡ object_text (search_value (texts_of show.now)
-        search.now.outcomes.items search.now.states search.now.is_cut)) }
+fn line_of(alloc: Global, show: &[&str], status: u64, search: &Search) -> Result<String, AllocError>
+    ensures { IfOk result (λ line. string_bytes line ≡ object_text (search_value (texts_of show.now) status
+        search.now)) }
 {
-    object_line(alloc, &SearchObject { show, search })
+    object_line(
+        alloc,
+        &SearchObject {
+            show,
+            status,
+            search,
+        },
+    )
 }
 
-// A search, with the items of `--show` as they were given.
+// A search, with the items of `--show` as they were given, and its exit status.
 #[derive(Clone, Copy)]
 struct SearchObject<'a, 's> {
     show: &'a [&'s str],
+    status: u64,
     search: &'a Search,
 }
 
 impl Described for SearchObject<'_, '_> {
-    ghost writes = { λ o. SendsValue (search_value (texts_of o.show.now) o.search.now.outcomes.items
-        o.search.now.states o.search.now.is_cut) };
+    ghost writes = { λ o. SendsValue (search_value (texts_of o.show.now) o.status o.search.now) };
 }
 
 impl Serialize for SearchObject<'_, '_> {
     fn serialize<S: Serializer>(&self, out: &mut S) -> Result<(), S::Error> {
         let search = self.search;
-        out.begin_map(Some(7))?;
+        out.begin_map(Some(9))?;
         send_number("format", 1, out)?;
         send_text("command", "outcomes", out)?;
         send_texts("show", self.show, out)?;
         send_outcomes(search.outcomes.as_slice(), out)?;
+        send_stops(search.stops.as_slice(), out)?;
+        send_stuck(&search.stuck, out)?;
         send_number("states", u64::from(search.states), out)?;
         send_flag("whole", !search.is_cut, out)?;
-        send_number("status", status_of(search.is_cut), out)?;
+        send_number("status", self.status, out)?;
         out.end_map()
     }
-}
-
-// The exit status.
-fn status_of(is_cut: bool) -> u64
-    ensures { result ≡ search_status is_cut }
-{
-    if is_cut { 3 } else { 0 }
 }
 
 fn send_outcomes<S: Serializer>(outcomes: &[Told], out: &mut S) -> Result<(), S::Error>
@@ -105,5 +111,68 @@ fn send_outcome<S: Serializer>(told: &Told, out: &mut S) -> Result<(), S::Error>
     send_numbers("values", told.values.as_slice(), out)?;
     send_number("ends", u64::from(told.ends), out)?;
     send_schedule("schedule", told.schedule.as_slice(), out)?;
+    out.end_map()
+}
+
+fn send_stops<S: Serializer>(stops: &[ReachedStop], out: &mut S) -> Result<(), S::Error>
+    ensures { OnOk result (SendsMember (codes "stops") (list_value stop_value stops.now)
+        (S.written out.old) (S.written out.new)) }
+{
+    out.key("stops")?;
+    send_stop_list(stops, out)
+}
+
+fn send_stop_list<S: Serializer>(stops: &[ReachedStop], out: &mut S) -> Result<(), S::Error>
+    ensures { OnOk result (SendsValue (list_value stop_value stops.now) (S.written out.old) (S.written out.new)) }
+{
+    out.begin_seq(Some(stops.len()))?;
+    for told in stops {
+        send_stop(told, out)?;
+    }
+    out.end_seq()
+}
+
+fn send_stop<S: Serializer>(told: &ReachedStop, out: &mut S) -> Result<(), S::Error>
+    ensures { OnOk result (SendsValue (stop_value told.now) (S.written out.old) (S.written out.new)) }
+{
+    out.begin_map(Some(2))?;
+    send_text("cause", cause_word(told.why), out)?;
+    send_schedule("schedule", told.schedule.as_slice(), out)?;
+    out.end_map()
+}
+
+// The word that `--stop` takes.
+fn cause_word(why: Stop) -> &'static str
+    ensures { result.now ≡ stop_word why }
+{
+    match why {
+        Stop::Divide => "#DE",
+        Stop::Breakpoint => "#BP",
+        Stop::Undefined => "#UD",
+        Stop::Protection => "#GP",
+        Stop::Halt => "HLT",
+        Stop::Range => "range",
+        Stop::CodeStore => "code-store",
+        Stop::Fetch => "fetch",
+        Stop::NotInSubset => "not-in-subset",
+    }
+}
+
+fn send_stuck<S: Serializer>(stuck: &Option<Stuck>, out: &mut S) -> Result<(), S::Error>
+    ensures { OnOk result (SendsMember (codes "stuck") (stuck_value stuck.now) (S.written out.old) (S.written out.new)) }
+{
+    out.key("stuck")?;
+    match stuck {
+        Some(stuck) => send_stuck_states(stuck, out),
+        None => out.unit(),
+    }
+}
+
+fn send_stuck_states<S: Serializer>(stuck: &Stuck, out: &mut S) -> Result<(), S::Error>
+    ensures { OnOk result (SendsValue (stuck_value (Some stuck.now)) (S.written out.old) (S.written out.new)) }
+{
+    out.begin_map(Some(2))?;
+    send_number("states", u64::from(stuck.states), out)?;
+    send_schedule("schedule", stuck.schedule.as_slice(), out)?;
     out.end_map()
 }

@@ -1,18 +1,21 @@
 //! What is printed of a search.
 
-ghost use Rattle.std.specs.Prelude.{◌≡◌, ◌≤◌, ◌++◌, OnOk, length};
+ghost use Rattle.std.specs.Prelude.{◌≡◌, ◌++◌, OnOk, codes, length};
 ghost use Rattle.std.specs.List.{flat_map};
 ghost use Rattle.arrayvec.specs.ArrayVec.{array_vec_len};
 ghost use Rattle.ia_text.specs.Writing.{Wrote, Writes};
-ghost use Rattle.elide_outcomes.specs.Lines.{AreInOrder, count_line, counts_text, cut_text, ends_text, outcome_line, outcome_lines};
-ghost use Rattle.elide_outcomes.specs.Lines.{step_text, item_text};
+ghost use Rattle.std.specs.Fmt.{decimal};
+ghost use Rattle.elide_outcomes.specs.Lines.{AreInOrder, count_line, counts_text, cut_text, ends_text, item_text, outcome_line};
+ghost use Rattle.elide_outcomes.specs.Lines.{outcome_lines, search_text, step_text, stop_line, stop_lines, stuck_line};
+ghost use Rattle.elide_outcomes.specs.Lines.{stuck_lines, stuck_text, wayless_text};
 
+use elide_setup::stop_text;
 use elide_shell::step_word;
 use ia_text::page::{push, push_eight};
 use ia_text::text_line::TextLine;
 use ia_text::{Out, WriteFault};
 use itoa::Buffer;
-use tm_outcomes::{Pick, Search, Told};
+use tm_outcomes::{Pick, ReachedStop, Search, Stuck, Told};
 
 /// Puts outcomes in the order of their values.
 pub fn sort(outcomes: &mut Vec<Told>)
@@ -21,14 +24,14 @@ pub fn sort(outcomes: &mut Vec<Told>)
     outcomes.sort_unstable_by(|left, right| left.values.cmp(&right.values));
 }
 
-/// Prints the outcomes of a search, a line each, and then how many there are.
-pub fn tell<O: Out>(search: &Search, out: &mut O) -> Result<(), WriteFault>
-    ensures { OnOk result (Wrote (O.device out.old) (O.device out.new) (outcome_lines search.now.outcomes.items
-        ++ count_line (length search.now.outcomes.items) search.now.states search.now.is_cut)) }
+/// Prints the outcomes of a search, a line each, below them what is wrong, and then how many there are.
+pub fn tell<O: Out>(asks_stuck: bool, search: &Search, out: &mut O) -> Result<(), WriteFault>
+    ensures { OnOk result (Wrote (O.device out.old) (O.device out.new) (search_text asks_stuck search.now)) }
 {
-    let outcomes = search.outcomes.as_slice();
-    tell_outcomes(outcomes, out)?;
-    tell_counts(outcomes.len(), search.states, search.is_cut, out)?;
+    tell_outcomes(search.outcomes.as_slice(), out)?;
+    tell_stops(search.stops.as_slice(), out)?;
+    tell_stuck(asks_stuck, &search.stuck, out)?;
+    tell_counts(search, out)?;
     Ok(())
 }
 
@@ -102,34 +105,117 @@ fn tell_step<O: Out>(pick: Pick, out: &mut O) -> Result<(), WriteFault>
     Ok(())
 }
 
-// The last line.
-fn tell_counts<O: Out>(
-    outcomes: usize,
-    states: u32,
-    is_cut: bool,
+// The line of each stop that was looked for and found.
+fn tell_stops<O: Out>(stops: &[ReachedStop], out: &mut O) -> Result<(), WriteFault>
+    ensures { OnOk result (Wrote (O.device out.old) (O.device out.new) (stop_lines stops.now)) }
+{
+    for told in stops {
+        tell_stop(told, out)?;
+    }
+    Ok(())
+}
+
+// The reason, and the steps of a schedule.
+fn tell_stop<O: Out>(told: &ReachedStop, out: &mut O) -> Result<(), WriteFault>
+    ensures { OnOk result (Wrote (O.device out.old) (O.device out.new) (stop_line told.now)) }
+{
+    out.put(b"stop  ")?;
+    out.put(stop_text(told.why))?;
+    out.put(b" ")?;
+    tell_steps(told.schedule.as_slice(), out)?;
+    out.put(b"\n")?;
+    Ok(())
+}
+
+// The line of states without a way to an end, where it is asked for.
+fn tell_stuck<O: Out>(
+    asks_stuck: bool,
+    stuck: &Option<Stuck>,
     out: &mut O,
 ) -> Result<(), WriteFault>
-    ensures { Writes (O.device out.old) (O.device out.new) (count_line outcomes states is_cut) result }
+    ensures { OnOk result (Wrote (O.device out.old) (O.device out.new) (stuck_lines asks_stuck stuck.now)) }
+{
+    if asks_stuck {
+        tell_stuck_states(stuck, out)
+    } else {
+        Ok(())
+    }
+}
+
+// That line, where there are such.
+fn tell_stuck_states<O: Out>(stuck: &Option<Stuck>, out: &mut O) -> Result<(), WriteFault>
+    ensures { OnOk result (Wrote (O.device out.old) (O.device out.new) (stuck_text stuck.now)) }
+{
+    match stuck {
+        Some(stuck) => tell_stuck_line(stuck, out),
+        None => Ok(()),
+    }
+}
+
+// How many there are, and the steps of a schedule.
+fn tell_stuck_line<O: Out>(stuck: &Stuck, out: &mut O) -> Result<(), WriteFault>
+    ensures { OnOk result (Wrote (O.device out.old) (O.device out.new) (stuck_line stuck.now)) }
+{
+    out.put(b"stuck ")?;
+    tell_ends(stuck.states, out)?;
+    tell_steps(stuck.schedule.as_slice(), out)?;
+    out.put(b"\n")?;
+    Ok(())
+}
+
+// The last line.
+fn tell_counts<O: Out>(search: &Search, out: &mut O) -> Result<(), WriteFault>
+    ensures { OnOk result (Wrote (O.device out.old) (O.device out.new) (count_line (length search.now.outcomes.items)
+        search.now.states search.now.stuck search.now.is_cut)) }
+{
+    tell_numbers(search.outcomes.as_slice().len(), search.states, out)?;
+    tell_wayless(&search.stuck, out)?;
+    out.put(cut_words(search.is_cut))?;
+    out.put(b"\n")?;
+    Ok(())
+}
+
+// How many outcomes and how many states.
+fn tell_numbers<O: Out>(outcomes: usize, states: u32, out: &mut O) -> Result<(), WriteFault>
+    ensures { Writes (O.device out.old) (O.device out.new) (counts_text outcomes states) result }
 {
     let mut row = TextLine::new();
     push_counts(&mut row, outcomes, states);
-    push(&mut row, cut_words(is_cut));
-    push(&mut row, b"\n");
     out.put(row.as_slice())?;
     Ok(())
 }
 
-// Adds the counts, in at most 100 bytes.
+// Adds the counts.
 fn push_counts(row: &mut TextLine, outcomes: usize, states: u32)
     requires { array_vec_len row.old ≡ 0 }
-    ensures text { row.new.items ≡ row.old.items ++ counts_text outcomes states }
-    ensures len { array_vec_len row.new ≤ 100 }
+    ensures { row.new.items ≡ row.old.items ++ counts_text outcomes states }
 {
     let mut digits = Buffer::new();
     push(row, digits.format(outcomes).as_bytes());
     push(row, b" outcomes in ");
     push(row, digits.format(states).as_bytes());
     push(row, b" states");
+}
+
+// How many of these have no way to an end, where there are such.
+fn tell_wayless<O: Out>(stuck: &Option<Stuck>, out: &mut O) -> Result<(), WriteFault>
+    ensures { OnOk result (Wrote (O.device out.old) (O.device out.new) (wayless_text stuck.now)) }
+{
+    match stuck {
+        Some(stuck) => tell_wayless_count(stuck.states, out),
+        None => Ok(()),
+    }
+}
+
+fn tell_wayless_count<O: Out>(states: u32, out: &mut O) -> Result<(), WriteFault>
+    ensures { OnOk result (Wrote (O.device out.old) (O.device out.new) (codes ", " ++ decimal states
+        ++ codes " of them without a way to an end")) }
+{
+    let mut digits = Buffer::new();
+    out.put(b", ")?;
+    out.put(digits.format(states).as_bytes())?;
+    out.put(b" of them without a way to an end")?;
+    Ok(())
 }
 
 // What is said behind the counts where the search was cut.

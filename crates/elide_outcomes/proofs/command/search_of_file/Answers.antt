@@ -14,4 +14,5 @@ returns c =
       limits = refl;
       items = subst (λ (items : List Item). AreItems c.args.file.now (option_copied c.args.asked.now.show) items) (sym c.as_slice-2.ensures.value) c.in_ok-items.ensures;
       events = c.events-events.ensures;
+      stops = refl;
     })

@@ -6,7 +6,10 @@ returns c = record {
   there = c.in_ok-search.ensures.there;
   search = c.in_ok-search.search;
   searched = c.in_ok-search.ensures.found;
+  verdict = c.in_ok-search.ensures.verdict;
   order = c.sort.ensures;
   states = refl;
   cut = refl;
+  stuck = refl;
+  stops = refl;
 }

@@ -9,6 +9,6 @@ returns c =
     let show = texts_of c.args.show.now in
     let search = c.args.search.now in
     IfOk-weaker c.object_line.result _ _
-    (λ line texts. texts (search_value show search.outcomes.items search.states search.is_cut) (λ log sent. sent)
-    (no_float_search show search.outcomes.items search.states search.is_cut))
+    (λ line texts. texts (search_value show c.args.status search) (λ log sent. sent)
+    (no_float_search show c.args.status search))
     c.object_line.ensures

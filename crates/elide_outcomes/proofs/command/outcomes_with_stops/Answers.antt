@@ -1,8 +1,6 @@
 use Rattle.std.proofs.Common.{List, subst, ℕ}
-use Rattle.std.specs.Option.{option_copied}
 use Rattle.elide_program.specs.ProgramFile.{IsFile}
-use Rattle.elide_outcomes.proofs.Trials.{told_of_found}
-use Rattle.elide_outcomes.proofs.command.outcomes_of_options.Goals as goal
+use Rattle.elide_outcomes.proofs.command.outcomes_with_stops.Goals as goal
 
 pub returns : goal.returns
 returns g c =
@@ -23,10 +21,16 @@ returns g c =
       };
       under = c.in_ok-under.under;
       said = c.in_ok-under.ensures;
+      stops = c.args.stops.now;
+      named = c.requires;
       trial = made.2;
       shows = made.5;
       most = c.in_ok-most.most;
       limit = c.in_ok-most.ensures;
-      told = told_of_found made.2 c.in_ok-most.most options.is_json (option_copied options.show) c.of.result c.in_ok-search.search
-          (g.O.Out.device c.args.out.now).contents (g.O.Out.device c.write.new.out).contents made.6 c.of.ensures c.in_ok-write.ensures;
+      told = record {
+        found = c.in_ok-search.search;
+        is_found = made.6;
+        came_to = c.of.ensures;
+        wrote = c.in_ok-write.ensures;
+      };
     }

@@ -1,0 +1,9 @@
+use Rattle.std.proofs.Common.{take}
+use Rattle.ia_text.specs.Writing.{Wrote}
+use Rattle.elide_outcomes.specs.Lines.{stop_lines}
+use Rattle.elide_outcomes.proofs.report.tell_stops.Given as goal
+
+-- the stops so far were told
+abbrev pub invariant-loop-told : goal.invariant-loop-told
+invariant-loop-told g l =
+    Wrote (g.O.Out.device l.initial.out) (g.O.Out.device l.out) (stop_lines (take l.told-index l.stops))

@@ -1,0 +1,28 @@
+//! The reasons to stop that are looked for, as the option says them.
+
+ghost use Rattle.std.specs.Prelude.{◌≡◌, ◌++◌, ◌∷◌, [], IfOk, OnOk};
+ghost use Rattle.elide_outcomes.specs.Stops.{AreStops};
+
+use elide_checks::stop_of;
+use elide_setup::Refusal;
+use std::alloc::{AllocError, Global};
+use tm_outcomes::Stop;
+
+/// One for each word of `--stop`.
+pub fn stops_of(alloc: Global, words: &[&str]) -> Result<Vec<Stop>, Refusal>
+    ensures { IfOk result (λ stops. AreStops words.now stops.items) }
+{
+    let mut stops = Vec::new(alloc);
+    for word in words {
+        let why = stop_of(word)?;
+        add(&mut stops, why)?;
+    }
+    Ok(stops)
+}
+
+// Adds one at the end.
+fn add(stops: &mut Vec<Stop>, why: Stop) -> Result<(), AllocError>
+    ensures { OnOk result (stops.new.items ≡ stops.old.items ++ why ∷ []) }
+{
+    stops.push(why).map_err(|_| AllocError)
+}

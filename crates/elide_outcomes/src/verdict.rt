@@ -1,0 +1,55 @@
+//! What a search came to.
+
+ghost use Rattle.std.specs.Prelude.{◌≡◌};
+ghost use Rattle.elide_outcomes.specs.Verdict.{answer_of, has_stops, is_faulty, search_status};
+
+use tm_outcomes::{ReachedStop, Search};
+
+/// What a search came to.
+#[derive(Clone, Copy, PartialEq, Eq)]
+pub enum Answer {
+    /// All outcomes are told, and nothing that was asked for is wrong.
+    Whole,
+    /// The limit on states was reached.
+    Cut,
+    /// A stop that was looked for was found, or a state without a way to an end that was asked for.
+    Faulty,
+}
+
+impl Answer {
+    /// That of a search, where states without a way to an end are asked for or are not.
+    pub fn of(asks_stuck: bool, search: &Search) -> Answer
+        ensures { result ≡ answer_of asks_stuck search.now }
+    {
+        if search.is_cut {
+            return Answer::Cut;
+        }
+        if is_faulty(asks_stuck, search) {
+            Answer::Faulty
+        } else {
+            Answer::Whole
+        }
+    }
+
+    /// The exit status.
+    pub fn status(self) -> u64
+        ensures { result ≡ search_status self }
+    {
+        match self {
+            Answer::Whole => 0,
+            Answer::Cut | Answer::Faulty => 3,
+        }
+    }
+}
+
+fn is_faulty(asks_stuck: bool, search: &Search) -> bool
+    ensures { result ≡ is_faulty asks_stuck search.now }
+{
+    has_stops(search.stops.as_slice()) || (asks_stuck && search.stuck.is_some())
+}
+
+fn has_stops(stops: &[ReachedStop]) -> bool
+    ensures { result ≡ has_stops stops.now }
+{
+    stops.len() > 0
+}
