@@ -154,6 +154,7 @@ def hunt(
     memory: Optional[int] = None,
     *,
     check: Texts = None,
+    forbid: Texts = None,
     stop: Texts = None,
     expect_halt: bool = False,
     entry: Entry = None,
@@ -171,15 +172,16 @@ def hunt(
     """Makes random runs until one fails a check, as `count == 6`, and shortens its schedule: that
     failure, or None where no run fails.
 
-    `check` and `stop` are one text or several; `runs` is how many runs, or the numbers `(A, B)` of
-    those from A to B - 1. A run that reaches its limit ends without a failure, unless `expect_halt`
-    is set.
+    `check`, `forbid` and `stop` are one text or several; `runs` is how many runs, or the numbers
+    `(A, B)` of those from A to B - 1. A run that reaches its limit ends without a failure, unless
+    `expect_halt` is set.
     """
     if isinstance(runs, tuple):
         runs = f"{runs[0]:d}..{runs[1]:d}"
     options = [
         *_options.machine(cores, memory, entry, reads, writes),
         *several("check", check),
+        *several("forbid", forbid),
         *several("stop", stop),
         *flag("expect-halt", expect_halt),
         *option("runs", runs),

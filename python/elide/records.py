@@ -187,8 +187,8 @@ class Length:
 class Failure:
     """The run that failed in a hunt: the one of the lowest number.
 
-    `option` is what it failed, `--check`, `--stop` or `--expect-halt`, and `check` its text, None
-    of the last. `schedule` is the shortened schedule, whose words `steps` of a machine takes;
+    `option` is what it failed, `--check`, `--forbid`, `--stop` or `--expect-halt`, and `check` its
+    text, None of the last. `schedule` is the shortened schedule, whose words `steps` of a machine takes;
     `before` and `after` say how long it was, and is. `replay` is the command that replays it.
     `ended` and `cut` count the runs before it: in how many each core stopped, and how many reached
     the limit on steps.

@@ -173,6 +173,9 @@ class Hunts(Case):
             failure = elide.hunt(program, stop="#UD")
             assert failure is not None
             self.assertEqual((failure.option, failure.check), ("--stop", "#UD"))
+            failure = elide.hunt(program, check="eax@0 == 0", forbid=["ecx@0 == 0", "ecx@0 == 1"])
+            assert failure is not None
+            self.assertEqual((failure.option, failure.check), ("--forbid", "ecx@0 == 1"))
             self.assertIn("elide replay source.asm ", failure.replay)
         with elide.Program.from_source(ENDLESS) as program:
             failure = elide.hunt(program, expect_halt=True, limit=100)

@@ -1,6 +1,7 @@
 //! What is written beside each fault.
 
 use crate::asked::file_of;
+use crate::checks::advise_condition;
 use crate::files::{advise_input, advise_length, advise_output};
 use crate::machine::{advise_executable, advise_limits, advise_load, advise_steps};
 use crate::misuse::advise_misuse;
@@ -39,7 +40,7 @@ pub fn advise<P: Paths, O: Out>(
     }
 }
 
-// How an option is used, or which symbol of its value there is not.
+// How an option is used, or which part of its value cannot be read, or which symbol of it there is not.
 fn advise_usage<P: Paths, O: Out>(
     alloc: Global,
     subcommand: &Subcommand<'_>,
@@ -47,6 +48,9 @@ fn advise_usage<P: Paths, O: Out>(
     paths: &mut P,
     page: &mut Page<'_, O>,
 ) -> fmt::Result {
+    if let (Subcommand::Hunt(options), "--check" | "--forbid") = (subcommand, name) {
+        return advise_condition(alloc, options, name, paths, page);
+    }
     if advise_symbol(alloc, subcommand, name, paths, page)? {
         return Ok(());
     }

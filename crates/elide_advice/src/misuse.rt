@@ -4,7 +4,7 @@ use crate::asked::{machine_of, number_text, schedule_of, value_text};
 use crate::draws::{advise_events, advise_seed};
 use crate::machine::cores_of;
 use crate::page::Page;
-use elide_args::{HuntOptions, ScheduleOptions, Subcommand};
+use elide_args::{ScheduleOptions, Subcommand};
 use elide_program::number_of;
 use ia_text::Out;
 use std::fmt;
@@ -22,7 +22,6 @@ pub fn advise_misuse<O: Out>(
             None => Ok(()),
         },
         ("--entry", other) => advise_entry(other, page),
-        ("--check", Subcommand::Hunt(options)) => advise_check(options, page),
         ("--stop" | "--runs" | "--method" | "--show" | "--dump" | "--core", other) => {
             advise_form(other, name, page)
         }
@@ -170,16 +169,4 @@ fn advise_entry<O: Out>(subcommand: &Subcommand<'_>, page: &mut Page<'_, O>) -> 
         page,
         "--entry {list}: an entry is an address or a symbol of the source"
     )
-}
-
-// What is wrong with what is checked.
-fn advise_check<O: Out>(options: &HuntOptions<'_>, page: &mut Page<'_, O>) -> fmt::Result {
-    if options.checks.is_empty() {
-        return writeln!(page, "one of --check, --stop and --expect-halt is wanted");
-    }
-    let form = "a comparison, as 'count == 6', or bytes, as count:4=06000000";
-    match options.checks.as_slice() {
-        [text] => writeln!(page, "--check {text}: it takes {form}"),
-        _ => writeln!(page, "--check takes {form}"),
-    }
 }

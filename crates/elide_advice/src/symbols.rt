@@ -25,7 +25,7 @@ pub fn advise_symbol<P: Paths, O: Out>(
     paths: &mut P,
     page: &mut Page<'_, O>,
 ) -> Result<bool, fmt::Error> {
-    if !matches!(name, "--entry" | "--show" | "--dump" | "--check") {
+    if !matches!(name, "--entry" | "--show" | "--dump") {
         return Ok(false);
     }
     let Some(machine) = machine_of(subcommand) else {
@@ -40,8 +40,9 @@ pub fn advise_symbol<P: Paths, O: Out>(
     }
 }
 
-// Writes that there is no symbol of this name, where a word is given.
-fn advise_unknown<O: Out>(
+/// Writes that there is no symbol of this name, and which one is near; false, and nothing is written, where no word is
+/// given.
+pub fn advise_unknown<O: Out>(
     alloc: Global,
     word: Option<&[u8]>,
     file: &ProgramFile<'_>,
@@ -79,7 +80,6 @@ fn unknown_of<'s>(
         return None;
     }
     match (name, subcommand) {
-        ("--check", Subcommand::Hunt(options)) => unknown_in_all(options.checks.as_slice(), file),
         ("--show", Subcommand::Outcomes(options)) => unknown_in(options.show?, file),
         (name, other) => unknown_of_machine(machine_of(other)?, name, file),
     }
@@ -107,9 +107,9 @@ fn unknown_in_all<'s>(texts: &'s [&str], file: &ProgramFile<'_>) -> Option<&'s [
     None
 }
 
-// The first word of a value that is no symbol: of what stands before a colon or a comparison.
-fn unknown_in<'s>(text: &'s str, file: &ProgramFile<'_>) -> Option<&'s [u8]> {
-    let mut sums = text.as_bytes().split(|byte| ends_sum(*byte));
+/// The first word of a value that is no symbol: of what stands before a colon.
+pub fn unknown_in<'s>(text: &'s str, file: &ProgramFile<'_>) -> Option<&'s [u8]> {
+    let mut sums = text.as_bytes().split(|byte| *byte == b':');
     let sum = sums.next()?;
     for word in sum.split(|byte| parts_words(*byte)) {
         if is_name(word) && file.symbol(word).is_none() {
@@ -117,11 +117,6 @@ fn unknown_in<'s>(text: &'s str, file: &ProgramFile<'_>) -> Option<&'s [u8]> {
         }
     }
     None
-}
-
-// Whether a byte ends the sum that a value begins with.
-fn ends_sum(byte: u8) -> bool {
-    matches!(byte, b':' | b'=' | b'<' | b'>' | b'!')
 }
 
 // Whether a byte stands between the words of a sum or a list.

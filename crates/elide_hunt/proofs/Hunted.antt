@@ -1,5 +1,5 @@
 -- The trial of a search that a call answers.
-use Rattle.std.proofs.Common.{◌≡◌, ◌+◌, ◌≤◌, ℕ, Option, Some, subst, sym}
+use Rattle.std.proofs.Common.{◌≡◌, ◌+◌, ◌≤◌, ℕ, List, Option, Some, subst, sym}
 use Rattle.std.proofs.lemmas.Result.{IfOk-weaker}
 use Rattle.std.specs.Prelude.{IfOk, Result}
 use Rattle.elide_args.specs.declared.hunt_options.HuntOptions.{HuntOptions}
@@ -19,12 +19,12 @@ use Rattle.elide_hunt.specs.Printed.{IsHunted, IsTrialOf}
 use Rattle.elide_hunt.specs.Lines.{counts_of}
 use Rattle.elide_hunt.specs.declared.report.Counts.{Counts}
 
-pub with_trial : {E : Type 0} (trial : Trial) (events : Events) (file : ProgramFile) (options : HuntOptions) (setup : Setup) (first end : ℕ) (r : Result (Search × Counts) E) →
+pub with_trial : {E : Type 0} (trial : Trial) (events : Events) (text : List ℕ) (file : ProgramFile) (options : HuntOptions) (setup : Setup) (first end : ℕ) (r : Result (Search × Counts) E) →
     IfOk r (λ made. IsHunted trial events first end made.1 made.0) →
-    trial.program.now ≡ setup.program → trial.limits ≡ setup.limits → AreChecks file options trial.checks.now →
-    IfOk r (λ made. (t : Trial) × IsTrialOf file options setup t × IsHunted t events first end made.1 made.0)
-with_trial trial events file options setup first end r h program limits checks =
-    IfOk-weaker r (λ made. IsHunted trial events first end made.1 made.0) (λ made. (t : Trial) × IsTrialOf file options setup t × IsHunted t events first end made.1 made.0)
+    trial.program.now ≡ setup.program → trial.limits ≡ setup.limits → AreChecks text file options trial.checks.now →
+    IfOk r (λ made. (t : Trial) × IsTrialOf text file options setup t × IsHunted t events first end made.1 made.0)
+with_trial trial events text file options setup first end r h program limits checks =
+    IfOk-weaker r (λ made. IsHunted trial events first end made.1 made.0) (λ made. (t : Trial) × IsTrialOf text file options setup t × IsHunted t events first end made.1 made.0)
     (λ made hunted. (trial, record { program = program; limits = limits; checks = checks }, hunted)) h
 
 -- a search whose first failure was shortened

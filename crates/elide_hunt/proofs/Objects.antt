@@ -8,7 +8,7 @@ use Rattle.elide_object.specs.Object.{items_of, word_value}
 use Rattle.serde_json.specs.Data.{Data}
 use Rattle.serde_json.specs.Written.{has_float, items_have_float}
 use Rattle.tm_hunt.specs.declared.searching.Found.{Found}
-use Rattle.elide_hunt.specs.Object.{check_value, failure_value, hunt_value, option_of, stop_value}
+use Rattle.elide_hunt.specs.Object.{check_value, failure_value, forbid_value, hunt_value, option_of, stop_value}
 use Rattle.elide_hunt.specs.Sent.{failure_of, object_value}
 use Rattle.elide_hunt.specs.declared.report.Counts.{Counts}
 use Rattle.elide_hunt.specs.declared.sending.FailureObject.{FailureObject}
@@ -18,17 +18,23 @@ no_float_stop : (text : Option (Bor (List ℕ))) → has_float (stop_value text)
 no_float_stop None = refl
 no_float_stop (Some text) = refl
 
-no_float_option : (stops : List (Bor (List ℕ))) (index : ℕ) (text : Option (Bor (List ℕ))) →
-    has_float (option_of stops index text) ≡ false
-no_float_option stops index None = no_float_stop (slice_get stops index)
-no_float_option stops index (Some text) = refl
+no_float_forbid : (stops : List (Bor (List ℕ))) (index : ℕ) (text : Option (Bor (List ℕ))) →
+    has_float (forbid_value stops index text) ≡ false
+no_float_forbid stops index None = no_float_stop (slice_get stops index)
+no_float_forbid stops index (Some text) = refl
+
+no_float_option : (options : HuntOptions) (index : ℕ) (text : Option (Bor (List ℕ))) →
+    has_float (option_of options index text) ≡ false
+no_float_option options index None =
+    no_float_forbid options.stops.items (index - length options.forbids.items) (slice_get options.forbids.items index)
+no_float_option options index (Some text) = refl
 
 no_float_failure : (options : HuntOptions) (before : Counts) (replay : List ℕ) (found : Found) →
     has_float (failure_value options before replay found) ≡ false
 no_float_failure options before replay found =
     let picks = found.failure.picks.items in
     no_float_both (has_float (check_value options found.failure.check)) (items_have_float (items_of word_value picks) || false)
-    (no_float_option options.stops.items (found.failure.check - length options.checks.items)
+    (no_float_option options (found.failure.check - length options.checks.items)
     (slice_get options.checks.items found.failure.check))
     (no_float_both (items_have_float (items_of word_value picks)) false (no_float_items word_value (λ pick. refl) picks) refl)
 

@@ -19,18 +19,24 @@ none_line ended cut =
     codes "no failure in " ++ decimal (ended + cut) ++ codes " runs: " ++ decimal ended ++ codes " ended, "
     ++ decimal cut ++ codes " reached the limit" ++ line_end
 
--- the option that says the check with this index: those of `--check` come first, then those of `--stop`
+-- the option that says the check with this index: those of `--check` come first, then those of `--forbid`, then those
+-- of `--stop`
 abbrev pub stop_option : Option (Bor (List ℕ)) → List ℕ
 stop_option None = codes "--expect-halt"
 stop_option (Some text) = codes "--stop " ++ text.now
 
-abbrev pub check_option : List (Bor (List ℕ)) → ℕ → Option (Bor (List ℕ)) → List ℕ
-check_option stops index None = stop_option (slice_get stops index)
-check_option stops index (Some text) = codes "--check " ++ text.now
+abbrev pub forbid_option : List (Bor (List ℕ)) → ℕ → Option (Bor (List ℕ)) → List ℕ
+forbid_option stops index None = stop_option (slice_get stops index)
+forbid_option stops index (Some text) = codes "--forbid " ++ text.now
+
+abbrev pub check_option : HuntOptions → ℕ → Option (Bor (List ℕ)) → List ℕ
+check_option options index None =
+    forbid_option options.stops.items (index - length options.forbids.items) (slice_get options.forbids.items index)
+check_option options index (Some text) = codes "--check " ++ text.now
 
 abbrev pub check_text : HuntOptions → ℕ → List ℕ
 check_text options index =
-    check_option options.stops.items (index - length options.checks.items) (slice_get options.checks.items index)
+    check_option options (index - length options.checks.items) (slice_get options.checks.items index)
 
 -- how many steps a schedule has, how often the core changes, and how many of the steps come under an event
 abbrev pub counts_of : List Pick → Counts

@@ -9,7 +9,8 @@ use Rattle.tm_hunt.specs.declared.searching.Search.{Search}
 use Rattle.elide_hunt.specs.Lines.{counts_of, replay_command}
 use Rattle.elide_hunt.specs.declared.report.Counts.{Counts}
 
--- the option that says the check with this index: those of `--check` come first, then those of `--stop`
+-- the option that says the check with this index: those of `--check` come first, then those of `--forbid`, then those
+-- of `--stop`
 abbrev pub option_value : List ℕ → Data → Data
 option_value name text = object (member (codes "option") (string name) (member (codes "text") text no_members))
 
@@ -17,13 +18,18 @@ abbrev pub stop_value : Option (Bor (List ℕ)) → Data
 stop_value None = option_value (codes "--expect-halt") null
 stop_value (Some text) = option_value (codes "--stop") (string text.now)
 
-abbrev pub option_of : List (Bor (List ℕ)) → ℕ → Option (Bor (List ℕ)) → Data
-option_of stops index None = stop_value (slice_get stops index)
-option_of stops index (Some text) = option_value (codes "--check") (string text.now)
+abbrev pub forbid_value : List (Bor (List ℕ)) → ℕ → Option (Bor (List ℕ)) → Data
+forbid_value stops index None = stop_value (slice_get stops index)
+forbid_value stops index (Some text) = option_value (codes "--forbid") (string text.now)
+
+abbrev pub option_of : HuntOptions → ℕ → Option (Bor (List ℕ)) → Data
+option_of options index None =
+    forbid_value options.stops.items (index - length options.forbids.items) (slice_get options.forbids.items index)
+option_of options index (Some text) = option_value (codes "--check") (string text.now)
 
 abbrev pub check_value : HuntOptions → ℕ → Data
 check_value options index =
-    option_of options.stops.items (index - length options.checks.items) (slice_get options.checks.items index)
+    option_of options (index - length options.checks.items) (slice_get options.checks.items index)
 
 -- how long a schedule is
 abbrev pub counts_value : Counts → Data

@@ -50,11 +50,13 @@ pub record IsHunted (trial : Trial) (events : Events) (first end : ℕ) (before 
   pub came_to : IsSearch trial events first end search
   pub longer : IfSome search.found (λ found. WasLonger trial before found.failure)
 
--- the trial is of this program and these limits, and its checks are those of the options
-pub record IsTrialOf (file : ProgramFile) (options : HuntOptions) (setup : Setup) (trial : Trial) : Type 0 where
+-- the trial is of this program and these limits, and its checks are those of the options, by the symbols of the program
+-- that a text is read as
+pub record IsTrialOf (text : List ℕ) (file : ProgramFile) (options : HuntOptions) (setup : Setup) (trial : Trial)
+    : Type 0 where
   pub program : trial.program.now ≡ setup.program
   pub limits : trial.limits ≡ setup.limits
-  pub checks : AreChecks file options trial.checks.now
+  pub checks : AreChecks text file options trial.checks.now
 
 -- that of a search over the runs of the options, under their events, of a machine of the options and of what FILE's
 -- content is read as; where a run fails, what is recorded is the schedule that is told
@@ -63,7 +65,7 @@ pub record IsPrinted (content left : List ℕ → Option (List ℕ)) (options : 
   pub setup : Setup
   pub asked : IsAsked (content options.machine.file.now) options.machine setup
   pub trial : Trial
-  pub made : IsTrialOf asked.file options setup trial
+  pub made : IsTrialOf asked.read.text asked.file options setup trial
   pub first : ℕ
   pub end : ℕ
   pub runs : AreRuns (option_copied options.runs) first end

@@ -1,9 +1,9 @@
 //! The command.
 
-ghost use Rattle.std.specs.Prelude.{◌≡◌, ◌≤◌, IfOk, IfSome, OnOk};
+ghost use Rattle.std.specs.Prelude.{◌≡◌, ◌≤◌, ℕ, IfOk, IfSome, List, OnOk};
 ghost use Rattle.std.specs.Io.KnownBytes.{Appends};
 ghost use Rattle.elide_args.specs.declared.hunt_options.HuntOptions.{HuntOptions};
-ghost use Rattle.elide_checks.specs.Demands.{AreDemands};
+ghost use Rattle.elide_checks.specs.Checks.{AreChecks};
 ghost use Rattle.elide_setup.specs.ElideProgram.ProgramFile.{IsFile};
 ghost use Rattle.elide_setup.specs.ElideProgram.ProgramFileType.{ProgramFile};
 ghost use Rattle.elide_setup.specs.Recorded.{IsRecorded};
@@ -152,12 +152,12 @@ fn hunted<R: Threads + Sync + AllocGlobal, G: Progress>(
     progress: &mut G,
 ) -> Result<(Search, Counts), Refusal>
     ensures { IfOk result (λ made. (file : ProgramFile) × (setup : Setup) × (trial : Trial) × IsFile text.now file
-        × IsSetup file settings.now setup × IsTrialOf file options.now setup trial
+        × IsSetup file settings.now setup × IsTrialOf text.now file options.now setup trial
         × IsHunted trial orders.now.events orders.now.first orders.now.end made.1 made.0) }
 {
     let alloc = rt.alloc();
     let file = ProgramFile::read(alloc, text)?;
-    let demands = Demands::read(alloc, options, &file)?;
+    let demands = Demands::read(alloc, options, text, &file)?;
     let setup = Setup::of_file(alloc, settings, &file)?;
     let made = hunted_in(rt, &demands, &setup, orders, progress);
     drop(setup);
@@ -174,20 +174,19 @@ fn hunted_in<R: Threads + Sync + AllocGlobal, G: Progress>(
     orders: &Orders,
     progress: &mut G,
 ) -> Result<(Search, Counts), Refusal>
-    ensures { (file : ProgramFile) (options : HuntOptions) → AreDemands file options demands.now.demands.items →
-        IfOk result (λ made. (trial : Trial) × IsTrialOf file options setup.now trial
+    ensures { (text : List ℕ) (file : ProgramFile) (options : HuntOptions) →
+        AreChecks text file options demands.now.checks.items →
+        IfOk result (λ made. (trial : Trial) × IsTrialOf text file options setup.now trial
         × IsHunted trial orders.now.events orders.now.first orders.now.end made.1 made.0) }
 {
-    let checks = demands.checks(rt.alloc(), setup.program.mem_size())?;
+    let checks = demands.checks(setup.program.mem_size(), setup.program.cores())?;
     let trial = Trial {
         program: &setup.program,
         limits: setup.limits,
         most: orders.most,
-        checks: checks.as_slice(),
+        checks,
     };
-    let made = shortest(rt, &trial, orders, progress);
-    drop(checks);
-    made
+    shortest(rt, &trial, orders, progress)
 }
 
 // A search whose schedule is shortened, with how long it was before.

@@ -175,9 +175,13 @@ fn put_check<O: Out>(options: &HuntOptions<'_>, check: usize, out: &mut O) -> Re
     if let Some(text) = options.checks.get(check) {
         return put_both(b"--check ", text, out);
     }
+    let behind = check.saturating_sub(options.checks.len());
+    if let Some(text) = options.forbids.get(behind) {
+        return put_both(b"--forbid ", text, out);
+    }
     match options
         .stops
-        .get(check.saturating_sub(options.checks.len()))
+        .get(behind.saturating_sub(options.forbids.len()))
     {
         Some(text) => put_both(b"--stop ", text, out),
         None => out.put(b"--expect-halt"),

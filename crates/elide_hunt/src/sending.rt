@@ -116,9 +116,13 @@ fn send_check<S: Serializer>(
     if let Some(text) = options.checks.get(check) {
         return send_option("--check", Some(*text), out);
     }
+    let behind = check.saturating_sub(options.checks.len());
+    if let Some(text) = options.forbids.get(behind) {
+        return send_option("--forbid", Some(*text), out);
+    }
     match options
         .stops
-        .get(check.saturating_sub(options.checks.len()))
+        .get(behind.saturating_sub(options.forbids.len()))
     {
         Some(text) => send_option("--stop", Some(*text), out),
         None => send_option("--expect-halt", None, out),

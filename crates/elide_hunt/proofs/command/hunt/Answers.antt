@@ -5,7 +5,7 @@ use Rattle.std.specs.Prelude.{IfSome}
 use Rattle.elide_setup.specs.ElideProgram.Files.{Gives, most_bytes}
 use Rattle.elide_setup.specs.ElideProgram.ProgramFile.{IsFile}
 use Rattle.elide_setup.specs.Recorded.{IsRecorded}
-use Rattle.elide_hunt.specs.Printed.{IsPrinted, IsTold}
+use Rattle.elide_hunt.specs.Printed.{IsPrinted, IsTold, IsTrialOf}
 use Rattle.elide_hunt.specs.declared.command.Answer.{Answer}
 use Rattle.elide_hunt.proofs.command.hunt.Goals as goal
 
@@ -33,7 +33,7 @@ returns g c =
         made = made.4;
       };
       trial = made.2;
-      made = made.5;
+      made = subst (λ (text : List ℕ). IsTrialOf text made.0 options made.1 made.2) c.as_slice.ensures.value made.5;
       first = c.in_ok-orders.orders.first;
       end = c.in_ok-orders.orders.end;
       runs = c.in_ok-orders.ensures.runs;
