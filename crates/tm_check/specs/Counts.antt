@@ -27,7 +27,7 @@ are_same Eviction Eviction = true
 are_same Snoop Snoop = true
 are_same _ _ = false
 
--- an abort for a cause in the program has its status, nested or not (SDM volume 1, 16.3.5); one from outside tells of it
+-- an abort for a cause in the program has its status, nested or not (SDM volume 1, 16.3.5); one from outside is told
 abbrev pub is_of_kind : AbortKind → Outcome → Bool
 is_of_kind (Program cause) (Aborted status) =
     (status == status_of cause false) || (status == status_of cause true)
