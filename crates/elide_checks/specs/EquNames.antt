@@ -28,11 +28,14 @@ names_in (entry ∷ entries) = equ_names entry ++ names_in entries
 
 names_both : (es fs : List Entry) → names_in (es ++ fs) ≡ names_in es ++ names_in fs
 names_both [] fs = refl
-names_both (e ∷ es) fs = ap (λ l. equ_names e ++ l) (names_both es fs) ∙ sym (append_assoc (equ_names e) (names_in es) (names_in fs))
+names_both (e ∷ es) fs =
+    ap (λ l. equ_names e ++ l) (names_both es fs) ∙ sym (append_assoc (equ_names e) (names_in es) (names_in fs))
 
 pub none_more : (names : List Name) → names ≡ names ++ []
 none_more names = sym (append-nil names)
 
-pub both_more : (a b c : List Name) (es fs : List Entry) → b ≡ a ++ names_in es → c ≡ b ++ names_in fs → c ≡ a ++ names_in (es ++ fs)
+pub both_more : (a b c : List Name) (es fs : List Entry) → b ≡ a ++ names_in es → c ≡ b ++ names_in fs →
+    c ≡ a ++ names_in (es ++ fs)
 both_more a b c es fs x y =
-    y ∙ ap (λ l. l ++ names_in fs) x ∙ append_assoc a (names_in es) (names_in fs) ∙ ap (λ l. a ++ l) (sym (names_both es fs))
+    y ∙ ap (λ l. l ++ names_in fs) x ∙ append_assoc a (names_in es) (names_in fs)
+    ∙ ap (λ l. a ++ l) (sym (names_both es fs))
