@@ -3,6 +3,8 @@ use Rattle.std.specs.Prelude.{ℕ, ◌+◌, Bool, ◌||◌, List, [], ◌∷◌,
 use Rattle.std.specs.Prelude.{Option, Some, None, string_bytes, if◌then◌else◌}
 use Rattle.std.specs.Fmt.{decimal}
 use Rattle.std.specs.List.{flat_map, list_any}
+use Rattle.elide_setup.specs.Told.{fault_back, fault_front}
+use Rattle.elide_setup.specs.declared.fault.Fault.{Fault}
 use Rattle.ia_text.specs.TextLine.{line_end}
 use Rattle.elide_test.specs.declared.report.Difference.{Difference}
 use Rattle.elide_test.specs.declared.report.FileReport.{FileReport}
@@ -81,6 +83,15 @@ files_text before (file ∷ files) = file_text before file ++ files_text (before
 abbrev pub count_of : List FileReport → ℕ
 count_of [] = 0
 count_of (file ∷ files) = length file.tests.items + count_of files
+
+-- the file that cannot be tried, and the line that tells the fault, by some name
+abbrev pub bail_line : List ℕ → Fault → List ℕ → List ℕ
+bail_line file fault word =
+    codes "Bail out! " ++ (file ++ (codes ": " ++ (fault_front fault ++ word ++ fault_back fault)))
+
+-- it stands below the files that were tried before, in the place of the count
+unfoldable pub bail_text : List FileReport → List ℕ → Fault → List ℕ → List ℕ
+bail_text files file fault word = codes "TAP version 14\n" ++ files_text 0 files ++ bail_line file fault word
 
 -- all files, and how many tests they have
 unfoldable pub tap_text : List FileReport → List ℕ

@@ -1,7 +1,11 @@
 //! Why nothing more is tried.
 
-ghost use Rattle.std.specs.Prelude.{◌≡◌, ◌+◌, ◌≤◌, ◌++◌, ℕ, List};
+ghost use Rattle.std.specs.Prelude.{◌≡◌, ◌+◌, ◌≤◌, ◌++◌, ℕ, IfOk, List, OnOk};
+ghost use Rattle.std.specs.Io.KnownBytes.{Appends};
 ghost use Rattle.arrayvec.specs.ArrayVec.{array_vec_len};
+ghost use Rattle.ia_text.specs.Writing.{Wrote};
+ghost use Rattle.elide_setup.specs.Told.{fault_back, fault_front};
+ghost use Rattle.elide_test.specs.Tap.{bail_line, bail_text};
 
 use crate::report::FileReport;
 use crate::stop::Stop;
@@ -43,7 +47,7 @@ pub fn refused<O: Out + Drop>(
         None => "",
     };
     match bail_out(files, name, fault, out) {
-        Ok(()) => Refusal::Fault(fault),
+        Ok(_) => Refusal::Fault(fault),
         Err(refusal) => refusal,
     }
 }
@@ -57,36 +61,50 @@ fn fault_of(stop: Stop) -> Fault {
     }
 }
 
-// Tells files, and that the next cannot be tried.
+// Tells files, and that the next cannot be tried. Gives the device back.
 fn bail_out<O: Out + Drop>(
     files: &[FileReport],
     name: &str,
     fault: Fault,
     out: O,
-) -> Result<(), Refusal> {
+) -> Result<O, Refusal>
+    ensures { IfOk result (λ given. (word : List ℕ) × Appends (O.device out).contents (O.device given).contents
+        (bail_text files.now name.now fault word)) }
+{
     let mut page = Gathered::new(out);
     tell_until(files, &mut page)?;
     tell_bail(name, fault, &mut page)?;
-    page.finish()?;
-    Ok(())
+    let out = page.finish()?;
+    Ok(out)
 }
 
 // `Bail out!`, the file, and the line that tells the fault.
-fn tell_bail<O: Out>(name: &str, fault: Fault, out: &mut O) -> Result<(), WriteFault> {
+fn tell_bail<O: Out>(name: &str, fault: Fault, out: &mut O) -> Result<(), WriteFault>
+    ensures { OnOk result ((word : List ℕ) × Wrote (O.device out.old) (O.device out.new) (bail_line name.now fault word)) }
+{
+    out.put(b"Bail out! ")?;
+    out.put(name.as_bytes())?;
+    out.put(b": ")?;
+    tell_fault(fault, out)
+}
+
+// The line that tells a fault, by some name.
+fn tell_fault<O: Out>(fault: Fault, out: &mut O) -> Result<(), WriteFault>
+    ensures { OnOk result ((word : List ℕ) × Wrote (O.device out.old) (O.device out.new)
+        (fault_front fault ++ word ++ fault_back fault)) }
+{
     let mut line = Line::new();
     push_front(&mut line, fault);
     push_name(&mut line, fault);
     push_back(&mut line, fault);
-    out.put(b"Bail out! ")?;
-    out.put(name.as_bytes())?;
-    out.put(b": ")?;
     out.put(line.as_slice())?;
     Ok(())
 }
 
 fn push_name(line: &mut Line, fault: Fault)
     requires { array_vec_len line.old + 64 ≤ 160 }
-    ensures { array_vec_len line.new ≤ array_vec_len line.old + 64 }
+    ensures text { (word : List ℕ) × (line.new.items ≡ line.old.items ++ word) }
+    ensures len { array_vec_len line.new ≤ array_vec_len line.old + 64 }
 {
     let mut name = Name::new();
     // A name that is longer is cut short.

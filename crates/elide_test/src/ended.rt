@@ -1,5 +1,7 @@
 //! What a command came to.
 
+ghost use Rattle.std.specs.Prelude.{◌≤◌};
+
 /// How a command ended, and what it printed.
 #[derive(Drop)]
 pub struct Ended {
@@ -7,4 +9,5 @@ pub struct Ended {
     pub status: u8,
     /// What it printed on standard output.
     pub output: Vec<u8>,
+    pub ghost most: { status ≤ 3 },
 }

@@ -1,6 +1,6 @@
 //! What is printed of tests.
 
-ghost use Rattle.std.specs.Prelude.{IfOk};
+ghost use Rattle.std.specs.Prelude.{IfOk, IfSome, IsErr};
 ghost use Rattle.std.specs.Io.KnownBytes.{Appends};
 ghost use Rattle.elide_object.specs.Object.{object_text};
 ghost use Rattle.elide_test.specs.Object.{tests_value};
@@ -23,8 +23,9 @@ pub fn tell<O: Out + Drop>(
     trials: &Trials,
     out: O,
 ) -> Result<(Answer, O), Refusal>
-    ensures { IfOk result (λ r. IsTold is_json trials.now.files.items r.0
+    ensures told { IfOk result (λ r. IsTold is_json trials.now.files.items r.0
         (O.device out).contents (O.device r.1).contents) }
+    ensures stopped { IfSome trials.now.stop (λ _. IsErr result) }
 {
     match trials.stop {
         Some(stop) => Err(refused(is_json, names, trials.files.as_slice(), stop, out)),

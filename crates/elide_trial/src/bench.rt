@@ -2,36 +2,42 @@
 
 ghost use Rattle.std.specs.Prelude.{◌≡◌, ◌+◌, ◌<◌, ◌≤◌, IfNone, IfOk, OnSome, length, vec_len};
 ghost use Rattle.std.specs.List.{All};
-ghost use Rattle.std.specs.Thread.{IsSync};
 ghost use Rattle.elide_test.specs.Tried.{IsTried};
 ghost use Rattle.elide_trial.specs.Came.{CameTo};
 
+use crate::ending::CommandEnd;
 use crate::trial::try_file;
-use elide_test::{FileReport, SharedPaths, Stop, Trials};
+use elide_test::{FileReport, FolderPaths, SharedPaths, Stop, Trials};
+use ia_text::ToVec;
 use std::alloc::{AllocError, Global};
-use std::sync::Wait;
 use std::thread;
 use std::thread::Threads;
 
-/// Tries files, so many side by side, up to the first that cannot be tried.
-pub fn try_all<R: Threads + Wait + Sync + AllocGlobal, S: SharedPaths + Sync>(
+/// Tries files, so many side by side, up to the first that cannot be tried. Each command is carried out by a call.
+pub fn try_all<
+    R: Threads + Sync,
+    S: SharedPaths + Sync,
+    C: Fn(&[&str], FolderPaths<'_, S>, ToVec) -> CommandEnd + Sync,
+>(
     rt: &R,
     alloc: Global,
     paths: &S,
     jobs: usize,
     names: &[String],
+    call: &C,
 ) -> Result<Trials, AllocError>
-    requires { 0 < jobs }
+    requires some { 0 < jobs }
+    requires callable { C.IsAlwaysCallable call.now }
     ensures tried { IfOk result (λ trials.
-        All (IsTried (S.holds paths.now) CameTo) trials.files.items) }
+        All (IsTried (S.holds paths.now) (CameTo (C.post call.now) paths.now)) trials.files.items) }
     ensures whole { IfOk result (λ trials. IfNone trials.stop (vec_len trials.files ≡ length names.now)) }
 {
     let mut files = Vec::new(alloc);
     let mut first = 0;
     'turns: while first < names.len() {
         let end = block_end(first, jobs, names.len());
-        let block = try_block(rt, alloc, paths, &names[first..end])?;
-        let stop = take(paths, block, &mut files);
+        let block = try_block(rt, alloc, paths, &names[first..end], call)?;
+        let stop = take(paths, call, block, &mut files);
         if stop.is_some() {
             return Ok(Trials { files, stop });
         }
@@ -41,47 +47,55 @@ pub fn try_all<R: Threads + Wait + Sync + AllocGlobal, S: SharedPaths + Sync>(
 }
 
 // Tries each of these files in a thread of its own. The last is the first of the list.
-fn try_block<R: Threads + Wait + Sync + AllocGlobal, S: SharedPaths + Sync>(
+fn try_block<
+    R: Threads + Sync,
+    S: SharedPaths + Sync,
+    C: Fn(&[&str], FolderPaths<'_, S>, ToVec) -> CommandEnd + Sync,
+>(
     rt: &R,
     alloc: Global,
     paths: &S,
     names: &[String],
+    call: &C,
 ) -> Result<Vec<Result<FileReport, Stop>>, AllocError>
+    requires { C.IsAlwaysCallable call.now }
     ensures tried { IfOk result (λ block. All (λ file.
-        IfOk file (IsTried (S.holds paths.now) CameTo)) block.items) }
+        IfOk file (IsTried (S.holds paths.now) (CameTo (C.post call.now) paths.now))) block.items) }
     ensures len { IfOk result (λ block. vec_len block ≡ length names.now) }
 {
     let try_one = |index: usize| -> Result<FileReport, Stop>
-        requires { IsSync R.row × (index < length names.now) }
-    { try_from_end(rt, alloc, paths, names, index) };
+        requires { C.IsAlwaysCallable call.now × (index < length names.now) }
+    { try_from_end(alloc, paths, names, index, call) };
     thread::map_indices(rt, alloc, names.len(), &try_one)
 }
 
 // Tries a file, counted from the end.
-fn try_from_end<R: Threads + Wait + Sync + AllocGlobal, S: SharedPaths>(
-    rt: &R,
+fn try_from_end<S: SharedPaths, C: Fn(&[&str], FolderPaths<'_, S>, ToVec) -> CommandEnd>(
     alloc: Global,
     paths: &S,
     names: &[String],
     index: usize,
+    call: &C,
 ) -> Result<FileReport, Stop>
-    requires { index < length names.now }
-    ensures { IfOk result (IsTried (S.holds paths.now) CameTo) }
+    requires within { index < length names.now }
+    requires callable { C.IsAlwaysCallable call.now }
+    ensures { IfOk result (IsTried (S.holds paths.now) (CameTo (C.post call.now) paths.now)) }
 {
     let name = &names[names.len() - 1 - index];
-    try_file(rt, alloc, name.as_str(), paths)
+    try_file(alloc, name.as_str(), paths, call)
 }
 
 // Takes files from the end of a list, up to one that was not tried.
-fn take<S: SharedPaths>(
+fn take<S: SharedPaths, C: Fn(&[&str], FolderPaths<'_, S>, ToVec) -> CommandEnd>(
     _paths: &S,
+    _call: &C,
     block: Vec<Result<FileReport, Stop>>,
     files: &mut Vec<FileReport>,
 ) -> Option<Stop>
     requires block { All (λ file.
-        IfOk file (IsTried (S.holds _paths.now) CameTo)) block.items }
-    requires files { All (IsTried (S.holds _paths.now) CameTo) files.old.items }
-    ensures tried { All (IsTried (S.holds _paths.now) CameTo) files.new.items }
+        IfOk file (IsTried (S.holds _paths.now) (CameTo (C.post _call.now) _paths.now))) block.items }
+    requires files { All (IsTried (S.holds _paths.now) (CameTo (C.post _call.now) _paths.now)) files.old.items }
+    ensures tried { All (IsTried (S.holds _paths.now) (CameTo (C.post _call.now) _paths.now)) files.new.items }
     ensures whole { IfNone result (vec_len files.new ≡ vec_len files.old + vec_len block) }
 {
     let mut rest = block;

@@ -1,10 +1,11 @@
 //! What carries out the commands of tests.
 
-ghost use Rattle.std.specs.Prelude.{IfOk, None};
+ghost use Rattle.std.specs.Prelude.{◌≡◌, IfOk, None};
 ghost use Rattle.std.specs.Option.{option_copied};
 ghost use Rattle.elide_args.specs.Asked.{texts_of};
 ghost use Rattle.elide_trial.specs.Came.{CameTo};
 
+use crate::ending::CommandEnd;
 use elide_command::{Silent, Surroundings, command};
 use elide_test::{Ended, FolderPaths, SharedPaths};
 use ia_text::{Failed, Out, ToVec};
@@ -13,40 +14,63 @@ use std::sync::Wait;
 use std::thread::Threads;
 use tm_debug::In;
 
-/// Carries out a command: its words without the program's name, whose relative paths are seen from a folder, or as they are where
-/// there is none. It writes no file, has no input, and what it writes on standard error is not kept. Refused for want of memory
-/// alone.
-pub fn carried_out<R: Threads + Wait + Sync + AllocGlobal, S: SharedPaths>(
+/// Carries out a command: its words without the program's name, the files that it reads, and the device that it writes to. It has no
+/// input, and what it writes on standard error is not kept.
+pub fn command_end<R: Threads + Wait + Sync + AllocGlobal, S: SharedPaths>(
     rt: &R,
-    alloc: Global,
-    folder: Option<&str>,
     words: &[&str],
-    paths: &S,
-) -> Result<Ended, AllocError>
-    ensures { IfOk result (CameTo (option_copied folder.entry) (texts_of words.now)) }
-{
-    let mut paths = FolderPaths {
-        alloc,
-        paths,
-        folder,
-    };
-    let mut out = ToVec::new(Vec::new(alloc));
+    files: FolderPaths<'_, S>,
+    out: ToVec,
+) -> CommandEnd {
+    let mut files = files;
+    let mut out = out;
     let status = command(
         rt,
         words,
-        &mut paths,
+        &mut files,
         &mut NoInput,
         &mut out,
         &mut Nowhere,
         Surroundings::NONE,
         &mut Silent,
     );
-    if out.failures != 0 {
+    CommandEnd { status, out }
+}
+
+/// What a command of a test came to, which a call carries out: its relative paths are seen from a folder, or as they are where there
+/// is none. Refused for want of memory alone.
+pub fn carried_out<S: SharedPaths, C: Fn(&[&str], FolderPaths<'_, S>, ToVec) -> CommandEnd>(
+    alloc: Global,
+    folder: Option<&str>,
+    words: &[&str],
+    paths: &S,
+    call: &C,
+) -> Result<Ended, AllocError>
+    requires { C.IsAlwaysCallable call.now }
+    ensures { IfOk result (CameTo (C.post call.now) paths.now (option_copied folder.entry) (texts_of words.now)) }
+{
+    let files = FolderPaths {
+        alloc,
+        paths,
+        folder,
+    };
+    let end = call(words, files, ToVec::new(Vec::new(alloc)));
+    let ended = ended_of(end)?;
+    Ok(ended)
+}
+
+// What a command came to, where its device has all that it wrote.
+fn ended_of(end: CommandEnd) -> Result<Ended, AllocError>
+    ensures whole { IfOk result (λ _. end.out.failures ≡ 0) }
+    ensures status { IfOk result (λ ended. ended.status ≡ end.status) }
+    ensures output { IfOk result (λ ended. ended.output ≡ end.out.bytes) }
+{
+    if end.out.failures != 0 {
         return Err(AllocError);
     }
     Ok(Ended {
-        status,
-        output: out.bytes,
+        status: end.status,
+        output: end.out.bytes,
     })
 }
 

@@ -1,15 +1,18 @@
 //! The command line.
 
 ghost use Rattle.std.specs.Prelude.{◌≤◌, IfOk};
+ghost use Rattle.std.specs.Thread.{IsSync};
 ghost use Rattle.elide_test.specs.Printed.{IsPrinted};
 ghost use Rattle.elide_trial.specs.Came.{CameTo};
 
 use crate::bench::try_all;
+use crate::carrier::command_end;
+use crate::ending::CommandEnd;
 use elide_args::{CommandLine, Subcommand, TestOptions, command_line_of};
 use elide_command::{Paths, Progress, Surroundings, carry_out, end_early, misused, refuse};
 use elide_setup::{Lent, Refusal};
-use elide_test::{Answer, SharedPaths, jobs_of, names_of, tell};
-use ia_text::Out;
+use elide_test::{Answer, FolderPaths, SharedPaths, jobs_of, names_of, tell};
+use ia_text::{Out, ToVec};
 use std::sync::Wait;
 use std::thread::Threads;
 use tm_debug::In;
@@ -73,22 +76,38 @@ fn carry_out_tests<
             err,
         );
     }
-    match test(rt, options, &*paths, Lent::new(out)) {
-        Ok((Answer::Passes, _)) => 0,
-        Ok((Answer::Fails, _)) => 3,
+    match tried(rt, options, &*paths, out) {
+        Ok(Answer::Passes) => 0,
+        Ok(Answer::Fails) => 3,
         Err(refusal) => refuse(rt.alloc(), line, refusal, paths, surroundings, err),
     }
 }
 
-/// Carries out the tests of files, prints what they came to, and answers whether each passed. Gives the device back. Up to a file
-/// that cannot be tried the others are told.
-pub fn test<R: Threads + Wait + Sync + AllocGlobal, S: SharedPaths + Sync, O: Out + Drop>(
+// Tries files whose commands are command lines of their own, prints what they came to, and answers whether each passed.
+fn tried<R: Threads + Wait + Sync + AllocGlobal, S: SharedPaths + Sync, O: Out>(
     rt: &R,
     options: &TestOptions<'_>,
     paths: &S,
-    out: O,
-) -> Result<(Answer, O), Refusal>
-    ensures { IfOk result (λ r. IsPrinted (S.holds paths.now) CameTo options.now.is_json r.0
+    out: &mut O,
+) -> Result<Answer, Refusal> {
+    let call = |words: &[&str], files: FolderPaths<'_, S>, out: ToVec| -> CommandEnd
+        requires { IsSync R.row }
+    { command_end(rt, words, files, out) };
+    let (answer, _) = test(rt, options, paths, &call, Lent::new(out))?;
+    Ok(answer)
+}
+
+/// Tries files, each of whose commands is carried out by a call: with its words, the files as they are seen from the folder that it
+/// stands in, and an empty device. Prints what they came to, and answers whether each passed. Gives the device back. Up to a file
+/// that cannot be tried the others are told.
+pub fn test<
+    R: Threads + Sync + AllocGlobal,
+    S: SharedPaths + Sync,
+    C: Fn(&[&str], FolderPaths<'_, S>, ToVec) -> CommandEnd + Sync,
+    O: Out + Drop,
+>(rt: &R, options: &TestOptions<'_>, paths: &S, call: &C, out: O) -> Result<(Answer, O), Refusal>
+    requires { C.IsAlwaysCallable call.now }
+    ensures { IfOk result (λ r. IsPrinted (S.holds paths.now) (CameTo (C.post call.now) paths.now) options.now.is_json r.0
         (O.device out).contents (O.device r.1).contents) }
 {
     if options.files.is_empty() && options.list.is_none() {
@@ -97,6 +116,6 @@ pub fn test<R: Threads + Wait + Sync + AllocGlobal, S: SharedPaths + Sync, O: Ou
     let alloc = rt.alloc();
     let jobs = jobs_of(rt, options.jobs)?;
     let names = names_of(alloc, options, paths)?;
-    let trials = try_all(rt, alloc, paths, jobs, names.as_slice())?;
+    let trials = try_all(rt, alloc, paths, jobs, names.as_slice(), call)?;
     tell(alloc, options.is_json, names.as_slice(), &trials, out)
 }

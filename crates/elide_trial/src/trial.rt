@@ -8,44 +8,47 @@ ghost use Rattle.elide_trial.specs.Came.{CameTo};
 ghost use Rattle.elide_test.specs.Tried.{AreTried, IsTried, WasTried, kind_of, program_or};
 
 use crate::carrier::carried_out;
+use crate::ending::CommandEnd;
 use elide_expect::{Kind, Test, read_tests};
 use elide_test::{
-    FileReport, SharedPaths, Stop, TestReport, folder_of, read, report_of, text_of, words_of,
+    FileReport, FolderPaths, SharedPaths, Stop, TestReport, folder_of, read, report_of, text_of,
+    words_of,
 };
+use ia_text::ToVec;
 use std::alloc::{AllocError, Global};
-use std::sync::Wait;
-use std::thread::Threads;
 
 /// Carries out the tests of a file.
-pub fn try_file<R: Threads + Wait + Sync + AllocGlobal, S: SharedPaths>(
-    rt: &R,
+pub fn try_file<S: SharedPaths, C: Fn(&[&str], FolderPaths<'_, S>, ToVec) -> CommandEnd>(
     alloc: Global,
     path: &str,
     paths: &S,
+    call: &C,
 ) -> Result<FileReport, Stop>
+    requires { C.IsAlwaysCallable call.now }
     ensures name { IfOk result (λ file. string_bytes file.name ≡ path.now) }
-    ensures tried { IfOk result (IsTried (S.holds paths.now) CameTo) }
+    ensures tried { IfOk result (IsTried (S.holds paths.now) (CameTo (C.post call.now) paths.now)) }
 {
     let name = String::from_str(alloc, path)?;
     let text = read(path, paths)?;
-    let tests = try_text(rt, alloc, path, text.as_slice(), paths)?;
+    let tests = try_text(alloc, path, text.as_slice(), paths, call)?;
     Ok(FileReport { name, tests })
 }
 
 // Carries out the tests of the text of a file.
-fn try_text<R: Threads + Wait + Sync + AllocGlobal, S: SharedPaths>(
-    rt: &R,
+fn try_text<S: SharedPaths, C: Fn(&[&str], FolderPaths<'_, S>, ToVec) -> CommandEnd>(
     alloc: Global,
     path: &str,
     text: &[u8],
     paths: &S,
+    call: &C,
 ) -> Result<Vec<TestReport>, Stop>
-    ensures { IfOk result (λ reports. AreTried CameTo path.now text.now reports.items) }
+    requires { C.IsAlwaysCallable call.now }
+    ensures { IfOk result (λ reports. AreTried (CameTo (C.post call.now) paths.now) path.now text.now reports.items) }
 {
     let file = read_tests(alloc, text, kind_of(path))?;
     let (folder, name) = folder_of(path);
     let program = program_or(name, file.program)?;
-    try_tests(rt, alloc, folder, program, file.tests.as_slice(), paths)
+    try_tests(alloc, folder, program, file.tests.as_slice(), paths, call)
 }
 
 // Where tests stand in a file of this path.
@@ -70,20 +73,22 @@ fn program_or<'a>(name: &'a str, program: Option<&'a [u8]>) -> Result<&'a str, S
 }
 
 // Carries out tests one after another.
-fn try_tests<R: Threads + Wait + Sync + AllocGlobal, S: SharedPaths>(
-    rt: &R,
+fn try_tests<S: SharedPaths, C: Fn(&[&str], FolderPaths<'_, S>, ToVec) -> CommandEnd>(
     alloc: Global,
     folder: Option<&str>,
     program: &str,
     tests: &[Test<'_>],
     paths: &S,
+    call: &C,
 ) -> Result<Vec<TestReport>, Stop>
-    ensures { IfOk result (λ reports. AllZip (WasTried CameTo (option_copied folder.entry) program.now)
+    requires { C.IsAlwaysCallable call.now }
+    ensures { IfOk result (λ reports.
+        AllZip (WasTried (CameTo (C.post call.now) paths.now) (option_copied folder.entry) program.now)
         (map test_content tests.now) reports.items) }
 {
     let mut reports = Vec::new(alloc);
     for test in tests {
-        let report = try_test(rt, alloc, folder, program, test, paths)?;
+        let report = try_test(alloc, folder, program, test, paths, call)?;
         push(&mut reports, report)?;
     }
     Ok(reports)
@@ -97,18 +102,19 @@ fn push(reports: &mut Vec<TestReport>, report: TestReport) -> Result<(), AllocEr
 }
 
 // Carries out a test.
-fn try_test<R: Threads + Wait + Sync + AllocGlobal, S: SharedPaths>(
-    rt: &R,
+fn try_test<S: SharedPaths, C: Fn(&[&str], FolderPaths<'_, S>, ToVec) -> CommandEnd>(
     alloc: Global,
     folder: Option<&str>,
     program: &str,
     test: &Test<'_>,
     paths: &S,
+    call: &C,
 ) -> Result<TestReport, Stop>
-    ensures { IfOk result (WasTried CameTo (option_copied folder.entry) program.now
+    requires { C.IsAlwaysCallable call.now }
+    ensures { IfOk result (WasTried (CameTo (C.post call.now) paths.now) (option_copied folder.entry) program.now
         (test_content test.now)) }
 {
     let words = words_of(alloc, program, test)?;
-    let ended = carried_out(rt, alloc, folder, words.as_slice(), paths)?;
+    let ended = carried_out(alloc, folder, words.as_slice(), paths, call)?;
     report_of(alloc, test, &ended)
 }

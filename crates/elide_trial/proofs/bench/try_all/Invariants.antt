@@ -8,7 +8,7 @@ use Rattle.elide_trial.proofs.bench.try_all.Given as goal
 abbrev pub invariant-turns : goal.invariant-turns
 invariant-turns g l =
     (l.first ≤ length l.names) × (vec_len l.files ≡ l.first) ×
-    All (IsTried (g.S.SharedPaths.holds l.paths) CameTo) l.files.items
+    All (IsTried (g.S.SharedPaths.holds l.paths) (CameTo (goal.C-post g l.call) l.paths)) l.files.items
 
 abbrev pub decreases-turns : goal.decreases-turns
 decreases-turns g l = length l.names - l.first

@@ -9,5 +9,5 @@ use Rattle.elide_trial.proofs.trial.try_tests.Given as goal
 -- the tests so far were carried out
 abbrev pub invariant-loop-test : goal.invariant-loop-test
 invariant-loop-test g l =
-    AllZip (WasTried CameTo (option_copied l.folder) l.program)
+    AllZip (WasTried (CameTo (goal.C-post g l.call) l.paths) (option_copied l.folder) l.program)
     (map test_content (take l.test-index l.tests)) l.reports.items

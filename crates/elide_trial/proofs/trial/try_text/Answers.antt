@@ -11,7 +11,7 @@ use Rattle.elide_trial.proofs.trial.try_text.Goals as goal
 
 pub returns : goal.returns
 returns g c =
-    let came_to = CameTo in
+    let came_to = CameTo (goal.C-post g c.args.call.now) c.args.paths.now in
     let file = c.in_ok-file.file in
     let folder = option_copied c.folder_of.result.0 in
     let Reads : Kind → Type 0 = λ kind. file_of kind c.args.text.now ≡ Ok (file_content file) in
