@@ -1,5 +1,5 @@
 -- No value of the object of a search is a float.
-use Rattle.std.proofs.Common.{◌≡◌, ℕ, ◌-◌, Bool, false, List, ◌||◌, Option, Some, None, length, refl}
+use Rattle.std.proofs.Common.{◌≡◌, ℕ, ◌-◌, false, List, ◌||◌, Option, Some, None, length, refl}
 use Rattle.std.specs.Borrow.{Bor}
 use Rattle.std.specs.Prelude.{slice_get}
 use Rattle.elide_args.specs.declared.hunt_options.HuntOptions.{HuntOptions}

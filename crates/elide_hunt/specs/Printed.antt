@@ -1,5 +1,5 @@
 -- What `elide hunt` prints (docs/FORMATS.md, "Checks"), and of which search.
-use Rattle.std.specs.Prelude.{◌≡◌, ◌≤◌, ℕ, Bool, false, true, List, Option, Some, None, IfSome}
+use Rattle.std.specs.Prelude.{◌≡◌, ◌≤◌, ℕ, false, true, List, Option, Some, None, IfSome}
 use Rattle.std.specs.Io.KnownBytes.{Appends}
 use Rattle.std.specs.Option.{option_copied}
 use Rattle.elide_args.specs.declared.hunt_options.HuntOptions.{HuntOptions}
