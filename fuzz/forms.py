@@ -43,7 +43,8 @@ COUNTS = re.compile(
 # A line of `outcomes`.
 OUTCOMES = re.compile(
     rb"(?:[0-9a-f]{8} )+ \d+ (?: \d+[ies]?)*"
-    rb"|\d+ outcomes? in \d+ states(?:: cut at the limit, there may be more)?"
+    rb"|stop  (?:" + WORDS + rb") (?: \d+[ies]?)*|stuck  \d+ (?: \d+[ies]?)*"
+    rb"|\d+ outcomes? in \d+ states(?:: cut at the limit, there may be more|, \d+ of them without a way to an end)?"
 )
 CONTROL = re.compile(rb"[\x00-\x09\x0b-\x1f\x7f]")
 NOT_STOPPED = re.compile(rb"core \d+ has not stopped: eip=[0-9a-f]{8}")
