@@ -52,6 +52,9 @@ e_shentsize file = half_at file 46
 abbrev pub e_shnum : List ℕ → ℕ
 e_shnum file = half_at file 48
 
+abbrev pub e_shstrndx : List ℕ → ℕ
+e_shstrndx file = half_at file 50
+
 -- the program header of this number, counted from 0 (chapter 5, "Program Header"); p_paddr, the word at 12, and
 -- p_align are not read
 unfoldable pub segment : List ℕ → ℕ → Segment
@@ -67,6 +70,7 @@ segment file k = let at = e_phoff file + 32 * k in record {
 -- the section header of this number, counted from 0 (chapter 4, "Sections")
 unfoldable pub section : List ℕ → ℕ → Section
 section file k = let at = e_shoff file + 40 * k in record {
+  sh_name = word_at file at;
   sh_type = word_at file (at + 4);
   sh_offset = word_at file (at + 16);
   sh_size = word_at file (at + 20);

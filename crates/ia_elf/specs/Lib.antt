@@ -4,3 +4,4 @@ pub mod Tables
 pub mod Faults
 pub mod Loaded
 pub mod Symbols
+pub mod Named

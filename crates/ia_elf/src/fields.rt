@@ -34,6 +34,8 @@ pub(crate) const E_SHENTSIZE: usize = 46;
 
 pub(crate) const E_SHNUM: usize = 48;
 
+pub(crate) const E_SHSTRNDX: usize = 50;
+
 /// The number in two bytes, the lowest first.
 #[tactic(auto, unfolding(crate::specs::Fields::half_at))]
 pub(crate) fn half_at(bytes: &[u8], offset: usize) -> u16

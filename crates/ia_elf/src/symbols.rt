@@ -43,8 +43,8 @@ fn name_length(text: &[u8]) -> usize
     text.len()
 }
 
-// The bytes of a name up to its NUL, or up to the end of the strings.
-fn name_at(strings: &[u8], start: usize) -> &[u8]
+/// The bytes of a name up to its NUL, or up to the end of the strings.
+pub(crate) fn name_at(strings: &[u8], start: usize) -> &[u8]
     ensures { result.now ≡ name_at strings.now start }
 {
     if start >= strings.len() {

@@ -19,6 +19,7 @@ pub(crate) const SYMBOL: usize = 16;
 /// The fields of a section header that are read, by their names in the ABI.
 #[derive(Clone, Copy)]
 pub(crate) struct Section {
+    pub(crate) sh_name: u32,
     pub(crate) sh_type: u32,
     pub(crate) sh_offset: u32,
     pub(crate) sh_size: u32,
@@ -33,15 +34,16 @@ pub(crate) struct Tables<'a> {
     pub(crate) strings: &'a [u8],
 }
 
-// The section header of this number.
+/// The section header of this number.
 #[tactic(auto, unfolding(crate::specs::Fields::section))]
-fn section_at(file: &[u8], number: u32) -> Section
+pub(crate) fn section_at(file: &[u8], number: u32) -> Section
     requires header { 52 ≤ length file.now }
     requires table { e_shoff file.now + 40 * (number + 1) ≤ length file.now }
     ensures { result ≡ section file.now number }
 {
     let at = word_at(file, E_SHOFF) as usize + 40 * number as usize;
     Section {
+        sh_name: word_at(file, at),
         sh_type: word_at(file, at + 4),
         sh_offset: word_at(file, at + 16),
         sh_size: word_at(file, at + 20),
@@ -50,8 +52,8 @@ fn section_at(file: &[u8], number: u32) -> Section
     }
 }
 
-// Whether the section headers lie in the file.
-fn has_headers(file: &[u8]) -> bool
+/// Whether the section headers lie in the file.
+pub(crate) fn has_headers(file: &[u8]) -> bool
     requires { 52 ≤ length file.now }
     ensures { IsTrue result ↔ AreHeadersWhole file.now }
 {
@@ -77,8 +79,8 @@ fn find_symbols(file: &[u8]) -> Option<u32>
     None
 }
 
-// The bytes of a section, where they lie in the file.
-fn section_bytes(file: &[u8], section: Section) -> Option<&[u8]>
+/// The bytes of a section, where they lie in the file.
+pub(crate) fn section_bytes(file: &[u8], section: Section) -> Option<&[u8]>
     ensures some { IfSome result (λ bytes. IsSectionWhole file.now section × (bytes.now ≡ bytes_of file.now section)) }
     ensures none { IfNone result (¬ IsSectionWhole file.now section) }
 {

@@ -1,0 +1,5 @@
+use Rattle.std.proofs.Common.{length, ◌≤◌}
+use Rattle.ia_lines.proofs.files.parts_in.Given as goal
+
+abbrev pub invariant-parts : goal.invariant-parts
+invariant-parts l = length l.rest ≤ length l.start

@@ -1,0 +1,4 @@
+pub mod Cursor
+pub mod Opcodes
+pub mod Machine
+pub mod Table
