@@ -106,3 +106,12 @@ distance_is_printable n text h =
 pub more_is_printable : (row text : List ℕ) → list_all is_printable row ≡ true → list_all is_printable text ≡ true
     → list_all is_printable (row ++ text) ≡ true
 more_is_printable row text h k = list_all-append is_printable row text ∙ and_from _ _ h k
+
+-- a byte that stands for itself
+pub plain_is_printable : (byte : ℕ) → is_plain byte ≡ true → is_printable byte ≡ true
+plain_is_printable byte h = byte_is_printable byte (and_parts (is_ascii_graphic byte) (not (byte == 92)) h).0
+
+-- a row with one byte more
+pub one_more_is_printable : (row : List ℕ) (byte : ℕ) → list_all is_printable row ≡ true → is_printable byte ≡ true
+    → list_all is_printable (row ++ byte ∷ []) ≡ true
+one_more_is_printable row byte h k = list_all-append is_printable row (byte ∷ []) ∙ and_from _ _ h (and_from _ _ k refl)

@@ -3,15 +3,19 @@
 ghost use Rattle.ia_layout.specs.Contents.{IsBounded};
 
 use crate::label::Label;
-use ia_elf::{Elf, ElfFault, is_elf, read_elf};
+use ia_elf::{Elf, ElfFault, is_elf, read_elf, section_named};
 use ia_item::Item;
 use ia_layout::{FirstOrg, NoTaker, PlacedEntry, Placer, Taker, tail_base};
+use ia_lines::{Lines, Place, Sections, read_lines};
 use ia_source::{Reader, SourceFault};
 use indexmap::IndexMap;
 use std::alloc::{AllocError, Global};
 
-/// The lines of a source by the addresses of their instructions, and its labels; of an executable its symbols alone. Of
-/// image text there are none.
+/// The end of the largest memory: 256 MiB.
+const MOST_MEMORY: u32 = 268_435_456;
+
+/// The lines of a source by the addresses of their instructions, and its labels; of an executable its symbols, and the
+/// lines of the sources that it was made from, where it tells them. Of image text there are none.
 #[derive(Drop)]
 pub struct Places {
     lines: IndexMap<u32, u32>,
@@ -19,6 +23,8 @@ pub struct Places {
     end: u32,
     // Where the code of an executable ends, whose places are told by its symbols.
     code_end: u32,
+    // Which lines of which sources the code of an executable comes from.
+    sources: Lines,
 }
 
 impl Places {
@@ -29,6 +35,7 @@ impl Places {
             labels: Vec::new(alloc),
             end: 0,
             code_end: 0,
+            sources: Lines::none(alloc),
         }
     }
 
@@ -37,7 +44,7 @@ impl Places {
     pub fn of_text(alloc: Global, text: &[u8]) -> Result<Places, AllocError> {
         if is_elf(text) {
             return match read_elf(alloc, text) {
-                Ok(elf) => Places::of_elf(alloc, &elf),
+                Ok(elf) => Places::of_elf(alloc, &elf, text),
                 Err(ElfFault::NoMemory) => Err(AllocError),
                 Err(_) => Ok(Places::none(alloc)),
             };
@@ -52,18 +59,20 @@ impl Places {
         }
     }
 
-    // The places of an executable: its symbols, in the order of the table, but for those above its memory.
-    fn of_elf(alloc: Global, elf: &Elf<'_>) -> Result<Places, AllocError> {
+    // The places of an executable of this text: its symbols, in the order of the table, but for those above all memory, and
+    // its lines.
+    fn of_elf(alloc: Global, elf: &Elf<'_>, text: &[u8]) -> Result<Places, AllocError> {
         let mut places = Places::none(alloc);
         places.end = elf.end();
         places.code_end = elf.base().saturating_add(elf.code_len());
         for index in 0..elf.symbol_count() {
             if let Some(symbol) = elf.symbol_at(index) {
-                if elf.base() <= symbol.value && symbol.value < elf.end() {
+                if elf.base() <= symbol.value && symbol.value < MOST_MEMORY {
                     places.labels.push(Label::of_symbol(alloc, symbol)?)?;
                 }
             }
         }
+        places.sources = sources_of(alloc, text)?;
         Ok(places)
     }
 
@@ -122,6 +131,12 @@ impl Places {
         }
     }
 
+    /// The source file of an executable, and its line from 1, that an instruction at this address comes from, where the
+    /// executable has line numbers.
+    pub fn source_of(&self, address: u32) -> Option<Place<'_>> {
+        self.sources.line_of(address)
+    }
+
     /// The labels, in the order of the source or of the table of symbols.
     pub fn labels(&self) -> &[Label] {
         self.labels.as_slice()
@@ -130,6 +145,24 @@ impl Places {
     /// The address behind the last byte of the image.
     pub fn end(&self) -> u32 {
         self.end
+    }
+}
+
+// The lines of an executable of this text.
+fn sources_of(alloc: Global, text: &[u8]) -> Result<Lines, AllocError> {
+    let sections = Sections {
+        lines: section_of(text, b".debug_line"),
+        line_strings: section_of(text, b".debug_line_str"),
+        strings: section_of(text, b".debug_str"),
+    };
+    read_lines(alloc, &sections)
+}
+
+// The bytes of a section of this name, none where there is none.
+fn section_of<'a>(text: &'a [u8], name: &[u8]) -> &'a [u8] {
+    match section_named(text, name) {
+        Some(bytes) => bytes,
+        None => &[],
     }
 }
 

@@ -59,8 +59,8 @@ fn push_byte(shown: &mut Vec<u8>, byte: u8) -> Result<(), AllocError>
     }
 }
 
-// Whether a byte stands for itself.
-fn is_plain(byte: u8) -> bool
+/// Whether a byte stands for itself.
+pub(crate) fn is_plain(byte: u8) -> bool
     ensures { result ≡ is_plain byte }
 {
     byte.is_ascii_graphic() && byte != b'\\'

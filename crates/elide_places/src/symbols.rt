@@ -11,9 +11,12 @@ use arrayvec::ArrayVec;
 use ia_text::page::{Page, push, push_number};
 
 /// How many bytes of names are told of a line.
-const ROOM: usize = 96;
+const NAMES: usize = 96;
 
-/// Names of symbols.
+/// The room of a row: behind its names may stand `, ..`.
+const ROOM: usize = 100;
+
+/// Names of symbols: up to 96 bytes of them, and `..` in place of the first that goes past these.
 pub type SymbolText = ArrayVec<u8, ROOM>;
 
 /// In which form a device is given names.
@@ -38,15 +41,16 @@ impl Naming {
 }
 
 /// Writes what stands on a line of 64 bytes, of this number: the labels on it, as `mutex, owner`; where there is none,
-/// the last one below it in the image, with the distance, as `table+0x40`; and nothing where there is none, either. What
-/// has no room is told as `..`.
+/// the nearest below it with the distance, as `table+0x40`, whether the line lies in the image or behind it, as a stack
+/// does; and nothing where there is none, either. The first name that goes past 96 bytes is told as `..`, and those
+/// behind it are not told.
 pub fn push_symbols(row: &mut SymbolText, places: &Places, line: u32, naming: Naming)
     ensures { naming ≡ Shown → list_all is_printable row.new.items ≡ true }
 {
     row.clear();
     'labels: for label in places.labels() {
-        if label.line() == line {
-            push_name(row, naming.name_of(label));
+        if label.line() == line && !push_name(row, naming.name_of(label)) {
+            return;
         }
     }
     if row.is_empty() {
@@ -55,39 +59,36 @@ pub fn push_symbols(row: &mut SymbolText, places: &Places, line: u32, naming: Na
 }
 
 /// Writes where an instruction of an executable stands: the symbol of its code at the address or the last below it, with the
-/// distance, as `insert+0x1c`; nothing where there is none. The name is shown by [`Label::shown`]; one past the room is told
+/// distance, as `insert+0x1c`; nothing where there is none. The name is shown by [`Label::shown`]; one past 96 bytes is told
 /// as `..`.
 pub fn push_code_place(row: &mut SymbolText, places: &Places, address: u32)
     ensures { list_all is_printable row.new.items ≡ true }
 {
     row.clear();
     if let Some(label) = places.code_label(address) {
-        push_cut(row, label.shown());
+        let _ = push_cut(row, label.shown());
         push_distance(row, address.saturating_sub(label.address()));
     }
 }
 
-// One more name.
-fn push_name(row: &mut SymbolText, name: &[u8])
+// One more name, where it has room; tells whether it has.
+fn push_name(row: &mut SymbolText, name: &[u8]) -> bool
     ensures { list_all is_printable row.old.items ≡ true → list_all is_printable name.now ≡ true
         → list_all is_printable row.new.items ≡ true }
 {
     if !row.is_empty() {
-        push_cut(row, b", ");
+        push_where_room(row, b", ");
     }
-    push_cut(row, name);
+    push_cut(row, name)
 }
 
-// The last label below a line of the image, with the distance to it.
+// The nearest label below a line, with the distance to it.
 fn push_below(row: &mut SymbolText, places: &Places, line: u32, naming: Naming)
     ensures { naming ≡ Shown → list_all is_printable row.old.items ≡ true → list_all is_printable row.new.items ≡ true }
 {
-    if line >= places.end().div_ceil(64) {
-        return;
-    }
     if let Some(label) = last_below(places.labels(), line) {
         let distance = line.saturating_mul(64).saturating_sub(label.address());
-        push_cut(row, naming.name_of(label));
+        let _ = push_cut(row, naming.name_of(label));
         push_distance(row, distance);
     }
 }
@@ -101,7 +102,7 @@ fn push_distance(row: &mut SymbolText, distance: u32)
         let mut sum = Page::new();
         push(&mut sum, b"+");
         push_number(&mut sum, distance);
-        push_cut(row, sum.as_slice());
+        let _ = push_cut(row, sum.as_slice());
     }
 }
 
@@ -124,15 +125,28 @@ fn is_later(label: &Label, last: Option<&Label>) -> bool {
     }
 }
 
-// Adds a text, or, where it has no room, `..` in its place.
+/// Adds a text, or, where it goes past the names' bytes, `..` in its place; tells whether it has room.
 #[tactic(auto, using(crate::proofs::Showing::more_is_printable))]
-fn push_cut(row: &mut SymbolText, text: &[u8])
+pub(crate) fn push_cut(row: &mut SymbolText, text: &[u8]) -> bool
     ensures { list_all is_printable row.old.items ≡ true → list_all is_printable text.now ≡ true
         → list_all is_printable row.new.items ≡ true }
 {
-    if text.len() + 2 <= row.remaining_capacity() {
+    let has_room = text.len() <= NAMES.saturating_sub(row.len());
+    if has_room {
+        push_where_room(row, text);
+    } else {
+        push_where_room(row, b"..");
+    }
+    has_room
+}
+
+/// Adds a text that the row has room for.
+#[tactic(auto, using(crate::proofs::Showing::more_is_printable))]
+pub(crate) fn push_where_room(row: &mut SymbolText, text: &[u8])
+    ensures { list_all is_printable row.old.items ≡ true → list_all is_printable text.now ≡ true
+        → list_all is_printable row.new.items ≡ true }
+{
+    if text.len() <= row.remaining_capacity() {
         push(row, text);
-    } else if !row.as_slice().ends_with(b"..") && row.remaining_capacity() >= 2 {
-        push(row, b"..");
     }
 }

@@ -1,7 +1,9 @@
 -- What is told where the subset ends (docs/FORMATS.md, "Why a transaction aborted").
 use Rattle.std.specs.Prelude.{ℕ, List, [], ◌++◌, ◌-◌, codes, length, take, drop, nat_lt, ◌==◌, if◌then◌else◌}
+use Rattle.std.specs.Prelude.{Option, Some, None}
 use Rattle.std.specs.Fmt.{decimal}
 use Rattle.hex.specs.Hex.{encode_lower}
+use Rattle.ia_foreign.specs.declared.words.Words.{Words}
 use Rattle.elide_setup.specs.IaImage.Program.{ProgramValue, code_of}
 use Rattle.ia_text.specs.Number.{eight_digits}
 use Rattle.ia_text.specs.TextLine.{line_end}
@@ -20,8 +22,15 @@ symbols_text symbols = if length symbols == 0 then [] else codes " (" ++ symbols
 unfoldable pub code_text : List ℕ → ℕ → List ℕ
 code_text code address = codes ": " ++ encode_lower code ++ codes " at " ++ eight_digits address
 
+-- what stands there, where that is told
+abbrev pub name_text : Option Words → List ℕ
+name_text None = []
+name_text (Some words) = codes ", " ++ words.front.now ++ words.name.now
+
+-- the code and its address, the symbol and the line of the source, and its name
 abbrev pub outside_text : Outside → List ℕ
 outside_text outside = code_text outside.code.now outside.address ++ symbols_text outside.place.items
+    ++ symbols_text outside.source.items ++ name_text outside.name
 
 -- the outcome line of the stop
 abbrev pub stop_line : ℕ → Outside → List ℕ

@@ -111,7 +111,7 @@ fn push_cause(page: &mut Page, reason: &Reason, words: &Words<'_>)
 
 // Where the subset ends, the code that stands there.
 fn push_code(page: &mut Page, words: &Words<'_>)
-    requires { array_vec_len page.old + 160 ≤ 4096 }
+    requires { array_vec_len page.old + 320 ≤ 4096 }
     ensures { page.new.items ≡ page.old.items ++ outside_words words.now.outside }
 {
     if let Some(outside) = &words.outside {

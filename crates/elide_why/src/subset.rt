@@ -3,12 +3,13 @@
 ghost use Rattle.std.specs.Prelude.{◌≡◌, ◌+◌, ◌≤◌, ◌++◌, drop, length, take};
 ghost use Rattle.arrayvec.specs.ArrayVec.{array_vec_len};
 ghost use Rattle.ia_text.specs.Writing.{Writes};
-ghost use Rattle.elide_why.specs.Subset.{code_from, code_text, outside_text, stop_line, symbols_text};
+ghost use Rattle.elide_why.specs.Subset.{code_from, code_text, name_text, outside_text, stop_line, symbols_text};
 
 use crate::outside::Outside;
 use crate::page::push_decimal;
-use elide_places::{Places, SymbolText, push_code_place};
+use elide_places::{Places, SymbolText, push_code_place, push_source_place};
 use elide_setup::Program;
+use ia_foreign::{Words as ForeignWords, foreign_in};
 use ia_text::page::{Page, push, push_bytes, push_eight};
 use ia_text::{Out, WriteFault};
 
@@ -23,12 +24,42 @@ impl<'a> Outside<'a> {
     {
         let mut place = SymbolText::new();
         push_code_place(&mut place, places, address);
+        let mut source = SymbolText::new();
+        push_source_place(&mut source, places, address);
         Outside {
             code: code_from(program, address),
             address,
             place,
+            source,
+            name: None,
         }
     }
+
+    /// The same with the instruction's name, as `16-bit move`, where it is a known one.
+    pub fn named(self) -> Outside<'a>
+        ensures code { result.code.now ≡ self.entry.code.now }
+        ensures address { result.address ≡ self.entry.address }
+    {
+        let Outside {
+            code,
+            address,
+            place,
+            source,
+            name: _,
+        } = self;
+        Outside {
+            code,
+            address,
+            place,
+            source,
+            name: name_of(code),
+        }
+    }
+}
+
+// What stands in front of some code that is no instruction of the subset, where it is a known one.
+fn name_of(code: &[u8]) -> Option<ForeignWords> {
+    foreign_in(code)?.words
 }
 
 // The code from an address on, as far as an instruction could go.
@@ -73,14 +104,29 @@ pub fn write_stop<O: Out>(core: u8, outside: &Outside<'_>, out: &mut O) -> Resul
     Ok(())
 }
 
-/// Adds the code, its address and its place.
+/// Adds the code, its address and its place, the line of its source, and what it is.
 pub fn push_outside(page: &mut Page, outside: &Outside<'_>)
-    requires { array_vec_len page.old + 160 ≤ 4096 }
+    requires { array_vec_len page.old + 320 ≤ 4096 }
     ensures text { page.new.items ≡ page.old.items ++ outside_text outside.now }
-    ensures len { array_vec_len page.new ≤ array_vec_len page.old + 160 }
+    ensures len { array_vec_len page.new ≤ array_vec_len page.old + 320 }
 {
     push_code(page, outside.code, outside.address);
     push_symbols(page, outside.place.as_slice());
+    push_symbols(page, outside.source.as_slice());
+    push_name(page, outside.name);
+}
+
+// Adds what stands there, where that is told.
+fn push_name(page: &mut Page, name: Option<ForeignWords>)
+    requires { array_vec_len page.old + 60 ≤ 4096 }
+    ensures text { page.new.items ≡ page.old.items ++ name_text name }
+    ensures len { array_vec_len page.new ≤ array_vec_len page.old + 60 }
+{
+    if let Some(words) = name {
+        push(page, b", ");
+        push(page, words.front);
+        push(page, words.name);
+    }
 }
 
 // Adds bytes of code and their address.

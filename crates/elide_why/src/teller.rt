@@ -14,7 +14,7 @@ use elide_setup::{
     Fault, Machine, Outcome, Pick, Program, Refusal, RunFault, StepMaker, Stop, write_outcome,
 };
 use ia_text::Out;
-use tm_why::{Asked, Watch};
+use tm_why::{Asked, Reason, Watch};
 
 /// Makes the steps of a run and tells of each that aborts why it does, of each that stops where the subset ends which code stands
 /// there, and of the others where they are asked for.
@@ -24,6 +24,7 @@ pub struct Teller<'a> {
     path: &'a str,
     places: &'a Places,
     traces: bool,
+    names: bool,
     watch: Watch,
 }
 
@@ -41,8 +42,30 @@ impl<'a> Teller<'a> {
             path,
             places,
             traces,
+            names: false,
             watch: Watch::new(),
         }
+    }
+
+    /// The same, and of code where the subset ends it is told what it is, as `16-bit move`, where it is a known
+    /// instruction.
+    pub fn naming(self) -> Teller<'a> {
+        Teller {
+            names: true,
+            ..self
+        }
+    }
+
+    // What the text of the program says of a reason.
+    fn words_of(&self, reason: &Reason) -> Words<'a> {
+        let words = Words::of(self.program, self.path, self.places, reason);
+        if self.names { words.named() } else { words }
+    }
+
+    // What stands in the code at an address.
+    fn outside_at(&self, address: u32) -> Outside<'a> {
+        let outside = Outside::at(self.program, self.places, address);
+        if self.names { outside.named() } else { outside }
     }
 
     /// Makes the step of a pick, and prints its line. Takes no memory.
@@ -70,11 +93,11 @@ impl<'a> Teller<'a> {
                 write_interference(core, interference, status, begun, &words, out)?;
             }
             (Outcome::Aborted(status), Some(reason)) => {
-                let words = Words::of(self.program, self.path, self.places, &reason);
+                let words = self.words_of(&reason);
                 write_abort(core, status, &reason, &words, out)?;
             }
             (Outcome::Stopped(Stop::NotInSubset), _) => {
-                let outside = Outside::at(self.program, self.places, asked.eip);
+                let outside = self.outside_at(asked.eip);
                 write_stop(core, &outside, out)?;
             }
             _ if self.traces => write_outcome(core, &outcome, out)?,

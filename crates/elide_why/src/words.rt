@@ -1,13 +1,14 @@
 //! What the text of a program says of a reason.
 
 ghost use Rattle.std.specs.Prelude.{◌≡◌, true};
+ghost use Rattle.arrayvec.specs.ArrayVec.{array_vec_len};
 ghost use Rattle.std.specs.List.{list_all};
 ghost use Rattle.elide_places.specs.Shown.{is_printable};
 ghost use Rattle.elide_why.specs.Words.{IsOutsideOf};
 
 use crate::outside::Outside;
 use arrayvec::ArrayVec;
-use elide_places::{Naming, Places, SymbolText, push_symbols};
+use elide_places::{Naming, Places, SymbolText, push_code_place, push_source_place, push_symbols};
 use elide_setup::{AbortReason, Program, Stop};
 use ia_insn::Insn;
 use ia_text::page::{push, push_eight};
@@ -17,7 +18,9 @@ use tm_why::Reason;
 /// How many bytes of a path are told.
 const PATH_ROOM: usize = 1024;
 
-/// Where an instruction stands: the source and its line, as `lock.asm:11`, or else the address in eight hex digits.
+/// Where an instruction stands: the source and its line, as `lock.asm:11`; of an executable the symbol of its code with the
+/// distance, and the line of its source where the executable tells it, as `insert+0x1c (list.c:41)`; or else the address in
+/// eight hex digits.
 pub type PlaceText = ArrayVec<u8, 1100>;
 
 /// What the text of a program says of a reason.
@@ -58,6 +61,28 @@ impl<'a> Words<'a> {
 }
 
 impl<'a> Words<'a> {
+    /// The same, and of code where the subset ends what it is, where it is a known instruction.
+    pub fn named(self) -> Words<'a> {
+        let Words {
+            symbols,
+            eip,
+            place,
+            insn,
+            outside,
+        } = self;
+        let outside = match outside {
+            Some(outside) => Some(outside.named()),
+            None => None,
+        };
+        Words {
+            symbols,
+            eip,
+            place,
+            insn,
+            outside,
+        }
+    }
+
     /// What a program, of the source or image at this path and with these places, says of the instruction at an address.
     pub fn at(program: &'a Program, path: &str, places: &Places, eip: u32) -> Words<'a>
         ensures { result.eip ≡ eip }
@@ -119,6 +144,7 @@ fn line_of(reason: &Reason) -> Option<u32> {
     }
 }
 
+// Where an instruction stands.
 fn place_of(path: &str, places: &Places, at: u32) -> PlaceText {
     let mut place = PlaceText::new();
     match places.line_of(at) {
@@ -128,9 +154,28 @@ fn place_of(path: &str, places: &Places, at: u32) -> PlaceText {
             push(&mut place, b":");
             push(&mut place, Buffer::new().format(line).as_bytes());
         }
-        None => push_eight(&mut place, at),
+        None => push_executable_place(&mut place, places, at),
     }
     place
+}
+
+// Where an instruction of an executable stands, or one that no source and no symbol tells of.
+fn push_executable_place(place: &mut PlaceText, places: &Places, at: u32)
+    requires { array_vec_len place.old ≡ 0 }
+{
+    let mut text = SymbolText::new();
+    push_code_place(&mut text, places, at);
+    if text.is_empty() {
+        push_eight(place, at);
+    } else {
+        push(place, text.as_slice());
+    }
+    push_source_place(&mut text, places, at);
+    if !text.is_empty() {
+        push(place, b" (");
+        push(place, text.as_slice());
+        push(place, b")");
+    }
 }
 
 // The instruction of a program at an address.
