@@ -25,7 +25,8 @@
 //!
 //! Stands on `tm_rule` (one instruction), `tm_status`, `tm_sets` (read and write sets), `tm_buffer` (a transaction's
 //! bytes) and `ia_image` (programs). Memory is asked for only where a machine is made and by the answers of `run` and
-//! `sets`; `Machine::reopen` takes a machine back before its first step in place of a new one.
+//! `sets`; `Machine::reopen` takes a machine back before its first step in place of a new one, and
+//! `Machine::reopen_lines` by the lines of memory that may have changed (`specs/Reopening.antt`).
 #![tactic(auto)]
 
 mod alone;
@@ -47,6 +48,7 @@ pub mod memory;
 mod on_registers;
 mod opening;
 mod reopen;
+mod reopen_lines;
 mod seen;
 mod start;
 mod step;

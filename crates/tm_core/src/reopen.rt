@@ -41,8 +41,8 @@ fn reopen_cpu(cpu: &mut Cpu, program: &Program, core: u8)
     cpu.buffer.clear();
 }
 
-// All cores before their first steps, with no line in their sets.
-fn reopen_cpus<S: Sets>(cpus: &mut [Cpu], sets: &mut S, program: &Program)
+/// All cores before their first steps, with no line in their sets.
+pub fn reopen_cpus<S: Sets>(cpus: &mut [Cpu], sets: &mut S, program: &Program)
     requires cores { length cpus.old ≡ length program.now.entries }
     requires known { length cpus.old ≤ (S.content sets.old).fixed.cores }
     ensures starts { (i : ℕ) → i < length cpus.old →
