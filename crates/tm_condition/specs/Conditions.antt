@@ -1,11 +1,13 @@
 -- Conditions on a machine (docs/FORMATS.md, "Checks").
-use Rattle.std.specs.Prelude.{◌≡◌, ℕ, ◌+◌, ◌≤◌, ◌&&◌, Bool, true, not, List, Option, Some, None, length, nat_eq, nat_lt}
+use Rattle.std.specs.Prelude.{◌≡◌, ℕ, ◌+◌, ◌≤◌, ◌&&◌, Bool, true, not, List, All, Option, Some, None, length, nat_eq, nat_lt}
 use Rattle.std.specs.Prelude.{nat_le, if◌then◌else◌, slice_index, slice_range}
 use Rattle.ia_regs.specs.declared.Regs.{Regs}
 use Rattle.ia_word.specs.Operand.{operand_of}
 use Rattle.ia_word.specs.declared.width.Width.TheVariants.{D}
 use Rattle.tm_core.specs.TmModel.Access.{addresses_of, bytes_at}
 use Rattle.tm_core.specs.Theorem.{ShownMachine, view_at}
+use Rattle.tm_condition.specs.declared.check.Check.{Check}
+use Rattle.tm_condition.specs.declared.check.Check.TheVariants.{Demanded, Forbidden}
 use Rattle.tm_condition.specs.declared.clause.Clause.{Clause}
 use Rattle.tm_condition.specs.declared.clause.Clause.TheVariants.{Compare, Bytes}
 use Rattle.tm_condition.specs.declared.comparison.Comparison.{Comparison}
@@ -64,3 +66,8 @@ StandsAt memory address bytes =
 abbrev pub Holds : Seen → Clause → Type 0
 Holds seen (Compare left comparison right) = Compares comparison (value_of seen left) (value_of seen right)
 Holds seen (Bytes address bytes) = StandsAt seen.memory address bytes.items
+
+-- a check is violated: a condition that is demanded does not hold, or each of those that are forbidden together does
+abbrev pub Violates : Seen → Check → Type 0
+Violates seen (Demanded clauses) = ¬ All (Holds seen) clauses.items
+Violates seen (Forbidden clauses) = All (Holds seen) clauses.items

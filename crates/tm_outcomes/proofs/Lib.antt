@@ -5,10 +5,15 @@ pub mod Alike
 pub mod Leads
 pub mod Tables
 pub mod Trees
+pub mod Stored
+pub mod Noted
+pub mod Benches
 pub mod Follows
 pub mod Grown
 pub mod Joined
 pub mod Stopping
+pub mod Seeing
+pub mod Violating
 pub mod Sourcing
 pub mod Passing
 pub mod Complete

@@ -4,14 +4,16 @@ use Rattle.std.specs.Prelude.{All, IfSome}
 use Rattle.std.proofs.lemmas.Bool.{false≢true}
 use Rattle.tm_model.specs.declared.outcome.Pick.{Pick}
 use Rattle.tm_outcomes.specs.Outcomes.{AreDistinct, AreTold, IsSearch, IsTold}
-use Rattle.tm_outcomes.specs.Searching.{AreFindings, AreStops, IsCutOf, IsSearching, IsWholeOf, TellsWayless}
-use Rattle.tm_outcomes.specs.Verdicts.{IsStopTold, IsStuck, IsVerdict}
+use Rattle.tm_outcomes.specs.Searching.{AreFindings, AreStops, AreViolations, IsCutOf, IsSearching, IsWholeOf}
+use Rattle.tm_outcomes.specs.Searching.{TellsWayless}
+use Rattle.tm_outcomes.specs.Verdicts.{IsStopTold, IsStuck, IsVerdict, IsViolationTold}
 use Rattle.tm_outcomes.specs.declared.searching.Search.{Search}
 use Rattle.tm_outcomes.specs.declared.searching.Searching.{Searching}
 use Rattle.tm_outcomes.specs.declared.stops.ReachedStop.{ReachedStop}
 use Rattle.tm_outcomes.specs.declared.stuck.Stuck.{Stuck}
 use Rattle.tm_outcomes.specs.declared.table.Told.{Told}
 use Rattle.tm_outcomes.specs.declared.trial.Trial.{Trial}
+use Rattle.tm_outcomes.specs.declared.violations.Violation.{Violation}
 use Rattle.tm_outcomes.proofs.Complete.{all_told, met}
 use Rattle.tm_outcomes.proofs.Ways.{is_free, is_stuck}
 
@@ -34,6 +36,9 @@ module _ (trial : Trial) (most done : ℕ) (search : Searching) (schedules : Lis
   is_verdict =
       let stops : search.found.stops.items ≡ told.stops.items = sym (ap (λ v. v.items) of.stops) in
       let all : AreStops trial told.stops.items = subst (λ (s : List ReachedStop). AreStops trial s) stops searching.found.stops in
+      let violations : search.found.violations.items ≡ told.violations.items = sym (ap (λ v. v.items) of.violations) in
+      let violated : AreViolations trial told.violations.items =
+      subst (λ (vs : List Violation). AreViolations trial vs) violations searching.found.violations in
       let counted = searching.tree.counted in
       record {
         stuck = is_stuck trial most done search schedules searching whole of.stuck.marked of.stuck.marks told.stuck of.stuck.tells;
@@ -46,6 +51,13 @@ module _ (trial : Trial) (most done : ℕ) (search : Searching) (schedules : Lis
             let there = met trial most done search schedules searching whole schedule now reached in
             subst (λ (s : List ReachedStop). IsStopTold s why) stops
             ((searching.explored.shown there.0 (let w = there.1.within in omega arith)).stops now there.1 why asked stopped);
+        violations = violated.told;
+        violated_once = violated.once;
+        no_violation = λ _ schedule end reached has_ended index check asked violates.
+            let there = met trial most done search schedules searching whole schedule end reached in
+            subst (λ (vs : List Violation). IsViolationTold vs index) violations
+            ((searching.explored.shown there.0 (let w = there.1.within in omega arith)).checks end there.1 has_ended index check asked
+            violates);
       }
 
 module _ (trial : Trial) (most : ℕ) (search : Searching) (told : Search) (full : length search.nodes.items ≡ most)
@@ -65,6 +77,9 @@ module _ (trial : Trial) (most : ℕ) (search : Searching) (told : Search) (full
   is_cut_verdict =
       let stops : search.found.stops.items ≡ told.stops.items = sym (ap (λ v. v.items) of.stops) in
       let all : AreStops trial told.stops.items = subst (λ (s : List ReachedStop). AreStops trial s) stops found.stops in
+      let violations : search.found.violations.items ≡ told.violations.items = sym (ap (λ v. v.items) of.violations) in
+      let violated : AreViolations trial told.violations.items =
+      subst (λ (vs : List Violation). AreViolations trial vs) violations found.violations in
       record {
         stuck = subst (λ (o : Option Stuck). IfSome o (λ s. IsStuck trial s.schedule.items)) (sym of.stuck) tt;
         free = λ whole. absurd (false≢true (sym whole ∙ of.is_cut));
@@ -72,4 +87,7 @@ module _ (trial : Trial) (most : ℕ) (search : Searching) (told : Search) (full
         stops = all.told;
         once = all.once;
         no_stop = λ whole. absurd (false≢true (sym whole ∙ of.is_cut));
+        violations = violated.told;
+        violated_once = violated.once;
+        no_violation = λ whole. absurd (false≢true (sym whole ∙ of.is_cut));
       }

@@ -1,3 +1,4 @@
+pub mod Elsewhere
 pub mod Schedules
 pub mod Outcomes
 pub mod Verdicts
@@ -6,3 +7,4 @@ pub mod Links
 pub mod Marks
 pub mod Nodes
 pub mod Searching
+pub mod Written

@@ -1,6 +1,8 @@
 -- The states that a search has met, each as the last step of a schedule that leads there, and the node of the rest.
 use Rattle.std.specs.Prelude.{◌≡◌, ℕ, ◌<◌, ◌≤◌, List, [], ◌∷◌, ◌++◌, All, Contains, Some, None, length, map}
-use Rattle.std.specs.Prelude.{slice_index_or}
+use Rattle.std.specs.Prelude.{slice_get, slice_index_or}
+use Rattle.tm_condition.specs.Conditions.{Violates}
+use Rattle.tm_condition.specs.declared.check.Check.{Check}
 use Rattle.tm_model.specs.declared.outcome.Event.{Event}
 use Rattle.tm_model.specs.declared.outcome.Pick.{Pick}
 use Rattle.tm_model.specs.Shown.{view_of}
@@ -9,7 +11,7 @@ use Rattle.tm_outcomes.specs.Links.{IsLink, LiesWithin}
 use Rattle.tm_outcomes.specs.Outcomes.{AreTold, IsAllowed, trial_opening, trial_setting, value_of}
 use Rattle.tm_outcomes.specs.Places.{AreAlike, IsAt}
 use Rattle.tm_outcomes.specs.Schedules.{HasEnded, Situation, after_pick, after_schedule}
-use Rattle.tm_outcomes.specs.Verdicts.{IsStopTold, StopsBy}
+use Rattle.tm_outcomes.specs.Verdicts.{IsStopTold, IsViolationTold, StopsBy, seen_at}
 use Rattle.tm_outcomes.specs.declared.findings.Findings.{Findings}
 use Rattle.tm_outcomes.specs.declared.links.Link.{Link}
 use Rattle.tm_outcomes.specs.declared.nodes.Node.{Node}
@@ -116,6 +118,9 @@ pub record IsShown (trial : Trial) (schedules : List (List Pick)) (found : Findi
       Contains found.ends.items index
   pub stops : (now : Situation) → LeadsTo trial schedules index now → (why : Stop) → Contains trial.stops.now why →
       StopsBy now.state why → IsStopTold found.stops.items why
+  pub checks : (now : Situation) → LeadsTo trial schedules index now → HasEnded now.state → (check : ℕ) (what : Check) →
+      slice_get trial.checks.now check ≡ Some what → Violates (seen_at now.state) what →
+      IsViolationTold found.violations.items check
 
 -- the nodes up to an index are done
 pub record IsExplored (trial : Trial) (schedules : List (List Pick)) (links : List Link) (found : Findings) (done : ℕ)

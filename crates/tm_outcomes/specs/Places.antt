@@ -11,7 +11,6 @@ use Rattle.tm_model.specs.declared.outcome.Outcome.TheVariants.{Plain, Loaded, S
 use Rattle.tm_model.specs.declared.outcome.Outcome.TheVariants.{Committed, Aborted, AbortedBy}
 use Rattle.tm_outcomes.specs.Outcomes.{trial_opening, trial_setting}
 use Rattle.tm_outcomes.specs.Schedules.{Situation, after_pick, after_schedule}
-use Rattle.tm_outcomes.specs.declared.bench.Bench.{Bench}
 use Rattle.tm_outcomes.specs.declared.place.Place.{Place}
 use Rattle.tm_outcomes.specs.declared.trial.Trial.{Trial}
 
@@ -39,10 +38,6 @@ pub record IsPlaceOf (trial : Trial) (place : Place) : Type 0 where
   pub rules : machine_setting place.machine ≡ trial_setting trial
   pub count : length place.machine.views ≡ length trial.program.now.entries
   pub details_count : length place.details.items ≡ length trial.program.now.entries
-
--- both machines of a bench are such
-abbrev pub ArePlacesOf : Trial → Bench → Type 0
-ArePlacesOf trial bench = IsPlaceOf trial bench.here × IsPlaceOf trial bench.other
 
 -- the machine stands for the end of this schedule, and the details are those of its cores
 pub record IsAt (trial : Trial) (place : Place) (schedule : List Pick) : Type 0 where

@@ -7,7 +7,7 @@ use Rattle.tm_outcomes.specs.Links.{IsLink}
 use Rattle.tm_outcomes.specs.Marks.{AreMarks, IsMarked}
 use Rattle.tm_outcomes.specs.Nodes.{HasGrown, IsEnd, IsExplored, IsFollowed, IsShown, IsStep, IsTree, schedule_at}
 use Rattle.tm_outcomes.specs.Outcomes.{AreDistinct, IsAllowed, IsTold}
-use Rattle.tm_outcomes.specs.Verdicts.{IsStop}
+use Rattle.tm_outcomes.specs.Verdicts.{IsStop, IsViolation}
 use Rattle.tm_outcomes.specs.declared.findings.Findings.{Findings}
 use Rattle.tm_outcomes.specs.declared.links.Link.{Link}
 use Rattle.tm_outcomes.specs.declared.nodes.Node.{Node}
@@ -16,17 +16,24 @@ use Rattle.tm_outcomes.specs.declared.searching.Searching.{Searching}
 use Rattle.tm_outcomes.specs.declared.stops.ReachedStop.{ReachedStop}
 use Rattle.tm_outcomes.specs.declared.stuck.Stuck.{Stuck}
 use Rattle.tm_outcomes.specs.declared.trial.Trial.{Trial}
+use Rattle.tm_outcomes.specs.declared.violations.Violation.{Violation}
 
 -- stops that were looked for and found, each once
 pub record AreStops (trial : Trial) (stops : List ReachedStop) : Type 0 where
   pub told : All (IsStop trial) stops
   pub once : AllPairs (λ one other. one.why ≢ other.why) stops
 
+-- checks that ends violate, each once
+pub record AreViolations (trial : Trial) (violations : List Violation) : Type 0 where
+  pub told : All (IsViolation trial) violations
+  pub once : AllPairs (λ one other. one.check ≢ other.check) violations
+
 -- what was found is so, and is found once
 pub record AreFindings (trial : Trial) (found : Findings) : Type 0 where
   pub told : All (IsTold trial) found.outcomes.items
   pub once : AreDistinct found.outcomes.items
   pub stops : AreStops trial found.stops.items
+  pub violations : AreViolations trial found.violations.items
 
 -- at one node more all is found, and nothing is lost
 pub record Shows (trial : Trial) (schedules : List (List Pick)) (before after : Findings) (index : ℕ) : Type 0 where
@@ -113,6 +120,7 @@ pub record TellsStuck (nodes : List Node) (links : List Link) (ends : List ℕ) 
 pub record IsWholeOf (search : Searching) (told : Search) : Type 0 where
   pub outcomes : told.outcomes ≡ search.found.outcomes
   pub stops : told.stops ≡ search.found.stops
+  pub violations : told.violations ≡ search.found.violations
   pub states : told.states ≡ length search.nodes.items
   pub is_cut : told.is_cut ≡ false
   pub stuck : TellsStuck search.nodes.items search.links.items search.found.ends.items told.stuck
@@ -121,6 +129,7 @@ pub record IsWholeOf (search : Searching) (told : Search) : Type 0 where
 pub record IsCutOf (search : Searching) (told : Search) : Type 0 where
   pub outcomes : told.outcomes ≡ search.found.outcomes
   pub stops : told.stops ≡ search.found.stops
+  pub violations : told.violations ≡ search.found.violations
   pub states : told.states ≡ length search.nodes.items
   pub is_cut : told.is_cut ≡ true
   pub stuck : told.stuck ≡ None

@@ -1,15 +1,19 @@
--- What a search says of states from which no schedule leads to an end, and of cores that stop for a reason.
-use Rattle.std.specs.Prelude.{◌≡◌, ◌≢◌, ℕ, ◌<◌, true, false, List, All, Contains, Some, None, IfSome}
+-- What a search says of states from which no schedule leads to an end, of cores that stop for a reason, and of ends
+-- that violate a check.
+use Rattle.std.specs.Prelude.{◌≡◌, ◌≢◌, ℕ, ◌<◌, true, false, List, All, Contains, Some, None, IfSome, slice_get}
 use Rattle.std.specs.List.{AllPairs, Any}
 use Rattle.ia_regs.specs.declared.Regs.{Regs}
+use Rattle.tm_condition.specs.Conditions.{Seen, Violates}
+use Rattle.tm_condition.specs.declared.check.Check.{Check}
 use Rattle.tm_model.specs.State.{Core, Halted, State}
 use Rattle.tm_model.specs.declared.outcome.Pick.{Pick}
 use Rattle.tm_rule.specs.declared.kinds.Stop.{Stop}
-use Rattle.tm_outcomes.specs.Outcomes.{AreAllowed, trial_opening, trial_setting}
+use Rattle.tm_outcomes.specs.Outcomes.{AreAllowed, regs_of, trial_opening, trial_setting}
 use Rattle.tm_outcomes.specs.Schedules.{HasEnded, Situation, after_schedule}
 use Rattle.tm_outcomes.specs.declared.searching.Search.{Search}
 use Rattle.tm_outcomes.specs.declared.stops.ReachedStop.{ReachedStop}
 use Rattle.tm_outcomes.specs.declared.trial.Trial.{Trial}
+use Rattle.tm_outcomes.specs.declared.violations.Violation.{Violation}
 
 -- this schedule, whose steps come under what the trial says, leads from the program's opening state here
 pub record IsReached (trial : Trial) (schedule : List Pick) (now : Situation) : Type 0 where
@@ -50,11 +54,31 @@ pub record IsStop (trial : Trial) (told : ReachedStop) : Type 0 where
 abbrev pub IsStopTold : List ReachedStop → Stop → Type 0
 IsStopTold stops why = Any (λ told. told.why ≡ why) stops
 
+-- ---- checks
+
+-- what a check looks at of a state: memory, and of each core the registers outside of transactions
+abbrev pub seen_at : State → Seen
+seen_at state = record { memory = state.memory; count = state.count; regs = λ core. regs_of (state.cores core) }
+
+-- the check is one of the trial's, and this schedule leads to a state in which each core has stopped, which violates it
+pub record IsViolation (trial : Trial) (told : Violation) : Type 0 where
+  pub check : Check
+  pub asked : slice_get trial.checks.now told.check ≡ Some check
+  pub end : Situation
+  pub reached : IsReached trial told.schedule.items end
+  pub has_ended : HasEnded end.state
+  pub violates : Violates (seen_at end.state) check
+
+-- the check with this index is among those that are told
+abbrev pub IsViolationTold : List Violation → ℕ → Type 0
+IsViolationTold violations check = Any (λ told. told.check ≡ check) violations
+
 -- ---- what is told
 
--- No schedule is told as stuck behind which some schedule ends, and none for a stop that it does not lead to; and where
--- the search was not cut and tells none, each schedule goes on to an end, and none leads to a stop that is looked for.
--- Where it was cut, none is told as stuck.
+-- No schedule is told as stuck behind which some schedule ends, none for a stop that it does not lead to, and none for
+-- a check that its end does not violate; and where the search was not cut and tells none, each schedule goes on to an
+-- end, none leads to a stop that is looked for, and each end passes each check. Where it was cut, none is told as
+-- stuck.
 pub record IsVerdict (trial : Trial) (search : Search) : Type 0 where
   pub stuck : IfSome search.stuck (λ told. IsStuck trial told.schedule.items)
   pub free : search.is_cut ≡ false → search.stuck ≡ None → (schedule : List Pick) (now : Situation) →
@@ -64,3 +88,8 @@ pub record IsVerdict (trial : Trial) (search : Search) : Type 0 where
   pub once : AllPairs (λ one other. one.why ≢ other.why) search.stops.items
   pub no_stop : search.is_cut ≡ false → (schedule : List Pick) (now : Situation) → IsReached trial schedule now →
       (why : Stop) → Contains trial.stops.now why → StopsBy now.state why → IsStopTold search.stops.items why
+  pub violations : All (IsViolation trial) search.violations.items
+  pub violated_once : AllPairs (λ one other. one.check ≢ other.check) search.violations.items
+  pub no_violation : search.is_cut ≡ false → (schedule : List Pick) (end : Situation) → IsReached trial schedule end →
+      HasEnded end.state → (index : ℕ) (check : Check) → slice_get trial.checks.now index ≡ Some check →
+      Violates (seen_at end.state) check → IsViolationTold search.violations.items index

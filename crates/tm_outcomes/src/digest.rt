@@ -1,7 +1,8 @@
 //! Numbers by which states that may be the same are found. Nothing is promised of them: states of one digest are
 //! compared.
 
-ghost use Rattle.std.specs.Prelude.{◌≡◌, ◌+◌, ◌≤◌, IsTrue, length};
+ghost use Rattle.std.specs.Prelude.{◌≡◌, ◌+◌, ◌/◌, ◌<◌, ◌≤◌, ℕ, IsTrue, length, slice_index};
+ghost use Rattle.tm_outcomes.specs.Elsewhere.{IsSameElsewhere};
 
 /// An odd number with bits set all over: 2^64 divided by the golden ratio.
 const MIX: u64 = 0x9e37_79b9_7f4a_7c15;
@@ -29,19 +30,21 @@ impl Digest {
         self.value = (self.value ^ word).wrapping_mul(MIX).rotate_left(29);
     }
 
-    /// Adds bytes: of each eight that are not all zero their place and their value, since most of memory is zeros, and then
-    /// each byte of the rest.
-    pub fn add_bytes(&mut self, bytes: &[u8]) {
-        let words = bytes.len() / 8;
-        for index in 0..words {
-            let word = word_at(bytes, index * 8);
-            if word != 0 {
-                self.add(index as u64);
-                self.add(word);
+    /// Adds a line of 64 bytes of memory, where it is not the same in the other.
+    pub fn add_line(&mut self, memory: &[u8], other: &[u8], line: u32) {
+        let start = line as usize * 64;
+        let (Some(here), Some(there)) = (
+            memory.get(start..start + 64),
+            other.get(start..start + 64),
+        ) else {
+            return;
+        };
+        for word in 0..8 {
+            let value = word_at(here, word * 8);
+            if value != word_at(there, word * 8) {
+                self.add(u64::from(line) * 8 + word as u64);
+                self.add(value);
             }
-        }
-        for at in words * 8..bytes.len() {
-            self.add(u64::from(bytes[at]));
         }
     }
 }
@@ -63,16 +66,40 @@ fn word_at(bytes: &[u8], at: usize) -> u64
     ])
 }
 
-/// Whether both are the same bytes. Each is looked at, so that the compiler compares sixteen at once.
-pub fn are_same(these: &[u8], those: &[u8]) -> bool
+/// Whether both are the same bytes, where each is the same as a third but on these lines.
+pub fn are_same(these: &[u8], those: &[u8], opening: &[u8], lines: &[u32]) -> bool
+    requires these { IsSameElsewhere lines.now these.now opening.now }
+    requires those { IsSameElsewhere lines.now those.now opening.now }
     ensures { IsTrue result → these.now ≡ those.now }
 {
-    if these.len() != those.len() {
-        return false;
+    for line in lines {
+        if !is_line_same(these, those, *line) {
+            return false;
+        }
     }
+    true
+}
+
+// Whether the bytes of a line are the same. Each is looked at, so that the compiler compares sixteen at once.
+fn is_line_same(these: &[u8], those: &[u8], line: u32) -> bool
+    requires { length these.now ≡ length those.now }
+    ensures { IsTrue result → (address : ℕ) → address / 64 ≡ line →
+        slice_index these.now address ≡ slice_index those.now address }
+{
+    let start = line as usize * 64;
+    let end = end_of(line, these.len());
     let mut same = true;
-    for index in 0..these.len() {
-        same = same & (these[index] == those[index]);
+    for at in start..end {
+        same = same & (these[at] == those[at]);
     }
     same
+}
+
+// Where a line of 64 bytes ends in memory of this size.
+fn end_of(line: u32, size: usize) -> usize
+    ensures within { result ≤ size }
+    ensures all { (address : ℕ) → address / 64 ≡ line → address < size → address < result }
+{
+    let end = line as usize * 64 + 64;
+    if end < size { end } else { size }
 }

@@ -4,8 +4,8 @@ ghost use Rattle.std.specs.Prelude.{◌≡◌, ◌<◌, ◌^◌, ◌++◌, ◌�
 ghost use Rattle.tm_model.specs.declared.outcome.Pick.{Pick};
 ghost use Rattle.tm_outcomes.specs.Nodes.{HaveSchedules, IsTree};
 ghost use Rattle.tm_outcomes.specs.Outcomes.{AreThere, IsRefusal};
-ghost use Rattle.tm_outcomes.specs.Places.{ArePlacesOf};
 ghost use Rattle.tm_outcomes.specs.Searching.{AreFindings, Shows};
+ghost use Rattle.tm_outcomes.specs.Written.{IsBenchOf};
 
 use crate::bench::Bench;
 use crate::fault::SearchFault;
@@ -13,6 +13,7 @@ use crate::nodes::{Node, place_of, schedule_of};
 use crate::stops::{ReachedStop, take_up_stops};
 use crate::table::{Told, take_up};
 use crate::trial::Trial;
+use crate::violations::{Violation, take_up_checks};
 use std::alloc::{AllocError, Global};
 
 /// What was found so far.
@@ -24,6 +25,8 @@ pub struct Findings {
     pub ends: Vec<u32>,
     /// The stops that are looked for.
     pub stops: Vec<ReachedStop>,
+    /// The checks that an end violates.
+    pub violations: Vec<Violation>,
 }
 
 impl Findings {
@@ -32,11 +35,13 @@ impl Findings {
         ensures outcomes { result.outcomes.items ≡ [] }
         ensures ends { result.ends.items ≡ [] }
         ensures stops { result.stops.items ≡ [] }
+        ensures violations { result.violations.items ≡ [] }
     {
         Findings {
             outcomes: Vec::new(alloc),
             ends: Vec::new(alloc),
             stops: Vec::new(alloc),
+            violations: Vec::new(alloc),
         }
     }
 
@@ -49,7 +54,7 @@ impl Findings {
         nodes: &[Node],
         index: usize,
     ) -> Result<(), SearchFault>
-        requires bench { ArePlacesOf trial.now bench.old }
+        requires bench { IsBenchOf trial.now nodes.now bench.old }
         requires within { index < length nodes.now }
         requires few { length nodes.now < 2 ^ 32 }
         requires tree { HaveSchedules trial.now nodes.now }
@@ -58,14 +63,22 @@ impl Findings {
         ensures found { OnOk result (AreFindings trial.now self.new) }
         ensures shows { OnOk result ((schedules : List (List Pick)) → IsTree trial.now nodes.now schedules →
             Shows trial.now schedules self.old self.new index) }
-        ensures bench { ArePlacesOf trial.now bench.new }
+        ensures bench { OnOk result (IsBenchOf trial.now nodes.now bench.new) }
         ensures err { IfErr result (IsRefusal trial.now) }
     {
-        place_of(alloc, trial, nodes, index, &mut bench.here)?;
+        place_of(alloc, trial, nodes, index, &bench.noted, &mut bench.here)?;
         take_up_stops(alloc, trial, nodes, index, &bench.here, &mut self.stops)?;
         if !bench.here.has_ended() {
             return Ok(());
         }
+        take_up_checks(
+            alloc,
+            trial,
+            nodes,
+            index,
+            &bench.here,
+            &mut self.violations,
+        )?;
         add_end(&mut self.ends, index as u32)?;
         let values = bench.here.values(alloc, trial)?;
         let schedule = schedule_of(alloc, nodes, index)?;

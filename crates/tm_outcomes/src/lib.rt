@@ -1,12 +1,13 @@
 //! Every outcome of a small program: all schedules, each state once.
 //!
-//! A [`Trial`] is a program, and what is shown of it where each core has stopped. [`outcomes`] searches the states that
-//! its schedules lead to, breadth first, and goes on from each but once. Promised: each outcome that is told is that of
-//! the schedule beside it, run from the program's opening state, and none is told twice; and where the search is not cut
-//! at its limit on states, no schedule of any length has another. It also tells a schedule behind which none leads on to
-//! an end, and one to each stop that is looked for; where it is not cut and tells none, there is none. How many states show
-//! an outcome or have no way to an end, and how many there are, is compared by `doc_tests`. The words for it stand in
-//! `specs/Schedules.antt`, `specs/Outcomes.antt` and `specs/Verdicts.antt`, over the machine's definitions in `tm_model` alone.
+//! A [`Trial`] is a program, and what is shown of it and checked where each core has stopped. [`outcomes`] searches the
+//! states that its schedules lead to, breadth first, and goes on from each but once. Promised: each outcome that is told
+//! is that of the schedule beside it, run from the program's opening state, and none is told twice; and where the search
+//! is not cut at its limit on states, no schedule of any length has another. It also tells a schedule behind which none
+//! leads on to an end, one to each stop that is looked for, and one to an end that violates each check; where it is not
+//! cut and tells none, there is none. How many states show an outcome or have no way to an end, and how many there are, is
+//! compared by `doc_tests`. The words for it stand in `specs/Schedules.antt`, `specs/Outcomes.antt` and
+//! `specs/Verdicts.antt`, over the machine's definitions in `tm_model` alone.
 //!
 //! Two states count as one where memory and what is shown of each core are the same: the machine's steps are a function
 //! of these. A state is kept as the last step of a schedule that leads there. Two machines are kept, each of which comes to a
@@ -27,6 +28,8 @@ mod stops;
 mod stuck;
 mod table;
 mod trial;
+mod violations;
+mod written;
 
 pub use fault::SearchFault;
 pub use searching::{Search, outcomes};
@@ -36,3 +39,4 @@ pub use table::Told;
 pub use tm_model::{Event, Interference, Pick};
 pub use tm_rule::Stop;
 pub use trial::{Events, Item, Trial};
+pub use violations::Violation;

@@ -4,12 +4,14 @@ ghost use Rattle.std.specs.Prelude.{◌≡◌, ◌<◌, ◌≤◌, ◌^◌, List
 ghost use Rattle.tm_model.specs.declared.outcome.Pick.{Pick};
 ghost use Rattle.tm_outcomes.specs.Nodes.{HaveSchedules, IsFound, IsTree, schedule_at};
 ghost use Rattle.tm_outcomes.specs.Outcomes.{IsRefusal};
-ghost use Rattle.tm_outcomes.specs.Places.{IsAt, IsPlaceOf};
+ghost use Rattle.tm_outcomes.specs.Places.{IsAt};
+ghost use Rattle.tm_outcomes.specs.Written.{IsPlaceIn, IsWrittenOf};
 ghost use Rattle.tm_outcomes.specs.declared.trial.Trial.{Trial};
 
 use crate::fault::SearchFault;
 use crate::place::Place;
 use crate::trial::Trial;
+use crate::written::Written;
 use std::alloc::{AllocError, Global};
 use tm_model::Pick;
 
@@ -50,19 +52,21 @@ pub fn place_of(
     trial: &Trial<'_>,
     nodes: &[Node],
     index: usize,
+    written: &Written,
     place: &mut Place,
 ) -> Result<(), SearchFault>
     requires within { index < length nodes.now }
     requires few { length nodes.now < 2 ^ 32 }
     requires tree { HaveSchedules trial.now nodes.now }
-    requires place { IsPlaceOf trial.now place.old }
-    ensures place { IsPlaceOf trial.now place.new }
+    requires written { IsWrittenOf trial.now nodes.now written.now }
+    requires place { IsPlaceIn trial.now written.now place.old }
+    ensures place { IsPlaceIn trial.now written.now place.new }
     ensures ok { IfOk result (λ _. (schedules : List (List Pick)) → IsTree trial.now nodes.now schedules →
         IsAt trial.now place.new (schedule_at schedules index)) }
     ensures err { IfErr result (IsRefusal trial.now) }
 {
     let schedule = schedule_of(alloc, nodes, index)?;
-    place.replay(trial, schedule.as_slice());
+    place.replay(trial, written, schedule.as_slice());
     Ok(())
 }
 
@@ -73,14 +77,17 @@ pub fn find(
     trial: &Trial<'_>,
     nodes: &[Node],
     newest: Option<u32>,
+    written: &Written,
     place: &Place,
     other: &mut Place,
 ) -> Result<Option<usize>, SearchFault>
     requires few { length nodes.now < 2 ^ 32 }
     requires tree { HaveSchedules trial.now nodes.now }
     requires at { (schedule : List Pick) × IsAt trial.now place.now schedule }
-    requires other { IsPlaceOf trial.now other.old }
-    ensures other { IsPlaceOf trial.now other.new }
+    requires written { IsWrittenOf trial.now nodes.now written.now }
+    requires place { IsPlaceIn trial.now written.now place.now }
+    requires other { IsPlaceIn trial.now written.now other.old }
+    ensures other { IsPlaceIn trial.now written.now other.new }
     ensures ok { IfOk result (λ found. IfSome found (IsFound trial.now nodes.now place.now)) }
     ensures err { IfErr result (IsRefusal trial.now) }
 {
@@ -93,8 +100,8 @@ pub fn find(
         if index >= nodes.len() {
             return Ok(None);
         }
-        place_of(alloc, trial, nodes, index, other)?;
-        if place.is_alike(other) {
+        place_of(alloc, trial, nodes, index, written, other)?;
+        if place.is_alike(other, written) {
             return Ok(Some(index));
         }
         candidate = nodes[index].older;

@@ -2,6 +2,7 @@
 
 ghost use Rattle.std.specs.Prelude.{◌≡◌, ◌↔◌, ◌<◌, ◌≤◌, ◌+◌, ◌++◌, ◌∷◌, ◌^◌, [], ℕ, All, List, Option, Some, IfErr, IfOk, IsOk, IsTrue};
 ghost use Rattle.std.specs.Prelude.{length, map, slice_index};
+ghost use Rattle.tm_outcomes.specs.Elsewhere.{IsSameElsewhere};
 ghost use Rattle.tm_core.specs.Theorem.{SameMachine, StandsFor, TakesStepUnder, view_at};
 ghost use Rattle.tm_model.specs.Conflicts.{Doomed};
 ghost use Rattle.tm_model.specs.State.{State};
@@ -11,14 +12,18 @@ ghost use Rattle.tm_model.specs.declared.outcome.Pick.{Pick};
 ghost use Rattle.tm_outcomes.specs.Places.{AreAlike, GoesTo, IsAt, IsCoreAlike, detail_after, has_detail, has_stopped};
 ghost use Rattle.tm_outcomes.specs.Places.{IsPlaceOf, is_open};
 ghost use Rattle.tm_outcomes.specs.Schedules.{HasEnded, Situation};
-ghost use Rattle.tm_outcomes.specs.Verdicts.{StopsBy};
+ghost use Rattle.tm_condition.specs.Conditions.{Violates};
+ghost use Rattle.tm_outcomes.specs.Verdicts.{StopsBy, seen_at};
+ghost use Rattle.tm_outcomes.specs.Written.{IsPlaceIn, IsWithin};
 
 use crate::digest::{Digest, are_same};
 use crate::fault::SearchFault;
 use crate::trial::{Item, Trial};
+use crate::written::Written;
 use ia_regs::Regs;
 use ia_word::Width;
 use std::alloc::{AllocError, Global};
+use tm_condition::Check;
 use tm_core::memory::{load, read};
 use tm_core::{CoreState, Machine, MachineFault, NoSuchCore, Outcome, Program};
 use tm_model::Pick;
@@ -127,8 +132,8 @@ fn step_by(machine: &mut Machine, pick: Pick) -> Result<Outcome, NoSuchCore>
 
 impl Place {
     // Before the first step again.
-    fn reopen(&mut self, trial: &Trial<'_>)
-        requires { IsPlaceOf trial.now self.old }
+    fn reopen(&mut self, trial: &Trial<'_>, written: &Written)
+        requires { IsPlaceIn trial.now written.now self.old }
         ensures { IsAt trial.now self.new [] }
     {
         self.machine.reopen(trial.program);
@@ -136,14 +141,15 @@ impl Place {
     }
 
     /// The end of a schedule, from before the first step on.
-    pub fn replay(&mut self, trial: &Trial<'_>, schedule: &[Pick])
+    pub fn replay(&mut self, trial: &Trial<'_>, written: &Written, schedule: &[Pick])
         requires cores { All (λ (pick : Pick). pick.core < length trial.now.program.now.entries) schedule.now }
         requires short { length schedule.now < 2 ^ 32 }
-        requires place { IsPlaceOf trial.now self.old }
+        requires place { IsPlaceIn trial.now written.now self.old }
+        requires within { IsWithin trial.now written.now.lines.items schedule.now }
         ensures at { IsAt trial.now self.new schedule.now }
-        ensures place { IsPlaceOf trial.now self.new }
+        ensures place { IsPlaceIn trial.now written.now self.new }
     {
-        self.reopen(trial);
+        self.reopen(trial, written);
         for pick in schedule {
             self.step(trial, *pick);
         }
@@ -183,7 +189,9 @@ impl Place {
     }
 
     /// Whether another place goes on as this one does.
-    pub fn is_alike(&self, other: &Place) -> bool
+    pub fn is_alike(&self, other: &Place, written: &Written) -> bool
+        requires memory { IsSameElsewhere written.now.lines.items self.now.machine.memory written.now.opening.items }
+        requires others { IsSameElsewhere written.now.lines.items other.now.machine.memory written.now.opening.items }
         requires here { length self.now.machine.views ≤ length self.now.details.items }
         requires there { length other.now.machine.views ≤ length other.now.details.items }
         ensures { IsTrue result → AreAlike self.now other.now }
@@ -196,7 +204,12 @@ impl Place {
                 return false;
             }
         }
-        are_same(self.machine.view(), other.machine.view())
+        are_same(
+            self.machine.view(),
+            other.machine.view(),
+            written.opening.as_slice(),
+            written.lines.as_slice(),
+        )
     }
 }
 
@@ -260,6 +273,14 @@ impl Place {
         false
     }
 
+    /// Whether it violates a check.
+    pub fn violates(&self, check: &Check) -> bool
+        ensures { (now : Situation) → StandsFor self.now.machine now.state now.doomed →
+            (IsTrue result ↔ Violates (seen_at now.state) check.now) }
+    {
+        check.is_violated(&self.machine)
+    }
+
     // The value of an item.
     fn value(&self, trial: &Trial<'_>, item: Item) -> u32
         requires is_there { IsThere trial.now item }
@@ -290,12 +311,13 @@ impl Place {
         Ok(values)
     }
 
-    /// A number that is the same for places of a trial that are alike. The code, which no step changes, is left out.
-    pub fn digest(&self, trial: &Trial<'_>) -> u64 {
+    /// A number that is the same for places of a trial that are alike: of each line that steps store to the bytes, where
+    /// they are not what they were before the first step, and what is known of each core.
+    pub fn digest(&self, written: &Written) -> u64 {
         let mut digest = Digest::new();
-        let memory = self.machine.view();
-        let end = trial.program.base() as usize + trial.program.code().len();
-        digest.add_bytes(memory.get(end..).unwrap_or(memory));
+        for line in written.lines.as_slice() {
+            digest.add_line(self.machine.view(), written.opening.as_slice(), *line);
+        }
         for core in 0..self.machine.cores() {
             self.digest_core(core, &mut digest);
         }

@@ -7,9 +7,9 @@ ghost use Rattle.tm_model.specs.declared.outcome.Pick.{Pick};
 ghost use Rattle.tm_outcomes.specs.Links.{LiesWithin};
 ghost use Rattle.tm_outcomes.specs.Nodes.{HaveSchedules, IsPickOf, IsTree, IsUntouched};
 ghost use Rattle.tm_outcomes.specs.Outcomes.{AreThere, IsAllowed, IsNoneOrOneOf, IsRefusal, IsSearch};
-ghost use Rattle.tm_outcomes.specs.Places.{ArePlacesOf};
 ghost use Rattle.tm_outcomes.specs.Searching.{AreFindings, HaveDone, IsCutOf, IsFollowedIn, IsOneOf, IsOver, IsThis, IsWholeOf};
 ghost use Rattle.tm_outcomes.specs.Verdicts.{IsVerdict};
+ghost use Rattle.tm_outcomes.specs.Written.{IsBenchOf, IsPlaceIn};
 ghost use Rattle.tm_outcomes.specs.declared.links.Link.{Link};
 ghost use Rattle.tm_outcomes.specs.declared.trial.Trial.{Trial};
 
@@ -22,6 +22,7 @@ use crate::stops::ReachedStop;
 use crate::stuck::{Stuck, stuck_of};
 use crate::table::Told;
 use crate::trial::{Events, Trial};
+use crate::violations::Violation;
 use std::alloc::{AllocError, Global};
 use std::collections::HashMap;
 use tm_model::{Event, Pick};
@@ -39,6 +40,8 @@ pub struct Search {
     pub stuck: Option<Stuck>,
     /// The stops that were looked for and found, in the order in which they were.
     pub stops: Vec<ReachedStop>,
+    /// The checks that an end violates, in the order in which they were found, each once.
+    pub violations: Vec<Violation>,
 }
 
 /// The states that were met so far, and what was found at them.
@@ -132,7 +135,7 @@ impl Searching {
         pick: Pick,
         most: u32,
     ) -> Result<Followed, SearchFault>
-        requires bench { ArePlacesOf trial.now bench.old }
+        requires bench { IsBenchOf trial.now self.old.nodes.items bench.old }
         requires within { index < length self.old.nodes.items }
         requires is_pick { IsPickOf trial.now pick }
         requires few { length self.old.nodes.items ≤ most }
@@ -143,16 +146,25 @@ impl Searching {
         ensures untouched { IfOk result (λ r. r.was_open ≡ false → (schedules : List (List Pick)) →
             IsTree trial.now self.old.nodes.items schedules → IsUntouched trial.now schedules index pick.core) }
         ensures cut { IfOk result (λ r. r.progress ≡ Progress.IsCut → length self.new.nodes.items ≡ most) }
-        ensures bench { ArePlacesOf trial.now bench.new }
+        ensures bench { OnOk result (IsBenchOf trial.now self.new.nodes.items bench.new) }
         ensures err { IfErr result (IsRefusal trial.now) }
     {
-        let Bench { here, other } = bench;
-        place_of(alloc, trial, self.nodes.as_slice(), index, here)?;
+        let Bench { here, other, noted } = bench;
+        place_of(alloc, trial, self.nodes.as_slice(), index, noted, here)?;
         let was_open = here.is_open(pick.core);
+        noted.note(alloc, &here.machine, pick.core)?;
         here.step(trial, pick);
-        let digest = here.digest(trial);
+        let digest = here.digest(noted);
         let newest = self.newest.get(&digest).copied();
-        if let Some(known) = find(alloc, trial, self.nodes.as_slice(), newest, here, other)? {
+        if let Some(known) = find(
+            alloc,
+            trial,
+            self.nodes.as_slice(),
+            newest,
+            noted,
+            here,
+            other,
+        )? {
             self.join(index, known)?;
             return Ok(Followed {
                 progress: Progress::GoesOn,
@@ -192,7 +204,7 @@ impl Searching {
         events: &[Event],
         most: u32,
     ) -> Result<Progress, SearchFault>
-        requires bench { ArePlacesOf trial.now bench.old }
+        requires bench { IsBenchOf trial.now self.old.nodes.items bench.old }
         requires within { index < length self.old.nodes.items }
         requires is_core { core < length trial.now.program.now.entries }
         requires allowed { (event : Option Event) → IsNoneOrOneOf events.now event → IsAllowed trial.now.events event }
@@ -202,7 +214,7 @@ impl Searching {
         ensures followed { IfOk result (λ progress. progress ≡ Progress.GoesOn →
             IsFollowedIn trial.now most self.old self.new index core (IsOneOf events.now)) }
         ensures cut { IfOk result (λ progress. progress ≡ Progress.IsCut → length self.new.nodes.items ≡ most) }
-        ensures bench { ArePlacesOf trial.now bench.new }
+        ensures bench { OnOk result (IsBenchOf trial.now self.new.nodes.items bench.new) }
         ensures err { IfErr result (IsRefusal trial.now) }
     {
         for event in events {
@@ -230,7 +242,7 @@ impl Searching {
         events: &[Event],
         most: u32,
     ) -> Result<Progress, SearchFault>
-        requires bench { ArePlacesOf trial.now bench.old }
+        requires bench { IsBenchOf trial.now self.old.nodes.items bench.old }
         requires within { index < length self.old.nodes.items }
         requires is_core { core < length trial.now.program.now.entries }
         requires allowed { (event : Option Event) → IsNoneOrOneOf events.now event → IsAllowed trial.now.events event }
@@ -241,7 +253,7 @@ impl Searching {
             IsFollowedIn trial.now most self.old self.new index core
             (IsNoneOrOneOf events.now)) }
         ensures cut { IfOk result (λ progress. progress ≡ Progress.IsCut → length self.new.nodes.items ≡ most) }
-        ensures bench { ArePlacesOf trial.now bench.new }
+        ensures bench { OnOk result (IsBenchOf trial.now self.new.nodes.items bench.new) }
         ensures err { IfErr result (IsRefusal trial.now) }
     {
         let alone = Pick { core, event: None };
@@ -265,7 +277,7 @@ impl Searching {
         core: u8,
         most: u32,
     ) -> Result<Progress, SearchFault>
-        requires bench { ArePlacesOf trial.now bench.old }
+        requires bench { IsBenchOf trial.now self.old.nodes.items bench.old }
         requires within { index < length self.old.nodes.items }
         requires is_core { core < length trial.now.program.now.entries }
         requires few { length self.old.nodes.items ≤ most }
@@ -275,7 +287,7 @@ impl Searching {
             IsFollowedIn trial.now most self.old self.new index core
             (IsAllowed trial.now.events)) }
         ensures cut { IfOk result (λ progress. progress ≡ Progress.IsCut → length self.new.nodes.items ≡ most) }
-        ensures bench { ArePlacesOf trial.now bench.new }
+        ensures bench { OnOk result (IsBenchOf trial.now self.new.nodes.items bench.new) }
         ensures err { IfErr result (IsRefusal trial.now) }
     {
         match trial.events {
@@ -311,7 +323,7 @@ impl Searching {
         index: usize,
         most: u32,
     ) -> Result<Progress, SearchFault>
-        requires bench { ArePlacesOf trial.now bench.old }
+        requires bench { IsBenchOf trial.now self.old.nodes.items bench.old }
         requires within { index < length self.old.nodes.items }
         requires there { AreThere trial.now }
         requires done { HaveDone trial.now most self.old index }
@@ -319,7 +331,7 @@ impl Searching {
             HaveDone trial.now most self.new (index + 1)) }
         ensures cut { IfOk result (λ progress. progress ≡ Progress.IsCut →
             (length self.new.nodes.items ≡ most) × AreFindings trial.now self.new.found) }
-        ensures bench { ArePlacesOf trial.now bench.new }
+        ensures bench { OnOk result (IsBenchOf trial.now self.new.nodes.items bench.new) }
         ensures err { IfErr result (IsRefusal trial.now) }
     {
         self.found
@@ -351,6 +363,7 @@ impl Searching {
             outcomes,
             ends,
             stops,
+            violations,
         } = found;
         let stuck = stuck_of(alloc, nodes.as_slice(), links.as_slice(), ends.as_slice())?;
         Ok(Search {
@@ -359,6 +372,7 @@ impl Searching {
             is_cut: false,
             stuck,
             stops,
+            violations,
         })
     }
 
@@ -379,6 +393,7 @@ impl Searching {
             outcomes,
             ends,
             stops,
+            violations,
         } = found;
         drop(ends);
         Search {
@@ -387,6 +402,7 @@ impl Searching {
             is_cut: true,
             stuck: None,
             stops,
+            violations,
         }
     }
 }
@@ -404,7 +420,8 @@ fn explore(
     bench: &mut Bench,
     most: u32,
 ) -> Result<Explored, SearchFault>
-    requires bench { ArePlacesOf trial.now bench.old }
+    requires here { IsPlaceIn trial.now bench.old.noted bench.old.here }
+    requires other { IsPlaceIn trial.now bench.old.noted bench.old.other }
     requires there { AreThere trial.now }
     requires some { 1 ≤ most }
     ensures whole { IfOk result (λ explored. explored.progress ≡ Progress.GoesOn → IsOver trial.now most explored.search) }
@@ -412,7 +429,7 @@ fn explore(
         (length explored.search.nodes.items ≡ most) × AreFindings trial.now explored.search.found) }
     ensures err { IfErr result (IsRefusal trial.now) }
 {
-    let mut search = Searching::opening(alloc, bench.here.digest(trial))?;
+    let mut search = Searching::opening(alloc, bench.here.digest(&bench.noted))?;
     for index in 0..most {
         if index as usize >= search.nodes.len() {
             return Ok(Explored {

@@ -3,6 +3,7 @@
 ghost use Rattle.std.specs.Prelude.{◌↔◌, IsTrue};
 ghost use Rattle.tm_outcomes.specs.Outcomes.{AreThere, IsThere};
 
+use tm_condition::Check;
 use tm_core::{Limits, Program};
 use tm_model::Event;
 use tm_rule::Stop;
@@ -27,7 +28,8 @@ pub enum Events<'a> {
     Always(Event),
 }
 
-/// A program, what its steps come under, what is shown of it where each core has stopped, and which stops are looked for.
+/// A program, what its steps come under, what is shown of it and checked where each core has stopped, and which stops are
+/// looked for.
 #[derive(Clone, Copy)]
 pub struct Trial<'a> {
     /// The program.
@@ -40,6 +42,8 @@ pub struct Trial<'a> {
     pub events: Events<'a>,
     /// The reasons to stop that are looked for.
     pub stops: &'a [Stop],
+    /// What is checked where each core has stopped.
+    pub checks: &'a [Check],
 }
 
 impl Trial<'_> {

@@ -1,9 +1,9 @@
-use Rattle.std.proofs.Common.{◌≡◌, ◌<◌, ℕ, true, length, get_or}
+use Rattle.std.proofs.Common.{◌≡◌, ◌<◌, ◌/◌, ℕ, get_or}
+use Rattle.std.specs.Prelude.{slice_index}
 use Rattle.tm_outcomes.proofs.digest.are_same.Given as goal
 
-abbrev pub invariant-loop-index : goal.invariant-loop-index
-invariant-loop-index l = record {
-  counted : length l.these ≡ length l.those;
-  end : l.index-end ≡ length l.these;
-  so_far : l.same ≡ true → (k : ℕ) → k < l.index → get_or l.these k 0 ≡ get_or l.those k 0;
-}
+-- the bytes of the lines so far are the same
+abbrev pub invariant-loop-line : goal.invariant-loop-line
+invariant-loop-line l =
+    (index address : ℕ) → index < l.line-index → get_or l.lines index (address / 64) ≡ address / 64 →
+    slice_index l.these address ≡ slice_index l.those address

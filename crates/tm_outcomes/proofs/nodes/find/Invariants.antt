@@ -1,5 +1,5 @@
-use Rattle.tm_outcomes.specs.Places.{IsPlaceOf}
+use Rattle.tm_outcomes.specs.Written.{IsPlaceIn}
 use Rattle.tm_outcomes.proofs.nodes.find.Given as goal
 
 abbrev pub invariant-nodes : goal.invariant-nodes
-invariant-nodes l = IsPlaceOf l.trial l.other
+invariant-nodes l = IsPlaceIn l.trial l.written l.other

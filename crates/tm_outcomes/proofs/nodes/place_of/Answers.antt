@@ -4,6 +4,7 @@ use Rattle.std.proofs.lemmas.List.Elements.{All-weaker}
 use Rattle.tm_model.specs.declared.outcome.Pick.{Pick}
 use Rattle.tm_outcomes.specs.Nodes.{IsPickOf, schedule_at}
 use Rattle.tm_outcomes.specs.Places.{IsAt}
+use Rattle.tm_outcomes.specs.Written.{IsWithin}
 use Rattle.tm_outcomes.proofs.nodes.place_of.Goals as goal
 
 pub replay-requires-clause-cores : goal.replay-requires-clause-cores
@@ -28,3 +29,11 @@ returns-clause-ok c = λ schedules tree.
     subst (λ (s : List Pick). IsAt c.args.trial.now c.replay.new.self s)
     (c.as_slice.ensures.value ∙ c.in_ok-schedule.ensures c.args.trial.now schedules tree)
     c.replay.ensures.at
+
+pub replay-requires-clause-within : goal.replay-requires-clause-within
+replay-requires-clause-within c =
+    let trial = c.args.trial.now in
+    let written = c.requires.written in
+    subst (λ (s : List Pick). IsWithin trial c.args.written.now.lines.items s)
+    (sym (c.as_slice.ensures.value ∙ c.in_ok-schedule.ensures trial written.schedules written.tree))
+    (written.within c.args.index c.requires.within)

@@ -1,4 +1,5 @@
-use Rattle.std.proofs.Common.{arith}
+use Rattle.std.proofs.Common.{◌≡◌, length, arith}
+use Rattle.tm_outcomes.proofs.Benches.{written_first}
 use Rattle.tm_outcomes.proofs.searching.explore.Goals as goal
 
 pub loop-index-init : goal.loop-index-init
@@ -16,7 +17,15 @@ loop-index-init c =
           few = let few = opened.1.few in let some = c.requires.some in omega arith;
         },
       );
-      bench = c.requires.bench;
+      bench =
+          let one : length c.in_ok-search.search.nodes.items ≡ 1 =
+          (let some = opened.1.tree.some in let few = opened.1.few in omega arith) in
+          record {
+            here = c.requires.here;
+            other = c.requires.other;
+            written = written_first c.args.trial.now c.in_ok-search.search.nodes.items c.args.bench.now.noted opened.0
+                c.requires.here.opening opened.1.tree one;
+          };
     }
 
 pub returns-then-index-len-clause-whole : goal.returns-then-index-len-clause-whole

@@ -1,9 +1,9 @@
-use Rattle.tm_outcomes.specs.Places.{ArePlacesOf}
 use Rattle.tm_outcomes.specs.Searching.{HaveDone}
+use Rattle.tm_outcomes.specs.Written.{IsBenchOf}
 use Rattle.tm_outcomes.proofs.searching.explore.Given as goal
 
 abbrev pub invariant-loop-index : goal.invariant-loop-index
 invariant-loop-index l = record {
   done : HaveDone l.trial l.most l.search l.index;
-  bench : ArePlacesOf l.trial l.bench;
+  bench : IsBenchOf l.trial l.search.nodes.items l.bench;
 }

@@ -41,14 +41,20 @@ returns-then-not-has_ended-clause-shows c = λ schedules tree.
             ∙ (c.has_ended.ensures now (leads_stands trial schedules c.args.index place now at leads)).1 ended));
         stops = λ now leads why asked stopped.
             c.in_ok-take_up_stops.ensures.found why asked now (leads_stands trial schedules c.args.index place now at leads) stopped;
+        checks = λ now leads ended. absurd (false≢true (sym c.if-not-has_ended.true
+            ∙ (c.has_ended.ensures now (leads_stands trial schedules c.args.index place now at leads)).1 ended));
       };
       ends = λ all. all;
       kept = λ other was. record {
         outcome = was.outcome;
         end = was.end;
         stops = λ now leads why asked stopped. c.in_ok-take_up_stops.ensures.kept why (was.stops now leads why asked stopped);
+        checks = was.checks;
       };
     }
+
+pub take_up_checks-requires-clause-ended : goal.take_up_checks-requires-clause-ended
+take_up_checks-requires-clause-ended c = λ now stands. (c.has_ended.ensures now stands).0 c.if-not-has_ended.false
 
 pub returns-clause-shows : goal.returns-clause-shows
 returns-clause-shows c = λ schedules tree.
@@ -69,6 +75,8 @@ returns-clause-shows c = λ schedules tree.
         end = λ now leads ended. subst (λ (es : List ℕ). Contains es index) (sym ends) (Contains-push before index);
         stops = λ now leads why asked stopped.
             c.in_ok-take_up_stops.ensures.found why asked now (leads_stands trial schedules index place now at leads) stopped;
+        checks = λ now leads ended check what asked violates.
+            c.in_ok-take_up_checks.ensures.found check what asked now (leads_stands trial schedules index place now at leads) violates;
       };
       ends = λ all. subst (λ (es : List ℕ). All (IsEnd trial schedules) es) (sym ends)
           (All-append (IsEnd trial schedules) before (index ∷ []) all
@@ -78,5 +86,21 @@ returns-clause-shows c = λ schedules tree.
         end = λ now leads ended. subst (λ (es : List ℕ). Contains es other) (sym ends)
             (Contains-append_left before (index ∷ []) other (was.end now leads ended));
         stops = λ now leads why asked stopped. c.in_ok-take_up_stops.ensures.kept why (was.stops now leads why asked stopped);
+        checks = λ now leads ended check what asked violates.
+            c.in_ok-take_up_checks.ensures.kept check (was.checks now leads ended check what asked violates);
       };
     }
+
+pub returns-then-not-has_ended-clause-bench : goal.returns-then-not-has_ended-clause-bench
+returns-then-not-has_ended-clause-bench c = record {
+  here = c.in_ok-place_of.ensures.place;
+  other = c.requires.bench.other;
+  written = c.requires.bench.written;
+}
+
+pub returns-clause-bench : goal.returns-clause-bench
+returns-clause-bench c = record {
+  here = c.in_ok-place_of.ensures.place;
+  other = c.requires.bench.other;
+  written = c.requires.bench.written;
+}

@@ -1,5 +1,6 @@
 use Rattle.std.proofs.Common.{List, refl, sym, subst, arith}
 use Rattle.tm_outcomes.specs.Nodes.{IsTree}
+use Rattle.tm_outcomes.specs.Written.{IsBenchOf}
 use Rattle.tm_outcomes.specs.declared.nodes.Node.{Node}
 use Rattle.tm_outcomes.proofs.Underway.{begins, ends, goes_on}
 use Rattle.tm_outcomes.proofs.searching.Searching.expand.Goals as goal
@@ -11,7 +12,7 @@ loop-core-init c =
       search = begins c.args.trial.now c.args.most c.args.index c.args.self.now _ refl refl c.requires.within shown.found
           (λ schedules tree. shown.shows schedules (subst (λ (ns : List Node). IsTree c.args.trial.now ns schedules) (sym c.as_slice.ensures.value) tree))
           c.requires.done;
-      bench = shown.bench;
+      bench = subst (λ (ns : List Node). IsBenchOf c.args.trial.now ns c.show.new.bench) c.as_slice.ensures.value shown.bench;
     }
 
 pub loop-core-preserved : goal.loop-core-preserved
@@ -28,3 +29,7 @@ pub returns-clause-goes_on : goal.returns-clause-goes_on
 returns-clause-goes_on c = λ _.
     ends c.args.trial.now c.args.most c.args.index c.loop-core.core c.loop-core.self
     (let n = c.cores-core-end.ensures.number in omega arith) c.loop-core.invariant.search
+
+pub show-requires-clause-bench : goal.show-requires-clause-bench
+show-requires-clause-bench c =
+    subst (λ (ns : List Node). IsBenchOf c.args.trial.now ns c.args.bench.now) (sym c.as_slice.ensures.value) c.requires.bench

@@ -1,9 +1,9 @@
-use Rattle.tm_outcomes.specs.Places.{ArePlacesOf}
 use Rattle.tm_outcomes.specs.Searching.{IsUnderway}
+use Rattle.tm_outcomes.specs.Written.{IsBenchOf}
 use Rattle.tm_outcomes.proofs.searching.Searching.expand.Given as goal
 
 abbrev pub invariant-loop-core : goal.invariant-loop-core
 invariant-loop-core l = record {
   search : IsUnderway l.trial l.most l.self l.index l.core;
-  bench : ArePlacesOf l.trial l.bench;
+  bench : IsBenchOf l.trial l.self.nodes.items l.bench;
 }

@@ -3,7 +3,9 @@ use Rattle.std.specs.Prelude.{IfSome}
 use Rattle.tm_model.specs.declared.outcome.Pick.{Pick}
 use Rattle.tm_outcomes.specs.Nodes.{IsFound, IsTree, schedule_at}
 use Rattle.tm_outcomes.specs.Places.{IsAt}
+use Rattle.tm_outcomes.specs.Written.{IsPlaceIn, IsWithin, IsWrittenOf}
 use Rattle.tm_outcomes.specs.declared.nodes.Node.{Node}
+use Rattle.tm_outcomes.proofs.Benches.{place_at, place_more, within_more, within_next, written_after, written_more}
 use Rattle.tm_outcomes.proofs.Follows.{follows}
 use Rattle.tm_outcomes.proofs.Joined.{to_known, to_new}
 use Rattle.tm_outcomes.proofs.Leads.{alike_stands, untouched_at}
@@ -98,3 +100,139 @@ returns-clause-untouched c = λ closed schedules tree.
     untouched_at trial schedules c.args.index c.place_of.new.place c.args.pick.core c.requires.is_pick.is_core
     (c.in_ok-place_of.ensures.ok schedules (subst (λ (ns : List Node). IsTree trial ns schedules) (sym c.as_slice.ensures.value) tree))
     (sym c.is_open-was_open.ensures ∙ closed)
+
+pub place_of-requires-clause-written : goal.place_of-requires-clause-written
+place_of-requires-clause-written c =
+    subst (λ (ns : List Node). IsWrittenOf c.args.trial.now ns c.args.bench.now.noted) (sym c.as_slice.ensures.value)
+    c.requires.bench.written
+
+pub note-requires : goal.note-requires
+note-requires c =
+    let trial = c.args.trial.now in
+    let schedules = c.requires.tree.0 in
+    let at : IsAt trial c.place_of.new.place (schedule_at schedules c.args.index) =
+    c.in_ok-place_of.ensures.ok schedules (subst (λ (ns : List Node). IsTree trial ns schedules) (sym c.as_slice.ensures.value) c.requires.tree.1) in
+    let count = at.count in
+    let is_core = c.requires.is_pick.is_core in
+    omega arith
+
+pub find-requires-clause-written : goal.find-requires-clause-written
+find-requires-clause-written c =
+    subst (λ (ns : List Node). IsWrittenOf c.args.trial.now ns c.note.new.self) (sym c.as_slice-2.ensures.value)
+    (written_more c.args.trial.now c.args.bench.now.noted c.note.new.self c.in_ok-note.ensures.opening
+    c.in_ok-note.ensures.kept c.args.self.now.nodes.items c.requires.bench.written)
+
+pub find-requires-clause-at : goal.find-requires-clause-at
+find-requires-clause-at c =
+    let trial = c.args.trial.now in
+    let written = c.requires.bench.written in
+    let schedule : List Pick = schedule_at written.schedules c.args.index in
+    let at : IsAt trial c.place_of.new.place schedule =
+    c.in_ok-place_of.ensures.ok written.schedules
+    (subst (λ (ns : List Node). IsTree trial ns written.schedules) (sym c.as_slice.ensures.value) written.tree) in
+    (schedule ++ c.args.pick ∷ [], c.step.ensures.at schedule at)
+
+pub find-requires-clause-place : goal.find-requires-clause-place
+find-requires-clause-place c =
+    let trial = c.args.trial.now in
+    let old = c.args.bench.now.noted in
+    let new = c.note.new.self in
+    let written = c.requires.bench.written in
+    let schedule : List Pick = schedule_at written.schedules c.args.index in
+    let at : IsAt trial c.place_of.new.place schedule =
+    c.in_ok-place_of.ensures.ok written.schedules
+    (subst (λ (ns : List Node). IsTree trial ns written.schedules) (sym c.as_slice.ensures.value) written.tree) in
+    let within : IsWithin trial new.lines.items (schedule ++ c.args.pick ∷ []) =
+    within_next trial new.lines.items schedule c.place_of.new.place c.step.new.self c.args.pick at c.step.ensures.goes
+    (within_more trial old.lines.items new.lines.items schedule c.in_ok-note.ensures.kept
+    (written.within c.args.index c.requires.within)) c.in_ok-note.ensures.noted in
+    let here : IsPlaceIn trial new c.step.new.self =
+    place_at trial new c.step.new.self (schedule ++ c.args.pick ∷ [])
+    (ap (λ v. v.items) c.in_ok-note.ensures.opening ∙ written.opening) c.step.ensures.place (c.step.ensures.at schedule at) within in
+    here
+
+pub find-requires-clause-other : goal.find-requires-clause-other
+find-requires-clause-other c =
+    place_more c.args.trial.now c.args.bench.now.noted c.note.new.self c.in_ok-note.ensures.opening
+    c.in_ok-note.ensures.kept c.args.bench.now.other c.requires.bench.other
+
+pub returns-in-Some-clause-bench : goal.returns-in-Some-clause-bench
+returns-in-Some-clause-bench c =
+    let trial = c.args.trial.now in
+    let old = c.args.bench.now.noted in
+    let new = c.note.new.self in
+    let written = c.requires.bench.written in
+    let schedule : List Pick = schedule_at written.schedules c.args.index in
+    let at : IsAt trial c.place_of.new.place schedule =
+    c.in_ok-place_of.ensures.ok written.schedules
+    (subst (λ (ns : List Node). IsTree trial ns written.schedules) (sym c.as_slice.ensures.value) written.tree) in
+    let within : IsWithin trial new.lines.items (schedule ++ c.args.pick ∷ []) =
+    within_next trial new.lines.items schedule c.place_of.new.place c.step.new.self c.args.pick at c.step.ensures.goes
+    (within_more trial old.lines.items new.lines.items schedule c.in_ok-note.ensures.kept
+    (written.within c.args.index c.requires.within)) c.in_ok-note.ensures.noted in
+    let here : IsPlaceIn trial new c.step.new.self =
+    place_at trial new c.step.new.self (schedule ++ c.args.pick ∷ [])
+    (ap (λ v. v.items) c.in_ok-note.ensures.opening ∙ written.opening) c.step.ensures.place (c.step.ensures.at schedule at) within in
+    record {
+      here = here;
+      other = c.in_ok-known.ensures.other;
+      written = subst (λ (ns : List Node). IsWrittenOf trial ns new) (ap (λ v. v.items) (sym c.in_ok-join.ensures.nodes))
+          (written_more trial old new c.in_ok-note.ensures.opening c.in_ok-note.ensures.kept c.args.self.now.nodes.items written);
+    }
+
+pub returns-then-len-most-clause-bench : goal.returns-then-len-most-clause-bench
+returns-then-len-most-clause-bench c =
+    let trial = c.args.trial.now in
+    let old = c.args.bench.now.noted in
+    let new = c.note.new.self in
+    let written = c.requires.bench.written in
+    let schedule : List Pick = schedule_at written.schedules c.args.index in
+    let at : IsAt trial c.place_of.new.place schedule =
+    c.in_ok-place_of.ensures.ok written.schedules
+    (subst (λ (ns : List Node). IsTree trial ns written.schedules) (sym c.as_slice.ensures.value) written.tree) in
+    let within : IsWithin trial new.lines.items (schedule ++ c.args.pick ∷ []) =
+    within_next trial new.lines.items schedule c.place_of.new.place c.step.new.self c.args.pick at c.step.ensures.goes
+    (within_more trial old.lines.items new.lines.items schedule c.in_ok-note.ensures.kept
+    (written.within c.args.index c.requires.within)) c.in_ok-note.ensures.noted in
+    let here : IsPlaceIn trial new c.step.new.self =
+    place_at trial new c.step.new.self (schedule ++ c.args.pick ∷ [])
+    (ap (λ v. v.items) c.in_ok-note.ensures.opening ∙ written.opening) c.step.ensures.place (c.step.ensures.at schedule at) within in
+    record {
+      here = here;
+      other = c.in_ok-known.ensures.other;
+      written = written_more trial old new c.in_ok-note.ensures.opening c.in_ok-note.ensures.kept c.args.self.now.nodes.items written;
+    }
+
+pub returns-clause-bench : goal.returns-clause-bench
+returns-clause-bench c =
+    let trial = c.args.trial.now in
+    let old = c.args.bench.now.noted in
+    let new = c.note.new.self in
+    let written = c.requires.bench.written in
+    let schedule : List Pick = schedule_at written.schedules c.args.index in
+    let at : IsAt trial c.place_of.new.place schedule =
+    c.in_ok-place_of.ensures.ok written.schedules
+    (subst (λ (ns : List Node). IsTree trial ns written.schedules) (sym c.as_slice.ensures.value) written.tree) in
+    let within : IsWithin trial new.lines.items (schedule ++ c.args.pick ∷ []) =
+    within_next trial new.lines.items schedule c.place_of.new.place c.step.new.self c.args.pick at c.step.ensures.goes
+    (within_more trial old.lines.items new.lines.items schedule c.in_ok-note.ensures.kept
+    (written.within c.args.index c.requires.within)) c.in_ok-note.ensures.noted in
+    let here : IsPlaceIn trial new c.step.new.self =
+    place_at trial new c.step.new.self (schedule ++ c.args.pick ∷ [])
+    (ap (λ v. v.items) c.in_ok-note.ensures.opening ∙ written.opening) c.step.ensures.place (c.step.ensures.at schedule at) within in
+    let nodes = c.args.self.now.nodes.items in
+    let node : Node = record {
+      parent = c.args.index;
+      pick = c.args.pick;
+      digest = c.digest-digest.result;
+      older = c.copied-newest.result;
+    } in
+    let after = c.step.ensures.at schedule at in
+    record {
+      here = here;
+      other = c.in_ok-known.ensures.other;
+      written = written_after trial old new c.in_ok-note.ensures.opening c.in_ok-note.ensures.kept nodes
+          c.add.new.self.nodes.items node written
+          (c.in_ok-add.ensures.nodes ∙ ap (λ v. v.items ++ node ∷ []) c.in_ok-join-2.ensures.nodes) c.requires.within
+          c.requires.is_pick (after.now, after.is_run, sym after.stands.same_count ∙ after.count) within;
+    }

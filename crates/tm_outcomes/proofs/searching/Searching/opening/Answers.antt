@@ -3,13 +3,14 @@ use Rattle.std.specs.Prelude.{All}
 use Rattle.std.proofs.lemmas.List.Elements.{All-nil}
 use Rattle.tm_outcomes.specs.Nodes.{IsEnd, IsStep, IsTree}
 use Rattle.tm_outcomes.specs.Outcomes.{AreDistinct, IsTold}
-use Rattle.tm_outcomes.specs.Searching.{AreStops}
-use Rattle.tm_outcomes.specs.Verdicts.{IsStop}
+use Rattle.tm_outcomes.specs.Searching.{AreStops, AreViolations}
+use Rattle.tm_outcomes.specs.Verdicts.{IsStop, IsViolation}
 use Rattle.tm_outcomes.specs.declared.findings.Findings.{Findings}
 use Rattle.tm_outcomes.specs.declared.links.Link.{Link}
 use Rattle.tm_outcomes.specs.declared.nodes.Node.{Node}
 use Rattle.tm_outcomes.specs.declared.stops.ReachedStop.{ReachedStop}
 use Rattle.tm_outcomes.specs.declared.table.Told.{Told}
+use Rattle.tm_outcomes.specs.declared.violations.Violation.{Violation}
 use Rattle.tm_outcomes.proofs.Trees.{first_tree}
 use Rattle.tm_outcomes.proofs.searching.Searching.opening.Goals as goal
 
@@ -21,7 +22,8 @@ returns c = λ trial.
     let found = c.in_ok-add.ensures.found in
     let outcomes : c.add.new.self.found.outcomes.items ≡ [] = ap (λ (f : Findings). f.outcomes.items) found ∙ c.new-4.ensures.outcomes in
     let ends : c.add.new.self.found.ends.items ≡ [] = ap (λ (f : Findings). f.ends.items) found ∙ c.new-4.ensures.ends in
-    let stops : c.add.new.self.found.stops.items ≡ [] = ap (λ (f : Findings). f.stops.items) found ∙ c.new-4.ensures.stops in (
+    let stops : c.add.new.self.found.stops.items ≡ [] = ap (λ (f : Findings). f.stops.items) found ∙ c.new-4.ensures.stops in
+    let violations : c.add.new.self.found.violations.items ≡ [] = ap (λ (f : Findings). f.violations.items) found ∙ c.new-4.ensures.violations in (
       [] ∷ [],
       record {
         tree = subst (λ (ns : List Node). IsTree trial ns ([] ∷ [])) (sym nodes) (first_tree trial node);
@@ -33,6 +35,8 @@ returns c = λ trial.
           once = subst (λ (os : List Told). AreDistinct os) (sym outcomes) tt;
           stops = subst (λ (ss : List ReachedStop). AreStops trial ss) (sym stops)
               (record { told = All-nil (IsStop trial); once = λ i j d before below. absurd (omega arith) });
+          violations = subst (λ (vs : List Violation). AreViolations trial vs) (sym violations)
+              (record { told = All-nil (IsViolation trial); once = λ i j d before below. absurd (omega arith) });
         };
         few = subst (λ (ns : List Node). length ns ≤ 1) (sym nodes) (omega arith);
       },

@@ -1,0 +1,135 @@
+-- Machines whose memory is what it was but on the lines that were noted.
+use Rattle.std.proofs.Common.{◌≡◌, inl, inr, ℕ, ◌+◌, ◌<◌, ◌/◌, List, [], ◌∷◌, ◌++◌, Some, length, refl, sym, ap, ◌∙◌, subst, arith, length-append}
+use Rattle.std.specs.Prelude.{Contains}
+use Rattle.std.proofs.lemmas.Bool.{cases_lt}
+use Rattle.tm_core.specs.IaImage.Program.{opening_memory}
+use Rattle.tm_outcomes.specs.Elsewhere.{IsSameElsewhere}
+use Rattle.tm_core.specs.Theorem.{StandsFor, machine_setting}
+use Rattle.tm_model.specs.Setting.{Setting}
+use Rattle.tm_model.specs.declared.outcome.Pick.{Pick}
+use Rattle.tm_outcomes.specs.Nodes.{HasRun, IsPickOf, IsTree, schedule_at}
+use Rattle.tm_outcomes.specs.Outcomes.{trial_opening, trial_setting}
+use Rattle.tm_outcomes.specs.Places.{GoesTo, IsAt, IsPlaceOf}
+use Rattle.tm_outcomes.specs.Schedules.{Situation, after_schedule}
+use Rattle.tm_outcomes.specs.Written.{IsPlaceIn, IsWithin, IsWrittenOf, StoresOn}
+use Rattle.tm_outcomes.specs.declared.nodes.Node.{Node}
+use Rattle.tm_outcomes.specs.declared.place.Place.{Place}
+use Rattle.tm_outcomes.specs.declared.trial.Trial.{Trial}
+use Rattle.tm_outcomes.specs.declared.written.Written.{Written}
+use Rattle.tm_outcomes.proofs.Runs.{one_more}
+use Rattle.tm_outcomes.proofs.Somes.{same_in}
+use Rattle.tm_outcomes.proofs.Stored.{on_more, then_same}
+use Rattle.tm_outcomes.proofs.Trees.{grows, schedule_new, schedule_old}
+
+-- ---- with more lines
+
+pub within_more : (trial : Trial) (lines more : List ℕ) (schedule : List Pick) →
+    ((line : ℕ) → Contains lines line → Contains more line) → IsWithin trial lines schedule → IsWithin trial more schedule
+within_more trial lines more schedule among within = λ now is_run.
+    on_more lines more now.state.memory (opening_memory trial.program.now) among (within now is_run)
+
+module _ (trial : Trial) (before after : Written) (same : after.opening ≡ before.opening)
+    (among : (line : ℕ) → Contains before.lines.items line → Contains after.lines.items line) where
+  opening_is : before.opening.items ≡ opening_memory trial.program.now → after.opening.items ≡ opening_memory trial.program.now
+  opening_is is = ap (λ v. v.items) same ∙ is
+
+  pub place_more : (place : Place) → IsPlaceIn trial before place → IsPlaceIn trial after place
+  place_more place is = record {
+    place = is.place;
+    opening = opening_is is.opening;
+    memory = subst (λ m. IsSameElsewhere after.lines.items place.machine.memory m) (sym (ap (λ v. v.items) same))
+        (on_more before.lines.items after.lines.items place.machine.memory before.opening.items among is.memory);
+  }
+
+  pub written_more : (nodes : List Node) → IsWrittenOf trial nodes before → IsWrittenOf trial nodes after
+  written_more nodes is = record {
+    opening = opening_is is.opening;
+    schedules = is.schedules;
+    tree = is.tree;
+    within = λ index below.
+        within_more trial before.lines.items after.lines.items (schedule_at is.schedules index) among (is.within index below);
+  }
+
+-- ---- a step
+
+-- a schedule with a step more, whose stores were noted
+pub within_next : (trial : Trial) (lines : List ℕ) (schedule : List Pick) (place after : Place) (pick : Pick) →
+    IsAt trial place schedule → GoesTo (trial_setting trial) place after pick → IsWithin trial lines schedule →
+    ((now : Situation) → StandsFor place.machine now.state now.doomed →
+    StoresOn (machine_setting place.machine) lines now pick.core) → IsWithin trial lines (schedule ++ pick ∷ [])
+within_next trial lines schedule place after pick at goes within noted = λ now is_run.
+    let next = goes at.now at.stands in
+    let same : next.next ≡ now =
+    same_in (sym (one_more (trial_setting trial) (trial_opening trial) schedule at.now next.next pick at.is_run next.is_next) ∙ is_run) in
+    subst (λ (x : Situation). IsSameElsewhere lines x.state.memory (opening_memory trial.program.now)) same
+    (then_same lines next.next.state.memory at.now.state.memory (opening_memory trial.program.now)
+    (subst (λ (setting : Setting). StoresOn setting lines at.now pick.core) at.rules (noted at.now at.stands) pick.event next.next
+    next.is_next) (within at.now at.is_run))
+
+-- a machine at the end of such a schedule
+pub place_at : (trial : Trial) (written : Written) (place : Place) (schedule : List Pick) →
+    written.opening.items ≡ opening_memory trial.program.now → IsPlaceOf trial place → IsAt trial place schedule →
+    IsWithin trial written.lines.items schedule → IsPlaceIn trial written place
+place_at trial written place schedule opening is at within = record {
+  place = is;
+  opening = opening;
+  memory = subst (λ m. IsSameElsewhere written.lines.items m written.opening.items) (sym at.stands.same_memory)
+      (subst (λ m. IsSameElsewhere written.lines.items at.now.state.memory m) (sym opening) (within at.now at.is_run));
+}
+
+-- ---- a node more
+
+written_new : (trial : Trial) (nodes after : List Node) (node : Node) (written : Written) (old : IsWrittenOf trial nodes written) →
+    after ≡ nodes ++ node ∷ [] → node.parent < length nodes → IsPickOf trial node.pick →
+    HasRun trial (schedule_at old.schedules node.parent ++ node.pick ∷ []) →
+    IsWithin trial written.lines.items (schedule_at old.schedules node.parent ++ node.pick ∷ []) →
+    IsWrittenOf trial after written
+written_new trial nodes after node written old added parent is_pick has_run within =
+    let last : List Pick = schedule_at old.schedules node.parent ++ node.pick ∷ [] in
+    let grown : List (List Pick) = old.schedules ++ last ∷ [] in
+    let tree : IsTree trial (nodes ++ node ∷ []) grown = grows trial nodes old.schedules node old.tree parent is_pick has_run in
+    let long : length after ≡ length nodes + 1 = ap (λ (ns : List Node). length ns) added ∙ length-append nodes (node ∷ []) in
+    let counted : length old.schedules ≡ length nodes = old.tree.counted in
+    record {
+      opening = old.opening;
+      schedules = grown;
+      tree = subst (λ (ns : List Node). IsTree trial ns grown) (sym added) tree;
+      within = λ index below. elim (cases_lt index (length nodes)) [
+        | inl earlier ↦
+            subst (λ (s : List Pick). IsWithin trial written.lines.items s)
+            (sym (schedule_old old.schedules (last ∷ []) index (omega arith))) (old.within index earlier)
+        | inr later ↦
+            subst (λ (s : List Pick). IsWithin trial written.lines.items s)
+            (sym (schedule_new old.schedules last index (omega arith))) within
+      ];
+    }
+
+-- the same with more lines
+pub written_after : (trial : Trial) (before after : Written) → after.opening ≡ before.opening →
+    ((line : ℕ) → Contains before.lines.items line → Contains after.lines.items line) → (nodes nodes_now : List Node) (node : Node)
+    (old : IsWrittenOf trial nodes before) → nodes_now ≡ nodes ++ node ∷ [] → node.parent < length nodes → IsPickOf trial node.pick →
+    HasRun trial (schedule_at old.schedules node.parent ++ node.pick ∷ []) →
+    IsWithin trial after.lines.items (schedule_at old.schedules node.parent ++ node.pick ∷ []) →
+    IsWrittenOf trial nodes_now after
+unfolding written_more
+written_after trial before after same among nodes nodes_now node old added parent is_pick has_run within =
+    written_new trial nodes nodes_now node after (written_more trial before after same among nodes old) added parent is_pick has_run
+    within
+
+-- ---- before the first step
+
+pub written_first : (trial : Trial) (nodes : List Node) (written : Written) (schedules : List (List Pick)) →
+    written.opening.items ≡ opening_memory trial.program.now → IsTree trial nodes schedules → length nodes ≡ 1 →
+    IsWrittenOf trial nodes written
+written_first trial nodes written schedules opening tree one = record {
+  opening = opening;
+  schedules = schedules;
+  tree = tree;
+  within = λ index below now is_run.
+      let first : 0 ≡ index = omega arith in
+      let root : schedule_at schedules index ≡ [] = subst (λ n. schedule_at schedules n ≡ []) first tree.root in
+      let at : trial_opening trial ≡ now =
+      same_in (ap (after_schedule (trial_setting trial) (trial_opening trial)) (sym root) ∙ is_run) in
+      subst (λ (x : Situation). IsSameElsewhere written.lines.items x.state.memory (opening_memory trial.program.now)) at
+      (record { count = refl; same = λ address. inr refl });
+}

@@ -1,0 +1,18 @@
+use Rattle.std.proofs.Common.{List, ℕ, ◌∷◌, [], sym, subst}
+use Rattle.std.specs.Prelude.{Contains}
+use Rattle.std.proofs.lemmas.List.Elements.{Contains-append_left, Contains-push}
+use Rattle.tm_outcomes.proofs.written.Written.add.Goals as goal
+
+pub returns-then-has-clause-here : goal.returns-then-has-clause-here
+returns-then-has-clause-here c =
+    subst (λ (xs : List ℕ). Contains xs c.args.line) c.as_slice.ensures.value (c.has.ensures c.if-has.true)
+
+pub returns-clause-kept : goal.returns-clause-kept
+returns-clause-kept c = λ other among.
+    subst (λ (xs : List ℕ). Contains xs other) (sym c.in_ok-push.ensures.items)
+    (Contains-append_left c.args.self.now.lines.items (c.args.line ∷ []) other among)
+
+pub returns-clause-here : goal.returns-clause-here
+returns-clause-here c =
+    subst (λ (xs : List ℕ). Contains xs c.args.line) (sym c.in_ok-push.ensures.items)
+    (Contains-push c.args.self.now.lines.items c.args.line)

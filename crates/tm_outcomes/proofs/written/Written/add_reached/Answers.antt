@@ -1,0 +1,28 @@
+use Rattle.std.proofs.Common.{List, ℕ, sym, subst}
+use Rattle.std.specs.Prelude.{Contains}
+use Rattle.tm_outcomes.specs.Elsewhere.{IsSameElsewhere}
+use Rattle.tm_core.specs.Theorem.{machine_setting, view_at}
+use Rattle.tm_model.specs.Explained.{addresses_stored_at}
+use Rattle.tm_model.specs.Owed.{owed_outcome}
+use Rattle.tm_outcomes.proofs.Noted.{reach_noted, step_made}
+use Rattle.tm_outcomes.proofs.Stored.{on_lines}
+use Rattle.tm_outcomes.proofs.written.Written.add_reached.Goals as goal
+
+pub returns-clause-noted : goal.returns-clause-noted
+returns-clause-noted c = λ now stands event next e.
+    let machine = c.args.machine.now in
+    let core = c.args.core in
+    let setting = machine_setting machine in
+    let after : List ℕ = c.add_access.new.self.lines.items in
+    let memory = now.state.memory in
+    let told = c.in-Ok.ensures.told now.state now.doomed stands in
+    let step = step_made setting now next core event e in
+    let stored : List ℕ =
+    addresses_stored_at setting memory (now.state.cores core)
+    (owed_outcome setting memory (now.state.cores core) (now.doomed core)) in
+    subst (λ m. IsSameElsewhere after m memory) (sym step.memory)
+    (on_lines stored after step.made.0 memory
+    (reach_noted event setting memory (now.state.cores core) (now.doomed core) (view_at machine core)
+    (stands.each core c.requires.core) c.requires.closed step.made step.is_made)
+    (λ address among. c.in_ok-add_access.ensures.all address
+    (subst (λ (xs : List ℕ). Contains xs address) (sym told.stores) among)))

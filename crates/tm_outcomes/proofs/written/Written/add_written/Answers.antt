@@ -1,0 +1,24 @@
+use Rattle.std.proofs.Common.{List, ℕ, ◌∙◌, sym, ap, subst}
+use Rattle.std.specs.FinSet as set
+use Rattle.std.specs.Ordering.{nat_cmp}
+use Rattle.tm_outcomes.specs.Elsewhere.{IsSameElsewhere}
+use Rattle.tm_core.specs.Theorem.{machine_setting, view_at}
+use Rattle.tm_outcomes.proofs.Noted.{open_noted, step_made}
+use Rattle.tm_outcomes.proofs.Stored.{on_more}
+use Rattle.tm_outcomes.proofs.written.Written.add_written.Goals as goal
+
+pub returns-clause-noted : goal.returns-clause-noted
+returns-clause-noted c = λ now stands event next e.
+    let machine = c.args.machine.now in
+    let core = c.args.core in
+    let setting = machine_setting machine in
+    let lines : List ℕ = c.as_slice.result.now in
+    let after : List ℕ = c.add_all.new.self.lines.items in
+    let memory = now.state.memory in
+    let step = step_made setting now next core event e in
+    let same : IsSameElsewhere lines step.made.0 memory =
+    open_noted event setting memory (now.state.cores core) (now.doomed core) (view_at machine core) lines
+    (stands.each core c.requires.core) c.requires.open
+    (ap (λ (xs : List ℕ). set.from_list {R = nat_cmp} xs) c.as_slice.ensures.value ∙ c.in-Ok.ensures.shown) step.made step.is_made in
+    subst (λ m. IsSameElsewhere after m memory) (sym step.memory)
+    (on_more lines after step.made.0 memory c.in_ok-add_all.ensures.all same)
