@@ -1,5 +1,6 @@
 -- The trial of a search that a call answers.
 use Rattle.std.proofs.Common.{◌≡◌, ◌+◌, ◌≤◌, ℕ, List, Option, Some, subst, sym}
+use Rattle.std.proofs.Math.Nat.{le_trans}
 use Rattle.std.proofs.lemmas.Result.{IfOk-weaker}
 use Rattle.std.specs.Prelude.{IfOk, Result}
 use Rattle.elide_args.specs.declared.hunt_options.HuntOptions.{HuntOptions}
@@ -8,10 +9,11 @@ use Rattle.elide_setup.specs.ElideProgram.ProgramFileType.{ProgramFile}
 use Rattle.elide_setup.specs.declared.machine.Setup.{Setup}
 use Rattle.tm_pick.specs.declared.events.Events.{Events}
 use Rattle.tm_hunt.specs.Attempts.{IsFailure, IsFirst, IsSearch}
-use Rattle.tm_hunt.specs.Cost.{cost_of}
+use Rattle.tm_hunt.specs.Deciding.{cost_told}
+use Rattle.tm_hunt.proofs.Costs.{cost_front}
 use Rattle.tm_hunt.specs.Hunt.{Fails}
 use Rattle.tm_hunt.specs.Kept.{KeepsKinds}
-use Rattle.tm_hunt.specs.declared.attempt.Failure.{Failure}
+use Rattle.tm_hunt.specs.declared.failure.Failure.{Failure}
 use Rattle.tm_hunt.specs.declared.searching.Found.{Found}
 use Rattle.tm_hunt.specs.declared.searching.Search.{Search}
 use Rattle.tm_hunt.specs.declared.trial.Trial.{Trial}
@@ -30,7 +32,7 @@ with_trial trial events text file options setup first end r h program limits che
 -- a search whose first failure was shortened
 pub shortened_hunt : (trial : Trial) (events : Events) (first end : ℕ) (before : Counts) (search : Search) (found : Found) (after : Failure) →
     search.found ≡ Some found → IsSearch trial events first end search → before ≡ counts_of found.failure.picks.items →
-    IsFailure trial after → after.check ≡ found.failure.check → cost_of after.picks.items ≤ cost_of found.failure.picks.items →
+    IsFailure trial after → after.check ≡ found.failure.check → cost_told after ≤ cost_told found.failure →
     KeepsKinds found.failure.picks.items after.picks.items →
     IsHunted trial events first end before
     (record { found = Some (record { run = found.run; failure = after }); ended = search.ended; cut = search.cut })
@@ -44,8 +46,8 @@ shortened_hunt trial events first end before search found after is searched coun
       };
       longer = record {
         picks = found.failure.picks.items;
-        fails = subst (λ (check : ℕ). Fails trial found.failure.picks.items check) (sym same) one.0;
+        fails = subst (λ (check : ℕ). Fails trial found.failure.picks.items check) (sym same) one.0.fails;
         counted = counted;
-        simpler = simpler;
+        simpler = le_trans simpler (cost_front found.failure.front found.failure.picks.items);
       };
     }

@@ -7,6 +7,7 @@ use Rattle.elide_object.proofs.Sending.{no_float_both, no_float_items}
 use Rattle.elide_object.specs.Object.{items_of, word_value}
 use Rattle.serde_json.specs.Data.{Data}
 use Rattle.serde_json.specs.Written.{has_float, items_have_float}
+use Rattle.tm_hunt.specs.Deciding.{deciding}
 use Rattle.tm_hunt.specs.declared.searching.Found.{Found}
 use Rattle.elide_hunt.specs.Object.{check_value, failure_value, forbid_value, hunt_value, option_of, stop_value}
 use Rattle.elide_hunt.specs.Sent.{failure_of, object_value}
@@ -32,7 +33,7 @@ no_float_option options index (Some text) = refl
 no_float_failure : (options : HuntOptions) (before : Counts) (replay : List ℕ) (found : Found) →
     has_float (failure_value options before replay found) ≡ false
 no_float_failure options before replay found =
-    let picks = found.failure.picks.items in
+    let picks = deciding found.failure in
     no_float_both (has_float (check_value options found.failure.check)) (items_have_float (items_of word_value picks) || false)
     (no_float_option options (found.failure.check - length options.checks.items)
     (slice_get options.checks.items found.failure.check))

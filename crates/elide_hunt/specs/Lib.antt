@@ -1,4 +1,5 @@
 pub mod Shares
+pub mod Again
 pub mod Lines
 pub mod Object
 pub mod Sent

@@ -1,5 +1,5 @@
 -- The lines that `elide hunt` prints (docs/FORMATS.md, "Checks").
-use Rattle.std.specs.Prelude.{ℕ, ◌+◌, ◌-◌, nat_eq, List, [], ◌++◌, codes, length, slice_get}
+use Rattle.std.specs.Prelude.{ℕ, ◌+◌, ◌-◌, nat_eq, nat_le, nat_lt, Bool, true, List, [], ◌++◌, codes, length, slice_get}
 use Rattle.std.specs.Prelude.{Option, Some, None, if◌then◌else◌}
 use Rattle.std.specs.Borrow.{Bor}
 use Rattle.std.specs.Fmt.{decimal}
@@ -9,6 +9,8 @@ use Rattle.elide_shell.specs.Shell.{path_word}
 use Rattle.ia_text.specs.TextLine.{line_end}
 use Rattle.tm_model.specs.declared.outcome.Pick.{Pick}
 use Rattle.tm_hunt.specs.Cost.{events_in, switches_of}
+use Rattle.tm_hunt.specs.Deciding.{deciding}
+use Rattle.elide_hunt.specs.Again.{hunt_command}
 use Rattle.tm_hunt.specs.declared.searching.Found.{Found}
 use Rattle.tm_hunt.specs.declared.searching.Search.{Search}
 use Rattle.elide_hunt.specs.declared.report.Counts.{Counts}
@@ -51,9 +53,21 @@ counts_text counts =
     codes "steps " ++ decimal counts.steps ++ codes ", switches " ++ decimal counts.switches
     ++ events_text counts.events
 
+-- how many of the first steps decide, behind which each core steps in turn, where they are not all
+abbrev pub some_text : ℕ → List ℕ
+some_text front = codes "; its first " ++ decimal front ++ codes " decide, behind them each core in turn"
+
+abbrev pub front_text : ℕ → List ℕ
+front_text front = if nat_eq front 0 then codes "; each core in turn from the start" else some_text front
+
+unfoldable pub deciding_text : ℕ → ℕ → List ℕ
+deciding_text front steps = if nat_lt front steps then front_text front else []
+
 -- before it was shortened, and after that
-unfoldable pub counts_line : Counts → Counts → List ℕ
-counts_line before after = line_end ++ counts_text before ++ codes "; shortened to " ++ counts_text after ++ line_end
+unfoldable pub counts_line : Counts → Counts → ℕ → List ℕ
+counts_line before after front =
+    line_end ++ counts_text before ++ codes "; shortened to " ++ counts_text after
+    ++ deciding_text front after.steps ++ line_end
 
 -- the command that replays a schedule
 abbrev pub replay_command : HuntOptions → List Pick → List ℕ
@@ -61,17 +75,28 @@ replay_command options picks =
     codes "elide replay " ++ (path_word options.machine.file.now
     ++ (machine_text options.machine ++ schedule_text options.record picks))
 
-abbrev pub replay_line : HuntOptions → List Pick → List ℕ
-replay_line options picks = replay_command options picks ++ line_end
+-- a schedule is said in a command line where it is recorded, or has at most 1,000 steps
+abbrev pub is_short : Option (Bor (List ℕ)) → List Pick → Bool
+is_short None picks = nat_le (length picks) 1000
+is_short (Some path) picks = true
+
+-- the command that replays a schedule, and else the one that makes its run again
+abbrev pub told_command : HuntOptions → ℕ → List Pick → List ℕ
+told_command options run picks =
+    if is_short options.record picks then replay_command options picks else hunt_command options run
+
+abbrev pub told_line : HuntOptions → ℕ → List Pick → List ℕ
+told_line options run picks = told_command options run picks ++ line_end
 
 unfoldable pub run_front : ℕ → List ℕ
 run_front run = codes "run " ++ decimal run ++ codes " fails "
 
--- a run fails: the check, how long its schedule was and is, and the command that replays it
+-- a run fails: the check, how long its schedule was and is, how much of it decides, and the command that replays that
 abbrev pub failure_text : HuntOptions → Counts → Found → List ℕ
 failure_text options before found =
     run_front found.run ++ (check_text options found.failure.check
-    ++ (counts_line before (counts_of found.failure.picks.items) ++ replay_line options found.failure.picks.items))
+    ++ (counts_line before (counts_of found.failure.picks.items) found.failure.front
+    ++ told_line options found.run (deciding found.failure)))
 
 -- what a search came to
 abbrev pub search_lines : HuntOptions → Counts → ℕ → ℕ → Option Found → List ℕ

@@ -4,9 +4,10 @@ use Rattle.std.specs.Borrow.{Bor}
 use Rattle.elide_args.specs.declared.hunt_options.HuntOptions.{HuntOptions}
 use Rattle.elide_object.specs.Object.{number_value, schedule_value}
 use Rattle.serde_json.specs.Data.{Data, member, no_members, null, object, string}
+use Rattle.tm_hunt.specs.Deciding.{deciding}
 use Rattle.tm_hunt.specs.declared.searching.Found.{Found}
 use Rattle.tm_hunt.specs.declared.searching.Search.{Search}
-use Rattle.elide_hunt.specs.Lines.{counts_of, replay_command}
+use Rattle.elide_hunt.specs.Lines.{counts_of, told_command}
 use Rattle.elide_hunt.specs.declared.report.Counts.{Counts}
 
 -- the option that says the check with this index: those of `--check` come first, then those of `--forbid`, then those
@@ -38,20 +39,22 @@ counts_value counts =
     (member (codes "switches") (number_value counts.switches)
     (member (codes "events") (number_value counts.events) no_members)))
 
--- the run that failed: its check, how long its schedule was and is, its steps, and the command that replays them
+-- the run that failed: its check, how long its schedule was and is, how many of its steps decide, these, and the
+-- command that replays them or makes the run again
 abbrev pub failure_value : HuntOptions → Counts → List ℕ → Found → Data
 failure_value options before replay found =
     object (member (codes "run") (number_value found.run)
     (member (codes "check") (check_value options found.failure.check)
     (member (codes "before") (counts_value before)
     (member (codes "after") (counts_value (counts_of found.failure.picks.items))
-    (member (codes "schedule") (schedule_value found.failure.picks.items)
-    (member (codes "replay") (string replay) no_members))))))
+    (member (codes "deciding") (number_value found.failure.front)
+    (member (codes "schedule") (schedule_value (deciding found.failure))
+    (member (codes "replay") (string replay) no_members)))))))
 
 abbrev pub found_value : HuntOptions → Counts → Option Found → Data
 found_value options before None = null
 found_value options before (Some found) =
-    failure_value options before (replay_command options found.failure.picks.items) found
+    failure_value options before (told_command options found.run (deciding found.failure)) found
 
 -- the exit status
 abbrev pub search_status : {A : Type 0} → Option A → ℕ

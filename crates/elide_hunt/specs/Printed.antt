@@ -14,8 +14,9 @@ use Rattle.tm_model.specs.declared.outcome.Pick.{Pick}
 use Rattle.tm_pick.specs.declared.events.Events.{Events}
 use Rattle.tm_hunt.specs.Attempts.{IsSearch}
 use Rattle.tm_hunt.specs.Cost.{cost_of}
+use Rattle.tm_hunt.specs.Deciding.{cost_told, deciding}
 use Rattle.tm_hunt.specs.Hunt.{Fails}
-use Rattle.tm_hunt.specs.declared.attempt.Failure.{Failure}
+use Rattle.tm_hunt.specs.declared.failure.Failure.{Failure}
 use Rattle.tm_hunt.specs.declared.searching.Found.{Found}
 use Rattle.tm_hunt.specs.declared.searching.Search.{Search}
 use Rattle.tm_hunt.specs.declared.trial.Trial.{Trial}
@@ -36,12 +37,12 @@ pub record IsTold (options : HuntOptions) (counts : Counts) (search : Search) (a
   pub wrote : options.is_json ≡ false → Appends before after (search_text options counts search)
   pub object : options.is_json ≡ true → Appends before after (object_text (search_value options counts search))
 
--- a schedule of so many steps, switches and events, no simpler than that of a failure, fails by the same check
+-- a schedule of so many steps, switches and events, no simpler than what decides of a failure, fails by the same check
 pub record WasLonger (trial : Trial) (before : Counts) (failure : Failure) : Type 0 where
   pub picks : List Pick
   pub fails : Fails trial picks failure.check
   pub counted : before ≡ counts_of picks
-  pub simpler : cost_of failure.picks.items ≤ cost_of picks
+  pub simpler : cost_told failure ≤ cost_of picks
 
 -- a search over the runs from a first one up to an end, under these events, whose schedule was shortened, and how long
 -- it was before
@@ -59,7 +60,7 @@ pub record IsTrialOf (text : List ℕ) (file : ProgramFile) (options : HuntOptio
   pub checks : AreChecks text file options trial.checks.now
 
 -- that of a search over the runs of the options, under their events, of a machine of the options and of what FILE's
--- content is read as; where a run fails, what is recorded is the schedule that is told
+-- content is read as; where a run fails, what is recorded are the steps that decide
 pub record IsPrinted (content left : List ℕ → Option (List ℕ)) (options : HuntOptions) (answer : Answer)
     (before after : Option (List ℕ)) : Type 0 where
   pub setup : Setup
@@ -75,4 +76,4 @@ pub record IsPrinted (content left : List ℕ → Option (List ℕ)) (options : 
   pub search : Search
   pub hunted : IsHunted trial events first end counts search
   pub told : IsTold options counts search answer before after
-  pub recorded : IfSome search.found (λ found. IsRecorded left options.record found.failure.picks.items)
+  pub recorded : IfSome search.found (λ found. IsRecorded left options.record (deciding found.failure))

@@ -10,7 +10,7 @@ ghost use Rattle.elide_setup.specs.Recorded.{IsRecorded};
 ghost use Rattle.elide_setup.specs.Setup.{IsSetup};
 ghost use Rattle.elide_setup.specs.declared.machine.Setup.{Setup};
 ghost use Rattle.tm_hunt.specs.Attempts.{IsFailure, IsSearch};
-ghost use Rattle.tm_hunt.specs.Cost.{cost_of};
+ghost use Rattle.tm_hunt.specs.Deciding.{cost_told, deciding};
 ghost use Rattle.tm_hunt.specs.Kept.{KeepsKinds};
 ghost use Rattle.tm_hunt.specs.declared.trial.Trial.{Trial};
 ghost use Rattle.elide_object.specs.Object.{object_text};
@@ -78,13 +78,13 @@ pub fn hunt<R: Threads + Sync + AllocGlobal, P: Paths, O: Out + Drop, G: Progres
     tell(rt.alloc(), options, &search, before, out)
 }
 
-// Writes the schedule of the run that failed, if one did, where there is a path.
+// Writes what decides of the run that failed, if one did, where there is a path.
 fn write_record<P: Paths>(search: &Search, path: Option<&str>, paths: &mut P) -> Result<(), Refusal>
     ensures { OnOk result (IfSome search.now.found (λ found.
-        IsRecorded (P.content paths.new) path.entry found.failure.picks.items)) }
+        IsRecorded (P.content paths.new) path.entry (deciding found.failure))) }
 {
     match &search.found {
-        Some(found) => record(path, found.failure.picks.as_slice(), paths),
+        Some(found) => record(path, found.failure.deciding(), paths),
         None => Ok(()),
     }
 }
@@ -236,7 +236,7 @@ fn shortened(alloc: Global, trial: &Trial<'_>, failure: &mut Failure) -> Result<
     requires { IsFailure trial.now failure.old }
     ensures fails { IsFailure trial.now failure.new }
     ensures same { failure.new.check ≡ failure.old.check }
-    ensures simpler { cost_of failure.new.picks.items ≤ cost_of failure.old.picks.items }
+    ensures simpler { cost_told failure.new ≤ cost_told failure.old }
     ensures kinds { KeepsKinds failure.old.picks.items failure.new.picks.items }
 {
     match shorten(alloc, trial, failure) {

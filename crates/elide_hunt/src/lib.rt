@@ -8,6 +8,7 @@
 //! passed runs are told apart, that they are those that the method draws, and the limit on steps, are compared by `doc_tests`. Stands on `elide_checks` for what is asked, and on `tm_hunt`.
 #![tactic(auto)]
 
+mod again;
 mod block;
 mod command;
 mod fault;

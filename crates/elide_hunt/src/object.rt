@@ -73,7 +73,7 @@ fn failure_line(
     ensures { IfOk result (λ line. string_bytes line ≡ object_text (hunt_value ended cut
         (found_value options.now before (Some found.now)) 3)) }
 {
-    let command = command_bytes(alloc, options, found.failure.picks.as_slice())?;
+    let command = command_bytes(alloc, options, found.run, found.failure.deciding())?;
     // The words of a command line are UTF-8, and what stands between them is ASCII: this refuses nothing.
     let Ok(replay) = str::from_utf8(command.as_slice()) else {
         return Err(AllocError);

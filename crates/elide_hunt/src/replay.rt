@@ -1,24 +1,30 @@
-//! The command that replays a schedule.
+//! The command that replays a schedule, or makes its run again.
 
 ghost use Rattle.std.specs.Prelude.{◌≡◌, IfOk, OnOk};
 ghost use Rattle.ia_text.specs.Writing.{Wrote};
-ghost use Rattle.elide_hunt.specs.Lines.{replay_command, replay_line};
+ghost use Rattle.elide_hunt.specs.Lines.{is_short, replay_command, told_command, told_line};
 
+use crate::again::put_hunt;
 use elide_args::HuntOptions;
 use elide_shell::{put_machine, put_path, put_schedule};
 use ia_text::{Failed, Out, ToVec};
 use std::alloc::{AllocError, Global};
 use tm_model::Pick;
 
-/// Writes the command that replays a schedule, on a line of its own.
+/// The most steps of a schedule that is printed in a command line.
+const MOST_SHOWN: usize = 1000;
+
+/// Writes the command that replays the schedule of the run of this number, or makes the run again where its schedule is
+/// recorded nowhere and too long to be printed, on a line of its own.
 pub fn put_line<O: Out>(
     options: &HuntOptions<'_>,
+    run: u32,
     picks: &[Pick],
     out: &mut O,
 ) -> Result<(), Failed>
-    ensures { OnOk result (Wrote (O.device out.old) (O.device out.new) (replay_line options.now picks.now)) }
+    ensures { OnOk result (Wrote (O.device out.old) (O.device out.new) (told_line options.now run picks.now)) }
 {
-    put_command(options, picks, out)?;
+    put_told(options, run, picks, out)?;
     out.put(b"\n")
 }
 
@@ -26,15 +32,38 @@ pub fn put_line<O: Out>(
 pub fn command_bytes(
     alloc: Global,
     options: &HuntOptions<'_>,
+    run: u32,
     picks: &[Pick],
 ) -> Result<Vec<u8>, AllocError>
-    ensures { IfOk result (λ bytes. bytes.items ≡ replay_command options.now picks.now) }
+    ensures { IfOk result (λ bytes. bytes.items ≡ told_command options.now run picks.now) }
 {
     let mut out = ToVec::new(Vec::new(alloc));
-    match put_command(options, picks, &mut out) {
+    match put_told(options, run, picks, &mut out) {
         Ok(()) => Ok(out.bytes),
         Err(_) => Err(AllocError),
     }
+}
+
+fn put_told<O: Out>(
+    options: &HuntOptions<'_>,
+    run: u32,
+    picks: &[Pick],
+    out: &mut O,
+) -> Result<(), Failed>
+    ensures { OnOk result (Wrote (O.device out.old) (O.device out.new) (told_command options.now run picks.now)) }
+{
+    if is_short(options.record, picks) {
+        put_command(options, picks, out)
+    } else {
+        put_hunt(options, run, out)
+    }
+}
+
+// Whether a schedule is said in a command line, by its path or by its steps.
+fn is_short(path: Option<&str>, picks: &[Pick]) -> bool
+    ensures { result ≡ is_short path.entry picks.now }
+{
+    path.is_some() || picks.len() <= MOST_SHOWN
 }
 
 fn put_command<O: Out>(options: &HuntOptions<'_>, picks: &[Pick], out: &mut O) -> Result<(), Failed>

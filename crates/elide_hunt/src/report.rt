@@ -4,8 +4,8 @@ ghost use Rattle.std.specs.Prelude.{◌≡◌, ◌+◌, ◌≤◌, ◌++◌, OnO
 ghost use Rattle.std.specs.Fmt.{decimal};
 ghost use Rattle.arrayvec.specs.ArrayVec.{array_vec_len};
 ghost use Rattle.ia_text.specs.Writing.{Wrote};
-ghost use Rattle.elide_hunt.specs.Lines.{check_text, counts_line, counts_of, counts_text, events_text};
-ghost use Rattle.elide_hunt.specs.Lines.{failure_text, none_line, run_front, search_text};
+ghost use Rattle.elide_hunt.specs.Lines.{check_text, counts_line, counts_of, counts_text, deciding_text};
+ghost use Rattle.elide_hunt.specs.Lines.{events_text, failure_text, front_text, none_line, run_front, search_text, some_text};
 
 use crate::replay::put_line;
 use arrayvec::ArrayVec;
@@ -38,8 +38,8 @@ pub fn counts_of(picks: &[Pick]) -> Counts
     }
 }
 
-// A line of numbers.
-type Line = ArrayVec<u8, 256>;
+/// A line of numbers.
+pub type Line = ArrayVec<u8, 320>;
 
 /// Prints the lines of a search, with how long the schedule of its failure was.
 pub fn tell_lines<O: Out>(
@@ -79,16 +79,17 @@ fn push_none(line: &mut Line, ended: u32, cut: u32)
     push(line, b" reached the limit\n");
 }
 
-// Adds a number in decimal digits.
-fn push_decimal(line: &mut Line, number: u64)
-    requires { array_vec_len line.old + 20 ≤ 256 }
+/// Adds a number in decimal digits.
+pub fn push_decimal(line: &mut Line, number: u64)
+    requires { array_vec_len line.old + 20 ≤ 320 }
     ensures text { line.new.items ≡ line.old.items ++ decimal number }
     ensures len { array_vec_len line.new ≤ array_vec_len line.old + 20 }
 {
     push(line, Buffer::new().format(number).as_bytes());
 }
 
-// Tells the run that failed, what it failed, how long its schedule was and is, and the command that replays it.
+// Tells the run that failed, what it failed, how long its schedule was and is, how much of it decides, and the command
+// that replays that.
 fn tell_failure<O: Out>(
     options: &HuntOptions<'_>,
     found: &Found,
@@ -97,11 +98,15 @@ fn tell_failure<O: Out>(
 ) -> Result<(), Failed>
     ensures { OnOk result (Wrote (O.device out.old) (O.device out.new) (failure_text options.now before found.now)) }
 {
-    let picks = found.failure.picks.as_slice();
     put_run(found.run, out)?;
     put_check(options, found.failure.check, out)?;
-    put_counts(before, counts_of(picks), out)?;
-    put_line(options, picks, out)
+    put_counts(
+        before,
+        counts_of(found.failure.picks.as_slice()),
+        found.failure.front,
+        out,
+    )?;
+    put_line(options, found.run, found.failure.deciding(), out)
 }
 
 fn put_run<O: Out>(run: u32, out: &mut O) -> Result<(), Failed>
@@ -122,25 +127,66 @@ fn push_run(line: &mut Line, run: u32)
     push(line, b" fails ");
 }
 
-// Tells how long a schedule was, and how long it is.
-fn put_counts<O: Out>(before: Counts, after: Counts, out: &mut O) -> Result<(), Failed>
-    ensures { OnOk result (Wrote (O.device out.old) (O.device out.new) (counts_line before after)) }
+// Tells how long a schedule was, how long it is, and how many of its steps decide.
+fn put_counts<O: Out>(
+    before: Counts,
+    after: Counts,
+    front: usize,
+    out: &mut O,
+) -> Result<(), Failed>
+    ensures { OnOk result (Wrote (O.device out.old) (O.device out.new) (counts_line before after front)) }
 {
     let mut line = Line::new();
-    push_change(&mut line, before, after);
+    push_change(&mut line, before, after, front);
     out.put(line.as_slice())
 }
 
 #[tactic(auto, unfolding(crate::specs::Lines::counts_line))]
-fn push_change(line: &mut Line, before: Counts, after: Counts)
+fn push_change(line: &mut Line, before: Counts, after: Counts, front: usize)
     requires { array_vec_len line.old ≡ 0 }
-    ensures { line.new.items ≡ line.old.items ++ counts_line before after }
+    ensures { line.new.items ≡ line.old.items ++ counts_line before after front }
 {
     push(line, b"\n");
     push_counts(line, before);
     push(line, b"; shortened to ");
     push_counts(line, after);
+    push_deciding(line, front, after.steps);
     push(line, b"\n");
+}
+
+// Adds how many of the first steps decide, where they are not all.
+#[tactic(auto, unfolding(crate::specs::Lines::deciding_text))]
+fn push_deciding(line: &mut Line, front: usize, steps: usize)
+    requires { array_vec_len line.old ≤ 240 }
+    ensures text { line.new.items ≡ line.old.items ++ deciding_text front steps }
+    ensures len { array_vec_len line.new ≤ array_vec_len line.old + 71 }
+{
+    if front < steps {
+        push_front(line, front);
+    }
+}
+
+// Adds how many of the first steps decide, behind which each core steps in turn.
+fn push_front(line: &mut Line, front: usize)
+    requires { array_vec_len line.old ≤ 240 }
+    ensures text { line.new.items ≡ line.old.items ++ front_text front }
+    ensures len { array_vec_len line.new ≤ array_vec_len line.old + 71 }
+{
+    if front == 0 {
+        push(line, b"; each core in turn from the start");
+    } else {
+        push_some(line, front as u64);
+    }
+}
+
+fn push_some(line: &mut Line, front: u64)
+    requires { array_vec_len line.old ≤ 240 }
+    ensures text { line.new.items ≡ line.old.items ++ some_text front }
+    ensures len { array_vec_len line.new ≤ array_vec_len line.old + 71 }
+{
+    push(line, b"; its first ");
+    push_decimal(line, front);
+    push(line, b" decide, behind them each core in turn");
 }
 
 #[tactic(auto, unfolding(crate::specs::Lines::counts_text))]

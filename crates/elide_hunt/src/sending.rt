@@ -29,11 +29,11 @@ pub struct HuntObject<'a, 'o> {
 pub struct FailureObject<'a, 'o> {
     /// The options, which say its check.
     pub options: &'a HuntOptions<'o>,
-    /// The run, with its shortened schedule.
+    /// The run, with its shortened schedule and how much of it decides.
     pub found: &'a Found,
     /// How long its schedule was.
     pub before: Counts,
-    /// The command that replays the schedule.
+    /// The command that replays what decides of it, or makes the run again.
     pub replay: &'a str,
 }
 
@@ -92,13 +92,14 @@ impl FailureObject<'_, '_> {
     fn send<S: Serializer>(&self, out: &mut S) -> Result<(), S::Error>
         ensures { OnOk result (SendsValue (sent_failure self.now) (S.written out.old) (S.written out.new)) }
     {
-        let picks = self.found.failure.picks.as_slice();
-        out.begin_map(Some(6))?;
+        let failure = &self.found.failure;
+        out.begin_map(Some(7))?;
         send_number("run", u64::from(self.found.run), out)?;
-        send_check(self.options, self.found.failure.check, out)?;
+        send_check(self.options, failure.check, out)?;
         send_counts("before", self.before, out)?;
-        send_counts("after", counts_of(picks), out)?;
-        send_schedule("schedule", picks, out)?;
+        send_counts("after", counts_of(failure.picks.as_slice()), out)?;
+        send_number("deciding", failure.front as u64, out)?;
+        send_schedule("schedule", failure.deciding(), out)?;
         send_text("replay", self.replay, out)?;
         out.end_map()
     }

@@ -10,7 +10,7 @@ mod schedule;
 mod step;
 mod words;
 
-pub use machine::put_machine;
+pub use machine::{put_machine, put_option};
 pub use schedule::put_schedule;
 pub use step::{StepWord, step_word};
 pub use words::{put_path, put_word};

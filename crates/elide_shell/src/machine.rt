@@ -19,8 +19,8 @@ pub fn put_machine<O: Out>(machine: &MachineOptions<'_>, out: &mut O) -> Result<
     put_option(" --writes ", machine.writes, "512", out)
 }
 
-// Writes an option where its value is given, and not the usual one.
-fn put_option<O: Out>(
+/// Writes an option where its value is given, and not the usual one. Its name has the spaces around it.
+pub fn put_option<O: Out>(
     name: &str,
     value: Option<&str>,
     usual: &str,

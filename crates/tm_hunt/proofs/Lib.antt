@@ -2,3 +2,4 @@ pub mod Ending
 pub mod Passing
 pub mod Told
 pub mod KeptKinds
+pub mod Costs

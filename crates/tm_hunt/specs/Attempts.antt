@@ -1,5 +1,5 @@
 -- What a run comes to, and a search.
-use Rattle.std.specs.Prelude.{◌≡◌, ⊤, ℕ, ◌+◌, ◌<◌, ◌≤◌, true, List, Option, Some, None}
+use Rattle.std.specs.Prelude.{◌≡◌, ⊤, ℕ, ◌+◌, ◌<◌, ◌≤◌, true, List, length, Option, Some, None}
 use Rattle.tm_core.specs.Machine.{bad_limits}
 use Rattle.tm_hist.specs.Board.{bad_limit}
 use Rattle.tm_hist.specs.declared.board.BoardFault.{BoardFault}
@@ -11,7 +11,7 @@ use Rattle.tm_pick.specs.declared.kinds.Kinds.{Kinds}
 use Rattle.tm_hunt.specs.Hunt.{AreUnder, Fails, HavePassed, Passes}
 use Rattle.tm_hunt.specs.declared.attempt.Attempt.{Attempt}
 use Rattle.tm_hunt.specs.declared.attempt.Attempt.TheVariants.{Ended, Cut, Failed}
-use Rattle.tm_hunt.specs.declared.attempt.Failure.{Failure}
+use Rattle.tm_hunt.specs.declared.failure.Failure.{Failure}
 use Rattle.tm_hunt.specs.declared.attempt.HuntFault.{HuntFault}
 use Rattle.tm_hunt.specs.declared.attempt.HuntFault.TheVariants.{Board, NoMemory}
 use Rattle.tm_hunt.specs.declared.searching.Found.{Found}
@@ -29,9 +29,10 @@ abbrev pub IsRefusal : Trial → HuntFault → Type 0
 IsRefusal trial (Board fault) = IsBoardRefusal trial fault
 IsRefusal trial NoMemory = ⊤
 
--- the failure is one
-abbrev pub IsFailure : Trial → Failure → Type 0
-IsFailure trial failure = Fails trial failure.picks.items failure.check
+-- the failure is one, and all of its steps decide where it has not reached the limit
+pub record IsFailure (trial : Trial) (failure : Failure) : Type 0 where
+  pub fails : Fails trial failure.picks.items failure.check
+  pub whole : length failure.picks.items < trial.most → failure.front ≡ length failure.picks.items
 
 -- some run under events of these kinds violates no check
 abbrev pub SomePasses : Trial → Kinds → Type 0

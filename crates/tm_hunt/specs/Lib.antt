@@ -2,3 +2,4 @@ pub mod Hunt
 pub mod Attempts
 pub mod Cost
 pub mod Kept
+pub mod Deciding

@@ -9,6 +9,7 @@ ghost use Rattle.tm_hunt.specs.Hunt.{IsOver, IsTrialOf};
 ghost use Rattle.tm_pick.specs.Kinds.{AreOfKinds};
 ghost use Rattle.tm_pick.specs.declared.kinds.Kinds.{Kinds};
 
+use crate::failure::Failure;
 use crate::one_run::{board_of, run};
 use crate::trial::Trial;
 use std::alloc::{AllocError, Global};
@@ -43,15 +44,6 @@ impl From<AllocError> for HuntFault {
     fn from(_refused: AllocError) -> HuntFault {
         HuntFault::NoMemory
     }
-}
-
-/// A run that violates a check.
-#[derive(Debug, Drop)]
-pub struct Failure {
-    /// The picks of its steps: a core each, and the event that aborted its transaction, if any.
-    pub picks: Vec<Pick>,
-    /// The index of the first check that it violates.
-    pub check: usize,
 }
 
 /// What a run came to.
@@ -103,7 +95,12 @@ fn judged(alloc: Global, trial: &Trial<'_>, board: &Board) -> Result<Attempt, Hu
     match first_violated(trial.checks, board) {
         Some(check) => {
             let picks = picks_made(alloc, board.history())?;
-            Ok(Attempt::Failed(Failure { picks, check }))
+            let front = picks.as_slice().len();
+            Ok(Attempt::Failed(Failure {
+                picks,
+                check,
+                front,
+            }))
         }
         None if has_ended(board) => Ok(Attempt::Ended),
         None => Ok(Attempt::Cut),

@@ -2,22 +2,26 @@
 //!
 //! A [`Trial`] is a program with checks (`tm_check`) on the end of its runs. [`first_failing`] makes runs by chance
 //! ([`tm_pick`]) under the events of their plan, until one violates a check, and [`shorten`] finds a shorter schedule that
-//! violates the same check. Promised: a schedule that is answered, run from the program's opening state, violates the
-//! check that it is answered with; there are as many runs as are counted, which may be alike, that violate none; and all
-//! of them come under events of the plan's kinds alone, under none where it has none. The words for it stand in
-//! `specs/Hunt.antt`, over the boards of `tm_hist`, whose machine is the run of their history.
+//! violates the same check; of one that reached the limit on steps its first steps that decide. Promised: a schedule that
+//! is answered, run from the program's opening state, violates the check that it is answered with, and what decides of it
+//! is its beginning; there are as many runs as are counted, which may be alike, that violate none; and all of them come
+//! under events of the plan's kinds alone, under none where it has none. That behind the steps that decide each core
+//! steps in turn is tested alone. The words for it stand in `specs/Hunt.antt`, over the boards of `tm_hist`, whose
+//! machine is the run of their history.
 #![tactic(auto)]
 
 mod attempt;
 mod cost;
 mod cuts;
+mod failure;
 mod one_run;
 mod searching;
 mod shortening;
 mod trial;
 
-pub use attempt::{Failure, HuntFault, usual_length};
+pub use attempt::{HuntFault, usual_length};
 pub use cost::{events, switches};
+pub use failure::Failure;
 pub use searching::{Found, Search, first_failing};
 pub use shortening::shorten;
 pub use trial::Trial;

@@ -16,7 +16,7 @@ use tm_check::{Check, first_violated, has_ended};
 use tm_core::{Outcome, Stop};
 use tm_hist::{Board, BoardFault};
 use tm_model::{Event, Pick};
-use tm_pick::{Going, Picker, is_waiting};
+use tm_pick::{Going, Picker};
 
 /// The board of a trial, before its first step.
 pub fn board_of(alloc: Global, trial: &Trial<'_>) -> Result<Board, BoardFault>
@@ -53,8 +53,8 @@ fn step_all(trial: &Trial<'_>, picker: &mut Picker<'_>, board: &mut Board)
             return;
         };
         going = left;
-        let waits = picker.heeds_waiting() && is_waiting(trial.program, board.machine(), last);
-        let pick = picker.next(&going, waits);
+        let told = picker.heeds(trial.program, board.machine(), last);
+        let pick = picker.next(&going, told);
         last = pick.core;
         if step_one(trial, board, &mut going, pick) {
             return;

@@ -3,7 +3,8 @@
 ghost use Rattle.std.specs.Prelude.{IfErr, IfOk};
 ghost use Rattle.tm_hunt.specs.Attempts.{IsRefusal, IsSearch};
 
-use crate::attempt::{Attempt, Failure, HuntFault, try_run};
+use crate::attempt::{Attempt, HuntFault, try_run};
+use crate::failure::Failure;
 use crate::one_run::board_of;
 use crate::trial::Trial;
 use std::alloc::Global;

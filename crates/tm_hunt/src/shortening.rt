@@ -2,13 +2,16 @@
 
 ghost use Rattle.std.specs.Prelude.{◌≡◌, ◌≤◌, IfErr, IfOk, IfSome};
 ghost use Rattle.tm_hunt.specs.Attempts.{IsFailure, IsRefusal};
-ghost use Rattle.tm_hunt.specs.Cost.{cost_of};
+ghost use Rattle.tm_hunt.specs.Deciding.{cost_told};
 ghost use Rattle.tm_hunt.specs.Hunt.{IsTrialOf};
 ghost use Rattle.tm_hunt.specs.Kept.{KeepKinds, KeepsKinds};
+ghost use Rattle.tm_pick.specs.Kinds.{AreAmong, AreOfKinds};
+ghost use Rattle.tm_pick.specs.declared.kinds.Kinds.{Kinds};
 
-use crate::attempt::{Attempt, Failure, HuntFault, try_run};
+use crate::attempt::{Attempt, HuntFault, try_run};
 use crate::cost::cost;
 use crate::cuts::{burst_end, front_of, joined, last_event, without, without_event};
+use crate::failure::Failure;
 use crate::one_run::board_of;
 use crate::trial::Trial;
 use std::alloc::Global;
@@ -23,7 +26,8 @@ const MOST_TRIES: u32 = 4096;
 /// where the cores then run to their ends one after another; then the front without some of its events; then without
 /// some of its bursts and some of its steps (delta debugging, after Zeller and Hildebrandt, IEEE TSE 2002); then with
 /// bursts of one core side by side. Each is tried, and kept where it fails and is no less simple: in steps, four times
-/// the switches and four times the events. No event is there that was not.
+/// the switches and four times the events. No event is there that was not. Of a run that reached the limit on steps the
+/// front is what is made simpler: behind it each core steps in turn, up to the limit.
 ///
 /// Where memory is refused, the schedule is the shortest that was found till then.
 #[tactic(auto, using(crate::proofs::KeptKinds::keeps_all))]
@@ -31,7 +35,7 @@ pub fn shorten(alloc: Global, trial: &Trial<'_>, best: &mut Failure) -> Result<(
     requires { IsFailure trial.now best.old }
     ensures fails { IsFailure trial.now best.new }
     ensures same { best.new.check ≡ best.old.check }
-    ensures simpler { cost_of best.new.picks.items ≤ cost_of best.old.picks.items }
+    ensures simpler { cost_told best.new ≤ cost_told best.old }
     ensures kinds { KeepsKinds best.old.picks.items best.new.picks.items }
     ensures err { IfErr result (IsRefusal trial.now) }
 {
@@ -53,7 +57,7 @@ fn shorten_front(
     requires of_trial { IsTrialOf trial.now board.old }
     ensures fails { IsFailure trial.now best.new }
     ensures same { best.new.check ≡ best.old.check }
-    ensures simpler { cost_of best.new.picks.items ≤ cost_of best.old.picks.items }
+    ensures simpler { cost_told best.new ≤ cost_told best.old }
     ensures kinds { KeepKinds front.old.items best.old.picks.items front.new.items best.new.picks.items }
     ensures of_trial { IsTrialOf trial.now board.new }
     ensures err { IfErr result (IsRefusal trial.now) }
@@ -66,12 +70,24 @@ fn shorten_front(
     cut_steps(alloc, trial, board, front, best)
 }
 
-// What the run of a front comes to, where it fails.
+// What makes the run of a front, where that of the failure to be made shorter has so many steps: where it reached the
+// limit each core steps in turn behind the front, and else one after another goes to its end.
+fn picker_of<'a>(trial: &Trial<'_>, front: &'a [Pick], length: usize) -> Picker<'a>
+    ensures { (kinds : Kinds) → AreOfKinds kinds front.now → AreAmong result kinds }
+{
+    match u32::try_from(length) {
+        Ok(length) if length < trial.most => Picker::front(front, length),
+        _ => Picker::front_in_turn(front),
+    }
+}
+
+// What the run of a front comes to, where it fails, behind a failure whose run has so many steps.
 fn failure_of(
     alloc: Global,
     trial: &Trial<'_>,
     board: &mut Board,
     front: &[Pick],
+    length: usize,
 ) -> Result<Option<Failure>, HuntFault>
     requires of_trial { IsTrialOf trial.now board.old }
     ensures fails { IfOk result (λ found. IfSome found (IsFailure trial.now)) }
@@ -79,9 +95,33 @@ fn failure_of(
     ensures of_trial { IsTrialOf trial.now board.new }
     ensures err { IfErr result (IsRefusal trial.now) }
 {
-    match try_run(alloc, trial, board, &mut Picker::front(front))? {
-        Attempt::Failed(failure) => Ok(Some(failure)),
+    let mut picker = picker_of(trial, front, length);
+    match try_run(alloc, trial, board, &mut picker)? {
+        Attempt::Failed(failure) => Ok(Some(decided(trial, failure, picker.made_of_list()))),
         Attempt::Ended | Attempt::Cut => Ok(None),
+    }
+}
+
+// A failure of which so many first steps decide, where its run reached the limit, and else all.
+fn decided(trial: &Trial<'_>, failure: Failure, made: usize) -> Failure
+    requires { IsFailure trial.now failure }
+    ensures fails { IsFailure trial.now result }
+    ensures picks { result.picks.items ≡ failure.picks.items }
+{
+    let Failure {
+        picks,
+        check,
+        front: all,
+    } = failure;
+    let front = if picks.as_slice().len() as u64 >= u64::from(trial.most) {
+        made.min(all)
+    } else {
+        all
+    };
+    Failure {
+        picks,
+        check,
+        front,
     }
 }
 
@@ -100,18 +140,19 @@ fn try_front(
     requires kinds { KeepsKinds front.old.items other.items }
     ensures fails { IsFailure trial.now best.new }
     ensures same { best.new.check ≡ best.old.check }
-    ensures simpler { cost_of best.new.picks.items ≤ cost_of best.old.picks.items }
+    ensures simpler { cost_told best.new ≤ cost_told best.old }
     ensures kinds { KeepKinds front.old.items best.old.picks.items front.new.items best.new.picks.items }
     ensures of_trial { IsTrialOf trial.now board.new }
     ensures err { IfErr result (IsRefusal trial.now) }
 {
-    let Some(failure) = failure_of(alloc, trial, board, other.as_slice())? else {
+    let length = best.picks.as_slice().len();
+    let Some(failure) = failure_of(alloc, trial, board, other.as_slice(), length)? else {
         return Ok(false);
     };
     if failure.check != best.check {
         return Ok(false);
     }
-    if cost(failure.picks.as_slice()) > cost(best.picks.as_slice()) {
+    if cost(failure.deciding()) > cost(best.deciding()) {
         *front = other;
         return Ok(true);
     }
@@ -133,7 +174,7 @@ fn cut_behind(
     requires of_trial { IsTrialOf trial.now board.old }
     ensures fails { IsFailure trial.now best.new }
     ensures same { best.new.check ≡ best.old.check }
-    ensures simpler { cost_of best.new.picks.items ≤ cost_of best.old.picks.items }
+    ensures simpler { cost_told best.new ≤ cost_told best.old }
     ensures kinds { KeepKinds front.old.items best.old.picks.items front.new.items best.new.picks.items }
     ensures of_trial { IsTrialOf trial.now board.new }
     ensures err { IfErr result (IsRefusal trial.now) }
@@ -166,7 +207,7 @@ fn cut_events(
     requires of_trial { IsTrialOf trial.now board.old }
     ensures fails { IsFailure trial.now best.new }
     ensures same { best.new.check ≡ best.old.check }
-    ensures simpler { cost_of best.new.picks.items ≤ cost_of best.old.picks.items }
+    ensures simpler { cost_told best.new ≤ cost_told best.old }
     ensures kinds { KeepKinds front.old.items best.old.picks.items front.new.items best.new.picks.items }
     ensures of_trial { IsTrialOf trial.now board.new }
     ensures err { IfErr result (IsRefusal trial.now) }
@@ -196,7 +237,7 @@ fn cut_bursts(
     requires of_trial { IsTrialOf trial.now board.old }
     ensures fails { IsFailure trial.now best.new }
     ensures same { best.new.check ≡ best.old.check }
-    ensures simpler { cost_of best.new.picks.items ≤ cost_of best.old.picks.items }
+    ensures simpler { cost_told best.new ≤ cost_told best.old }
     ensures kinds { KeepKinds front.old.items best.old.picks.items front.new.items best.new.picks.items }
     ensures of_trial { IsTrialOf trial.now board.new }
     ensures err { IfErr result (IsRefusal trial.now) }
@@ -228,7 +269,7 @@ fn cut_steps(
     requires of_trial { IsTrialOf trial.now board.old }
     ensures fails { IsFailure trial.now best.new }
     ensures same { best.new.check ≡ best.old.check }
-    ensures simpler { cost_of best.new.picks.items ≤ cost_of best.old.picks.items }
+    ensures simpler { cost_told best.new ≤ cost_told best.old }
     ensures kinds { KeepKinds front.old.items best.old.picks.items front.new.items best.new.picks.items }
     ensures of_trial { IsTrialOf trial.now board.new }
     ensures err { IfErr result (IsRefusal trial.now) }
@@ -270,7 +311,7 @@ fn join_at(
     requires of_trial { IsTrialOf trial.now board.old }
     ensures fails { IsFailure trial.now best.new }
     ensures same { best.new.check ≡ best.old.check }
-    ensures simpler { cost_of best.new.picks.items ≤ cost_of best.old.picks.items }
+    ensures simpler { cost_told best.new ≤ cost_told best.old }
     ensures kinds { KeepKinds front.old.items best.old.picks.items front.new.items best.new.picks.items }
     ensures of_trial { IsTrialOf trial.now board.new }
     ensures err { IfErr result (IsRefusal trial.now) }
@@ -294,7 +335,7 @@ fn join_bursts(
     requires of_trial { IsTrialOf trial.now board.old }
     ensures fails { IsFailure trial.now best.new }
     ensures same { best.new.check ≡ best.old.check }
-    ensures simpler { cost_of best.new.picks.items ≤ cost_of best.old.picks.items }
+    ensures simpler { cost_told best.new ≤ cost_told best.old }
     ensures kinds { KeepKinds front.old.items best.old.picks.items front.new.items best.new.picks.items }
     ensures of_trial { IsTrialOf trial.now board.new }
     ensures err { IfErr result (IsRefusal trial.now) }

@@ -3,3 +3,4 @@ pub mod Drawn
 pub mod Listed
 pub mod Lots
 pub mod Sources
+pub mod Rows

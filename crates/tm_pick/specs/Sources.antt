@@ -3,7 +3,7 @@ use Rattle.std.specs.Prelude.{◌||◌}
 use Rattle.tm_pick.specs.Kinds.{no_kinds}
 use Rattle.tm_pick.specs.declared.kinds.Kinds.{Kinds}
 use Rattle.tm_pick.specs.declared.manner.Manner.{Manner}
-use Rattle.tm_pick.specs.declared.manner.Manner.TheVariants.{InTurn, Uniform, Bursts, Priorities, Front}
+use Rattle.tm_pick.specs.declared.manner.Manner.TheVariants.{InTurn, Uniform, Bursts, Priorities, Seen, Front}
 
 -- those of the list, where the steps are listed
 abbrev pub kinds_listed : Manner → Kinds
@@ -11,6 +11,7 @@ kinds_listed (InTurn next) = no_kinds
 kinds_listed (Uniform chance) = no_kinds
 kinds_listed (Bursts bursts) = no_kinds
 kinds_listed (Priorities priorities) = no_kinds
+kinds_listed (Seen seen) = no_kinds
 kinds_listed (Front front) = front
 
 -- both

@@ -7,14 +7,42 @@ use crate::tail::Tail;
 use std::marker::Model;
 use tm_model::Pick;
 
-/// The steps of a list, of which those of cores that have stopped are left out; and behind them one core after another
-/// to its end, the core of the last step first, under no events. Contracts see the kinds of the list's events.
+/// The steps of a list, of which those of cores that have stopped are left out, and what comes behind them, under no
+/// events. Contracts see the kinds of the list's events.
 #[derive(Drop)]
 pub struct Front<'a> {
     steps: &'a [Pick],
     // How many of them were made or left out.
+    read: usize,
+    // How many of them were made.
     made: usize,
-    tail: Tail,
+    behind: Behind,
+}
+
+/// What comes behind a list of steps.
+#[derive(Drop)]
+pub enum Behind {
+    /// One core after another to its end.
+    EachToItsEnd(Tail),
+    /// Round by round, from this core on.
+    InTurn(u8),
+}
+
+impl Behind {
+    // The next step. It is told whether the core of the step before is at a PAUSE.
+    fn next(&mut self, going: &Going, waits: bool) -> u8
+        requires { 0 < length going.now }
+        ensures { Contains going.now result }
+    {
+        match self {
+            Behind::EachToItsEnd(tail) => tail.next(going, waits),
+            Behind::InTurn(next) => {
+                let core = going.from(*next);
+                *next = core.saturating_add(1);
+                core
+            }
+        }
+    }
 }
 
 impl<'a> Model for Front<'a> {
@@ -30,8 +58,9 @@ impl<'a> Front<'a> {
     ghost use Rattle.tm_pick.specs.Kinds.{IsOfKinds};
     ghost use Rattle.tm_pick.specs.Listed.{kinds_in};
 
-    /// The steps of this list, and what comes behind it.
-    pub fn new(steps: &'a [Pick]) -> Front<'a>
+    /// The steps of this list, and behind it one core after another to its end, the core of the last step first, in a run
+    /// that takes about so many steps.
+    pub fn to_the_ends(steps: &'a [Pick], length: u32) -> Front<'a>
         ensures { result ≡ kinds_in steps.now }
     {
         let last = match steps.last() {
@@ -40,9 +69,31 @@ impl<'a> Front<'a> {
         };
         Front {
             steps,
+            read: 0,
             made: 0,
-            tail: Tail::new(last),
+            behind: Behind::EachToItsEnd(Tail::new(last, length)),
         }
+    }
+
+    /// The steps of this list, and behind it each core in turn, the one behind the core of the last step first.
+    pub fn in_turn(steps: &'a [Pick]) -> Front<'a>
+        ensures { result ≡ kinds_in steps.now }
+    {
+        let next = match steps.last() {
+            Some(pick) => pick.core.saturating_add(1),
+            None => 0,
+        };
+        Front {
+            steps,
+            read: 0,
+            made: 0,
+            behind: Behind::InTurn(next),
+        }
+    }
+
+    /// How many steps of the list were made.
+    pub fn made(&self) -> usize {
+        self.made
     }
 
     /// The next step. It is told whether the core of the step before is at a PAUSE.
@@ -52,14 +103,15 @@ impl<'a> Front<'a> {
         ensures event { IsOfKinds self.old result.event }
         ensures same { self.new ≡ self.old }
     {
-        let Some(index) = first_going(self.steps, self.made, going) else {
-            self.made = self.steps.len();
+        let Some(index) = first_going(self.steps, self.read, going) else {
+            self.read = self.steps.len();
             return Pick {
-                core: self.tail.next(going, waits),
+                core: self.behind.next(going, waits),
                 event: None,
             };
         };
-        self.made = index + 1;
+        self.read = index + 1;
+        self.made = self.made.saturating_add(1);
         let pick = self.steps[index];
         Pick {
             core: going.from(pick.core),

@@ -7,8 +7,9 @@
 //! of their own. Takes no memory.
 //!
 //! Promised: a pick's core is one that has not stopped; its event is of the kinds that were asked for, and it has none
-//! where none were. Stands on `ia_image` and `tm_core` for the instruction
-//! that a core is at.
+//! where none were; and priorities fall at a PAUSE, where they were drawn to fall, and behind rows of steps alone that are
+//! longer than twice the length of a run. Which steps no other core sees ([`is_unseen`]) is promised nothing. Stands on
+//! `ia_image`, `tm_rule` and `tm_core` for the instruction that a core is at.
 #![tactic(auto)]
 
 mod bursts;
@@ -23,7 +24,9 @@ mod manner;
 mod method;
 mod picker;
 mod priorities;
+mod seen;
 mod tail;
+mod unseen;
 mod waiting;
 
 pub use events::Events;
@@ -32,4 +35,5 @@ pub use interferer::Interferer;
 pub use kinds::Kinds;
 pub use method::{Method, Plan};
 pub use picker::Picker;
+pub use unseen::is_unseen;
 pub use waiting::is_waiting;

@@ -7,6 +7,10 @@ use crate::chance::Chance;
 use crate::front::Front;
 use crate::going::Going;
 use crate::priorities::Priorities;
+use crate::seen::Seen;
+use crate::unseen::is_unseen;
+use crate::waiting::is_waiting;
+use tm_core::{Machine, Program};
 use tm_model::Pick;
 
 /// How steps are picked.
@@ -20,7 +24,9 @@ pub enum Manner<'a> {
     Bursts(Bursts),
     /// By random priorities.
     Priorities(Priorities),
-    /// A list, and then one core after another to its end.
+    /// Each core as likely as another, drawn where other cores see it.
+    Seen(Seen),
+    /// A list, and what comes behind it.
     Front(Front<'a>),
 }
 
@@ -28,8 +34,18 @@ impl<'a> Manner<'a> {
     ghost use Rattle.tm_pick.specs.Kinds.{IsOfKinds};
     ghost use Rattle.tm_pick.specs.Sources.{kinds_listed};
 
-    /// The next step, with its event where it is a list's.
-    pub fn next(&mut self, going: &Going, waits: bool) -> Pick
+    /// What it heeds of the core of the step before: whether it is at a PAUSE, or whether no other core sees its next
+    /// step. The machine is one of the program.
+    pub fn heeds(&self, program: &Program, machine: &Machine, core: u8) -> bool {
+        match self {
+            Manner::Priorities(_) | Manner::Front(_) => is_waiting(program, machine, core),
+            Manner::Seen(_) => is_unseen(program, machine, core),
+            Manner::InTurn(_) | Manner::Uniform(_) | Manner::Bursts(_) => false,
+        }
+    }
+
+    /// The next step, with its event where it is a list's. It is told what it heeds.
+    pub fn next(&mut self, going: &Going, told: bool) -> Pick
         requires { 0 < length going.now }
         ensures core { Contains going.now result.core }
         ensures event { IsOfKinds (kinds_listed self.old) result.event }
@@ -43,8 +59,9 @@ impl<'a> Manner<'a> {
             }
             Manner::Uniform(chance) => any(chance, going),
             Manner::Bursts(bursts) => bursts.next(going),
-            Manner::Priorities(priorities) => priorities.next(going, waits),
-            Manner::Front(front) => return front.next(going, waits),
+            Manner::Priorities(priorities) => priorities.next(going, told),
+            Manner::Seen(seen) => seen.next(going, told),
+            Manner::Front(front) => return front.next(going, told),
         };
         Pick { core, event: None }
     }

@@ -11,7 +11,8 @@ use crate::picker::Picker;
 /// How the core of each step is drawn.
 #[derive(Clone, Copy, PartialEq, Eq)]
 pub enum Method {
-    /// By the run's number each third run uniform, in bursts, or by priorities.
+    /// By the run's number each second run drawn where other cores see it, and of the others each third uniform, in
+    /// bursts, or by priorities.
     Mix,
     /// Each core as likely as another at each step.
     Uniform,
@@ -19,6 +20,8 @@ pub enum Method {
     Bursts,
     /// By random priorities, of which the highest falls 1 to 3 times.
     Priorities,
+    /// Each core as likely as another, but a core whose next step no other core sees goes on without a draw.
+    Seen,
 }
 
 /// What the runs of a search are drawn by.
@@ -28,7 +31,7 @@ pub struct Plan {
     pub seed: u32,
     /// How the core of each step is drawn.
     pub method: Method,
-    /// How many steps a run takes, about: up to where priorities fall.
+    /// How many steps a run takes, about: up to where priorities fall, and half of how many a core makes in a row.
     pub length: u32,
     /// Which events its steps come under.
     pub events: Events,
@@ -54,6 +57,7 @@ impl Plan {
         match self.method.of_run(run) {
             Method::Bursts => Picker::bursts(chance),
             Method::Priorities => Picker::priorities(chance, cores, self.length),
+            Method::Seen => Picker::seen(chance, self.length),
             Method::Mix | Method::Uniform => Picker::uniform(chance),
         }
     }
@@ -62,10 +66,11 @@ impl Plan {
 impl Method {
     // The method of the run of this number.
     fn of_run(self, run: u32) -> Method {
-        match (self, run % 3) {
+        match (self, run % 6) {
             (Method::Mix, 0) => Method::Uniform,
-            (Method::Mix, 1) => Method::Bursts,
-            (Method::Mix, _) => Method::Priorities,
+            (Method::Mix, 2) => Method::Bursts,
+            (Method::Mix, 4) => Method::Priorities,
+            (Method::Mix, _) => Method::Seen,
             (method, _) => method,
         }
     }

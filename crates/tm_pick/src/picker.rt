@@ -13,7 +13,10 @@ use crate::interferer::Interferer;
 use crate::kinds::Kinds;
 use crate::manner::Manner;
 use crate::priorities::Priorities;
+use crate::seen::Seen;
+use crate::tail::most_in_a_row;
 use std::marker::Model;
+use tm_core::{Machine, Program};
 use tm_model::{Event, Pick};
 
 /// What picks one step after another: its core, and the event that it comes under, if any. Contracts see the kinds of
@@ -49,12 +52,22 @@ impl<'a> Picker<'a> {
     }
 
     /// The steps of a list, of which those of cores that have stopped are left out; and behind them one core after
-    /// another to its end, the core of the last step first, under no events.
+    /// another to its end, the core of the last step first, under no events. A core gives way where it is at a PAUSE, and
+    /// after twice so many steps in a row as the run takes, about, and 400 at least.
     #[tactic(auto, using(crate::proofs::OfKinds::listed_among))]
-    pub fn front(steps: &'a [Pick]) -> Picker<'a>
+    pub fn front(steps: &'a [Pick], length: u32) -> Picker<'a>
         ensures { (kinds : Kinds) → AreOfKinds kinds steps.now → AreAmong result kinds }
     {
-        Picker::of_manner(Manner::Front(Front::new(steps)))
+        Picker::of_manner(Manner::Front(Front::to_the_ends(steps, length)))
+    }
+
+    /// The steps of a list, of which those of cores that have stopped are left out; and behind them each core in turn, the
+    /// one behind the core of the last step first, under no events.
+    #[tactic(auto, using(crate::proofs::OfKinds::listed_among))]
+    pub fn front_in_turn(steps: &'a [Pick]) -> Picker<'a>
+        ensures { (kinds : Kinds) → AreOfKinds kinds steps.now → AreAmong result kinds }
+    {
+        Picker::of_manner(Manner::Front(Front::in_turn(steps)))
     }
 
     // Each core as likely as another.
@@ -71,6 +84,13 @@ impl<'a> Picker<'a> {
         Picker::of_manner(Manner::Bursts(Bursts::new(chance)))
     }
 
+    // Drawn where other cores see it, in a run that takes about so many steps.
+    pub(crate) fn seen(chance: Chance, length: u32) -> Picker<'a>
+        ensures { result ≡ no_kinds }
+    {
+        Picker::of_manner(Manner::Seen(Seen::new(chance, most_in_a_row(length))))
+    }
+
     // By random priorities of so many cores, in a run that takes about so many steps.
     pub(crate) fn priorities(chance: Chance, cores: u8, length: u32) -> Picker<'a>
         requires { cores ≤ 64 }
@@ -80,9 +100,19 @@ impl<'a> Picker<'a> {
         Picker::of_manner(Manner::Priorities(Priorities::new(chance, &going, length)))
     }
 
-    /// Whether it makes a difference to it that a core waits.
-    pub fn heeds_waiting(&self) -> bool {
-        matches!(self.manner, Manner::Priorities(_) | Manner::Front(_))
+    /// What it heeds of the core of the step before, which it is told for the next step: whether the core is at a PAUSE,
+    /// by which a loop that waits for another core gives way, or whether no other core sees the core's next step. False
+    /// where it heeds nothing. The machine is one of the program.
+    pub fn heeds(&self, program: &Program, machine: &Machine, core: u8) -> bool {
+        self.manner.heeds(program, machine, core)
+    }
+
+    /// How many steps of its list were made; 0 where it has none.
+    pub fn made_of_list(&self) -> usize {
+        match &self.manner {
+            Manner::Front(front) => front.made(),
+            _ => 0,
+        }
     }
 
     // Picks in this manner, under no events but those of its list.
@@ -107,9 +137,9 @@ impl<'a> Picker<'a> {
         }
     }
 
-    /// The next step: a core that has not stopped, and its event, if any. It is told whether the core of the step
-    /// before is at a PAUSE ([`crate::is_waiting`]), where it heeds that.
-    pub fn next(&mut self, going: &Going, waits: bool) -> Pick
+    /// The next step: a core that has not stopped, and its event, if any. It is told what it heeds
+    /// ([`Picker::heeds`]).
+    pub fn next(&mut self, going: &Going, told: bool) -> Pick
         requires { 0 < length going.now }
         ensures core { Contains going.now result.core }
         ensures event { IsOfKinds self.old result.event }
@@ -117,7 +147,7 @@ impl<'a> Picker<'a> {
         ensures same { self.new ≡ self.old }
     {
         let drawn = self.interferer.next();
-        let pick = self.manner.next(going, waits);
+        let pick = self.manner.next(going, told);
         Pick {
             core: pick.core,
             event: first_of(pick.event, drawn),

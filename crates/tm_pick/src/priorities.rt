@@ -1,10 +1,11 @@
 //! Random priorities (PCT).
 
-ghost use Rattle.std.specs.Prelude.{◌≤◌, ◌<◌, Contains, length};
+ghost use Rattle.std.specs.Prelude.{◌≡◌, ◌≤◌, ◌<◌, Contains, false, length};
+ghost use Rattle.tm_pick.specs.Rows.{longest_row};
 
 use crate::chance::Chance;
 use crate::going::{Going, index_of};
-use crate::tail::MOST_IN_A_ROW;
+use crate::tail::most_in_a_row;
 use arrayvec::ArrayVec;
 
 /// The most steps at which a core falls behind.
@@ -12,13 +13,15 @@ const MOST_FALLS: usize = 3;
 
 /// Probabilistic concurrency testing, after Burckhardt, Kothari, Musuvathi and Nagarakatte (ASPLOS 2010): each core has
 /// a priority by chance, and the step is that of the highest one. At some steps by chance, 1 to 3 of them, the core
-/// that ran falls behind all others; it falls too where it is at a PAUSE, and after 400 steps in a row, or a core that
-/// waits for another one would never let go.
+/// that ran falls behind all others; it falls too where it is at a PAUSE, and after so many steps in a row as no core
+/// makes that does not wait, or a core that waits for another one would never let go.
 #[derive(Drop)]
 pub struct Priorities {
     // The highest first.
     order: ArrayVec<u8, 64>,
     falls: ArrayVec<u32, MOST_FALLS>,
+    // The most steps of a core in a row.
+    most: u32,
     made: u32,
     last: u8,
     in_a_row: u32,
@@ -26,7 +29,9 @@ pub struct Priorities {
 
 impl Priorities {
     /// Priorities of these cores, in a run that takes about so many steps.
-    pub fn new(mut chance: Chance, going: &Going, length: u32) -> Priorities {
+    pub fn new(mut chance: Chance, going: &Going, length: u32) -> Priorities
+        ensures { result.most ≡ longest_row length }
+    {
         let order = shuffled(&mut chance, going);
         let mut falls = ArrayVec::new();
         for _ in 0..1 + chance.below(MOST_FALLS as u32) {
@@ -36,6 +41,7 @@ impl Priorities {
         Priorities {
             order,
             falls,
+            most: most_in_a_row(length),
             made: 0,
             last: u8::MAX,
             in_a_row: 0,
@@ -45,9 +51,12 @@ impl Priorities {
     /// The core of the next step. It is told whether the core of the step before is at a PAUSE.
     pub fn next(&mut self, going: &Going, waits: bool) -> u8
         requires { 0 < length going.now }
-        ensures { Contains going.now result }
+        ensures core { Contains going.now result }
+        ensures same { self.new.most ≡ self.old.most }
+        ensures in_order { waits ≡ false → self.old.in_a_row < self.old.most →
+            (Contains self.old.falls.items self.old.made → ⊥) → self.new.order.items ≡ self.old.order.items }
     {
-        if waits || self.in_a_row >= MOST_IN_A_ROW || self.falls.as_slice().contains(&self.made) {
+        if waits || self.in_a_row >= self.most || self.falls.as_slice().contains(&self.made) {
             self.fall();
         }
         let core = going.from(self.highest(going));
@@ -72,7 +81,9 @@ impl Priorities {
     }
 
     // The core of the step before falls behind all others.
-    fn fall(&mut self) {
+    fn fall(&mut self)
+        ensures { self.new.most ≡ self.old.most }
+    {
         self.in_a_row = 0;
         if let Some(index) = index_of(self.order.as_slice(), self.last) {
             let core = self.order.remove(index);

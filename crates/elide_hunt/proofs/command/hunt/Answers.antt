@@ -5,6 +5,7 @@ use Rattle.std.specs.Prelude.{IfSome}
 use Rattle.elide_setup.specs.ElideProgram.Files.{Gives, most_bytes}
 use Rattle.elide_setup.specs.ElideProgram.ProgramFile.{IsFile}
 use Rattle.elide_setup.specs.Recorded.{IsRecorded}
+use Rattle.tm_hunt.specs.Deciding.{deciding}
 use Rattle.elide_hunt.specs.Printed.{IsPrinted, IsTold, IsTrialOf}
 use Rattle.elide_hunt.specs.declared.command.Answer.{Answer}
 use Rattle.elide_hunt.proofs.command.hunt.Goals as goal
@@ -43,6 +44,6 @@ returns g c =
       search = one;
       hunted = made.6;
       told = told;
-      recorded = subst (λ (path : Option (Bor (List ℕ))). IfSome one.found (λ found. IsRecorded left path found.failure.picks.items)) c.in_ok-path.ensures.given c.in_ok-write_record.ensures;
+      recorded = subst (λ (path : Option (Bor (List ℕ))). IfSome one.found (λ found. IsRecorded left path (deciding found.failure))) c.in_ok-path.ensures.given c.in_ok-write_record.ensures;
     })
     c.tell.ensures

@@ -2,6 +2,7 @@ use Rattle.std.proofs.Common.{codes, ap, ◌∙◌}
 use Rattle.std.proofs.lemmas.Result.{on_ok_weaker}
 use Rattle.elide_object.specs.Object.{number_value, schedule_value}
 use Rattle.elide_object.proofs.Sending.{sent_equal}
+use Rattle.tm_hunt.specs.Deciding.{deciding}
 use Rattle.elide_hunt.specs.Lines.{counts_of}
 use Rattle.elide_hunt.specs.Object.{counts_value}
 use Rattle.elide_hunt.proofs.sending.FailureObject.send.Goals as goal
@@ -11,13 +12,15 @@ returns g c =
     let written = g.S.Serializer.written in
     let found = c.args.self.now.found.now in
     let picks = found.failure.picks.items in
-    let same = c.as_slice-picks.ensures.value in
+    let same = c.as_slice.ensures.value in
     let run = sent_equal (codes "run") number_value _ found.run _ _ c.from.ensures c.in_ok-send_number.ensures in
     let check = c.in_ok-send_check.ensures in
     let before = c.in_ok-send_counts.ensures in
     let after = sent_equal (codes "after") counts_value _ (counts_of picks) _ _ (c.counts_of.ensures ∙ ap counts_of same)
     c.in_ok-send_counts-2.ensures in
-    let steps = sent_equal (codes "schedule") schedule_value _ picks _ _ same c.in_ok-send_schedule.ensures in
+    let front = c.in_ok-send_number-2.ensures in
+    let steps = sent_equal (codes "schedule") schedule_value _ (deciding found.failure) _ _ c.deciding.ensures
+    c.in_ok-send_schedule.ensures in
     let replay = c.in_ok-send_text.ensures in
     on_ok_weaker c.end_map.result (λ ended. (
       written c.begin_map.new.self,
@@ -43,11 +46,17 @@ returns g c =
               after.1,
               after.2,
               (
-                steps.0,
-                written c.send_schedule.new.out,
-                steps.1,
-                steps.2,
-                (replay.0, written c.send_text.new.out, replay.1, replay.2, ended),
+                front.0,
+                written c.send_number-2.new.out,
+                front.1,
+                front.2,
+                (
+                  steps.0,
+                  written c.send_schedule.new.out,
+                  steps.1,
+                  steps.2,
+                  (replay.0, written c.send_text.new.out, replay.1, replay.2, ended),
+                ),
               ),
             ),
           ),
