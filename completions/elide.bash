@@ -5,16 +5,16 @@ _elide_options() {
     case $1 in
     asm) echo '--help --list --words --color' ;;
     dis) echo '--help --labels --words --color' ;;
-    run) echo '--help --cores --mem --entry --reads --writes --dump --show --steps --schedule --trace --why --expect-halt --in-turn --random --events --seed --limit --record --json --words --color' ;;
+    run) echo '--help --cores --mem --entry --reads --writes --dump --show --steps --schedule --trace --code --why --expect-halt --in-turn --random --events --seed --limit --record --json --words --color' ;;
     threads) echo '--help --cores --mem --entry --reads --writes --dump --show --budget --burst --events --seed --why --stats --json --record --words --color' ;;
     replay) echo '--help --cores --mem --entry --reads --writes --dump --show --steps --schedule --why --in-turn --random --events --seed --limit --record --json --words --color' ;;
     debug) echo '--help --cores --mem --entry --reads --writes --dump --steps --schedule --in-turn --random --events --seed --limit --words --color' ;;
     gdb) echo '--help --cores --mem --entry --reads --writes --steps --schedule --in-turn --random --events --seed --limit --words --color' ;;
     hunt) echo '--help --cores --mem --entry --reads --writes --check --forbid --stop --expect-halt --runs --seed --method --events --limit --jobs --record --json --words --color' ;;
-    outcomes) echo '--help --cores --mem --entry --reads --writes --show --events --limit --stop --stuck --json --words --color' ;;
+    outcomes) echo '--help --cores --mem --entry --reads --writes --show --names --events --limit --check --forbid --stop --stuck --json --words --color' ;;
     test) echo '--help --list --jobs --json --words --color' ;;
     stats) echo '--help --cores --mem --entry --reads --writes --steps --schedule --in-turn --random --events --seed --limit --record --json --words --color' ;;
-    draw) echo '--help --cores --mem --entry --reads --writes --steps --schedule --in-turn --random --events --seed --limit --record --from --to --core --words --color' ;;
+    draw) echo '--help --cores --mem --entry --reads --writes --show --steps --schedule --in-turn --random --events --seed --limit --record --from --to --core --words --color' ;;
     explain) echo '--help --words --color' ;;
     esac
 }
@@ -61,7 +61,7 @@ _elide_value() {
     'draw --color' | \
     'explain --words' | \
     'explain --color') echo 'auto always never' ;;
-    'hunt --method') echo 'uniform bursts pct mix' ;;
+    'hunt --method') echo 'seen uniform bursts pct mix' ;;
     'run --cores' | \
     'run --mem' | \
     'run --entry' | \
@@ -139,6 +139,8 @@ _elide_value() {
     'outcomes --show' | \
     'outcomes --events' | \
     'outcomes --limit' | \
+    'outcomes --check' | \
+    'outcomes --forbid' | \
     'outcomes --stop' | \
     'test --jobs' | \
     'stats --cores' | \
@@ -156,6 +158,7 @@ _elide_value() {
     'draw --entry' | \
     'draw --reads' | \
     'draw --writes' | \
+    'draw --show' | \
     'draw --steps' | \
     'draw --random' | \
     'draw --events' | \

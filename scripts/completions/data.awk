@@ -95,7 +95,7 @@ function form_of(name,    form) {
 # The words of which a value is one, by its name.
 function few_words(value) {
     if (value == "WHEN") return "auto always never"
-    if (value == "METHOD") return "uniform bursts pct mix"
+    if (value == "METHOD") return "seen uniform bursts pct mix"
     return ""
 }
 

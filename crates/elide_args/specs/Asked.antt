@@ -71,6 +71,7 @@ pub record IsRun (found : Found) (options : RunOptions) : Type 0 where
   pub shown : IsShown found options.machine
   pub schedule : IsSchedule found options.schedule
   pub traces : IsFlag found (codes "trace") options.traces
+  pub code : IsFlag found (codes "code") options.shows_code
   pub explains : IsFlag found (codes "why") options.explains
   pub halt : IsFlag found (codes "expect-halt") options.expects_halt
   pub path : first_value found (codes "record") ≡ option_copied options.«record»
@@ -100,8 +101,11 @@ pub record IsSearch (found : Found) (options : OutcomesOptions) : Type 0 where
   pub machine : IsMachine found options.machine
   pub nothing : ShowsNothing options.machine
   pub show : first_value found (codes "show") ≡ option_copied options.show
+  pub names : IsFlag found (codes "names") options.shows_names
   pub events : first_value found (codes "events") ≡ option_copied options.events
   pub limit : first_value found (codes "limit") ≡ option_copied options.limit
+  pub checks : texts_of options.checks.items ≡ values_of found (codes "check")
+  pub forbids : texts_of options.forbids.items ≡ values_of found (codes "forbid")
   pub stops : texts_of options.stops.items ≡ values_of found (codes "stop")
   pub stuck : IsFlag found (codes "stuck") options.asks_stuck
   pub json : IsFlag found (codes "json") options.is_json
@@ -142,7 +146,7 @@ pub record IsSession (found : Found) (options : SessionOptions) : Type 0 where
 
 pub record IsPicture (found : Found) (options : DrawOptions) : Type 0 where
   pub machine : IsMachine found options.machine
-  pub nothing : ShowsNothing options.machine
+  pub shown : IsShown found options.machine
   pub schedule : IsSchedule found options.schedule
   pub path : first_value found (codes "record") ≡ option_copied options.«record»
   pub from : first_value found (codes "from") ≡ option_copied options.from

@@ -146,6 +146,12 @@ pub const TRACE: OptionText = OptionText {
     help: "Prints the outcome of each step before the state",
 };
 
+pub const CODE: OptionText = OptionText {
+    name: "code",
+    form: Form::Flag,
+    help: "With --trace: each outcome goes on with the instruction's address, its text, and what it loaded and stored",
+};
+
 pub const WHY: OptionText = OptionText {
     name: "why",
     form: Form::Flag,
@@ -263,7 +269,7 @@ pub const SEED: OptionText = OptionText {
 pub const METHOD: OptionText = OptionText {
     name: "method",
     form: Form::Default("METHOD", "mix"),
-    help: "How the core of each step is drawn: uniform, bursts, pct (random priorities), or mix, a third of the runs each",
+    help: "How the core of each step is drawn: seen (drawn where other cores see), uniform, bursts, pct (random priorities), or mix: seen each second run, the others in turn",
 };
 
 pub const JOBS: OptionText = OptionText {
@@ -274,8 +280,32 @@ pub const JOBS: OptionText = OptionText {
 
 pub const SHOW: OptionText = OptionText {
     name: "show",
-    form: Form::Needed("ITEMS"),
-    help: "What is shown where all cores have stopped: registers of cores, as eax@0, and doublewords at sums of symbols and numbers",
+    form: Form::Value("ITEMS"),
+    help: "What is shown where all cores have stopped: registers of cores, as eax@0, and doublewords at sums of symbols and numbers; wanted where none of --check, --forbid, --stop and --stuck is given",
+};
+
+pub const CHECK_OF_ALL: OptionText = OptionText {
+    name: "check",
+    form: Form::Several("CHECK"),
+    help: "Tells a schedule to an end where this does not hold (status 3): `count == 6`, `eax@0 == 1 && &head != tail`; as of hunt, without the counts of a run",
+};
+
+pub const FORBID_OF_ALL: OptionText = OptionText {
+    name: "forbid",
+    form: Form::Several("CHECK"),
+    help: "Tells a schedule to an end where this holds (status 3): an outcome that must not be, written as of --check",
+};
+
+pub const NAMES: OptionText = OptionText {
+    name: "names",
+    form: Form::Flag,
+    help: "Prints the items in a line above the outcomes, and the label behind a value that is its address",
+};
+
+pub const SHOW_DRAWN: OptionText = OptionText {
+    name: "show",
+    form: Form::Several("AT"),
+    help: "Draws a row of the doubleword there, where it changes; AT is a sum of symbols and numbers",
 };
 
 pub const STOP_OF_ALL: OptionText = OptionText {

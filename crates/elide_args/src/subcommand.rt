@@ -71,6 +71,8 @@ pub struct RunOptions<'a> {
     pub schedule: ScheduleOptions<'a>,
     /// Whether the outcome of each step is printed.
     pub traces: bool,
+    /// `--code`: whether the outcome of each step is printed with its instruction.
+    pub shows_code: bool,
     /// Whether the reason of each abort is printed.
     pub explains: bool,
     /// Whether a core that has not stopped at the end is a failure.
@@ -142,10 +144,16 @@ pub struct OutcomesOptions<'a> {
     pub machine: MachineOptions<'a>,
     /// `--show`: what is shown of the state where all cores have stopped.
     pub show: Option<&'a str>,
+    /// `--names`: whether the items and labels are named.
+    pub shows_names: bool,
     /// `--events`: which events from outside steps come under.
     pub events: Option<&'a str>,
     /// `--limit`: the most states.
     pub limit: Option<&'a str>,
+    /// `--check`: what is to hold at each end, in the order of the command line.
+    pub checks: Vec<&'a str>,
+    /// `--forbid`: what is not to hold at any end, in the order of the command line.
+    pub forbids: Vec<&'a str>,
     /// `--stop`: the reasons to stop that are looked for, in the order of the command line.
     pub stops: Vec<&'a str>,
     /// `--stuck`: whether states without a way to an end fail the search.

@@ -1,12 +1,12 @@
 //! The subcommands, as data.
 
 use crate::options::{
-    BUDGET, BURST, CHECK, COLOR, CORE, CORES, COUNTS, COUNTS_JSON, DUMP, DUMP_READ, ENTRY,
-    EVENT_SEED, EVENT_SEED_OF_CORES, EVENTS, EVENTS_OF_ALL, EVENTS_OF_RUNS, EXPECT_HALT, FAULT,
-    FILE, FORBID, FROM, IN_TURN, JOBS, JSON, JSON_LINES, LABELS, LIMIT, LIST, MEM, METHOD,
-    OptionText, RANDOM, READS, RECORD, RECORD_FIRST, RUNS, SCHEDULE, SEED, SHOW, SHOW_VALUE,
-    SOURCE, STATES, STEPS, STOP, STOP_OF_ALL, STUCK, TESTS, TESTS_JOBS, TESTS_LISTED, TO, TRACE,
-    WHY, WORDS, WRITES,
+    BUDGET, BURST, CHECK, CHECK_OF_ALL, CODE, COLOR, CORE, CORES, COUNTS, COUNTS_JSON, DUMP,
+    DUMP_READ, ENTRY, EVENT_SEED, EVENT_SEED_OF_CORES, EVENTS, EVENTS_OF_ALL, EVENTS_OF_RUNS,
+    EXPECT_HALT, FAULT, FILE, FORBID, FORBID_OF_ALL, FROM, IN_TURN, JOBS, JSON, JSON_LINES, LABELS,
+    LIMIT, LIST, MEM, METHOD, NAMES, OptionText, RANDOM, READS, RECORD, RECORD_FIRST, RUNS,
+    SCHEDULE, SEED, SHOW, SHOW_DRAWN, SHOW_VALUE, SOURCE, STATES, STEPS, STOP, STOP_OF_ALL, STUCK,
+    TESTS, TESTS_JOBS, TESTS_LISTED, TO, TRACE, WHY, WORDS, WRITES,
 };
 
 /// A subcommand.
@@ -57,6 +57,7 @@ const RUN: SubcommandText = SubcommandText {
         STEPS,
         SCHEDULE,
         TRACE,
+        CODE,
         WHY,
         EXPECT_HALT,
         IN_TURN,
@@ -167,8 +168,11 @@ const OUTCOMES: SubcommandText = SubcommandText {
         READS,
         WRITES,
         SHOW,
+        NAMES,
         EVENTS_OF_ALL,
         STATES,
+        CHECK_OF_ALL,
+        FORBID_OF_ALL,
         STOP_OF_ALL,
         STUCK,
         JSON_LINES,
@@ -199,8 +203,8 @@ const DRAW: SubcommandText = SubcommandText {
     about: "Runs a schedule of core steps and draws a timeline of it, as SVG",
     example: "Example: elide draw examples/elision.asm --cores 4 --random 7 --from 380 --to 560 > timeline.svg",
     options: &[
-        FILE, CORES, MEM, ENTRY, READS, WRITES, STEPS, SCHEDULE, IN_TURN, RANDOM, EVENTS,
-        EVENT_SEED, LIMIT, RECORD, FROM, TO, CORE, WORDS, COLOR,
+        FILE, CORES, MEM, ENTRY, READS, WRITES, SHOW_DRAWN, STEPS, SCHEDULE, IN_TURN, RANDOM,
+        EVENTS, EVENT_SEED, LIMIT, RECORD, FROM, TO, CORE, WORDS, COLOR,
     ],
 };
 

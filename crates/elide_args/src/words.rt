@@ -131,6 +131,7 @@ fn subcommand_named<'a>(
             machine: shown_machine_of(alloc, file, options)?,
             schedule: schedule_of(options),
             traces: options.get_flag("trace"),
+            shows_code: options.get_flag("code"),
             explains: options.get_flag("why"),
             expects_halt: options.get_flag("expect-halt"),
             record: options.get_str("record"),
@@ -147,7 +148,7 @@ fn subcommand_named<'a>(
         "debug" => Some(Subcommand::Debug(session_of(alloc, file, options)?)),
         "gdb" => Some(Subcommand::Gdb(session_of(alloc, file, options)?)),
         "stats" => Some(Subcommand::Stats(stats_of(alloc, file, options))),
-        "draw" => Some(Subcommand::Draw(draw_of(alloc, file, options))),
+        "draw" => Some(Subcommand::Draw(draw_of(alloc, file, options)?)),
         _ => None,
     }
 }
@@ -182,8 +183,11 @@ fn search_of<'a>(alloc: Global, options: &ArgMatches<'a>) -> Option<OutcomesOpti
     Some(OutcomesOptions {
         machine: machine_of(alloc, file, options),
         show: options.get_str("show"),
+        shows_names: options.get_flag("names"),
         events: options.get_str("events"),
         limit: options.get_str("limit"),
+        checks: several_of(alloc, options, "check").ok()?,
+        forbids: several_of(alloc, options, "forbid").ok()?,
         stops: several_of(alloc, options, "stop").ok()?,
         asks_stuck: options.get_flag("stuck"),
         is_json: options.get_flag("json"),
@@ -263,18 +267,18 @@ fn session_of<'a>(
     })
 }
 
-fn draw_of<'a>(alloc: Global, file: &'a str, options: &ArgMatches<'a>) -> DrawOptions<'a>
+fn draw_of<'a>(alloc: Global, file: &'a str, options: &ArgMatches<'a>) -> Option<DrawOptions<'a>>
     requires { first_value (found_of options.now) (codes "FILE") ≡ Some file.now }
-    ensures { IsPicture (found_of options.now) result }
+    ensures { IfSome result (IsPicture (found_of options.now)) }
 {
-    DrawOptions {
-        machine: machine_of(alloc, file, options),
+    Some(DrawOptions {
+        machine: shown_machine_of(alloc, file, options)?,
         schedule: schedule_of(options),
         record: options.get_str("record"),
         from: options.get_str("from"),
         to: options.get_str("to"),
         cores: options.get_str("core"),
-    }
+    })
 }
 
 // The machine of a command that prints nothing of memory.
