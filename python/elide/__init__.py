@@ -43,6 +43,9 @@ from .records import (
     State,
     Step,
     Steps,
+    Stop,
+    Stuck,
+    Violation,
 )
 
 __version__ = "0.3.0"
@@ -71,6 +74,9 @@ __all__ = [
     "State",
     "Step",
     "Steps",
+    "Stop",
+    "Stuck",
+    "Violation",
     "hunt",
     "outcomes",
     "program_path",

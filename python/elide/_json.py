@@ -100,6 +100,7 @@ def failure(found: Fields, named: Named) -> Optional[records.Failure]:
         check=check.maybe_text("text"),
         before=_length(told.inner("before")),
         after=_length(told.inner("after")),
+        deciding=told.number("deciding"),
         schedule=told.texts("schedule"),
         replay=named(told.text("replay")),
         ended=runs.number("ended"),
@@ -115,9 +116,24 @@ def outcomes(found: Fields) -> records.Outcomes:
             records.Outcome(it.numbers("values"), it.number("ends"), it.texts("schedule"))
             for it in found.inners("outcomes")
         ),
+        violations=tuple(
+            records.Violation(it.text("option"), it.maybe_text("text"), it.texts("schedule"))
+            for it in found.inners("violations")
+        ),
+        stops=tuple(
+            records.Stop(it.text("cause"), it.texts("schedule")) for it in found.inners("stops")
+        ),
+        stuck=_stuck(found),
         states=found.number("states"),
         whole=found.truth("whole"),
     )
+
+
+def _stuck(found: Fields) -> Optional[records.Stuck]:
+    if not found.has("stuck"):
+        return None
+    told = found.inner("stuck")
+    return records.Stuck(told.number("states"), told.texts("schedule"))
 
 
 def run(found: Fields) -> records.Run:

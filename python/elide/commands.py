@@ -195,10 +195,14 @@ def hunt(
 
 def outcomes(
     program: Union[Program, PathLike],
-    show: Union[str, Sequence[str]],
+    show: Union[None, str, Sequence[str]] = None,
     cores: int = 1,
     memory: Optional[int] = None,
     *,
+    check: Union[None, str, Sequence[str]] = None,
+    forbid: Union[None, str, Sequence[str]] = None,
+    stop: Union[None, str, Sequence[str]] = None,
+    stuck: bool = False,
     entry: Entry = None,
     reads: Optional[int] = None,
     writes: Optional[int] = None,
@@ -207,13 +211,24 @@ def outcomes(
     timeout: Optional[float] = None,
 ) -> Outcomes:
     """Searches all schedules, and gives each outcome of the items of `show`, as `eax@1 count`: a
-    text with spaces between, or a list.
+    text with spaces between, or a list. `show` may be left out where something else is asked for.
+
+    `check`, `forbid` and `stop` are one text or several: what is to hold at each end, what at none,
+    and for what no core is to stop; which of them are violated stands in what was found. `stuck` asks
+    for states without a way to an end, which stand in it also where nobody asks.
 
     A search that comes to the limit on states, 1,000,000 where none is given, is cut: `whole` of
     what it found is False then.
     """
-    items = show if isinstance(show, str) else " ".join(show)
-    options = [*_options.machine(cores, memory, entry, reads, writes), *option("show", items)]
+    items = show if show is None or isinstance(show, str) else " ".join(show)
+    options = [
+        *_options.machine(cores, memory, entry, reads, writes),
+        *option("show", items),
+        *several("check", check),
+        *several("forbid", forbid),
+        *several("stop", stop),
+        *flag("stuck", stuck),
+    ]
     plan = Schedule(limit=limit, events=events)
     return _answer(program, "outcomes", options, plan, timeout, lambda it, _: _json.outcomes(it))
 

@@ -188,8 +188,10 @@ class Failure:
     """The run that failed in a hunt: the one of the lowest number.
 
     `option` is what it failed, `--check`, `--forbid`, `--stop` or `--expect-halt`, and `check` its
-    text, None of the last. `schedule` is the shortened schedule, whose words `steps` of a machine takes;
-    `before` and `after` say how long it was, and is. `replay` is the command that replays it.
+    text, None of the last. `before` and `after` say how long its schedule was, and is once it is
+    shortened. `schedule` are the steps of that which decide, whose words `steps` of a machine takes, and
+    `deciding` how many they are: all, but of a run that reached the limit on steps, where each core
+    steps in turn behind them. `replay` is the command that replays them.
     `ended` and `cut` count the runs before it: in how many each core stopped, and how many reached
     the limit on steps.
     """
@@ -199,6 +201,7 @@ class Failure:
     check: Optional[str]
     before: Length
     after: Length
+    deciding: int
     schedule: Tuple[str, ...]
     replay: str
     ended: int
@@ -216,14 +219,47 @@ class Outcome:
 
 
 @dataclass(frozen=True)
+class Violation:
+    """A check that an end violates: its option, `--check` or `--forbid`, and its text, and a shortest
+    schedule that leads to such an end."""
+
+    option: str
+    check: Optional[str]
+    schedule: Tuple[str, ...]
+
+
+@dataclass(frozen=True)
+class Stop:
+    """A reason to stop that was looked for and found, as `#BP`, and a shortest schedule after which some
+    core has stopped for it."""
+
+    cause: str
+    schedule: Tuple[str, ...]
+
+
+@dataclass(frozen=True)
+class Stuck:
+    """States from which no schedule leads to an end: how many there are, and a shortest schedule to
+    one."""
+
+    states: int
+    schedule: Tuple[str, ...]
+
+
+@dataclass(frozen=True)
 class Outcomes:
-    """What a search of all schedules found: the outcomes in the order of their values.
+    """What a search of all schedules found: the outcomes in the order of their values, the checks that
+    ends violate and the stops that were looked for in the order in which they were found, and states
+    from which no schedule leads to an end, None where there are none.
 
     `whole` is False where the search was cut at the limit, so that there may be more.
     """
 
     show: Tuple[str, ...]
     outcomes: Tuple[Outcome, ...]
+    violations: Tuple[Violation, ...]
+    stops: Tuple[Stop, ...]
+    stuck: Optional[Stuck]
     states: int
     whole: bool
 

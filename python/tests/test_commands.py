@@ -133,12 +133,12 @@ class Hunts(Case):
             failure = elide.hunt(program, cores=2, check="count == 6")
             assert failure is not None
             self.assertEqual(
-                (failure.run, failure.option, failure.check), (9, "--check", "count == 6")
+                (failure.run, failure.option, failure.check), (1, "--check", "count == 6")
             )
-            self.assertEqual(failure.before, elide.Length(47, 32, 0))
+            self.assertEqual(failure.before, elide.Length(66, 11, 0))
             self.assertEqual(failure.after, elide.Length(47, 4, 0))
-            self.assertEqual((failure.ended, failure.cut), (9, 0))
-            self.assertEqual(len(failure.schedule), 47)
+            self.assertEqual((failure.ended, failure.cut), (1, 0))
+            self.assertEqual((len(failure.schedule), failure.deciding), (47, 47))
             self.assertTrue(failure.replay.startswith(f"elide replay {NO_READ} --cores 2 --steps "))
             with program.machine(cores=2, steps=failure.schedule) as machine:
                 machine.run(47)
@@ -163,10 +163,10 @@ class Hunts(Case):
         self.assertIsNone(elide.hunt(path, 2, check=["count == 6", "mutex == 0"], runs=200, jobs=2))
 
     def test_the_runs_that_are_asked_for(self) -> None:
-        failure = elide.hunt(NO_READ, 2, check="count == 6", runs=(9, 10), seed=1, method="mix")
+        failure = elide.hunt(NO_READ, 2, check="count == 6", runs=(1, 2), seed=1, method="mix")
         assert failure is not None
-        self.assertEqual((failure.run, failure.ended), (9, 0))
-        self.assertIsNone(elide.hunt(NO_READ, 2, check="count == 6", runs=9))
+        self.assertEqual((failure.run, failure.ended), (1, 0))
+        self.assertIsNone(elide.hunt(NO_READ, 2, check="count == 6", runs=1))
 
     def test_other_checks(self) -> None:
         with elide.Program.from_source("ud2") as program:
@@ -181,6 +181,7 @@ class Hunts(Case):
             failure = elide.hunt(program, expect_halt=True, limit=100)
             assert failure is not None
             self.assertEqual((failure.option, failure.check), ("--expect-halt", None))
+            self.assertEqual((failure.after.steps, failure.deciding, failure.schedule), (100, 0, ()))
 
 
 class Searches(Case):
@@ -209,6 +210,23 @@ class Searches(Case):
             found = elide.outcomes(program, "count", cores=2)
             self.assertTrue(found.whole)
             self.assertEqual(found.values, {(1,), (2,)})
+
+    def test_what_is_wrong(self) -> None:
+        path = example("faulty/crosswise.asm")
+        entry = "first,second"
+        found = elide.outcomes(
+            path, cores=2, entry=entry, check="count == 2", forbid="left == 0", stuck=True
+        )
+        (told,) = found.violations
+        self.assertEqual((told.option, told.check), ("--forbid", "left == 0"))
+        self.assertEqual((found.show, found.stops), ((), ()))
+        assert found.stuck is not None
+        with elide.Program.from_file(path) as program:
+            with program.machine(2, entry=entry, steps=told.schedule) as machine:
+                machine.run(100)
+                self.assertEqual((machine.value("count"), machine.value("left")), (2, 0))
+        (stop,) = elide.outcomes(path, cores=2, entry=entry, stop="HLT").stops
+        self.assertEqual(stop.cause, "HLT")
 
     def test_events(self) -> None:
         with elide.Program.from_source(COUNTER) as program:

@@ -16,6 +16,9 @@ STATE = (
 FOUND: Dict[str, Any] = {
     "show": ["eax@0", "x"],
     "outcomes": [{"values": [0, 1], "ends": 2, "schedule": ["0", "1"]}],
+    "violations": [{"option": "--forbid", "text": "x == 1", "schedule": ["0"]}],
+    "stops": [{"cause": "#BP", "schedule": ["1", "0i"]}],
+    "stuck": {"states": 3, "schedule": ["1"]},
     "states": 5,
     "whole": False,
 }
@@ -115,6 +118,7 @@ class Objects(unittest.TestCase):
             "check": {"option": "--expect-halt", "text": None},
             "before": length,
             "after": length,
+            "deciding": 2,
             "schedule": ["0", "1i"],
             "replay": "elide replay folder/x.asm",
         }
@@ -125,6 +129,7 @@ class Objects(unittest.TestCase):
             check=None,
             before=elide.Length(47, 32, 0),
             after=elide.Length(47, 32, 0),
+            deciding=2,
             schedule=("0", "1i"),
             replay="elide replay x.asm",
             ended=9,
@@ -137,6 +142,11 @@ class Objects(unittest.TestCase):
         self.assertEqual(told.outcomes, (elide.Outcome((0, 1), 2, ("0", "1")),))
         self.assertEqual((told.show, told.states), (("eax@0", "x"), 5))
         self.assertEqual((told.values, told.whole), ({(0, 1)}, False))
+        self.assertEqual(told.violations, (elide.Violation("--forbid", "x == 1", ("0",)),))
+        self.assertEqual(told.stops, (elide.Stop("#BP", ("1", "0i")),))
+        self.assertEqual(told.stuck, elide.Stuck(3, ("1",)))
+        free = _json.outcomes(self.fields("outcomes", **{**FOUND, "stuck": None}))
+        self.assertIsNone(free.stuck)
 
     def test_shown(self) -> None:
         told = _json.threads(self.fields("threads", **SHOWN))

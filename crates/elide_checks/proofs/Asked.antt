@@ -1,11 +1,13 @@
 -- The checks that the options say.
-use Rattle.std.proofs.Common.{◌≡◌, ℕ, Bool, List, [], ◌++◌, append_assoc, ◌∙◌, ap, sym, subst}
+use Rattle.std.proofs.Common.{◌≡◌, ℕ, Bool, Bor, List, [], ◌++◌, append_assoc, ◌∙◌, ap, sym, subst}
 use Rattle.elide_args.specs.declared.hunt_options.HuntOptions.{HuntOptions}
 use Rattle.elide_setup.specs.ElideProgram.ProgramFileType.{ProgramFile}
 use Rattle.ia_item.specs.declared.name.Name.{Name}
 use Rattle.tm_check.specs.declared.check.Check.{Check}
 use Rattle.elide_checks.specs.Checks.{AreChecks, AreChecksBy}
 use Rattle.elide_checks.specs.Constants.{is_among, is_constant}
+use Rattle.elide_checks.specs.Ends.{AreEndChecks, AreEndChecksBy}
+use Rattle.tm_condition.specs.declared.check.Check.{Check as EndCheck}
 
 -- the names that are kept are those of the program
 pub by_names : (text : List ℕ) (file : ProgramFile) (options : HuntOptions) (names : List Name) (checks : List Check) →
@@ -14,6 +16,14 @@ pub by_names : (text : List ℕ) (file : ProgramFile) (options : HuntOptions) (n
 by_names text file options names checks same are =
     let each : is_among names ≡ is_constant text file = λ i name. same name i in
     subst (λ (constants : List ℕ → Bool). AreChecksBy file constants options checks) each are
+
+-- the same of the checks of all ends
+pub ends_by_names : (text : List ℕ) (file : ProgramFile) (demands forbids : List (Bor (List ℕ))) (names : List Name)
+    (checks : List EndCheck) → ((name : List ℕ) → is_among names name ≡ is_constant text file name) →
+    AreEndChecksBy file (is_among names) demands forbids checks → AreEndChecks text file demands forbids checks
+ends_by_names text file demands forbids names checks same are =
+    let each : is_among names ≡ is_constant text file = λ i name. same name i in
+    subst (λ (constants : List ℕ → Bool). AreEndChecksBy file constants demands forbids checks) each are
 
 -- four parts one behind the other
 pub joined : (none one two three four : List Check) (a b c : List Check) → none ≡ [] → one ≡ none ++ a → two ≡ one ++ b → three ≡ two ++ c →

@@ -4,4 +4,5 @@ pub mod Counts
 pub mod Items
 pub mod Conditions
 pub mod Checks
+pub mod Ends
 pub mod Runs

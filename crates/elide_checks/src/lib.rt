@@ -3,7 +3,8 @@
 //! Promised: the checks are those that the options say, in their order (`specs/Checks.antt`): each condition the
 //! comparisons and bytes of its text (`specs/Conditions.antt`), each side of a comparison the item of its words
 //! (`specs/Items.antt`, `specs/Counts.antt`), in which the names that a source gives by `equ` are numbers and all others
-//! labels (`specs/Constants.antt`); and the runs are those of `--runs` (`specs/Runs.antt`). Which options are misuse, where a
+//! labels (`specs/Constants.antt`); those of a search over all schedules are such, but for the counts of a run, which are
+//! refused (`specs/Ends.antt`); and the runs are those of `--runs` (`specs/Runs.antt`). Which options are misuse, where a
 //! text that is no condition is at fault, the method and the limit on steps are compared by `doc_tests`. Stands on
 //! `elide_setup`, on `ia_source`, which reads a source's names once more, and on `tm_check`, whose checks it makes.
 #![tactic(auto)]
@@ -14,6 +15,7 @@ mod constants;
 mod counts;
 mod cut;
 mod demands;
+mod ends;
 mod items;
 mod misread;
 mod orders;
@@ -25,5 +27,6 @@ pub use elide_setup::{
     Fault, Gathered, Lent, Paths, ProgramFile, Progress, Refusal, RunFault, Settings, Setup,
     read_file, record, record_path,
 };
+pub use ends::EndChecks;
 pub use misread::{Misread, Wanted, first_misread};
 pub use orders::Orders;

@@ -84,6 +84,7 @@ fn method_of(text: Option<&str>) -> Result<Method, Refusal> {
         Some("uniform") => Ok(Method::Uniform),
         Some("bursts") => Ok(Method::Bursts),
         Some("pct") => Ok(Method::Priorities),
+        Some("seen") => Ok(Method::Seen),
         _ => Err(Refusal::Usage("--method")),
     }
 }

@@ -14,15 +14,20 @@ pub fn is_there(check: &Check, size: u32, cores: u8) -> bool {
 
 fn has_clause(clause: &RunClause, size: u32, cores: u8) -> bool {
     match clause {
-        RunClause::OfMachine(Clause::Compare(left, _, right)) => {
-            has_item(*left, size, cores) && has_item(*right, size, cores)
-        }
-        RunClause::OfMachine(Clause::Bytes(address, bytes)) => {
-            has_bytes(*address, bytes.len() as u64, size)
-        }
+        RunClause::OfMachine(clause) => has_machine_clause(clause, size, cores),
         RunClause::Compare(left, _, right) => {
             has_quantity(*left, size, cores) && has_quantity(*right, size, cores)
         }
+    }
+}
+
+/// Whether a machine with so many cores and a memory of this size has all that a condition on it looks at.
+pub fn has_machine_clause(clause: &Clause, size: u32, cores: u8) -> bool {
+    match clause {
+        Clause::Compare(left, _, right) => {
+            has_item(*left, size, cores) && has_item(*right, size, cores)
+        }
+        Clause::Bytes(address, bytes) => has_bytes(*address, bytes.len() as u64, size),
     }
 }
 

@@ -1,3 +1,4 @@
+mod ItemWords
 mod Objects
 mod Printed
 mod Trials

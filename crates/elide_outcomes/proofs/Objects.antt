@@ -1,14 +1,19 @@
 -- No value of the object of a search is a float.
-use Rattle.std.proofs.Common.{◌≡◌, ℕ, Bool, false, List, ◌||◌, Option, Some, None, refl}
+use Rattle.std.proofs.Common.{◌≡◌, ℕ, ◌-◌, Bool, Bor, false, List, ◌||◌, Option, Some, None, codes, length, refl}
+use Rattle.std.specs.Prelude.{slice_get}
+use Rattle.elide_args.specs.declared.subcommand.OutcomesOptions.{OutcomesOptions}
+use Rattle.tm_model.specs.declared.outcome.Pick.{Pick}
 use Rattle.elide_object.proofs.Sending.{no_float_both, no_float_items}
 use Rattle.elide_object.specs.Object.{items_of, number_value, word_value}
-use Rattle.serde_json.specs.Data.{string}
+use Rattle.serde_json.specs.Data.{Data, null, string}
 use Rattle.serde_json.specs.Written.{has_float, items_have_float}
 use Rattle.tm_outcomes.specs.declared.searching.Search.{Search}
 use Rattle.tm_outcomes.specs.declared.stops.ReachedStop.{ReachedStop}
 use Rattle.tm_outcomes.specs.declared.stuck.Stuck.{Stuck}
 use Rattle.tm_outcomes.specs.declared.table.Told.{Told}
-use Rattle.elide_outcomes.specs.Object.{outcome_value, search_value, stop_value, stuck_value}
+use Rattle.tm_outcomes.specs.declared.violations.Violation.{Violation}
+use Rattle.elide_outcomes.specs.Object.{check_value, forbid_value, option_value, outcome_value, search_value, stop_value}
+use Rattle.elide_outcomes.specs.Object.{stuck_value, violation_value}
 
 no_float_outcome : (told : Told) → has_float (outcome_value told) ≡ false
 no_float_outcome told =
@@ -29,14 +34,42 @@ no_float_stuck (Some stuck) =
     no_float_both (items_have_float (items_of word_value stuck.schedule.items)) false
     (no_float_items word_value (λ pick. refl) stuck.schedule.items) refl
 
-pub no_float_search : (show : List (List ℕ)) (status : ℕ) (search : Search) → has_float (search_value show status search) ≡ false
+no_float_text : (name : List ℕ) (text : Data) (schedule : List Pick) → has_float text ≡ false →
+    has_float (option_value name text schedule) ≡ false
+no_float_text name text schedule none =
+    no_float_both (has_float text) (items_have_float (items_of word_value schedule) || false) none
+    (no_float_both (items_have_float (items_of word_value schedule)) false
+    (no_float_items word_value (λ pick. refl) schedule) refl)
+
+no_float_forbid : (text : Option (Bor (List ℕ))) (schedule : List Pick) →
+    has_float (forbid_value text schedule) ≡ false
+no_float_forbid None schedule = no_float_text (codes "--forbid") null schedule refl
+no_float_forbid (Some text) schedule = no_float_text (codes "--forbid") (string text.now) schedule refl
+
+no_float_check : (options : OutcomesOptions) (index : ℕ) (text : Option (Bor (List ℕ))) (schedule : List Pick) →
+    has_float (check_value options index text schedule) ≡ false
+no_float_check options index None schedule = no_float_forbid (slice_get options.forbids.items index) schedule
+no_float_check options index (Some text) schedule =
+    no_float_text (codes "--check") (string text.now) schedule refl
+
+no_float_violation : (options : OutcomesOptions) (told : Violation) → has_float (violation_value options told) ≡ false
+no_float_violation options told =
+    no_float_check options (told.check - length options.checks.items) (slice_get options.checks.items told.check)
+    told.schedule.items
+
+pub no_float_search : (options : OutcomesOptions) (show : List (List ℕ)) (status : ℕ) (search : Search) →
+    has_float (search_value options show status search) ≡ false
 unfolding search_value
-no_float_search show status search =
+no_float_search options show status search =
     let outcomes = items_have_float (items_of outcome_value search.outcomes.items) in
+    let violations = items_have_float (items_of (violation_value options) search.violations.items) in
     let stops = items_have_float (items_of stop_value search.stops.items) in
     let stuck = has_float (stuck_value search.stuck) in
-    no_float_both (items_have_float (items_of string show)) (outcomes || (stops || (stuck || false)))
+    no_float_both (items_have_float (items_of string show)) (outcomes || (violations || (stops || (stuck || false))))
     (no_float_items string (λ text. refl) show)
-    (no_float_both outcomes (stops || (stuck || false)) (no_float_items outcome_value no_float_outcome search.outcomes.items)
+    (no_float_both outcomes (violations || (stops || (stuck || false)))
+    (no_float_items outcome_value no_float_outcome search.outcomes.items)
+    (no_float_both violations (stops || (stuck || false))
+    (no_float_items (violation_value options) (no_float_violation options) search.violations.items)
     (no_float_both stops (stuck || false) (no_float_items stop_value no_float_stop search.stops.items)
-    (no_float_both stuck false (no_float_stuck search.stuck) refl)))
+    (no_float_both stuck false (no_float_stuck search.stuck) refl))))

@@ -1,5 +1,5 @@
 -- What an outcome shows, as the words of `--show` say it (docs/FORMATS.md, "Outcomes").
-use Rattle.std.specs.Prelude.{◌≡◌, ℕ, ◌<◌, ◌==◌, Bool, List, [], ◌∷◌, ◌++◌, length, Option, Some}
+use Rattle.std.specs.Prelude.{◌≡◌, ℕ, ◌<◌, ◌==◌, Bool, false, List, [], ◌∷◌, ◌++◌, length, Option, Some, None}
 use Rattle.std.specs.Char.{is_not_whitespace, is_whitespace}
 use Rattle.std.specs.List.{after_first, before_first, position_or_len}
 use Rattle.std.specs.Str.{EmptyOrStartsWithPassing, NoCharPasses}
@@ -61,13 +61,12 @@ SaysItems file text (item ∷ items) =
 
 -- ---- the option
 
--- it is given, and says one item at least
-pub record AreItems (file : ProgramFile) (option : Option (List ℕ)) (items : List Item) : Type 0 where
-  pub text : List ℕ
-  pub given : option ≡ Some text
-  pub said : SaysItems file text items
-  pub some : 0 < length items
+-- it says one item at least; there are none where it is not given, which may be where nothing is wanted of it
+abbrev pub AreItems : ProgramFile → Bool → Option (List ℕ) → List Item → Type 0
+AreItems file is_wanted None items = (is_wanted ≡ false) × (items ≡ [])
+AreItems file is_wanted (Some text) items = SaysItems file text items × (0 < length items)
 
--- it is given, and these are its words
+-- these are its words, and none where it is not given
 abbrev pub AreWordsOf : Option (List ℕ) → List (List ℕ) → Type 0
-AreWordsOf option words = (text : List ℕ) × (option ≡ Some text) × AreWords text words
+AreWordsOf None words = words ≡ []
+AreWordsOf (Some text) words = AreWords text words

@@ -1,6 +1,10 @@
 pub mod Items
+pub mod Names
+pub mod Violated
 pub mod Lines
 pub mod Object
+pub mod Sent
+pub mod TextValues
 pub mod Under
 pub mod Stops
 pub mod Verdict

@@ -1,10 +1,11 @@
 -- The lines that `elide outcomes` prints (docs/FORMATS.md, "Outcomes"), and their order.
-use Rattle.std.specs.Prelude.{ℕ, Bool, List, [], ◌++◌, codes, length, Option, Some, None, if◌then◌else◌}
+use Rattle.std.specs.Prelude.{ℕ, Bool, true, false, List, [], ◌∷◌, ◌++◌, codes, length, Option, Some, None, if◌then◌else◌}
 use Rattle.std.specs.Prelude.{IsPermutation, IsSorted}
 use Rattle.std.specs.Cmp.Lexicographic.{slice_cmp}
 use Rattle.std.specs.Fmt.{decimal}
 use Rattle.std.specs.List.{flat_map}
 use Rattle.std.specs.Ordering.{nat_cmp}
+use Rattle.elide_args.specs.declared.subcommand.OutcomesOptions.{OutcomesOptions}
 use Rattle.ia_text.specs.Number.{eight_digits}
 use Rattle.ia_text.specs.TextLine.{line_end}
 use Rattle.elide_setup.specs.TmHist.Lines.{stop_word}
@@ -14,10 +15,33 @@ use Rattle.tm_outcomes.specs.declared.stops.ReachedStop.{ReachedStop}
 use Rattle.tm_outcomes.specs.declared.stuck.Stuck.{Stuck}
 use Rattle.tm_outcomes.specs.declared.table.Told.{Told}
 use Rattle.tm_schedule.specs.Picks.{pick_word}
+use Rattle.elide_outcomes.specs.Names.{label_at}
+use Rattle.elide_outcomes.specs.Violated.{violation_lines}
+use Rattle.elide_outcomes.specs.declared.named.NamedAddress.{NamedAddress}
 
--- a value in eight hex digits, with a space behind it
-abbrev pub item_text : ℕ → List ℕ
-item_text value = eight_digits value ++ codes " "
+-- ---- names, where they are asked for
+
+-- the items, by the words that say them, on a line of their own
+abbrev pub words_text : List (List ℕ) → List ℕ
+words_text words = flat_map (λ (word : List ℕ). codes " " ++ word) words
+
+abbrev pub words_line : List (List ℕ) → List ℕ
+words_line [] = []
+words_line (word ∷ words) = word ++ words_text words ++ line_end
+
+abbrev pub items_line : Bool → List (List ℕ) → List ℕ
+items_line is_asked words = if is_asked then words_line words else []
+
+-- the name of a label, between `<` and `>`
+abbrev pub name_text : Option (List ℕ) → List ℕ
+name_text None = []
+name_text (Some name) = codes " <" ++ name ++ codes ">"
+
+-- ---- outcomes
+
+-- a value in eight hex digits, behind it the name of the label at this address, if there is one, and a space
+abbrev pub item_text : List NamedAddress → ℕ → List ℕ
+item_text labels value = eight_digits value ++ name_text (label_at labels value) ++ codes " "
 
 -- how many states show the values, between spaces
 abbrev pub ends_text : ℕ → List ℕ
@@ -28,13 +52,25 @@ abbrev pub step_text : Pick → List ℕ
 step_text pick = codes " " ++ pick_word pick
 
 -- the line of an outcome
-abbrev pub outcome_line : Told → List ℕ
-outcome_line told =
-    flat_map item_text told.values.items ++ ends_text told.ends ++ flat_map step_text told.schedule.items ++ line_end
+abbrev pub outcome_line : List NamedAddress → Told → List ℕ
+outcome_line labels told =
+    flat_map (item_text labels) told.values.items ++ ends_text told.ends ++ flat_map step_text told.schedule.items
+    ++ line_end
 
 -- those of several
-abbrev pub outcome_lines : List Told → List ℕ
-outcome_lines outcomes = flat_map outcome_line outcomes
+abbrev pub outcome_lines : List NamedAddress → List Told → List ℕ
+outcome_lines labels outcomes = flat_map (outcome_line labels) outcomes
+
+-- something is shown where a word says it
+abbrev pub has_words : List (List ℕ) → Bool
+has_words [] = false
+has_words (word ∷ words) = true
+
+-- where something is shown of them
+abbrev pub shown_lines : Bool → List NamedAddress → List Told → List ℕ
+shown_lines shows labels outcomes = if shows then outcome_lines labels outcomes else []
+
+-- ---- what is wrong
 
 -- a reason to stop that was looked for, and a schedule that leads there
 abbrev pub stop_line : ReachedStop → List ℕ
@@ -58,9 +94,16 @@ stuck_text (Some stuck) = stuck_line stuck
 abbrev pub stuck_lines : Bool → Option Stuck → List ℕ
 stuck_lines asks_stuck stuck = if asks_stuck then stuck_text stuck else []
 
--- how many outcomes there are, and how many states were found
-abbrev pub counts_text : ℕ → ℕ → List ℕ
-counts_text outcomes states = decimal outcomes ++ codes " outcomes in " ++ decimal states ++ codes " states"
+-- ---- the last line
+
+abbrev pub states_text : ℕ → List ℕ
+states_text states = decimal states ++ codes " states"
+
+-- how many outcomes there are, where something is shown of them, and how many states were found
+abbrev pub counts_text : Bool → ℕ → ℕ → List ℕ
+counts_text shows outcomes states =
+    if shows then decimal outcomes ++ codes " outcomes in " ++ decimal states ++ codes " states"
+    else states_text states
 
 -- behind them, where there are states without a way to an end
 abbrev pub wayless_text : Option Stuck → List ℕ
@@ -72,15 +115,18 @@ abbrev pub cut_text : Bool → List ℕ
 cut_text is_cut = if is_cut then codes ": cut at the limit, there may be more" else []
 
 -- the last line
-abbrev pub count_line : ℕ → ℕ → Option Stuck → Bool → List ℕ
-count_line outcomes states stuck is_cut =
-    counts_text outcomes states ++ wayless_text stuck ++ cut_text is_cut ++ line_end
+abbrev pub count_line : Bool → ℕ → ℕ → Option Stuck → Bool → List ℕ
+count_line shows outcomes states stuck is_cut =
+    counts_text shows outcomes states ++ wayless_text stuck ++ cut_text is_cut ++ line_end
 
--- the lines of a search whose outcomes stand in this order
-abbrev pub search_text : Bool → Search → List ℕ
-search_text asks_stuck search =
-    outcome_lines search.outcomes.items ++ stop_lines search.stops.items ++ stuck_lines asks_stuck search.stuck
-    ++ count_line (length search.outcomes.items) search.states search.stuck search.is_cut
+-- the lines of a search whose outcomes stand in this order, of which these words say what is shown, by these labels
+abbrev pub search_text : OutcomesOptions → List (List ℕ) → List NamedAddress → Search → List ℕ
+search_text options words labels search =
+    items_line options.shows_names words
+    ++ shown_lines (has_words words) labels search.outcomes.items
+    ++ violation_lines options search.violations.items ++ stop_lines search.stops.items
+    ++ stuck_lines options.asks_stuck search.stuck
+    ++ count_line (has_words words) (length search.outcomes.items) search.states search.stuck search.is_cut
 
 -- those that were found, each once, in the order of their values: the first item decides, where it is alike the next
 pub record AreInOrder (found told : List Told) : Type 0 where

@@ -1,14 +1,17 @@
 -- The object that `elide outcomes --json` prints (docs/JSON.md, "outcomes").
-use Rattle.std.specs.Prelude.{ℕ, Bool, not, List, codes, Option, Some, None}
+use Rattle.std.specs.Prelude.{ℕ, ◌-◌, not, List, codes, length, slice_get, Option, Some, None}
+use Rattle.std.specs.Borrow.{Bor}
 use Rattle.std.specs.Io.KnownBytes.{Appends}
+use Rattle.elide_args.specs.declared.subcommand.OutcomesOptions.{OutcomesOptions}
 use Rattle.elide_object.specs.Object.{list_value, number_value, object_text, schedule_value, text_list}
 use Rattle.elide_setup.specs.TmHist.Lines.{stop_word}
 use Rattle.serde_json.specs.Data.{Data, boolean, member, no_members, null, object, string}
 use Rattle.tm_outcomes.specs.declared.searching.Search.{Search}
 use Rattle.tm_outcomes.specs.declared.stops.ReachedStop.{ReachedStop}
 use Rattle.tm_outcomes.specs.declared.stuck.Stuck.{Stuck}
+use Rattle.tm_model.specs.declared.outcome.Pick.{Pick}
 use Rattle.tm_outcomes.specs.declared.table.Told.{Told}
-use Rattle.elide_outcomes.specs.Items.{AreWordsOf}
+use Rattle.tm_outcomes.specs.declared.violations.Violation.{Violation}
 use Rattle.elide_outcomes.specs.Verdict.{answer_of, search_status}
 
 -- an outcome: the values, how many states show them, and the steps of a schedule
@@ -31,23 +34,43 @@ stuck_value (Some stuck) =
     object (member (codes "states") (number_value stuck.states)
     (member (codes "schedule") (schedule_value stuck.schedule.items) no_members))
 
+-- the option that says the check with this index: those of `--check` come first, then those of `--forbid`
+abbrev pub option_value : List ℕ → Data → List Pick → Data
+option_value name text schedule =
+    object (member (codes "option") (string name)
+    (member (codes "text") text
+    (member (codes "schedule") (schedule_value schedule) no_members)))
+
+abbrev pub forbid_value : Option (Bor (List ℕ)) → List Pick → Data
+forbid_value None schedule = option_value (codes "--forbid") null schedule
+forbid_value (Some text) schedule = option_value (codes "--forbid") (string text.now) schedule
+
+abbrev pub check_value : OutcomesOptions → ℕ → Option (Bor (List ℕ)) → List Pick → Data
+check_value options index None schedule = forbid_value (slice_get options.forbids.items index) schedule
+check_value options index (Some text) schedule = option_value (codes "--check") (string text.now) schedule
+
+-- a check that an end violates, and the steps of a schedule that leads there
+abbrev pub violation_value : OutcomesOptions → Violation → Data
+violation_value options told =
+    check_value options (told.check - length options.checks.items) (slice_get options.checks.items told.check)
+    told.schedule.items
+
 -- a search of what these words say, with its outcomes in this order, and its exit status
-unfoldable pub search_value : List (List ℕ) → ℕ → Search → Data
-search_value show status search =
+unfoldable pub search_value : OutcomesOptions → List (List ℕ) → ℕ → Search → Data
+search_value options show status search =
     object (member (codes "format") (number_value 1)
     (member (codes "command") (string (codes "outcomes"))
     (member (codes "show") (text_list show)
     (member (codes "outcomes") (list_value outcome_value search.outcomes.items)
+    (member (codes "violations") (list_value (violation_value options) search.violations.items)
     (member (codes "stops") (list_value stop_value search.stops.items)
     (member (codes "stuck") (stuck_value search.stuck)
     (member (codes "states") (number_value search.states)
     (member (codes "whole") (boolean (not search.is_cut))
-    (member (codes "status") (number_value status) no_members)))))))))
+    (member (codes "status") (number_value status) no_members))))))))))
 
--- with the words of the value of `--show`, it was written on a line of its own
-pub record IsObjectWritten (show : Option (List ℕ)) (asks_stuck : Bool) (search : Search)
-    (before after : Option (List ℕ)) : Type 0 where
-  pub words : List (List ℕ)
-  pub given : AreWordsOf show words
-  pub wrote : Appends before after
-      (object_text (search_value words (search_status (answer_of asks_stuck search)) search))
+-- it was written on a line of its own
+abbrev pub IsObjectWritten : OutcomesOptions → List (List ℕ) → Search → Option (List ℕ) → Option (List ℕ) → Type 0
+IsObjectWritten options words search before after =
+    Appends before after
+    (object_text (search_value options words (search_status (answer_of options.asks_stuck search)) search))

@@ -1,6 +1,6 @@
 -- What `elide outcomes` prints (docs/FORMATS.md, "Outcomes"): the lines of what a search over all schedules of FILE's
 -- program found, and how much that is.
-use Rattle.std.specs.Prelude.{◌≡◌, ℕ, ◌≤◌, Bool, false, true, List, Option, Some}
+use Rattle.std.specs.Prelude.{◌≡◌, ℕ, ◌≤◌, ◌||◌, Bool, false, true, not, nat_lt, length, All, List, Option, Some}
 use Rattle.std.specs.Io.KnownBytes.{Appends}
 use Rattle.std.specs.Option.{option_copied}
 use Rattle.elide_args.specs.declared.subcommand.OutcomesOptions.{OutcomesOptions}
@@ -13,7 +13,12 @@ use Rattle.tm_outcomes.specs.Verdicts.{IsVerdict}
 use Rattle.tm_outcomes.specs.declared.searching.Search.{Search}
 use Rattle.tm_rule.specs.declared.kinds.Stop.{Stop}
 use Rattle.tm_outcomes.specs.declared.trial.Trial.{Trial}
-use Rattle.elide_outcomes.specs.Items.{AreItems}
+use Rattle.tm_condition.specs.declared.check.Check.{Check}
+use Rattle.tm_outcomes.specs.declared.trial.Item.{Item}
+use Rattle.elide_checks.specs.Ends.{AreEndChecks}
+use Rattle.elide_outcomes.specs.Items.{AreItems, AreWordsOf}
+use Rattle.elide_outcomes.specs.Names.{IsLabelOf}
+use Rattle.elide_outcomes.specs.declared.found.Found.{Found}
 use Rattle.elide_outcomes.specs.Lines.{AreInOrder, search_text}
 use Rattle.elide_outcomes.specs.Object.{IsObjectWritten}
 use Rattle.elide_outcomes.specs.Stops.{AreStops}
@@ -24,15 +29,33 @@ use Rattle.elide_outcomes.specs.declared.under.Under.{Under}
 
 -- ---- what is searched
 
--- the machine is the one that a file was made into, what is shown of it is what `--show` says, by the file's symbols,
--- its steps come under what `--events` says, and the reasons to stop that are looked for are these
-pub record IsTrialOf (file : ProgramFile) (setup : Setup) (show : Option (List ℕ)) (under : Under) (reasons : List Stop)
+-- something else is asked for than what is shown
+abbrev pub asks_more : OutcomesOptions → Bool
+asks_more options =
+    ((options.asks_stuck || nat_lt 0 (length options.stops.items)) || nat_lt 0 (length options.checks.items))
+    || nat_lt 0 (length options.forbids.items)
+
+-- the machine is this one, with what is shown and checked of it, what its steps come under, and the reasons to stop
+-- that are looked for
+pub record IsMade (setup : Setup) (shown : List Item) (checked : List Check) (under : Under) (reasons : List Stop)
     (trial : Trial) : Type 0 where
   pub program : trial.program.now ≡ setup.program
   pub limits : trial.limits ≡ setup.limits
-  pub items : AreItems file show trial.items.now
+  pub items : trial.items.now ≡ shown
   pub events : AreUnder under trial.events
   pub stops : trial.stops.now ≡ reasons
+  pub checks : trial.checks.now ≡ checked
+
+-- it is the one that a file was made into, what is shown of it is what `--show` says, by the file's symbols, what is
+-- checked is what `--check` and `--forbid` say, by the symbols of the program that a text is read as, its steps come
+-- under what `--events` says, and the reasons to stop that are looked for are these
+pub record IsTrialOf (text : List ℕ) (file : ProgramFile) (setup : Setup) (options : OutcomesOptions) (under : Under)
+    (reasons : List Stop) (trial : Trial) : Type 0 where
+  pub items : List Item
+  pub checks : List Check
+  pub made : IsMade setup items checks under reasons trial
+  pub shown : AreItems file (not (asks_more options)) (option_copied options.show) items
+  pub checked : AreEndChecks text file options.checks.items options.forbids.items checks
 
 -- the most states: a million by default, and 1 or more
 pub record IsLimit (option : Option (List ℕ)) (most : ℕ) : Type 0 where
@@ -41,7 +64,7 @@ pub record IsLimit (option : Option (List ℕ)) (most : ℕ) : Type 0 where
 
 -- what is shown is there, and this is what a search found, but for the order of its outcomes, which is that of their
 -- values
-pub record IsFound (trial : Trial) (most : ℕ) (found : Search) : Type 0 where
+pub record IsSorted (trial : Trial) (most : ℕ) (found : Search) : Type 0 where
   pub there : AreThere trial
   pub search : Search
   pub searched : IsSearch trial most search
@@ -51,22 +74,35 @@ pub record IsFound (trial : Trial) (most : ℕ) (found : Search) : Type 0 where
   pub cut : found.is_cut ≡ search.is_cut
   pub stuck : found.stuck ≡ search.stuck
   pub stops : found.stops ≡ search.stops
+  pub violations : found.violations ≡ search.violations
+
+-- with labels that the file has
+pub record IsFound (file : ProgramFile) (trial : Trial) (most : ℕ) (found : Found) : Type 0 where
+  pub sorted : IsSorted trial most found.search
+  pub labels : All (IsLabelOf file) found.labels.items
 
 -- ---- what is told of it
 
 -- its lines were written, or with `--json` its object
-pub record IsWritten (is_json : Bool) (show : Option (List ℕ)) (asks_stuck : Bool) (found : Search)
+pub record AreWritten (options : OutcomesOptions) (words : List (List ℕ)) (found : Found)
     (before after : Option (List ℕ)) : Type 0 where
-  pub lines : is_json ≡ false → Appends before after (search_text asks_stuck found)
-  pub object : is_json ≡ true → IsObjectWritten show asks_stuck found before after
+  pub lines : options.is_json ≡ false →
+      Appends before after (search_text options words found.labels.items found.search)
+  pub object : options.is_json ≡ true → IsObjectWritten options words found.search before after
+
+-- with the words of the value of `--show`
+pub record IsWritten (options : OutcomesOptions) (found : Found) (before after : Option (List ℕ)) : Type 0 where
+  pub words : List (List ℕ)
+  pub given : AreWordsOf (option_copied options.show) words
+  pub wrote : AreWritten options words found before after
 
 -- what a search found was written, and the answer says whether its limit ended it, or it found what is wrong
-pub record IsTold (trial : Trial) (most : ℕ) (options : OutcomesOptions) (answer : Answer)
+pub record IsTold (file : ProgramFile) (trial : Trial) (most : ℕ) (options : OutcomesOptions) (answer : Answer)
     (before after : Option (List ℕ)) : Type 0 where
-  pub found : Search
-  pub is_found : IsFound trial most found
-  pub came_to : answer ≡ answer_of options.asks_stuck found
-  pub wrote : IsWritten options.is_json (option_copied options.show) options.asks_stuck found before after
+  pub found : Found
+  pub is_found : IsFound file trial most found
+  pub came_to : answer ≡ answer_of options.asks_stuck found.search
+  pub wrote : IsWritten options found before after
 
 -- of the machine of the options and of the program that FILE's content is read as, up to the limit of the options
 pub record IsPrinted (content : List ℕ → Option (List ℕ)) (options : OutcomesOptions) (answer : Answer)
@@ -78,7 +114,7 @@ pub record IsPrinted (content : List ℕ → Option (List ℕ)) (options : Outco
   pub stops : List Stop
   pub named : AreStops options.stops.items stops
   pub trial : Trial
-  pub shows : IsTrialOf asked.file setup (option_copied options.show) under stops trial
+  pub shows : IsTrialOf asked.read.text asked.file setup options under stops trial
   pub most : ℕ
   pub limit : IsLimit (option_copied options.limit) most
-  pub told : IsTold trial most options answer before after
+  pub told : IsTold asked.file trial most options answer before after

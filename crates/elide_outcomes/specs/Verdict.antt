@@ -2,15 +2,20 @@
 use Rattle.std.specs.Prelude.{ℕ, ◌&&◌, ◌||◌, Bool, List, is_some, length, nat_lt, if◌then◌else◌}
 use Rattle.tm_outcomes.specs.declared.searching.Search.{Search}
 use Rattle.tm_outcomes.specs.declared.stops.ReachedStop.{ReachedStop}
+use Rattle.tm_outcomes.specs.declared.violations.Violation.{Violation}
 use Rattle.elide_outcomes.specs.declared.verdict.Answer.{Answer}
 use Rattle.elide_outcomes.specs.declared.verdict.Answer.TheVariants.{Cut, Faulty, Whole}
 
 abbrev pub has_stops : List ReachedStop → Bool
 has_stops stops = nat_lt 0 (length stops)
 
--- a stop that was looked for, or, where it is asked for, a state without a way to an end
+abbrev pub has_violations : List Violation → Bool
+has_violations violations = nat_lt 0 (length violations)
+
+-- an end that violates a check, a stop that was looked for, or, where it is asked for, a state without a way to an end
 abbrev pub is_faulty : Bool → Search → Bool
-is_faulty asks_stuck search = has_stops search.stops.items || (asks_stuck && is_some search.stuck)
+is_faulty asks_stuck search =
+    (has_violations search.violations.items || has_stops search.stops.items) || (asks_stuck && is_some search.stuck)
 
 abbrev pub answer_of : Bool → Search → Answer
 answer_of asks_stuck search =

@@ -9,21 +9,28 @@ ghost use Rattle.elide_setup.specs.declared.machine.Setup.{Setup};
 ghost use Rattle.tm_outcomes.specs.Outcomes.{AreThere, IsSearch};
 ghost use Rattle.tm_outcomes.specs.declared.trial.Trial.{Trial};
 ghost use Rattle.tm_outcomes.specs.Verdicts.{IsVerdict};
-ghost use Rattle.elide_outcomes.specs.Printed.{IsFound, IsLimit, IsPrinted, IsTrialOf, IsWritten};
+ghost use Rattle.elide_args.specs.Asked.{texts_of};
+ghost use Rattle.elide_outcomes.specs.Printed.{AreWritten, IsFound, IsLimit, IsMade, IsPrinted, IsSorted, IsTrialOf};
+ghost use Rattle.elide_outcomes.specs.Printed.{IsWritten, asks_more};
 ghost use Rattle.elide_outcomes.specs.Stops.{AreStops};
+ghost use Rattle.elide_outcomes.specs.Under.{AreUnder};
 
+use crate::found::Found;
 use crate::items::items_of;
+use crate::names::labels_of;
 use crate::object::tell_object;
 use crate::report::{sort, tell};
+use crate::shown::words_of;
 use crate::stops::stops_of;
 use crate::under::Under;
 use crate::verdict::Answer;
 use elide_args::OutcomesOptions;
+use elide_checks::EndChecks;
 use elide_program::{Paths, ProgramFile, Settings, number_of, read_file};
 use elide_setup::{Fault, Gathered, MachineFault, Refusal, RunFault, Setup};
 use ia_text::Out;
 use std::alloc::Global;
-use tm_outcomes::{Search, SearchFault, Stop, Trial, outcomes as searched};
+use tm_outcomes::{Events, Item, Search, SearchFault, Stop, Trial, outcomes as searched};
 
 /// The most states by default: at some 50 bytes a state and 8 a link, of two cores some 70 million bytes.
 const USUAL_LIMIT: u32 = 1_000_000;
@@ -31,8 +38,8 @@ const USUAL_LIMIT: u32 = 1_000_000;
 /// What is asked of a search, beside its machine.
 #[derive(Clone, Copy)]
 pub struct Asked<'a> {
-    /// `--show`: what is shown.
-    pub show: Option<&'a str>,
+    /// What is shown, checked and looked for.
+    pub options: &'a OutcomesOptions<'a>,
     /// What the steps come under.
     pub under: Under,
     /// `--stop`: the reasons to stop that are looked for.
@@ -89,31 +96,45 @@ fn outcomes_with_stops<P: Paths, O: Out>(
     let under = Under::read(options.events)?;
     let most = limit_of(options.limit)?;
     let asked = Asked {
-        show: options.show,
+        options,
         under,
         stops,
         most,
     };
     let text = read_file(options.machine.file, paths)?;
-    let search = search_of_text(alloc, &asked, &settings, text.as_slice())?;
-    write(alloc, options, &search, out)?;
-    Ok(Answer::of(options.asks_stuck, &search))
+    let found = search_of_text(alloc, &asked, &settings, text.as_slice())?;
+    write(alloc, options, &found, out)?;
+    Ok(Answer::of(options.asks_stuck, &found.search))
 }
 
 // Prints what was found, in the form that is asked for.
 fn write<O: Out>(
     alloc: Global,
     options: &OutcomesOptions<'_>,
-    search: &Search,
+    found: &Found,
     out: &mut O,
 ) -> Result<(), Refusal>
-    ensures { OnOk result (IsWritten options.now.is_json (option_copied options.now.show) options.now.asks_stuck
-        search.now (O.device out.old).contents (O.device out.new).contents) }
+    ensures { OnOk result (IsWritten options.now found.now (O.device out.old).contents (O.device out.new).contents) }
+{
+    let words = words_of(alloc, options.show)?;
+    write_words(alloc, options, words.as_slice(), found, out)
+}
+
+// The same with the words of `--show`.
+fn write_words<O: Out>(
+    alloc: Global,
+    options: &OutcomesOptions<'_>,
+    words: &[&str],
+    found: &Found,
+    out: &mut O,
+) -> Result<(), Refusal>
+    ensures { OnOk result (AreWritten options.now (texts_of words.now) found.now
+        (O.device out.old).contents (O.device out.new).contents) }
 {
     if options.is_json {
-        tell_object(alloc, options.show, options.asks_stuck, search, out)
+        tell_object(alloc, options, words, &found.search, out)
     } else {
-        tell(options.asks_stuck, search, out)?;
+        tell(options, words, found.labels.as_slice(), &found.search, out)?;
         Ok(())
     }
 }
@@ -124,17 +145,17 @@ fn search_of_text(
     asked: &Asked<'_>,
     settings: &Settings<'_>,
     text: &[u8],
-) -> Result<Search, Refusal>
+) -> Result<Found, Refusal>
     requires { 1 ≤ asked.now.most }
-    ensures { IfOk result (λ search. (file : ProgramFile) × IsFile text.now file × (trial : Trial)
+    ensures { IfOk result (λ found. (file : ProgramFile) × IsFile text.now file × (trial : Trial)
         × (setup : Setup) × IsSetup file settings.now setup
-        × IsTrialOf file setup (option_copied asked.now.show) asked.now.under asked.now.stops.now trial
-        × IsFound trial asked.now.most search) }
+        × IsTrialOf text.now file setup asked.now.options.now asked.now.under asked.now.stops.now trial
+        × IsFound file trial asked.now.most found) }
 {
     let file = ProgramFile::read(alloc, text)?;
-    let search = search_of_file(alloc, asked, settings, &file);
+    let found = search_of_file(alloc, asked, settings, text, &file);
     drop(file);
-    search
+    found
 }
 
 // The same of a program's file that was read.
@@ -142,23 +163,63 @@ fn search_of_file(
     alloc: Global,
     asked: &Asked<'_>,
     settings: &Settings<'_>,
+    text: &[u8],
     file: &ProgramFile<'_>,
-) -> Result<Search, Refusal>
+) -> Result<Found, Refusal>
     requires { 1 ≤ asked.now.most }
-    ensures { IfOk result (λ search. (trial : Trial) × (setup : Setup) × IsSetup file.now settings.now setup
-        × IsTrialOf file.now setup (option_copied asked.now.show) asked.now.under asked.now.stops.now trial
-        × IsFound trial asked.now.most search) }
+    ensures { IfOk result (λ found. (trial : Trial) × (setup : Setup) × IsSetup file.now settings.now setup
+        × IsTrialOf text.now file.now setup asked.now.options.now asked.now.under asked.now.stops.now trial
+        × IsFound file.now trial asked.now.most found) }
 {
-    let items = items_of(alloc, asked.show, file)?;
+    let options = asked.options;
+    let items = items_of(alloc, options.show, !asks_more(options), file)?;
+    let ends = EndChecks::read(
+        alloc,
+        options.checks.as_slice(),
+        options.forbids.as_slice(),
+        text,
+        file,
+    )?;
+    let labels = labels_of(alloc, options.shows_names, text, file)?;
     let listed = asked.under.listed(alloc)?;
-    let setup = Setup::of_file(alloc, settings, file)?;
     let events = asked.under.events(listed.as_slice());
+    let setup = Setup::of_file(alloc, settings, file)?;
+    let search = search_of_setup(alloc, asked, items.as_slice(), &ends, events, &setup)?;
+    Ok(Found { search, labels })
+}
+
+// Whether something else than what is shown is asked for.
+fn asks_more(options: &OutcomesOptions<'_>) -> bool
+    ensures { result ≡ asks_more options.now }
+{
+    options.asks_stuck
+        || options.stops.len() > 0
+        || options.checks.len() > 0
+        || options.forbids.len() > 0
+}
+
+// The same of a machine, with what is shown and checked of it.
+fn search_of_setup<'x>(
+    alloc: Global,
+    asked: &'x Asked<'x>,
+    items: &'x [Item],
+    ends: &'x EndChecks,
+    events: Events<'x>,
+    setup: &'x Setup,
+) -> Result<Search, Refusal>
+    requires most { 1 ≤ asked.now.most }
+    requires under { AreUnder asked.now.under events }
+    ensures { IfOk result (λ search. (trial : Trial) × IsMade setup.now items.now ends.now.checks.items
+        asked.now.under asked.now.stops.now trial × IsSorted trial asked.now.most search) }
+{
+    let checks = ends.checks(setup.program.mem_size(), setup.program.cores())?;
     let trial = Trial {
         program: &setup.program,
         limits: setup.limits,
-        items: items.as_slice(),
+        items,
         events,
         stops: asked.stops,
+        checks,
     };
     sorted(alloc, &trial, asked.most)
 }
@@ -166,7 +227,7 @@ fn search_of_file(
 // The same of a machine, with what is shown of it: the outcomes stand in the order of their values.
 fn sorted(alloc: Global, trial: &Trial<'_>, most: u32) -> Result<Search, Refusal>
     requires { 1 ≤ most }
-    ensures { IfOk result (IsFound trial.now most) }
+    ensures { IfOk result (IsSorted trial.now most) }
 {
     let mut search = search(alloc, trial, most)?;
     sort(&mut search.outcomes);

@@ -1,6 +1,6 @@
 //! What an outcome shows, as the option says it.
 
-ghost use Rattle.std.specs.Prelude.{◌≡◌, ◌++◌, ◌∷◌, [], IfOk, IfSome, OnOk, Some};
+ghost use Rattle.std.specs.Prelude.{◌≡◌, ◌++◌, ◌∷◌, [], IfOk, IfSome, OnOk, Some, false};
 ghost use Rattle.std.specs.Option.{option_copied};
 ghost use Rattle.ia_lex.specs.Words.{register_of};
 ghost use Rattle.ia_word.specs.declared.width.Width.TheVariants.{D};
@@ -14,22 +14,34 @@ use ia_word::Width;
 use std::alloc::{AllocError, Global};
 use tm_outcomes::Item;
 
-/// The items of `--show`: registers of cores, as `eax@0`, and doublewords at symbols or sums. One is wanted at least.
+/// The items of `--show`: registers of cores, as `eax@0`, and doublewords at symbols or sums. One is wanted at least,
+/// and without the option, which may be left out where something else is asked for, there are none.
 pub fn items_of(
     alloc: Global,
     text: Option<&str>,
+    is_wanted: bool,
     file: &ProgramFile<'_>,
 ) -> Result<Vec<Item>, Refusal>
-    ensures { IfOk result (λ items. AreItems file.now (option_copied text.entry) items.items) }
+    ensures { IfOk result (λ items. AreItems file.now is_wanted (option_copied text.entry) items.items) }
 {
     let Some(text) = text else {
-        return Err(Refusal::Usage("--show"));
+        return no_items(alloc, is_wanted);
     };
     let items = items_in(alloc, text, file)?;
     if items.is_empty() {
         return Err(Refusal::Usage("--show"));
     }
     Ok(items)
+}
+
+// No items, where none is wanted.
+fn no_items(alloc: Global, is_wanted: bool) -> Result<Vec<Item>, Refusal>
+    ensures { IfOk result (λ items. (is_wanted ≡ false) × (items.items ≡ [])) }
+{
+    if is_wanted {
+        return Err(Refusal::Usage("--show"));
+    }
+    Ok(Vec::new(alloc))
 }
 
 // The items that the words of a text say.

@@ -12,13 +12,20 @@
 #![tactic(auto)]
 
 mod command;
+mod found;
 mod items;
+mod named;
+mod names;
+mod naming;
 mod object;
 mod report;
+mod search_object;
+mod sending;
 mod shown;
 mod stops;
 mod under;
 mod verdict;
+mod violated;
 
 pub use command::outcomes;
 pub use verdict::Answer;

@@ -1,17 +1,19 @@
 //! The object that `--json` prints of a search (docs/JSON.md, "outcomes").
 //!
-//! [`tell_object`] is the one call. The words of `--show` come first, then the whole text is made, and then it is written.
+//! [`tell_object`] is the one call. The whole text is made, and then it is written.
 
 ghost use Rattle.std.specs.Prelude.{◌≡◌, IfOk, OnOk, Some, codes, string_bytes};
-ghost use Rattle.std.specs.Option.{option_copied};
 ghost use Rattle.elide_args.specs.Asked.{texts_of};
 ghost use Rattle.elide_object.specs.Object.{SendsMember, list_value, object_text};
 ghost use Rattle.serde_json.specs.Events.{SendsValue};
 ghost use Rattle.elide_setup.specs.TmHist.Lines.{stop_word};
 ghost use Rattle.elide_outcomes.specs.Object.{IsObjectWritten, outcome_value, search_value, stop_value, stuck_value};
+ghost use Rattle.elide_outcomes.specs.Sent.{object_value};
 
-use crate::shown::words_of;
+use crate::search_object::SearchObject;
+use crate::sending::send_violations;
 use crate::verdict::Answer;
+use elide_args::OutcomesOptions;
 use elide_object::{
     object_line, send_flag, send_number, send_numbers, send_schedule, send_text, send_texts,
 };
@@ -24,17 +26,16 @@ use tm_outcomes::{ReachedStop, Search, Stop, Stuck, Told};
 /// Prints the object of a search whose outcomes stand in the order in which they are told, with the words of `--show`.
 pub fn tell_object<O: Out>(
     alloc: Global,
-    show: Option<&str>,
-    asks_stuck: bool,
+    options: &OutcomesOptions<'_>,
+    words: &[&str],
     search: &Search,
     out: &mut O,
 ) -> Result<(), Refusal>
-    ensures { OnOk result (IsObjectWritten (option_copied show.entry) asks_stuck search.now
+    ensures { OnOk result (IsObjectWritten options.now (texts_of words.now) search.now
         (O.device out.old).contents (O.device out.new).contents) }
 {
-    let words = words_of(alloc, show)?;
-    let status = Answer::of(asks_stuck, search).status();
-    match line_of(alloc, words.as_slice(), status, search) {
+    let status = Answer::of(options.asks_stuck, search).status();
+    match line_of(alloc, options, words, status, search) {
         Ok(line) => {
             out.put(line.as_bytes())?;
             Ok(())
@@ -43,13 +44,20 @@ pub fn tell_object<O: Out>(
     }
 }
 
-fn line_of(alloc: Global, show: &[&str], status: u64, search: &Search) -> Result<String, AllocError>
-    ensures { IfOk result (λ line. string_bytes line ≡ object_text (search_value (texts_of show.now) status
-        search.now)) }
+fn line_of(
+    alloc: Global,
+    options: &OutcomesOptions<'_>,
+    show: &[&str],
+    status: u64,
+    search: &Search,
+) -> Result<String, AllocError>
+    ensures { IfOk result (λ line. string_bytes line ≡ object_text (search_value options.now (texts_of show.now)
+        status search.now)) }
 {
     object_line(
         alloc,
         &SearchObject {
+            options,
             show,
             status,
             search,
@@ -57,26 +65,19 @@ fn line_of(alloc: Global, show: &[&str], status: u64, search: &Search) -> Result
     )
 }
 
-// A search, with the items of `--show` as they were given, and its exit status.
-#[derive(Clone, Copy)]
-struct SearchObject<'a, 's> {
-    show: &'a [&'s str],
-    status: u64,
-    search: &'a Search,
-}
-
 impl Described for SearchObject<'_, '_> {
-    ghost writes = { λ o. SendsValue (search_value (texts_of o.show.now) o.status o.search.now) };
+    ghost writes = { λ o. SendsValue (object_value o) };
 }
 
 impl Serialize for SearchObject<'_, '_> {
     fn serialize<S: Serializer>(&self, out: &mut S) -> Result<(), S::Error> {
         let search = self.search;
-        out.begin_map(Some(9))?;
+        out.begin_map(Some(10))?;
         send_number("format", 1, out)?;
         send_text("command", "outcomes", out)?;
         send_texts("show", self.show, out)?;
         send_outcomes(search.outcomes.as_slice(), out)?;
+        send_violations(self.options, search.violations.as_slice(), out)?;
         send_stops(search.stops.as_slice(), out)?;
         send_stuck(&search.stuck, out)?;
         send_number("states", u64::from(search.states), out)?;

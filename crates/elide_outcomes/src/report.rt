@@ -1,14 +1,21 @@
 //! What is printed of a search.
 
-ghost use Rattle.std.specs.Prelude.{◌≡◌, ◌++◌, OnOk, codes, length};
+ghost use Rattle.std.specs.Prelude.{◌≡◌, ◌++◌, OnOk, codes, length, true};
 ghost use Rattle.std.specs.List.{flat_map};
 ghost use Rattle.arrayvec.specs.ArrayVec.{array_vec_len};
+ghost use Rattle.ia_text.specs.Number.{eight_digits};
 ghost use Rattle.ia_text.specs.Writing.{Wrote, Writes};
 ghost use Rattle.std.specs.Fmt.{decimal};
-ghost use Rattle.elide_outcomes.specs.Lines.{AreInOrder, count_line, counts_text, cut_text, ends_text, item_text, outcome_line};
-ghost use Rattle.elide_outcomes.specs.Lines.{outcome_lines, search_text, step_text, stop_line, stop_lines, stuck_line};
-ghost use Rattle.elide_outcomes.specs.Lines.{stuck_lines, stuck_text, wayless_text};
+ghost use Rattle.elide_args.specs.Asked.{texts_of};
+ghost use Rattle.elide_outcomes.specs.Lines.{AreInOrder, count_line, counts_text, cut_text, ends_text, has_words};
+ghost use Rattle.elide_outcomes.specs.Lines.{item_text, outcome_line, outcome_lines, search_text, shown_lines, states_text, step_text, stop_line};
+ghost use Rattle.elide_outcomes.specs.Lines.{stop_lines, stuck_line, stuck_lines, stuck_text, wayless_text};
 
+use crate::named::NamedAddress;
+use crate::names::label_at;
+use crate::naming::{tell_items, tell_name};
+use crate::violated::tell_violations;
+use elide_args::OutcomesOptions;
 use elide_setup::stop_text;
 use elide_shell::step_word;
 use ia_text::page::{push, push_eight};
@@ -24,53 +31,108 @@ pub fn sort(outcomes: &mut Vec<Told>)
     outcomes.sort_unstable_by(|left, right| left.values.cmp(&right.values));
 }
 
-/// Prints the outcomes of a search, a line each, below them what is wrong, and then how many there are.
-pub fn tell<O: Out>(asks_stuck: bool, search: &Search, out: &mut O) -> Result<(), WriteFault>
-    ensures { OnOk result (Wrote (O.device out.old) (O.device out.new) (search_text asks_stuck search.now)) }
+/// Prints the outcomes of a search, a line each, below them what is wrong, and then how many there are. Outcomes are told
+/// where something is shown of them, by the words of `--show`; labels by the names of their addresses.
+pub fn tell<O: Out>(
+    options: &OutcomesOptions<'_>,
+    words: &[&str],
+    labels: &[NamedAddress],
+    search: &Search,
+    out: &mut O,
+) -> Result<(), WriteFault>
+    ensures { OnOk result (Wrote (O.device out.old) (O.device out.new)
+        (search_text options.now (texts_of words.now) labels.now search.now)) }
 {
-    tell_outcomes(search.outcomes.as_slice(), out)?;
+    let shows = has_words(words);
+    tell_items(options.shows_names, words, out)?;
+    tell_shown(shows, labels, search.outcomes.as_slice(), out)?;
+    tell_violations(options, search.violations.as_slice(), out)?;
     tell_stops(search.stops.as_slice(), out)?;
-    tell_stuck(asks_stuck, &search.stuck, out)?;
-    tell_counts(search, out)?;
+    tell_stuck(options.asks_stuck, &search.stuck, out)?;
+    tell_counts(shows, search, out)?;
     Ok(())
 }
 
+// Whether something is shown.
+fn has_words(words: &[&str]) -> bool
+    ensures { result ≡ has_words (texts_of words.now) }
+{
+    match words {
+        [] => false,
+        [_, ..] => true,
+    }
+}
+
+// The line of each outcome, where something is shown of them.
+fn tell_shown<O: Out>(
+    shows: bool,
+    labels: &[NamedAddress],
+    outcomes: &[Told],
+    out: &mut O,
+) -> Result<(), WriteFault>
+    ensures { OnOk result (Wrote (O.device out.old) (O.device out.new)
+        (shown_lines shows labels.now outcomes.now)) }
+{
+    if shows {
+        tell_outcomes(labels, outcomes, out)
+    } else {
+        Ok(())
+    }
+}
+
 // The line of each outcome.
-fn tell_outcomes<O: Out>(outcomes: &[Told], out: &mut O) -> Result<(), WriteFault>
-    ensures { OnOk result (Wrote (O.device out.old) (O.device out.new) (outcome_lines outcomes.now)) }
+fn tell_outcomes<O: Out>(
+    labels: &[NamedAddress],
+    outcomes: &[Told],
+    out: &mut O,
+) -> Result<(), WriteFault>
+    ensures { OnOk result (Wrote (O.device out.old) (O.device out.new) (outcome_lines labels.now outcomes.now)) }
 {
     for told in outcomes {
-        tell_outcome(told, out)?;
+        tell_outcome(labels, told, out)?;
     }
     Ok(())
 }
 
 // The values, how many states show them, and the steps of a schedule.
-fn tell_outcome<O: Out>(told: &Told, out: &mut O) -> Result<(), WriteFault>
-    ensures { OnOk result (Wrote (O.device out.old) (O.device out.new) (outcome_line told.now)) }
+fn tell_outcome<O: Out>(labels: &[NamedAddress], told: &Told, out: &mut O) -> Result<(), WriteFault>
+    ensures { OnOk result (Wrote (O.device out.old) (O.device out.new) (outcome_line labels.now told.now)) }
 {
-    tell_values(told.values.as_slice(), out)?;
+    tell_values(labels, told.values.as_slice(), out)?;
     tell_ends(told.ends, out)?;
     tell_steps(told.schedule.as_slice(), out)?;
     out.put(b"\n")?;
     Ok(())
 }
 
-fn tell_values<O: Out>(values: &[u32], out: &mut O) -> Result<(), WriteFault>
-    ensures { OnOk result (Wrote (O.device out.old) (O.device out.new) (flat_map item_text values.now)) }
+fn tell_values<O: Out>(
+    labels: &[NamedAddress],
+    values: &[u32],
+    out: &mut O,
+) -> Result<(), WriteFault>
+    ensures { OnOk result (Wrote (O.device out.old) (O.device out.new) (flat_map (item_text labels.now) values.now)) }
 {
     for value in values {
-        tell_value(*value, out)?;
+        tell_value(labels, *value, out)?;
     }
     Ok(())
 }
 
-fn tell_value<O: Out>(value: u32, out: &mut O) -> Result<(), WriteFault>
-    ensures { Writes (O.device out.old) (O.device out.new) (item_text value) result }
+// A value, with the name of the label at it where there is one, and a space.
+fn tell_value<O: Out>(labels: &[NamedAddress], value: u32, out: &mut O) -> Result<(), WriteFault>
+    ensures { OnOk result (Wrote (O.device out.old) (O.device out.new) (item_text labels.now value)) }
+{
+    tell_digits(value, out)?;
+    tell_name(label_at(labels, value), out)?;
+    out.put(b" ")?;
+    Ok(())
+}
+
+fn tell_digits<O: Out>(value: u32, out: &mut O) -> Result<(), WriteFault>
+    ensures { Writes (O.device out.old) (O.device out.new) (eight_digits value) result }
 {
     let mut row = TextLine::new();
     push_eight(&mut row, value);
-    push(&mut row, b" ");
     out.put(row.as_slice())?;
     Ok(())
 }
@@ -87,7 +149,8 @@ fn tell_ends<O: Out>(ends: u32, out: &mut O) -> Result<(), WriteFault>
     Ok(())
 }
 
-fn tell_steps<O: Out>(picks: &[Pick], out: &mut O) -> Result<(), WriteFault>
+/// The steps of a schedule, with a space before each.
+pub fn tell_steps<O: Out>(picks: &[Pick], out: &mut O) -> Result<(), WriteFault>
     ensures { OnOk result (Wrote (O.device out.old) (O.device out.new) (flat_map step_text picks.now)) }
 {
     for pick in picks {
@@ -163,12 +226,12 @@ fn tell_stuck_line<O: Out>(stuck: &Stuck, out: &mut O) -> Result<(), WriteFault>
     Ok(())
 }
 
-// The last line.
-fn tell_counts<O: Out>(search: &Search, out: &mut O) -> Result<(), WriteFault>
-    ensures { OnOk result (Wrote (O.device out.old) (O.device out.new) (count_line (length search.now.outcomes.items)
-        search.now.states search.now.stuck search.now.is_cut)) }
+// The last line. Outcomes are counted where something is shown of them.
+fn tell_counts<O: Out>(shows: bool, search: &Search, out: &mut O) -> Result<(), WriteFault>
+    ensures { OnOk result (Wrote (O.device out.old) (O.device out.new) (count_line shows
+        (length search.now.outcomes.items) search.now.states search.now.stuck search.now.is_cut)) }
 {
-    tell_numbers(search.outcomes.as_slice().len(), search.states, out)?;
+    tell_numbers(shows, search.outcomes.as_slice().len(), search.states, out)?;
     tell_wayless(&search.stuck, out)?;
     out.put(cut_words(search.is_cut))?;
     out.put(b"\n")?;
@@ -176,23 +239,48 @@ fn tell_counts<O: Out>(search: &Search, out: &mut O) -> Result<(), WriteFault>
 }
 
 // How many outcomes and how many states.
-fn tell_numbers<O: Out>(outcomes: usize, states: u32, out: &mut O) -> Result<(), WriteFault>
-    ensures { Writes (O.device out.old) (O.device out.new) (counts_text outcomes states) result }
+fn tell_numbers<O: Out>(
+    shows: bool,
+    outcomes: usize,
+    states: u32,
+    out: &mut O,
+) -> Result<(), WriteFault>
+    ensures { Writes (O.device out.old) (O.device out.new) (counts_text shows outcomes states) result }
 {
     let mut row = TextLine::new();
-    push_counts(&mut row, outcomes, states);
+    push_counts(&mut row, shows, outcomes, states);
     out.put(row.as_slice())?;
     Ok(())
 }
 
 // Adds the counts.
-fn push_counts(row: &mut TextLine, outcomes: usize, states: u32)
+fn push_counts(row: &mut TextLine, shows: bool, outcomes: usize, states: u32)
     requires { array_vec_len row.old ≡ 0 }
-    ensures { row.new.items ≡ row.old.items ++ counts_text outcomes states }
+    ensures { row.new.items ≡ row.old.items ++ counts_text shows outcomes states }
+{
+    if shows {
+        push_outcomes(row, outcomes, states);
+    } else {
+        push_states(row, states);
+    }
+}
+
+fn push_outcomes(row: &mut TextLine, outcomes: usize, states: u32)
+    requires { array_vec_len row.old ≡ 0 }
+    ensures { row.new.items ≡ row.old.items ++ counts_text true outcomes states }
 {
     let mut digits = Buffer::new();
     push(row, digits.format(outcomes).as_bytes());
     push(row, b" outcomes in ");
+    push(row, digits.format(states).as_bytes());
+    push(row, b" states");
+}
+
+fn push_states(row: &mut TextLine, states: u32)
+    requires { array_vec_len row.old ≡ 0 }
+    ensures { row.new.items ≡ row.old.items ++ states_text states }
+{
+    let mut digits = Buffer::new();
     push(row, digits.format(states).as_bytes());
     push(row, b" states");
 }

@@ -5,17 +5,16 @@ ghost use Rattle.std.specs.Option.{option_copied};
 ghost use Rattle.elide_args.specs.Asked.{texts_of};
 ghost use Rattle.elide_outcomes.specs.Items.{AreWords, AreWordsOf};
 
-use elide_setup::Refusal;
 use std::alloc::{AllocError, Global};
 
-/// The words of the option's value, with white space between.
-pub fn words_of<'a>(alloc: Global, text: Option<&'a str>) -> Result<Vec<&'a str>, Refusal>
+/// The words of the option's value, with white space between; none where it is not given.
+pub fn words_of<'a>(alloc: Global, text: Option<&'a str>) -> Result<Vec<&'a str>, AllocError>
     ensures { IfOk result (λ words. AreWordsOf (option_copied text.entry) (texts_of words.items)) }
 {
-    let Some(text) = text else {
-        return Err(Refusal::Usage("--show"));
-    };
-    Ok(words_in(alloc, text)?)
+    match text {
+        Some(text) => words_in(alloc, text),
+        None => Ok(Vec::new(alloc)),
+    }
 }
 
 // Those of a text.

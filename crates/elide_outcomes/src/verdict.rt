@@ -1,9 +1,9 @@
 //! What a search came to.
 
 ghost use Rattle.std.specs.Prelude.{◌≡◌};
-ghost use Rattle.elide_outcomes.specs.Verdict.{answer_of, has_stops, is_faulty, search_status};
+ghost use Rattle.elide_outcomes.specs.Verdict.{answer_of, has_stops, has_violations, is_faulty, search_status};
 
-use tm_outcomes::{ReachedStop, Search};
+use tm_outcomes::{ReachedStop, Search, Violation};
 
 /// What a search came to.
 #[derive(Clone, Copy, PartialEq, Eq)]
@@ -12,7 +12,8 @@ pub enum Answer {
     Whole,
     /// The limit on states was reached.
     Cut,
-    /// A stop that was looked for was found, or a state without a way to an end that was asked for.
+    /// An end that violates a check was found, a stop that was looked for, or a state without a way to an end that was
+    /// asked for.
     Faulty,
 }
 
@@ -45,7 +46,15 @@ impl Answer {
 fn is_faulty(asks_stuck: bool, search: &Search) -> bool
     ensures { result ≡ is_faulty asks_stuck search.now }
 {
-    has_stops(search.stops.as_slice()) || (asks_stuck && search.stuck.is_some())
+    has_violations(search.violations.as_slice())
+        || has_stops(search.stops.as_slice())
+        || (asks_stuck && search.stuck.is_some())
+}
+
+fn has_violations(violations: &[Violation]) -> bool
+    ensures { result ≡ has_violations violations.now }
+{
+    violations.len() > 0
 }
 
 fn has_stops(stops: &[ReachedStop]) -> bool

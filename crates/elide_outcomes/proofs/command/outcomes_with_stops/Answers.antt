@@ -1,11 +1,12 @@
 use Rattle.std.proofs.Common.{List, subst, ℕ}
 use Rattle.elide_program.specs.ProgramFile.{IsFile}
+use Rattle.elide_outcomes.specs.Printed.{IsTrialOf}
 use Rattle.elide_outcomes.proofs.command.outcomes_with_stops.Goals as goal
 
 pub returns : goal.returns
 returns g c =
     let options = c.args.options.now in
-    let made = c.in_ok-search.ensures in
+    let made = c.in_ok-found.ensures in
     record {
       setup = made.3;
       asked = record {
@@ -24,11 +25,14 @@ returns g c =
       stops = c.args.stops.now;
       named = c.requires;
       trial = made.2;
-      shows = made.5;
+      shows =
+          subst
+          (λ (text : List ℕ). IsTrialOf text made.0 made.3 options c.in_ok-under.under c.args.stops.now made.2)
+          c.as_slice.ensures.value made.5;
       most = c.in_ok-most.most;
       limit = c.in_ok-most.ensures;
       told = record {
-        found = c.in_ok-search.search;
+        found = c.in_ok-found.found;
         is_found = made.6;
         came_to = c.of.ensures;
         wrote = c.in_ok-write.ensures;

@@ -1,5 +1,5 @@
 use Rattle.std.proofs.lemmas.Result.{IfOk-weaker}
-use Rattle.tm_outcomes.specs.declared.searching.Search.{Search}
+use Rattle.elide_outcomes.specs.declared.found.Found.{Found}
 use Rattle.elide_outcomes.proofs.Trials.{IsFoundOf, IsFoundOfText}
 use Rattle.elide_outcomes.proofs.command.search_of_text.Goals as goal
 
@@ -7,8 +7,9 @@ pub returns : goal.returns
 returns c =
     let settings = c.args.settings.now in
     let asked = c.args.asked.now in
-    IfOk-weaker c.search_of_file-search.result
-    (IsFoundOf c.in_ok-file.file settings asked)
-    (IsFoundOfText c.args.text.now settings asked)
-    (λ (search : Search) t. (c.in_ok-file.file, c.in_ok-file.ensures.file, t.0, t.1, t.2, t.3, t.4))
-    c.search_of_file-search.ensures
+    let text = c.args.text.now in
+    IfOk-weaker c.search_of_file-found.result
+    (IsFoundOf text c.in_ok-file.file settings asked)
+    (IsFoundOfText text settings asked)
+    (λ (found : Found) t. (c.in_ok-file.file, c.in_ok-file.ensures.file, t.0, t.1, t.2, t.3, t.4))
+    c.search_of_file-found.ensures

@@ -12,4 +12,5 @@ returns c = record {
   cut = refl;
   stuck = refl;
   stops = refl;
+  violations = refl;
 }

@@ -1,19 +1,28 @@
-use Rattle.std.proofs.Common.{List, ◌++◌, length, subst}
+use Rattle.std.proofs.Common.{Bool, ◌++◌, length, subst}
+use Rattle.elide_args.specs.Asked.{texts_of}
 use Rattle.ia_text.proofs.Writing.{wrote_then}
 use Rattle.ia_text.specs.Writing.{Wrote}
-use Rattle.tm_outcomes.specs.declared.stops.ReachedStop.{ReachedStop}
-use Rattle.tm_outcomes.specs.declared.table.Told.{Told}
-use Rattle.elide_outcomes.specs.Lines.{count_line, outcome_lines, stop_lines, stuck_lines}
+use Rattle.elide_outcomes.specs.Lines.{count_line, items_line, shown_lines, stop_lines, stuck_lines}
+use Rattle.elide_outcomes.specs.Violated.{violation_lines}
 use Rattle.elide_outcomes.proofs.report.tell.Goals as goal
 
 pub returns : goal.returns
 returns g c =
     let device = g.O.Out.device in
     let search = c.args.search.now in
-    let WroteLines : List Told → List ReachedStop → Type 0 = λ outcomes stops.
-    Wrote (device c.args.out.now) (device c.tell_counts.new.out) (outcome_lines outcomes ++ stop_lines stops
-    ++ stuck_lines c.args.asks_stuck search.stuck ++ count_line (length search.outcomes.items) search.states search.stuck search.is_cut) in
-    subst (λ (outcomes : List Told). WroteLines outcomes search.stops.items) c.as_slice.ensures.value
-    (subst (λ (stops : List ReachedStop). WroteLines c.as_slice.result.now stops) c.as_slice-2.ensures.value
-    (wrote_then (wrote_then (wrote_then c.in_ok-tell_outcomes.ensures c.in_ok-tell_stops.ensures) c.in_ok-tell_stuck.ensures)
-    c.in_ok-tell_counts.ensures))
+    let options = c.args.options.now in
+    let shown = rw c.as_slice.ensures.value at c.in_ok-tell_shown.ensures in
+    let violated = rw c.as_slice-2.ensures.value at c.in_ok-tell_violations.ensures in
+    let stops = rw c.as_slice-3.ensures.value at c.in_ok-tell_stops.ensures in
+    subst
+    (λ (shows : Bool). Wrote (device c.args.out.now) (device c.tell_counts.new.out)
+    (items_line options.shows_names (texts_of c.args.words.now)
+    ++ shown_lines shows c.args.labels.now search.outcomes.items
+    ++ violation_lines options search.violations.items ++ stop_lines search.stops.items
+    ++ stuck_lines options.asks_stuck search.stuck
+    ++ count_line shows (length search.outcomes.items) search.states search.stuck search.is_cut))
+    c.has_words-shows.ensures
+    (wrote_then
+    (wrote_then (wrote_then (wrote_then (wrote_then c.in_ok-tell_items.ensures shown) violated) stops)
+    c.in_ok-tell_stuck.ensures)
+    c.in_ok-tell_counts.ensures)

@@ -6,4 +6,4 @@ use Rattle.elide_outcomes.proofs.report.tell_outcomes.Given as goal
 -- the outcomes so far were told
 abbrev pub invariant-loop-told : goal.invariant-loop-told
 invariant-loop-told g l =
-    Wrote (g.O.Out.device l.initial.out) (g.O.Out.device l.out) (outcome_lines (take l.told-index l.outcomes))
+    Wrote (g.O.Out.device l.initial.out) (g.O.Out.device l.out) (outcome_lines l.labels (take l.told-index l.outcomes))

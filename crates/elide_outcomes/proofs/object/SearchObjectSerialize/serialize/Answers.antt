@@ -2,7 +2,7 @@ use Rattle.std.proofs.Common.{codes}
 use Rattle.std.proofs.lemmas.Result.{on_ok_weaker}
 use Rattle.elide_object.specs.Object.{list_value, number_value}
 use Rattle.elide_object.proofs.Sending.{sent_equal}
-use Rattle.elide_outcomes.specs.Object.{outcome_value, search_value, stop_value}
+use Rattle.elide_outcomes.specs.Object.{outcome_value, search_value, stop_value, violation_value}
 use Rattle.elide_outcomes.proofs.object.SearchObjectSerialize.serialize.Goals as goal
 
 pub returns : goal.returns
@@ -15,8 +15,10 @@ returns g c =
     let show = c.in_ok-send_texts.ensures in
     let outcomes = sent_equal (codes "outcomes") (list_value outcome_value) _ search.outcomes.items _ _
     c.as_slice.ensures.value c.in_ok-send_outcomes.ensures in
+    let violations = sent_equal (codes "violations") (list_value (violation_value c.args.self.now.options.now)) _
+    search.violations.items _ _ c.as_slice-2.ensures.value c.in_ok-send_violations.ensures in
     let stops = sent_equal (codes "stops") (list_value stop_value) _ search.stops.items _ _
-    c.as_slice-2.ensures.value c.in_ok-send_stops.ensures in
+    c.as_slice-3.ensures.value c.in_ok-send_stops.ensures in
     let stuck = c.in_ok-send_stuck.ensures in
     let states = sent_equal (codes "states") number_value _ search.states _ _ c.from.ensures c.in_ok-send_number-2.ensures in
     let whole = c.in_ok-send_flag.ensures in
@@ -45,26 +47,32 @@ returns g c =
               outcomes.1,
               outcomes.2,
               (
-                stops.0,
-                written c.send_stops.new.out,
-                stops.1,
-                stops.2,
+                violations.0,
+                written c.send_violations.new.out,
+                violations.1,
+                violations.2,
                 (
-                  stuck.0,
-                  written c.send_stuck.new.out,
-                  stuck.1,
-                  stuck.2,
+                  stops.0,
+                  written c.send_stops.new.out,
+                  stops.1,
+                  stops.2,
                   (
-                    states.0,
-                    written c.send_number-2.new.out,
-                    states.1,
-                    states.2,
+                    stuck.0,
+                    written c.send_stuck.new.out,
+                    stuck.1,
+                    stuck.2,
                     (
-                      whole.0,
-                      written c.send_flag.new.out,
-                      whole.1,
-                      whole.2,
-                      (status.0, written c.send_number-3.new.out, status.1, status.2, ended),
+                      states.0,
+                      written c.send_number-2.new.out,
+                      states.1,
+                      states.2,
+                      (
+                        whole.0,
+                        written c.send_flag.new.out,
+                        whole.1,
+                        whole.2,
+                        (status.0, written c.send_number-3.new.out, status.1, status.2, ended),
+                      ),
                     ),
                   ),
                 ),

@@ -1,5 +1,5 @@
 use Rattle.std.proofs.Common.{append_assoc}
-use Rattle.elide_outcomes.proofs.report.push_counts.Goals as goal
+use Rattle.elide_outcomes.proofs.report.push_outcomes.Goals as goal
 
 pub returns : goal.returns
 returns c =

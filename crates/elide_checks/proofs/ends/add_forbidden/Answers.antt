@@ -1,0 +1,19 @@
+use Rattle.std.proofs.Common.{ℕ, List, [], ◌∷◌, ◌++◌, ◌∙◌, ap, append_assoc, refl, Bor}
+use Rattle.tm_condition.specs.declared.check.Check.{Check}
+use Rattle.tm_condition.specs.declared.check.Check.TheVariants.{Forbidden}
+use Rattle.elide_checks.specs.Ends.{IsEndForbidden}
+use Rattle.elide_checks.specs.Constants.{is_among}
+use Rattle.elide_checks.proofs.Zips.{no_text, zip_added}
+use Rattle.elide_checks.proofs.ends.add_forbidden.Goals as goal
+
+pub loop-text-preserved : goal.loop-text-preserved
+loop-text-preserved c =
+    let before = c.loop-text.invariant in
+    let scope = c.args.scope.now in
+    let one : List Check = Forbidden c.in_ok-clauses.clauses ∷ [] in (
+      before.0 ++ one,
+      c.in_ok-add.ensures ∙ ap (λ l. l ++ one) before.1 ∙ append_assoc c.args.checks.now.items before.0 one,
+      zip_added (λ (text : Bor (List ℕ)) (check : Check). IsEndForbidden scope.file.now (is_among scope.constants.now.names.items) text.now check)
+          c.args.texts.now before.0 (before.0 ++ one) c.loop-text.text-index no_text (Forbidden c.in_ok-clauses.clauses)
+          c.loop-text-test.true before.2 c.in_ok-clauses.ensures refl,
+    )

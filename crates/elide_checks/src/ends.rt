@@ -1,0 +1,151 @@
+//! What is checked at the ends of all schedules, as the options say it: conditions on the machine alone.
+
+ghost use Rattle.std.specs.Prelude.{◌≡◌, ◌++◌, IfOk, IfSome, List, OnOk, map};
+ghost use Rattle.std.specs.List.{AllZip};
+ghost use Rattle.elide_checks.specs.Constants.{is_among};
+ghost use Rattle.elide_checks.specs.Ends.{AreEndChecks, AreEndChecksBy, IsEndDemanded, IsEndForbidden, IsOfMachine};
+ghost use Rattle.tm_check.specs.declared.clause.RunClause.TheVariants.{OfMachine};
+ghost use Rattle.tm_condition.specs.declared.check.Check.{Check as CheckOf};
+
+use crate::conditions::condition_of;
+use crate::constants::Constants;
+use crate::items::Scope;
+use crate::reach::has_machine_clause;
+use crate::row::add;
+use elide_setup::{Fault, ProgramFile, Refusal};
+use std::alloc::{AllocError, Global};
+use tm_check::RunClause;
+use tm_condition::{Check, Clause};
+
+/// The checks of the ends of all schedules: those of `--check`, and behind them those of `--forbid`. A run's counts are
+/// not among them: an end is reached by many runs.
+#[derive(Drop)]
+pub struct EndChecks {
+    checks: Vec<Check>,
+}
+
+impl EndChecks {
+    /// Reads the values of `--check` and of `--forbid`, for the program that a text was read as.
+    pub fn read(
+        alloc: Global,
+        demands: &[&str],
+        forbids: &[&str],
+        text: &[u8],
+        file: &ProgramFile<'_>,
+    ) -> Result<EndChecks, Refusal>
+        ensures { IfOk result (λ ends. AreEndChecks text.now file.now demands.now forbids.now ends.checks.items) }
+    {
+        let constants = Constants::read(alloc, text, file)?;
+        let scope = Scope {
+            file,
+            constants: &constants,
+        };
+        let checks = checks_of(alloc, demands, forbids, &scope)?;
+        drop(constants);
+        Ok(EndChecks { checks })
+    }
+
+    /// The checks, for a memory of this size and so many cores.
+    pub fn checks(&self, size: u32, cores: u8) -> Result<&[Check], Refusal>
+        ensures { IfOk result (λ checks. checks.now ≡ self.now.checks.items) }
+    {
+        for check in &self.checks {
+            if !is_there(check, size, cores) {
+                return Err(Refusal::Fault(Fault::OutOfRange));
+            }
+        }
+        Ok(self.checks.as_slice())
+    }
+}
+
+// Whether a machine with so many cores and a memory of this size has all that a check looks at.
+fn is_there(check: &Check, size: u32, cores: u8) -> bool {
+    match check {
+        Check::Demanded(clauses) | Check::Forbidden(clauses) => clauses
+            .iter()
+            .all(|clause| has_machine_clause(clause, size, cores)),
+    }
+}
+
+// What the options say.
+fn checks_of(
+    alloc: Global,
+    demands: &[&str],
+    forbids: &[&str],
+    scope: &Scope<'_, '_, '_>,
+) -> Result<Vec<Check>, Refusal>
+    ensures { IfOk result (λ checks. AreEndChecksBy scope.now.file.now (is_among scope.now.constants.now.names.items)
+        demands.now forbids.now checks.items) }
+{
+    let mut checks = Vec::new(alloc);
+    add_demanded(alloc, &mut checks, demands, scope)?;
+    add_forbidden(alloc, &mut checks, forbids, scope)?;
+    Ok(checks)
+}
+
+// Adds what each `--check` says.
+fn add_demanded(
+    alloc: Global,
+    checks: &mut Vec<Check>,
+    texts: &[&str],
+    scope: &Scope<'_, '_, '_>,
+) -> Result<(), Refusal>
+    ensures { OnOk result ((more : List CheckOf) × (checks.new.items ≡ checks.old.items ++ more)
+        × AllZip (λ text check. IsEndDemanded scope.now.file.now (is_among scope.now.constants.now.names.items) text.now
+        check) texts.now more) }
+{
+    for text in texts {
+        let clauses = machine_condition_of(alloc, text, scope, "--check")?;
+        add(checks, Check::Demanded(clauses))?;
+    }
+    Ok(())
+}
+
+// Adds what each `--forbid` says.
+fn add_forbidden(
+    alloc: Global,
+    checks: &mut Vec<Check>,
+    texts: &[&str],
+    scope: &Scope<'_, '_, '_>,
+) -> Result<(), Refusal>
+    ensures { OnOk result ((more : List CheckOf) × (checks.new.items ≡ checks.old.items ++ more)
+        × AllZip (λ text check. IsEndForbidden scope.now.file.now (is_among scope.now.constants.now.names.items) text.now
+        check) texts.now more) }
+{
+    for text in texts {
+        let clauses = machine_condition_of(alloc, text, scope, "--forbid")?;
+        add(checks, Check::Forbidden(clauses))?;
+    }
+    Ok(())
+}
+
+// The conditions on a machine that a text says. One on a run's history is a misuse of the option of this name.
+fn machine_condition_of(
+    alloc: Global,
+    text: &str,
+    scope: &Scope<'_, '_, '_>,
+    name: &'static str,
+) -> Result<Vec<Clause>, Refusal>
+    ensures { IfOk result (λ clauses. IsOfMachine scope.now.file.now (is_among scope.now.constants.now.names.items)
+        text.now clauses.items) }
+{
+    let clauses = condition_of(alloc, text, scope, name)?;
+    match on_machine(alloc, clauses)? {
+        Some(clauses) => Ok(clauses),
+        None => Err(Refusal::Usage(name)),
+    }
+}
+
+// The same conditions, where all are on a machine.
+fn on_machine(alloc: Global, clauses: Vec<RunClause>) -> Result<Option<Vec<Clause>>, AllocError>
+    ensures { IfOk result (λ found. IfSome found (λ left. clauses.items ≡ map OfMachine left.items)) }
+{
+    let mut left = Vec::new(alloc);
+    for clause in clauses {
+        match clause {
+            RunClause::OfMachine(clause) => add(&mut left, clause)?,
+            RunClause::Compare(_, _, _) => return Ok(None),
+        }
+    }
+    Ok(Some(left))
+}

@@ -1,0 +1,13 @@
+//! What was found.
+
+use crate::named::NamedAddress;
+use tm_outcomes::Search;
+
+/// What a search found, and the labels of its program where they are asked for.
+#[derive(Drop)]
+pub struct Found {
+    /// The search, whose outcomes stand in the order in which they are told.
+    pub search: Search,
+    /// The labels.
+    pub labels: Vec<NamedAddress>,
+}

@@ -1,0 +1,17 @@
+//! A search as an object.
+
+use elide_args::OutcomesOptions;
+use tm_outcomes::Search;
+
+/// A search, with the options that it was asked by, the items of `--show` as they were given, and its exit status.
+#[derive(Clone, Copy)]
+pub struct SearchObject<'a, 's> {
+    /// The options.
+    pub options: &'a OutcomesOptions<'s>,
+    /// The words of `--show`.
+    pub show: &'a [&'s str],
+    /// The exit status.
+    pub status: u64,
+    /// The search.
+    pub search: &'a Search,
+}
