@@ -28,6 +28,8 @@ pub fn advise_misuse<O: Out>(
         ("--record", _) => writeln!(page, "--record takes another path than FILE"),
         ("--events", other) => advise_events(other, page),
         ("--seed", other) => advise_seed_or_number(other, name, page),
+        ("--code", _) => writeln!(page, "--code goes with --trace"),
+        ("--json", Subcommand::Run(_)) => writeln!(page, "--json goes without --code and --why"),
         ("--json", _) => writeln!(page, "--json goes without --why"),
         ("--color", _) => writeln!(page, "--color takes auto, always or never"),
         ("--words", _) => writeln!(page, "--words takes auto, always or never"),

@@ -27,8 +27,8 @@ abbrev pub trace_text : Bool → List (Pick × Outcome) → List ℕ
 trace_text traces steps = if traces then outcome_lines steps else []
 
 -- the machine is that of the options and of what FILE's content is read as, run by the rules along their schedule, and
--- the lines of its steps were written; those that tell why transactions aborted are any. The file that the schedule is
--- recorded in is left with that of these steps
+-- the lines of its steps were written; those that tell instructions, or why transactions aborted, are any. The file
+-- that the schedule is recorded in is left with that of these steps
 pub record IsRunAsAsked (content left : List ℕ → Option (List ℕ)) (options : RunOptions) (setup : Setup)
     (machine : Machine) (before after : Option (List ℕ)) : Type 0 where
   pub asked : IsAsked (content options.machine.file.now) options.machine setup
@@ -37,7 +37,7 @@ pub record IsRunAsAsked (content left : List ℕ → Option (List ℕ)) (options
   pub ran : IsRunOf setup.program setup.limits made machine
   pub recorded : options.explains ≡ false → IsRecorded left options.record (schedule_asked options.schedule made)
   pub lines : List ℕ
-  pub traced : options.explains ≡ false → lines ≡ trace_text options.traces made
+  pub traced : options.explains ≡ false → options.shows_code ≡ false → lines ≡ trace_text options.traces made
   pub wrote : Appends before after lines
 
 -- the state and what is asked for of memory was written, and below it, where it is expected that all cores stop, the

@@ -3,7 +3,8 @@
 ghost use Rattle.std.specs.Prelude.{◌≡◌, ℕ, IfOk, List, true};
 ghost use Rattle.ia_text.specs.Writing.{Wrote};
 ghost use Rattle.elide_setup.specs.Runs.{AreMachineSteps, IsMachineStep, IsRunOf};
-ghost use Rattle.elide_setup.specs.Schedules.{AreOf, picks_made};
+ghost use Rattle.elide_setup.specs.Recorded.{IsRecorded};
+ghost use Rattle.elide_setup.specs.Schedules.{AreOf, picks_made, picks_told, schedule_made};
 ghost use Rattle.tm_model.specs.declared.outcome.Outcome.{Outcome};
 ghost use Rattle.tm_model.specs.declared.outcome.Pick.{Pick};
 ghost use Rattle.elide_run.specs.Printed.{IsRunAsAsked};
@@ -51,8 +52,8 @@ pub fn run_explained<P: Paths, O: Out + Drop, G: Progress>(
     Ok((setup, machine, page))
 }
 
-// The machine behind a run's steps, which this teller tells.
-fn stepped<T: StepTeller + Drop, P: Paths, O: Out + Drop, G: Progress>(
+/// The machine behind a run's steps, which this teller tells.
+pub fn stepped<T: StepTeller + Drop, P: Paths, O: Out + Drop, G: Progress>(
     alloc: Global,
     teller: T,
     setup: &Setup,
@@ -64,7 +65,8 @@ fn stepped<T: StepTeller + Drop, P: Paths, O: Out + Drop, G: Progress>(
 ) -> Result<(Machine, Gathered<O>), Refusal>
     ensures { IfOk result (λ r. (made : List (Pick × Outcome)) × AreOf course.now (picks_made made)
         × IsRunOf setup.now.program setup.now.limits made r.0 × (text : List ℕ)
-        × Wrote (⟦<Gathered<O> as Out>⟧.device page) (⟦<Gathered<O> as Out>⟧.device r.1) text) }
+        × Wrote (⟦<Gathered<O> as Out>⟧.device page) (⟦<Gathered<O> as Out>⟧.device r.1) text
+        × IsRecorded (P.content paths.new) path.entry (schedule_made course.now (picks_told made))) }
 {
     let machine = machine_of(alloc, setup, course)?;
     let cores = machine.cores();
@@ -78,9 +80,10 @@ fn stepped<T: StepTeller + Drop, P: Paths, O: Out + Drop, G: Progress>(
     Ok((machine, page))
 }
 
-// What makes a machine's step and tells of it. A trait, since what a walk comes to is known of a maker whose type names no
-// lifetime.
-trait StepTeller {
+/// What makes a machine's step and tells of it. A trait, since what a walk comes to is known of a maker whose type names no
+/// lifetime.
+pub trait StepTeller {
+    /// Makes a step, and writes its line.
     fn tell_step<O: Out>(
         &mut self,
         machine: &mut Machine,

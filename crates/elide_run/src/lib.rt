@@ -10,6 +10,7 @@
 //! on `elide_json` for the object.
 #![tactic(auto)]
 
+mod coded;
 mod explained;
 mod halting;
 mod object;

@@ -33,7 +33,7 @@ type Cores = ArrayVec<u32, 64>;
 /// Runs a schedule of core steps, and prints the object of the run. Answers whether a core has not stopped, where all are expected
 /// to, and gives the device back.
 ///
-/// [`Refusal::Usage`] of `--json`, where the reasons of the aborts are asked for.
+/// [`Refusal::Usage`] of `--json`, where instructions or the reasons of the aborts are asked for.
 pub fn run_object<P: Paths, O: Out + Drop, G: Progress>(
     alloc: Global,
     options: &RunOptions<'_>,
@@ -44,7 +44,7 @@ pub fn run_object<P: Paths, O: Out + Drop, G: Progress>(
     ensures { IfOk result (λ r. IsObjectPrinted (P.content paths.old) (P.content paths.new) options.now r.0
         (O.device out).contents (O.device r.1).contents) }
 {
-    if options.explains {
+    if options.explains || options.shows_code {
         return Err(Refusal::Usage("--json"));
     }
     let path = record_path(options.record, options.machine.file, paths)?;

@@ -10,6 +10,7 @@ ghost use Rattle.tm_model.specs.declared.outcome.Pick.{Pick};
 ghost use Rattle.elide_run.specs.Object.{IsObjectPrinted};
 ghost use Rattle.elide_run.specs.Printed.{IsPrinted, IsRunAsAsked, IsTold, outcome_lines, trace_text};
 
+use crate::coded::{run_coded, run_coded_explained};
 use crate::explained::run_explained;
 use crate::halting::{Ending, ending_of};
 use crate::object::run_object;
@@ -23,11 +24,11 @@ use ia_text::Out;
 use std::alloc::Global;
 use tm_model::Pick;
 
-/// Runs a schedule of core steps, and prints the outcomes where they are asked for, the reasons of the aborts where these
+/// Runs a schedule of core steps, and prints the outcomes where they are asked for, with their instructions, the reasons of the aborts where these
 /// are, the state, and what is asked for of memory; and where it is expected that all cores stop, those that did not: as lines, or
 /// as one object (docs/JSON.md, "run"), which has no reasons. Answers whether there is one then, and gives the device back.
 ///
-/// [`Refusal::Usage`] of `--json`, where reasons are asked for too.
+/// [`Refusal::Usage`] of `--code` without the outcomes, and of `--json`, where instructions or reasons are asked for too.
 pub fn run<P: Paths, O: Out + Drop, G: Progress>(
     alloc: Global,
     options: &RunOptions<'_>,
@@ -40,6 +41,9 @@ pub fn run<P: Paths, O: Out + Drop, G: Progress>(
     ensures object { IfOk result (λ r. options.now.is_json ≡ true → IsObjectPrinted (P.content paths.old)
         (P.content paths.new) options.now r.0 (O.device out).contents (O.device r.1).contents) }
 {
+    if options.shows_code && !options.traces {
+        return Err(Refusal::Usage("--code"));
+    }
     if options.is_json {
         run_object(alloc, options, paths, out, progress)
     } else {
@@ -59,15 +63,30 @@ fn run_lines<P: Paths, O: Out + Drop, G: Progress>(
         (O.device out).contents (O.device r.1).contents) }
 {
     let page = Gathered::new(out);
-    let (setup, machine, page) = if options.explains {
-        run_explained(alloc, options, paths, page, progress)?
-    } else {
-        run_plainly(alloc, options, paths, page, progress)?
-    };
+    let (setup, machine, page) = run_steps(alloc, options, paths, page, progress)?;
     let told = tell(&machine, &setup, options, page);
     drop(machine);
     drop(setup);
     told
+}
+
+// Makes a run's steps, and prints what is asked for of each.
+fn run_steps<P: Paths, O: Out + Drop, G: Progress>(
+    alloc: Global,
+    options: &RunOptions<'_>,
+    paths: &mut P,
+    page: Gathered<O>,
+    progress: &mut G,
+) -> Result<(Setup, Machine, Gathered<O>), Refusal>
+    ensures { IfOk result (λ r. IsRunAsAsked (P.content paths.old) (P.content paths.new) options.now r.0 r.1
+        (⟦<Gathered<O> as Out>⟧.device page).contents (⟦<Gathered<O> as Out>⟧.device r.2).contents) }
+{
+    match (options.explains, options.shows_code) {
+        (true, true) => run_coded_explained(alloc, options, paths, page, progress),
+        (true, false) => run_explained(alloc, options, paths, page, progress),
+        (false, true) => run_coded(alloc, options, paths, page, progress),
+        (false, false) => run_plainly(alloc, options, paths, page, progress),
+    }
 }
 
 // Makes a run's steps, and prints the outcomes where they are asked for.

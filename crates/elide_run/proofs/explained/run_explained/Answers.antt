@@ -14,6 +14,6 @@ returns g c =
       ran = made.2;
       recorded = λ e. cc;
       lines = made.3;
-      traced = λ e. cc;
+      traced = λ e f. cc;
       wrote = made.4.bytes;
     }

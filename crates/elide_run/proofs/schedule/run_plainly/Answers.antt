@@ -19,6 +19,6 @@ returns g c =
       recorded = λ _. recorded_asked (g.P.Paths.content c.stepped-made.new.paths) c.args.options.now.record c.args.options.now.schedule c.in_ok-setup.course made.0 c.in_ok-setup.ensures.listed made.1
           (subst (λ (path : Option (Bor (List ℕ))). IsRecorded (g.P.Paths.content c.stepped-made.new.paths) path (schedule_made c.in_ok-setup.course (picks_told made.0))) c.in_ok-path.ensures.given made.4);
       lines = trace_text c.args.options.now.traces made.0;
-      traced = λ _. refl;
+      traced = λ _ _. refl;
       wrote = made.3.bytes;
     }

@@ -1,0 +1,193 @@
+//! Runs whose outcomes are told with their instructions.
+
+ghost use Rattle.std.specs.Prelude.{◌≡◌, ℕ, IfOk, List, true};
+ghost use Rattle.ia_text.specs.Writing.{Wrote};
+ghost use Rattle.elide_run.specs.Printed.{IsRunAsAsked};
+
+use crate::explained::{StepTeller, stepped};
+use elide_args::RunOptions;
+use elide_trace::{labels_of, scheduled_labels};
+use elide_why::{
+    Fault, Gathered, Machine, Outcome, Paths, Progress, Refusal, RunFault, Setup, StepMaker,
+    Teller, record_path, scheduled_places, write_outcome,
+};
+use ia_text::{Out, ToVec, WriteFault};
+use std::alloc::{AllocError, Global};
+use tm_model::{Pick, Program};
+use tm_trace::{Before, Deed, Symbol, write_deed, write_front, write_step};
+
+/// Makes a run's steps, and prints the line of each outcome with its instruction; writes the schedule where there is a path.
+pub fn run_coded<P: Paths, O: Out + Drop, G: Progress>(
+    alloc: Global,
+    options: &RunOptions<'_>,
+    paths: &mut P,
+    page: Gathered<O>,
+    progress: &mut G,
+) -> Result<(Setup, Machine, Gathered<O>), Refusal>
+    requires code { options.now.shows_code ≡ true }
+    ensures { IfOk result (λ r. IsRunAsAsked (P.content paths.old) (P.content paths.new) options.now r.0 r.1
+        (⟦<Gathered<O> as Out>⟧.device page).contents (⟦<Gathered<O> as Out>⟧.device r.2).contents) }
+{
+    let path = record_path(options.record, options.machine.file, paths)?;
+    let (setup, course, labels) = scheduled_labels(
+        alloc,
+        &options.machine,
+        &options.schedule,
+        paths,
+    )?;
+    let teller = CodeTeller {
+        program: &setup.program,
+        labels: labels.as_slice(),
+    };
+    let made = stepped(alloc, teller, &setup, &course, path, paths, page, progress);
+    drop(labels);
+    drop(course);
+    let (machine, page) = made?;
+    Ok((setup, machine, page))
+}
+
+/// The same with the reasons of the aborts, each behind its instruction.
+pub fn run_coded_explained<P: Paths, O: Out + Drop, G: Progress>(
+    alloc: Global,
+    options: &RunOptions<'_>,
+    paths: &mut P,
+    page: Gathered<O>,
+    progress: &mut G,
+) -> Result<(Setup, Machine, Gathered<O>), Refusal>
+    requires { options.now.explains ≡ true }
+    ensures { IfOk result (λ r. IsRunAsAsked (P.content paths.old) (P.content paths.new) options.now r.0 r.1
+        (⟦<Gathered<O> as Out>⟧.device page).contents (⟦<Gathered<O> as Out>⟧.device r.2).contents) }
+{
+    let path = record_path(options.record, options.machine.file, paths)?;
+    let (setup, course, places) = scheduled_places(
+        alloc,
+        &options.machine,
+        &options.schedule,
+        paths,
+    )?;
+    let labels = labels_of(alloc, &places)?;
+    let teller = ReasonTeller {
+        alloc,
+        program: &setup.program,
+        labels: labels.as_slice(),
+        teller: Teller::new(&setup.program, options.machine.file, &places, true),
+    };
+    let made = stepped(alloc, teller, &setup, &course, path, paths, page, progress);
+    drop(labels);
+    drop(places);
+    drop(course);
+    let (machine, page) = made?;
+    Ok((setup, machine, page))
+}
+
+// Tells each outcome with its instruction.
+#[derive(Drop)]
+struct CodeTeller<'a> {
+    program: &'a Program,
+    labels: &'a [Symbol],
+}
+
+impl StepTeller for CodeTeller<'_> {
+    fn tell_step<O: Out>(
+        &mut self,
+        machine: &mut Machine,
+        pick: Pick,
+        out: &mut O,
+    ) -> Result<Outcome, Refusal> {
+        let before = before(machine, self.program, pick.core)?;
+        let outcome = machine.make_step(pick)?;
+        let deed = deed_of(&before, machine, pick.core, &outcome)?;
+        write_step(self.labels, pick.core, &outcome, &deed, out)?;
+        Ok(outcome)
+    }
+}
+
+// What a machine tells of a step before it.
+fn before(machine: &Machine, program: &Program, core: u8) -> Result<Before, Refusal> {
+    match Before::of(machine, program, core) {
+        Some(before) => Ok(before),
+        None => Err(Refusal::Fault(Fault::Run(RunFault::NoSuchCore))),
+    }
+}
+
+// What a step did, by the machine behind it.
+fn deed_of(
+    before: &Before,
+    machine: &Machine,
+    core: u8,
+    outcome: &Outcome,
+) -> Result<Deed, Refusal> {
+    if core < machine.cores() {
+        Ok(before.deed(machine, core, outcome))
+    } else {
+        Err(Refusal::Fault(Fault::Run(RunFault::NoSuchCore)))
+    }
+}
+
+// Tells each outcome with its instruction, and of an abort its reason.
+#[derive(Drop)]
+struct ReasonTeller<'a> {
+    alloc: Global,
+    program: &'a Program,
+    labels: &'a [Symbol],
+    teller: Teller<'a>,
+}
+
+impl StepTeller for ReasonTeller<'_> {
+    fn tell_step<O: Out>(
+        &mut self,
+        machine: &mut Machine,
+        pick: Pick,
+        out: &mut O,
+    ) -> Result<Outcome, Refusal> {
+        let before = before(machine, self.program, pick.core)?;
+        // The line without the instruction, which ends with the reason.
+        let mut line = ToVec::new(Vec::new(self.alloc));
+        let told = self.teller.step(machine, pick, &mut line);
+        if line.failures > 0 {
+            return Err(Refusal::from(AllocError));
+        }
+        let outcome = told?;
+        let mut front = ToVec::new(Vec::new(self.alloc));
+        if write_outcome(pick.core, &outcome, &mut front).is_err() {
+            return Err(Refusal::from(AllocError));
+        }
+        let deed = deed_of(&before, machine, pick.core, &outcome)?;
+        let reason = reason_in(line.bytes.as_slice(), front.bytes.as_slice());
+        write_explained(self.labels, pick.core, &outcome, &deed, reason, out)?;
+        Ok(outcome)
+    }
+}
+
+// What a line goes on with behind that of its outcome alone, without the space or the colon before it; the line's end with it.
+fn reason_in<'a>(line: &'a [u8], outcome: &[u8]) -> &'a [u8] {
+    let front = outcome.len().saturating_sub(1).min(line.len());
+    match &line[front..] {
+        [b':', b' ', reason @ ..] => reason,
+        [b' ', reason @ ..] => reason,
+        rest => rest,
+    }
+}
+
+// What stands before a reason; nothing before a line's end alone.
+fn separator_of(reason: &[u8]) -> &'static [u8] {
+    if reason.len() > 1 { b"; " } else { b"" }
+}
+
+// Writes the line of an outcome with its instruction and a reason, which ends the line.
+fn write_explained<O: Out>(
+    labels: &[Symbol],
+    core: u8,
+    outcome: &Outcome,
+    deed: &Deed,
+    reason: &[u8],
+    out: &mut O,
+) -> Result<(), WriteFault>
+    ensures { IfOk result (λ _. (text : List ℕ) × Wrote (O.device out.old) (O.device out.new) text) }
+{
+    write_front(core, outcome, deed.eip, out)?;
+    write_deed(labels, deed, out)?;
+    out.put(separator_of(reason))?;
+    out.put(reason)?;
+    Ok(())
+}

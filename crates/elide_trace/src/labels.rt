@@ -1,0 +1,18 @@
+//! The labels by which addresses are told.
+
+use elide_places::Places;
+use std::alloc::{AllocError, Global};
+use tm_trace::Symbol;
+
+/// The labels of a source or an executable, in its order, by the names that are shown.
+pub fn labels_of(alloc: Global, places: &Places) -> Result<Vec<Symbol>, AllocError> {
+    let mut row = Vec::new(alloc);
+    for label in places.labels() {
+        let name = Vec::from_slice(alloc, label.shown())?;
+        row.push(Symbol {
+            name,
+            value: label.address(),
+        })?;
+    }
+    Ok(row)
+}
