@@ -11,6 +11,7 @@ ghost use Rattle.elide_program.specs.declared.settings.Settings.{Settings};
 
 use crate::course::{Tally, counted, watched};
 use crate::extent::{Extent, rows_of};
+use crate::scene::ProgramScene;
 use crate::symbols::Symbols;
 use elide_args::DrawOptions;
 use elide_places::Places;
@@ -18,6 +19,7 @@ use elide_setup::{
     Course, Gathered, Lent, Paths, Plan, ProgramFile, Progress, Refusal, Settings, Setup,
     read_file, record_path,
 };
+use elide_trace::labels_of;
 use ia_text::Out;
 use std::alloc::Global;
 use tm_timeline::{Label, Rows, Timeline};
@@ -48,7 +50,16 @@ pub fn draw<P: Paths, O: Out, G: Progress>(
     let settings = Settings::read(&options.machine)?;
     let plan = Plan::read(alloc, &options.schedule)?;
     match Asked::read(options, path, settings.cores) {
-        Ok(asked) => draw_plan(alloc, &settings, plan, &asked, paths, out, progress),
+        Ok(asked) => draw_plan(
+            alloc,
+            &settings,
+            plan,
+            &asked,
+            options.machine.shows.as_slice(),
+            paths,
+            out,
+            progress,
+        ),
         Err(refusal) => Err(refusal),
     }
 }
@@ -81,6 +92,7 @@ fn draw_plan<P: Paths, O: Out, G: Progress>(
     settings: &Settings<'_>,
     plan: Plan<'_>,
     asked: &Asked<'_>,
+    sums: &[&str],
     paths: &mut P,
     out: &mut O,
     progress: &mut G,
@@ -97,6 +109,7 @@ fn draw_plan<P: Paths, O: Out, G: Progress>(
         text.as_slice(),
         plan,
         asked,
+        sums,
         paths,
         out,
         progress,
@@ -109,6 +122,7 @@ fn draw_text<P: Paths, O: Out, G: Progress>(
     text: &[u8],
     plan: Plan<'_>,
     asked: &Asked<'_>,
+    sums: &[&str],
     paths: &mut P,
     out: &mut O,
     progress: &mut G,
@@ -117,7 +131,7 @@ fn draw_text<P: Paths, O: Out, G: Progress>(
         × HasRunPlan (P.content paths.old) (P.content paths.new) file settings.now plan.entry asked.now.path) }
 {
     let setup = setup_of(alloc, settings, text)?;
-    let drawn = draw_setup(alloc, &setup, text, plan, asked, paths, out, progress);
+    let drawn = draw_setup(alloc, &setup, text, plan, asked, sums, paths, out, progress);
     drop(setup);
     drawn
 }
@@ -128,6 +142,7 @@ fn draw_setup<P: Paths, O: Out, G: Progress>(
     text: &[u8],
     plan: Plan<'_>,
     asked: &Asked<'_>,
+    sums: &[&str],
     paths: &mut P,
     out: &mut O,
     progress: &mut G,
@@ -136,16 +151,19 @@ fn draw_setup<P: Paths, O: Out, G: Progress>(
         OnOk result (HasRunPlan (P.content paths.old) (P.content paths.new) file settings plan.entry asked.now.path) }
 {
     let places = Places::of_text(alloc, text)?;
+    let labels = labels_of(alloc, &places)?;
     let drawn = draw_placed(
         alloc,
         setup,
-        &Symbols::new(&places),
+        &Symbols::new(&places, labels.as_slice()),
         plan,
         asked,
+        sums,
         paths,
         out,
         progress,
     );
+    drop(labels);
     drop(places);
     drawn
 }
@@ -156,6 +174,7 @@ fn draw_placed<P: Paths, O: Out, G: Progress>(
     symbols: &Symbols<'_>,
     plan: Plan<'_>,
     asked: &Asked<'_>,
+    sums: &[&str],
     paths: &mut P,
     out: &mut O,
     progress: &mut G,
@@ -164,7 +183,9 @@ fn draw_placed<P: Paths, O: Out, G: Progress>(
         OnOk result (HasRunPlan (P.content paths.old) (P.content paths.new) file settings plan.entry asked.now.path) }
 {
     let course = plan.course(alloc, paths)?;
-    let drawn = draw_course(alloc, setup, symbols, &course, asked, paths, out, progress);
+    let drawn = draw_course(
+        alloc, setup, symbols, &course, asked, sums, paths, out, progress,
+    );
     drop(course);
     drawn
 }
@@ -175,6 +196,7 @@ fn draw_course<P: Paths, O: Out, G: Progress>(
     symbols: &Symbols<'_>,
     course: &Course,
     asked: &Asked<'_>,
+    sums: &[&str],
     paths: &mut P,
     out: &mut O,
     progress: &mut G,
@@ -183,7 +205,13 @@ fn draw_course<P: Paths, O: Out, G: Progress>(
 {
     let counted = counted(alloc, setup, course, asked.path.is_some(), progress)?;
     let window = asked.extent.window(counted.total)?;
-    let timeline = watched(alloc, setup, course, window, progress)?;
+    let scene = ProgramScene {
+        alloc,
+        program: &setup.program,
+        labels: symbols.labels,
+        addresses: setup.parts.values.as_slice(),
+    };
+    let timeline = watched(alloc, setup, course, window, scene, sums, progress)?;
     let drawn = record_drawn(course, &counted, &timeline, symbols, asked, paths, out);
     drop(timeline);
     drawn

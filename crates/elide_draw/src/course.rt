@@ -9,12 +9,14 @@ ghost use Rattle.elide_setup.specs.Walks.{Leads};
 ghost use Rattle.tm_model.specs.declared.outcome.Outcome.{Outcome};
 ghost use Rattle.tm_model.specs.declared.outcome.Pick.{Pick};
 
-use crate::watch::Watcher;
+use crate::rounds::Rounds;
+use crate::scene::Scene;
+use crate::watch::{Watcher, tell_variables};
 use elide_setup::{
-    Course, Machine, Outcome, Pick, Progress, Refusal, Setup, StepMaker, new_machine,
+    Course, Machine, Outcome, Pick, Progress, Refusal, Setup, StepMaker, new_machine, shown_memory,
 };
-use std::alloc::Global;
-use tm_timeline::{Timeline, Window};
+use std::alloc::{AllocError, Global};
+use tm_timeline::{Label, Timeline, Window};
 
 /// What a schedule came to before it is watched.
 #[derive(Debug, Drop)]
@@ -88,29 +90,70 @@ impl StepMaker for Counter {
 
 /// Runs a schedule, and tells a timeline of this window of it. A picker draws the picks that it drew when the steps were
 /// counted.
-pub fn watched<G: Progress>(
+pub fn watched<S: Scene + Drop, G: Progress>(
     alloc: Global,
     setup: &Setup,
     course: &Course,
     window: Window,
+    scene: S,
+    sums: &[&str],
     progress: &mut G,
 ) -> Result<Timeline, Refusal>
     ensures { IfOk result (λ _. (made : List (Pick × Outcome)) × IsWatched setup.now course.now made) }
 {
     let machine = new_machine(alloc, setup)?;
-    match Timeline::new(alloc, machine.cores(), window) {
-        Ok(timeline) => watched_by(alloc, course, Watcher { machine, timeline }, progress),
-        Err(refused) => {
+    match opened(alloc, setup, &machine, window, &scene, sums) {
+        Ok(timeline) => {
+            let watcher = Watcher {
+                machine,
+                timeline,
+                scene,
+                rounds: Rounds::new(),
+            };
+            watched_by(alloc, course, watcher, progress)
+        }
+        Err(refusal) => {
             drop(machine);
-            Err(Refusal::from(refused))
+            drop(scene);
+            Err(refusal)
         }
     }
 }
 
-fn watched_by<G: Progress>(
+// The timeline of a machine before its first step, with the variables of these sums, which memory has to have.
+fn opened<S: Scene>(
+    alloc: Global,
+    setup: &Setup,
+    machine: &Machine,
+    window: Window,
+    scene: &S,
+    sums: &[&str],
+) -> Result<Timeline, Refusal> {
+    shown_memory(machine.view(), &setup.parts, &[])?;
+    let mut timeline = Timeline::new(alloc, machine.cores(), window)?;
+    match tell_opening(alloc, machine, scene, sums, &mut timeline) {
+        Ok(()) => Ok(timeline),
+        Err(refused) => Err(Refusal::from(refused)),
+    }
+}
+
+fn tell_opening<S: Scene>(
+    alloc: Global,
+    machine: &Machine,
+    scene: &S,
+    sums: &[&str],
+    timeline: &mut Timeline,
+) -> Result<(), AllocError> {
+    for sum in sums {
+        timeline.add_variable(alloc, Label::of(*sum))?;
+    }
+    tell_variables(machine, scene.variables(), timeline)
+}
+
+fn watched_by<S: Scene + Drop, G: Progress>(
     alloc: Global,
     course: &Course,
-    mut watcher: Watcher,
+    mut watcher: Watcher<S>,
     progress: &mut G,
 ) -> Result<Timeline, Refusal>
     ensures { IfOk result (λ _. (made : List (Pick × Outcome)) × AreOf course.now (picks_made made)
@@ -126,10 +169,10 @@ fn watched_by<G: Progress>(
 }
 
 // Makes the steps of a schedule, and tells a timeline of them.
-fn watch<G: Progress>(
+fn watch<S: Scene, G: Progress>(
     alloc: Global,
     course: &Course,
-    watcher: &mut Watcher,
+    watcher: &mut Watcher<S>,
     progress: &mut G,
 ) -> Result<(), Refusal>
     ensures { IfOk result (λ _. (made : List (Pick × Outcome)) × AreOf course.now (picks_made made)

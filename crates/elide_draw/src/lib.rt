@@ -10,6 +10,8 @@
 mod command;
 mod course;
 mod extent;
+mod rounds;
+mod scene;
 mod symbols;
 mod watch;
 

@@ -3,17 +3,20 @@
 use elide_places::{Naming, Places, SymbolText, push_symbols};
 use std::str;
 use tm_timeline::{Label, LineLabels};
+use tm_trace::Symbol;
 
 /// The labels of a program's source.
 #[derive(Clone, Copy)]
 pub struct Symbols<'a> {
     places: &'a Places,
+    /// By which steps are told.
+    pub labels: &'a [Symbol],
 }
 
 impl<'a> Symbols<'a> {
     /// Those of these places.
-    pub fn new(places: &'a Places) -> Symbols<'a> {
-        Symbols { places }
+    pub fn new(places: &'a Places, labels: &'a [Symbol]) -> Symbols<'a> {
+        Symbols { places, labels }
     }
 }
 

@@ -3,50 +3,67 @@
 ghost use Rattle.std.specs.Prelude.{IfOk};
 ghost use Rattle.elide_setup.specs.Runs.{AreMachineSteps, IsMachineStep};
 
+use crate::rounds::Rounds;
+use crate::scene::Scene;
 use elide_setup::{CoreState, Kind, Machine, Outcome, Pick, Refusal, StepMaker};
 use std::alloc::AllocError;
 use tm_timeline::{LineUse, Timeline};
+use tm_trace::{Before, Deed};
 
 // How the next step uses the line on which it hits a core, for each core.
 type Uses = [Option<LineUse>; 64];
 
 /// A machine whose steps a timeline is told.
 #[derive(Drop)]
-pub struct Watcher {
+pub struct Watcher<S> {
     /// The machine.
     pub machine: Machine,
     /// The timeline.
     pub timeline: Timeline,
+    /// What steps are described by.
+    pub scene: S,
+    /// In which rounds of loops the cores are.
+    pub rounds: Rounds,
 }
 
-impl Watcher {
+impl<S: Scene + Drop> Watcher<S> {
     /// The timeline.
     pub fn into_timeline(self) -> Timeline {
-        let Watcher {
-            machine: _,
-            timeline,
-        } = self;
+        let Watcher { timeline, .. } = self;
         timeline
     }
 }
 
-impl StepMaker for Watcher {
+impl<S: Scene> StepMaker for Watcher<S> {
     ghost takes = { λ before steps after. AreMachineSteps before.machine steps after.machine };
 
     fn make_step(&mut self, pick: Pick) -> Result<Outcome, Refusal> {
-        watch_step(&mut self.machine, pick, &mut self.timeline)
+        watch_step(
+            &mut self.machine,
+            pick,
+            &mut self.timeline,
+            &self.scene,
+            &mut self.rounds,
+        )
     }
 }
 
-// Makes a step, and tells a timeline whom it hits and what it was.
-fn watch_step(
+// Makes a step, and tells a timeline whom it hits, what it was, and what memory holds behind it.
+fn watch_step<S: Scene>(
     machine: &mut Machine,
     pick: Pick,
     timeline: &mut Timeline,
+    scene: &S,
+    rounds: &mut Rounds,
 ) -> Result<Outcome, Refusal>
     ensures { IfOk result (λ outcome. IsMachineStep machine.old pick outcome machine.new) }
 {
     let core = pick.core;
+    let before = if timeline.shows_steps() {
+        scene.before(machine, core)
+    } else {
+        None
+    };
     let uses = if timeline.shows_lines() {
         Some(uses_of(machine, core))
     } else {
@@ -54,8 +71,66 @@ fn watch_step(
     };
     let outcome = machine.make_step(pick)?;
     tell_hits(machine, core, &uses, timeline)?;
-    timeline.told(core, outcome)?;
+    tell_step(machine, core, outcome, before, timeline, scene, rounds)?;
+    tell_variables(machine, scene.variables(), timeline)?;
     Ok(outcome)
+}
+
+// Tells what a step was, and, of one that is drawn, what it did and whether its core waited.
+fn tell_step<S: Scene>(
+    machine: &Machine,
+    core: u8,
+    outcome: Outcome,
+    before: Option<Before>,
+    timeline: &mut Timeline,
+    scene: &S,
+    rounds: &mut Rounds,
+) -> Result<(), AllocError> {
+    timeline.told(core, outcome)?;
+    let Some(deed) = deed_of(machine, core, &outcome, before) else {
+        return Ok(());
+    };
+    timeline.describe(scene.text(&deed)?)?;
+    rounds.tell(machine, core, &outcome, &deed, timeline);
+    Ok(())
+}
+
+// What a step did.
+fn deed_of(machine: &Machine, core: u8, outcome: &Outcome, before: Option<Before>) -> Option<Deed> {
+    if core < machine.cores() {
+        Some(before?.deed(machine, core, outcome))
+    } else {
+        None
+    }
+}
+
+/// Tells what memory has at each variable.
+pub fn tell_variables(
+    machine: &Machine,
+    addresses: &[u32],
+    timeline: &mut Timeline,
+) -> Result<(), AllocError> {
+    let memory = machine.view();
+    for index in 0..addresses.len() {
+        if let Some(value) = doubleword_at(memory, addresses[index]) {
+            timeline.tell_variable(index, value)?;
+        }
+    }
+    Ok(())
+}
+
+// The doubleword at an address, where memory has it.
+fn doubleword_at(memory: &[u8], address: u32) -> Option<u32> {
+    let start = address as usize;
+    if start + 4 > memory.len() {
+        return None;
+    }
+    Some(u32::from_le_bytes([
+        memory[start],
+        memory[start + 1],
+        memory[start + 2],
+        memory[start + 3],
+    ]))
 }
 
 // Tells the transactions that were open before the step and are condemned behind it.

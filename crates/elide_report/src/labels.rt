@@ -7,7 +7,11 @@ use ia_elf::Elf;
 use ia_item::Name;
 use std::alloc::{AllocError, Global};
 
-/// The symbols of a source or of an executable that stand in its image, by their addresses. An image text has none.
+// The most bytes of memory that a machine has.
+const MOST_MEMORY: u32 = 268_435_456;
+
+/// The symbols of a source or of an executable, by their addresses: of a source those in its image and at its end, of an executable
+/// those from its first byte on. An image text has none.
 #[derive(Drop)]
 pub struct Labels<'a> {
     list: Vec<Label<'a>>,
@@ -15,8 +19,8 @@ pub struct Labels<'a> {
     first: u32,
     // The address behind the code.
     code_end: u32,
-    // The address behind the image.
-    end: u64,
+    // The address behind the last symbol that is told.
+    end: u32,
     // In which form names are told.
     naming: Naming,
 }
@@ -73,9 +77,9 @@ impl<'a> Labels<'a> {
         Ok(())
     }
 
-    // Adds a symbol, where it stands in the image.
+    // Adds a symbol, where it is told.
     fn add(&mut self, name: Name<'a>, address: u32) -> Result<(), AllocError> {
-        if address < self.first || u64::from(address) >= self.end {
+        if address < self.first || address >= self.end {
             return Ok(());
         }
         self.list
@@ -89,11 +93,7 @@ impl<'a> Labels<'a> {
         match self.nearest(address) {
             Some(label) => {
                 let mut text = String::new(alloc);
-                self.push_name(alloc, &mut text, &label.name)?;
-                if label.address < address {
-                    let distance = format!(in alloc; "+{:#x}", address - label.address)?;
-                    text.push_str(distance.as_str())?;
-                }
+                self.push_place(alloc, &mut text, label, address)?;
                 Ok(text)
             }
             None => String::from_str(alloc, "-"),
@@ -115,11 +115,12 @@ impl<'a> Labels<'a> {
         nearest
     }
 
-    /// The symbols on a line of 64 bytes, in the order of the source, with commas between; a dash, where there is none.
+    /// The symbols on a line of 64 bytes, in the order of the source, with commas between; where none is, the last one below it,
+    /// with the distance, as `table+0x40`; a dash, where there is none, either.
     pub fn line(&self, alloc: Global, line: u32) -> Result<String, AllocError> {
         let mut text = String::new(alloc);
         for label in self.list.as_slice() {
-            if label.address / 64 == line && label.address >= self.code_end {
+            if label.address / 64 == line {
                 if !text.is_empty() {
                     text.push_str(",")?;
                 }
@@ -127,9 +128,33 @@ impl<'a> Labels<'a> {
             }
         }
         if text.is_empty() {
-            text.push_str("-")?;
+            self.push_below(alloc, &mut text, line)?;
         }
         Ok(text)
+    }
+
+    // Adds the last symbol below a line, and how far below its first byte it stands.
+    fn push_below(&self, alloc: Global, text: &mut String, line: u32) -> Result<(), AllocError> {
+        match last_below(self.list.as_slice(), line) {
+            Some(label) => self.push_place(alloc, text, label, line.saturating_mul(64)),
+            None => text.push_str("-"),
+        }
+    }
+
+    // Adds a symbol's name, and the distance from it to an address above it.
+    fn push_place(
+        &self,
+        alloc: Global,
+        text: &mut String,
+        label: Label<'_>,
+        address: u32,
+    ) -> Result<(), AllocError> {
+        self.push_name(alloc, text, &label.name)?;
+        if label.address < address {
+            let distance = format!(in alloc; "+{:#x}", address - label.address)?;
+            text.push_str(distance.as_str())?;
+        }
+        Ok(())
     }
 
     // Adds a symbol's whole name.
@@ -144,12 +169,31 @@ impl<'a> Labels<'a> {
     }
 }
 
-// The address behind the image; of an executable behind its memory, zeros that it does not store with it.
-fn end_of(file: &ProgramFile<'_>) -> u64 {
+// The address behind the last symbol that is told. A label of a source can stand at its image's end, and a symbol of an
+// executable anywhere in memory.
+fn end_of(file: &ProgramFile<'_>) -> u32 {
     match file {
-        ProgramFile::Elf(elf) => u64::from(elf.end()),
-        _ => u64::from(file.base()).saturating_add(file.bytes().len() as u64),
+        ProgramFile::Elf(_) => MOST_MEMORY,
+        _ => {
+            let size = file.bytes().len().min(MOST_MEMORY as usize) as u32;
+            file.base().saturating_add(size).saturating_add(1)
+        }
     }
+}
+
+// The last symbol below a line: of several at one address the last in the source.
+fn last_below<'a>(list: &[Label<'a>], line: u32) -> Option<Label<'a>> {
+    let mut last: Option<Label<'a>> = None;
+    for label in list {
+        if label.address / 64 >= line {
+            continue;
+        }
+        match last {
+            Some(best) if best.address > label.address => {}
+            _ => last = Some(*label),
+        }
+    }
+    last
 }
 
 // Adds a part of a name in this form.

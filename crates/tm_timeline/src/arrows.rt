@@ -3,7 +3,7 @@
 ghost use Rattle.std.specs.Prelude.{◌≤◌};
 
 use crate::bars::{BAR, draw_hit, draw_line};
-use crate::frame::{ROW, Sheet};
+use crate::frame::Sheet;
 use crate::label::LineLabels;
 use crate::spans::{Arrow, Hit, Spans};
 use crate::svg::Svg;
@@ -61,7 +61,7 @@ fn place_of(sheet: &Sheet<'_>, arrow: &Arrow) -> Option<Place> {
     let top = sheet.top(row);
     let by = sheet.rows.row_of(arrow.hit.by);
     let (tail, head, gap) = match by {
-        Some(by) if by < row => (sheet.top(by) + BAR + 7, top - 1, by),
+        Some(by) if by < row => (sheet.top(by) + sheet.instructions() + BAR + 7, top - 1, by),
         Some(by) => (sheet.top(by) - 2, top + BAR + 6, row),
         None => (top - 18, top - 1, row),
     };
@@ -158,7 +158,7 @@ fn draw_name<O: Out, L: LineLabels>(
         Side::Right => ("n", place.x.plus(50)),
         Side::Left => ("n e", place.x.past(Tenths(50))),
     };
-    let y = sheet.top(place.gap) + (ROW + BAR) / 2 + 6;
+    let y = sheet.gap(place.gap);
     svg.put(
         "<text class='{}' x='{}' y='{}'>",
         &[Word(class), Length(x), Number(y)],

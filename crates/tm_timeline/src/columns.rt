@@ -18,11 +18,11 @@ const FEW: u32 = 186;
 pub struct Share {
     /// In transactions that were committed.
     pub committed: u32,
-    /// In those that a conflict aborted, or that were doomed where the run ended.
+    /// In those that a conflict aborted.
     pub conflict: u32,
     /// In those that something else aborted.
     pub other: u32,
-    /// In those that are open.
+    /// In those that are open, doomed ones too.
     pub open: u32,
     /// Outside of transactions.
     pub outside: u32,
@@ -81,13 +81,11 @@ impl Share {
         let count = self.open;
         match fate {
             Fate::Committed => self.committed = self.committed.saturating_add(count),
-            Fate::Conflict(_) | Fate::Doomed => {
-                self.conflict = self.conflict.saturating_add(count);
-            }
+            Fate::Conflict(_) => self.conflict = self.conflict.saturating_add(count),
             Fate::Other(_) | Fate::Outside(_, _) => {
                 self.other = self.other.saturating_add(count);
             }
-            Fate::Open => return,
+            Fate::Doomed | Fate::Open => return,
         }
         self.open = 0;
     }

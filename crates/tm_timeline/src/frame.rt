@@ -2,6 +2,7 @@
 
 ghost use Rattle.std.specs.Prelude.{◌≤◌};
 
+use crate::bars::BAR;
 use crate::label::Label;
 use crate::rows::Rows;
 use crate::svg::Svg;
@@ -13,7 +14,10 @@ use ia_text::Out;
 const TOP: u32 = 46;
 
 /// The height of a row.
-pub const ROW: u32 = 54;
+const ROW: u32 = 54;
+
+/// The height of the instructions below a row: four lines.
+const INSTRUCTIONS: u32 = 38;
 
 /// The height of what stands below the axis.
 const BELOW: u32 = 74;
@@ -32,17 +36,33 @@ pub struct Sheet<'a> {
 }
 
 impl Sheet<'_> {
+    /// The height of the instructions below a row: nothing, where there is no room for them.
+    pub fn instructions(&self) -> u32
+        ensures { result ≤ 38 }
+    {
+        if self.window.has_instructions() {
+            INSTRUCTIONS
+        } else {
+            0
+        }
+    }
+
     /// Where a row begins, in pixels from above.
     pub fn top(&self, row: u8) -> u32
         ensures first { 46 ≤ result }
-        ensures last { result ≤ 13816 }
+        ensures last { result ≤ 23506 }
     {
-        TOP + ROW * u32::from(row)
+        TOP + (ROW + self.instructions()) * u32::from(row)
+    }
+
+    /// Where the name of a line stands below a row and its instructions.
+    pub fn gap(&self, row: u8) -> u32 {
+        self.top(row) + self.instructions() + (ROW + BAR) / 2 + 6
     }
 
     /// Where the rows end.
     pub fn foot(&self) -> u32
-        ensures { result ≤ 13816 }
+        ensures { result ≤ 23506 }
     {
         self.top(self.rows.count())
     }
@@ -60,10 +80,11 @@ font-family='DejaVu Sans,Helvetica,Arial,sans-serif' font-size='12' fill='#222'>
 // aborted it, and dotted where it is open.
 const STYLE: &str =
     "<style>.k{fill:#0072b2}.x{fill:#d55e00}.h{fill:url(#h)}.o{fill:#e69f00}.p{fill:#fff}.g{fill:#bbb}\
-.i{fill:#fff;stroke:#bbb}.q{fill:#ddd}.s{fill:#222}.b{stroke:#222}.b.x,.b.h{stroke-width:2}.b.o{stroke-dasharray:4 2}\
+.i{fill:#fff;stroke:#bbb}.q{fill:#ddd}.s{fill:#222}.v{fill:#e8e8e8}.b{stroke:#222}.b.x,.b.h{stroke-width:2}.b.o{stroke-dasharray:4 2}\
 .b.p{stroke-dasharray:1 2}.w{fill:#fff}.r{stroke:#bbb}.l{stroke:#222}.u{stroke:#fff;stroke-width:4}\
 .a{stroke:#222;stroke-width:1.5;marker-end:url(#m)}.n{font-size:11px;stroke:#fff;stroke-width:3;paint-order:stroke}\
-.m{font-size:11px;text-anchor:middle}.e{text-anchor:end}.c{font-size:14px;font-weight:bold}</style>
+.m{font-size:11px;text-anchor:middle}.e{text-anchor:end}.c{font-size:14px;font-weight:bold}\
+.d{font-size:10px}.f{font-size:8px}.j{font-size:11px}.y{fill:#fff;stroke:#777}</style>
 <defs><pattern id='h' width='6' height='6' patternUnits='userSpaceOnUse' patternTransform='rotate(45)'>\
 <rect width='6' height='6' fill='#fff'/><rect width='2.5' height='6' fill='#d55e00'/></pattern>\
 <marker id='m' viewBox='0 0 8 8' refX='7' refY='4' markerWidth='8' markerHeight='8' markerUnits='userSpaceOnUse' \
@@ -72,7 +93,7 @@ orient='auto'><path d='M0 0L8 4L0 8z' fill='#222'/></marker></defs>
 
 /// Draws the head of a picture, and the names of its rows. So much height is added below the rows.
 pub fn draw_head<O: Out>(svg: &mut Svg<'_, O>, sheet: &Sheet<'_>, added: u32)
-    requires { added ≤ 100 }
+    requires { added ≤ 2000 }
 {
     let width = Number(WIDTH);
     let height = Number(sheet.foot() + added + BELOW);
@@ -117,7 +138,7 @@ fn draw_names<O: Out>(svg: &mut Svg<'_, O>, sheet: &Sheet<'_>) {
 
 /// Draws the axis of the steps at this height.
 pub fn draw_axis<O: Out>(svg: &mut Svg<'_, O>, sheet: &Sheet<'_>, y: u32)
-    requires { y ≤ 20000 }
+    requires { y ≤ 30000 }
 {
     svg.put(
         "<path class='l' d='M{} {}H{}'/>\n",
@@ -132,7 +153,7 @@ pub fn draw_axis<O: Out>(svg: &mut Svg<'_, O>, sheet: &Sheet<'_>, y: u32)
 
 // The number of a step below the axis, counted from 1.
 fn draw_number<O: Out>(svg: &mut Svg<'_, O>, window: Window, number: u32, y: u32)
-    requires { y ≤ 20000 }
+    requires { y ≤ 30000 }
 {
     let x = Length(window.middle(number.saturating_sub(1)));
     svg.put(

@@ -5,10 +5,13 @@ ghost use Rattle.tm_timeline.specs.Labels.{is_markup};
 
 use arrayvec::ArrayString;
 
-/// How many characters of a text are shown.
-const MOST: usize = 60;
+/// How many characters of a name are shown.
+const NAME: usize = 60;
 
-// Room for that many characters, each of six bytes at most, and for the mark of what is left out.
+/// How many characters of an instruction's text are shown: more than any has.
+const INSTRUCTION: usize = 110;
+
+// Room for the characters of a name, each of six bytes at most, and for the mark of what is left out.
 const ROOM: usize = 400;
 
 /// A text, escaped for XML, of which the first 60 characters are shown.
@@ -17,6 +20,8 @@ pub struct Label {
     text: ArrayString<ROOM>,
     // How many characters were given.
     given: usize,
+    // How many are shown.
+    most: usize,
 }
 
 impl Label {
@@ -25,7 +30,19 @@ impl Label {
         Label {
             text: ArrayString::new(),
             given: 0,
+            most: NAME,
         }
+    }
+
+    /// The text of an instruction, of which 110 characters are shown.
+    pub fn of_instruction(text: &str) -> Label {
+        let mut label = Label {
+            text: ArrayString::new(),
+            given: 0,
+            most: INSTRUCTION,
+        };
+        label.push(text);
+        label
     }
 
     /// A text.
@@ -45,12 +62,12 @@ impl Label {
     // Adds a character, or what stands for it. There is room for each.
     fn push_character(&mut self, character: char) {
         self.given = self.given.saturating_add(1);
-        if self.given <= MOST {
+        if self.given <= self.most {
             let _ = match stand_in(character) {
                 Some(text) => self.text.try_push_str(text).is_ok(),
                 None => self.text.try_push(character).is_ok(),
             };
-        } else if self.given == MOST + 1 {
+        } else if self.given - 1 == self.most {
             let _ = self.text.try_push_str("...").is_ok();
         }
     }

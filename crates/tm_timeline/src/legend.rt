@@ -78,19 +78,54 @@ const AREAS: [Entry; 5] = [
     },
 ];
 
-/// Draws what the classes of a picture of few steps mean, below an axis at this height, and ends the document.
-pub fn draw_bar_legend<O: Out>(svg: &mut Svg<'_, O>, axis: u32)
-    requires { axis ≤ 20000 }
+// The classes of steps that are drawn one by one, on a line of their own.
+const TICKS: [Entry; 3] = [
+    Entry {
+        x: 770,
+        class: "v",
+        meaning: "outside, waits",
+    },
+    Entry {
+        x: 544,
+        class: "s",
+        meaning: "stops",
+    },
+    Entry {
+        x: 664,
+        class: "i",
+        meaning: "has stopped",
+    },
+];
+
+/// The height of the line for steps that are drawn one by one.
+pub const TICK_LINE: u32 = 20;
+
+/// Draws what the classes of a picture of few steps mean, below an axis at this height, with those of steps where these are drawn
+/// one by one, and ends the document.
+pub fn draw_bar_legend<O: Out>(svg: &mut Svg<'_, O>, axis: u32, has_ticks: bool)
+    requires { axis ≤ 30000 }
 {
     let y = axis + 64;
     draw_entries(svg, &BARS, y);
     draw_arrow_entry(svg, y);
+    if has_ticks {
+        draw_entries(svg, &TICKS, y + TICK_LINE);
+        draw_tick_entry(svg, y + TICK_LINE);
+    }
     svg.text("</svg>\n");
+}
+
+// The step of a transaction, and its meaning.
+fn draw_tick_entry<O: Out>(svg: &mut Svg<'_, O>, y: u32) {
+    svg.put(
+        "<rect class='t' x='64' y='{}' width='14' height='3'/><text x='84' y='{}'>step of a transaction</text>\n",
+        &[Number(y.saturating_sub(6)), Number(y)],
+    );
 }
 
 /// Draws what the classes of a picture of many steps mean, below an axis at this height, and ends the document.
 pub fn draw_area_legend<O: Out>(svg: &mut Svg<'_, O>, axis: u32)
-    requires { axis ≤ 20000 }
+    requires { axis ≤ 30000 }
 {
     draw_entries(svg, &AREAS, axis + 64);
     svg.text("</svg>\n");

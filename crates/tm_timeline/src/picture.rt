@@ -6,11 +6,12 @@ use crate::bars::draw_bars;
 use crate::columns::Columns;
 use crate::frame::{Sheet, draw_axis, draw_head};
 use crate::label::LineLabels;
-use crate::legend::{draw_area_legend, draw_bar_legend};
+use crate::legend::{TICK_LINE, draw_area_legend, draw_bar_legend};
 use crate::spans::Spans;
 use crate::strip::draw_strip;
 use crate::svg::Svg;
 use crate::ticks::draw_ticks;
+use crate::variables::{HEIGHT, Variables};
 use ia_text::Out;
 
 /// What is drawn.
@@ -22,15 +23,16 @@ pub enum Picture {
     Many(Columns),
 }
 
-/// Draws a picture as an SVG document.
+/// Draws a picture as an SVG document; variables, where transactions are drawn one by one.
 pub fn draw<O: Out, L: LineLabels>(
     svg: &mut Svg<'_, O>,
     sheet: &Sheet<'_>,
     picture: &Picture,
+    variables: &Variables,
     labels: &L,
 ) {
     match picture {
-        Picture::Few(spans) => draw_spans(svg, sheet, spans, labels),
+        Picture::Few(spans) => draw_spans(svg, sheet, spans, variables, labels),
         Picture::Many(columns) => draw_columns(svg, sheet, columns),
     }
 }
@@ -39,14 +41,23 @@ fn draw_spans<O: Out, L: LineLabels>(
     svg: &mut Svg<'_, O>,
     sheet: &Sheet<'_>,
     spans: &Spans,
+    variables: &Variables,
     labels: &L,
 ) {
-    draw_head(svg, sheet, 0);
+    let has_ticks = sheet.window.has_ticks();
+    let below = HEIGHT * variables.count();
+    draw_head(
+        svg,
+        sheet,
+        if has_ticks { below + TICK_LINE } else { below },
+    );
     draw_ticks(svg, sheet, spans);
     draw_bars(svg, sheet, spans, labels);
     draw_arrows(svg, sheet, spans, labels);
-    draw_axis(svg, sheet, sheet.foot());
-    draw_bar_legend(svg, sheet.foot());
+    variables.draw(svg, sheet.window, sheet.foot());
+    let axis = sheet.foot() + below;
+    draw_axis(svg, sheet, axis);
+    draw_bar_legend(svg, axis, has_ticks);
 }
 
 fn draw_columns<O: Out>(svg: &mut Svg<'_, O>, sheet: &Sheet<'_>, columns: &Columns) {

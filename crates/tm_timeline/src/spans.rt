@@ -3,6 +3,7 @@
 ghost use Rattle.std.specs.Prelude.{◌≡◌, ◌<◌, ◌≤◌, ◌++◌, ◌∷◌, ◌↔◌, [], IsTrue, OnErr, OnOk};
 
 use crate::fate::Fate;
+use crate::step_text::StepText;
 use crate::window::Window;
 use std::alloc::{AllocError, Global};
 use tm_model::Outcome;
@@ -60,6 +61,10 @@ pub struct Step {
     pub core: u8,
     /// What it was.
     pub outcome: Outcome,
+    /// Whether its core waited.
+    pub waits: bool,
+    /// The index of the text that tells what it did, where that is told.
+    pub text: Option<usize>,
 }
 
 /// What a picture of few steps shows.
@@ -71,6 +76,8 @@ pub struct Spans {
     pub arrows: Vec<Arrow>,
     /// The steps, where they are drawn one by one.
     pub steps: Vec<Step>,
+    // What they did, where that is told.
+    texts: Vec<StepText>,
 }
 
 impl Spans {
@@ -82,6 +89,7 @@ impl Spans {
             spans: Vec::new(alloc),
             arrows: Vec::new(alloc),
             steps: Vec::new(alloc),
+            texts: Vec::new(alloc),
         }
     }
 
@@ -92,6 +100,33 @@ impl Spans {
         match self.steps.push(step) {
             Ok(()) => Ok(()),
             Err(_) => Err(AllocError),
+        }
+    }
+
+    /// What a step did, where that is told.
+    pub fn text_of(&self, step: Step) -> Option<&StepText> {
+        self.texts.as_slice().get(step.text?)
+    }
+
+    /// Takes up what the last step did.
+    pub fn describe_last(&mut self, text: StepText) -> Result<(), AllocError>
+        ensures { self.new.spans.items ≡ self.old.spans.items }
+    {
+        let index = self.texts.len();
+        self.texts.push(text)?;
+        let count = self.steps.len();
+        if count > 0 {
+            self.steps[count - 1].text = Some(index);
+        }
+        Ok(())
+    }
+
+    /// Marks the steps of a core outside of transactions, from this one on, as steps in which it waited.
+    pub fn mark_waits(&mut self, core: u8, from: u32)
+        ensures { self.new.spans.items ≡ self.old.spans.items }
+    {
+        for step in self.steps.iter_mut() {
+            step.waits = step.waits || (step.core == core && step.number >= from);
         }
     }
 

@@ -4,21 +4,36 @@ ghost use Rattle.std.specs.Prelude.{◌≤◌};
 
 use crate::bars::BAR;
 use crate::frame::Sheet;
+use crate::instructions::draw_instruction;
 use crate::spans::{Spans, Step};
+use crate::step_text::{StepText, draw_step_text};
 use crate::svg::Svg;
 use crate::value::Value::{Core, Length, Number, Word};
 use crate::window::{LEFT, RIGHT, number_of};
 use ia_text::Out;
 use tm_model::Outcome;
 
-/// Draws a line for each row, and the steps on it.
+/// Draws a line for each row, and the steps on it, with their instructions where there is room.
 pub fn draw_ticks<O: Out>(svg: &mut Svg<'_, O>, sheet: &Sheet<'_>, spans: &Spans) {
     draw_rows(svg, sheet);
-    for step in spans.steps.as_slice() {
+    for index in 0..spans.steps.len() {
+        let step = spans.steps[index];
         if let Some(row) = sheet.rows.row_of(step.core) {
-            draw_step(svg, sheet, *step, sheet.top(row));
+            let top = sheet.top(row);
+            let text = spans.text_of(step);
+            draw_step(svg, sheet, step, text, top);
+            if sheet.window.has_instructions() {
+                let next = next_of(&spans.steps.as_slice()[index + 1..], step.core);
+                draw_instruction(svg, sheet, step.number, text, top, next);
+            }
         }
     }
+}
+
+// The number of the first of these steps that a core makes, if there is one.
+fn next_of(steps: &[Step], core: u8) -> Option<u32> {
+    let next = steps.iter().find(|step| step.core == core)?;
+    Some(next.number)
 }
 
 // A line for each row.
@@ -33,53 +48,70 @@ fn draw_rows<O: Out>(svg: &mut Svg<'_, O>, sheet: &Sheet<'_>) {
 }
 
 // A step of the row that begins there: on it where the step is outside of transactions, and below the bar where it is one of a
-// transaction.
-fn draw_step<O: Out>(svg: &mut Svg<'_, O>, sheet: &Sheet<'_>, step: Step, top: u32)
-    requires { top ≤ 20000 }
+// transaction. Its title says what it was.
+fn draw_step<O: Out>(
+    svg: &mut Svg<'_, O>,
+    sheet: &Sheet<'_>,
+    step: Step,
+    text: Option<&StepText>,
+    top: u32,
+)
+    requires { top ≤ 30000 }
 {
-    let Step {
-        number,
-        core,
-        outcome,
-    } = step;
-    let x = sheet.window.place(number);
-    let next = sheet.window.place(number.saturating_add(1));
+    let x = sheet.window.place(step.number);
+    let next = sheet.window.place(step.number.saturating_add(1));
     let width = next.past(x).less_gap();
-    match look_of(outcome) {
-        Some(Look { class, word }) => svg.put(
-            "<rect class='{}' x='{}' y='{}' width='{}' height='8'><title>step {}: core {} {}</title></rect>\n",
-            &[
-                Word(class),
-                Length(x),
-                Number(top + BAR / 2 - 4),
-                Length(width),
-                Number(number_of(number)),
-                Core(core),
-                Word(word),
-            ],
-        ),
-        None => svg.put(
-            "<rect x='{}' y='{}' width='{}' height='3'/>\n",
-            &[Length(x), Number(top + BAR + 2), Length(width)],
-        ),
+    let look = look_of(step);
+    let (y, height) = if look.is_inside {
+        (top + BAR + 2, 3)
+    } else {
+        (top + BAR / 2 - 4, 8)
+    };
+    svg.put(
+        "<rect class='{}' x='{}' y='{}' width='{}' height='{}'><title>step {}: core {} {}",
+        &[
+            Word(look.class),
+            Length(x),
+            Number(y),
+            Length(width),
+            Number(height),
+            Number(number_of(step.number)),
+            Core(step.core),
+            Word(look.word),
+        ],
+    );
+    if let Some(text) = text {
+        draw_step_text(svg, text);
     }
+    svg.text("</title></rect>\n");
 }
 
-// How a step outside of transactions is drawn.
+// How a step is drawn.
 #[derive(Clone, Copy)]
 struct Look {
+    // Whether it is one of a transaction.
+    is_inside: bool,
     class: &'static str,
     word: &'static str,
 }
 
-// How a step is drawn that is outside of transactions.
-fn look_of(outcome: Outcome) -> Option<Look> {
-    let (class, word) = match outcome {
-        Outcome::Plain => ("g", "plain"),
-        Outcome::Loaded => ("g", "loaded"),
-        Outcome::Stopped(_) => ("s", "stopped"),
-        Outcome::Idle => ("i", "idle"),
-        _ => return None,
+fn look_of(step: Step) -> Look {
+    let (is_inside, class, word) = match step.outcome {
+        Outcome::Plain if step.waits => (false, "v", "plain, waits"),
+        Outcome::Loaded if step.waits => (false, "v", "loaded, waits"),
+        Outcome::Plain => (false, "g", "plain"),
+        Outcome::Loaded => (false, "g", "loaded"),
+        Outcome::Stopped(_) => (false, "s", "stopped"),
+        Outcome::Idle => (false, "i", "idle"),
+        Outcome::Begun => (true, "t", "begun"),
+        Outcome::Inside => (true, "t", "inside"),
+        Outcome::Committed => (true, "t", "committed"),
+        Outcome::Aborted(_) => (true, "t", "aborted"),
+        Outcome::AbortedBy(_, _) => (true, "t", "aborted"),
     };
-    Some(Look { class, word })
+    Look {
+        is_inside,
+        class,
+        word,
+    }
 }

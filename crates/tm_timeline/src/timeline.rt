@@ -9,7 +9,9 @@ use crate::label::{Label, LineLabels};
 use crate::picture::{Picture, draw};
 use crate::rows::Rows;
 use crate::spans::{Arrow, Hit, LineUse, Span, Spans, Step, is_drawn};
+use crate::step_text::StepText;
 use crate::svg::Svg;
+use crate::variables::Variables;
 use crate::window::Window;
 use ia_text::{Out, WriteFault};
 use std::alloc::{AllocError, Global};
@@ -29,6 +31,7 @@ pub struct Timeline {
     // The open transaction of each core.
     open: [Option<Transaction>; CORES],
     picture: Picture,
+    variables: Variables,
 }
 
 // An open transaction.
@@ -58,7 +61,47 @@ impl Timeline {
             next: 0,
             open: [None; CORES],
             picture,
+            variables: Variables::new(alloc),
         })
+    }
+
+    /// One more variable that is drawn below the cores, where transactions are drawn one by one. Of more than 64 the first are.
+    pub fn add_variable(&mut self, alloc: Global, name: Label) -> Result<(), AllocError> {
+        match self.picture {
+            Picture::Few(_) => self.variables.add(alloc, name),
+            Picture::Many(_) => Ok(()),
+        }
+    }
+
+    /// Tells what memory has at a variable, the first of which is 0, behind the steps that were told.
+    pub fn tell_variable(&mut self, index: usize, value: u32) -> Result<(), AllocError> {
+        self.variables.tell(index, self.window, self.next, value)
+    }
+
+    /// Whether the next step is drawn as one, with what it did.
+    pub fn shows_steps(&self) -> bool {
+        self.shows_lines() && self.window.has_ticks()
+    }
+
+    /// Tells what the last step did that was told and is drawn as one.
+    pub fn describe(&mut self, text: StepText) -> Result<(), AllocError> {
+        match &mut self.picture {
+            Picture::Few(spans) => spans.describe_last(text),
+            Picture::Many(_) => Ok(()),
+        }
+    }
+
+    /// The number of the next step, counted from 0.
+    pub fn next(&self) -> u32 {
+        self.next
+    }
+
+    /// Tells that a core waited in its steps outside of transactions from this one on, counted from 0.
+    pub fn waited(&mut self, core: u8, from: u32) {
+        match &mut self.picture {
+            Picture::Few(spans) => spans.mark_waits(core, from),
+            Picture::Many(_) => {}
+        }
     }
 
     /// Whether a hit of the next step is drawn with its line.
@@ -173,6 +216,8 @@ impl Timeline {
                 number,
                 core,
                 outcome,
+                waits: false,
+                text: None,
             }),
             Picture::Few(_) => Ok(()),
         }
@@ -260,7 +305,7 @@ impl Timeline {
             cores: self.cores,
         };
         let mut svg = Svg::new(out);
-        draw(&mut svg, &sheet, &self.picture, labels);
+        draw(&mut svg, &sheet, &self.picture, &self.variables, labels);
         svg.finish()
     }
 }

@@ -60,6 +60,11 @@ impl Window {
         u64::from(self.steps()) * 4 <= PIXELS
     }
 
+    /// Whether a step has 40 pixels at least, so that instructions are drawn. These are 27 steps at most.
+    pub fn has_instructions(&self) -> bool {
+        u64::from(self.steps()) * 40 <= PIXELS
+    }
+
     /// The nearest place between the steps that are drawn: the window's first step, this one, or the one behind the last.
     pub fn clamped(&self, step: u32) -> u32
         ensures first { self.now.from ≤ result }
