@@ -1,0 +1,10 @@
+mod Parts
+mod Own
+mod Rows
+mod Moved
+mod Others
+mod Memory
+mod Step
+mod Run
+mod Lists
+mod Made

@@ -1,0 +1,46 @@
+//! What the machine shows of a core before its step.
+
+ghost use Rattle.std.specs.Prelude.{IfOk};
+ghost use Rattle.tm_page.specs.Before.{IsBefore};
+
+use crate::lines::lines_of;
+use ia_regs::Regs;
+use std::alloc::Global;
+use tm_core::{Machine, Reach, RunFault};
+use tm_sets::Kind;
+use tm_why::Asked;
+
+/// What the machine shows of a core before its step, and what it says of that step.
+#[derive(Drop)]
+pub struct Before {
+    /// Whom the step hits, and why it is an abort.
+    pub asked: Asked,
+    /// The registers of the core.
+    pub regs: Regs,
+    /// Which bytes the step reaches.
+    pub reach: Reach,
+    /// The lines of its read set.
+    pub reads: Vec<u32>,
+    /// The lines of its write set.
+    pub writes: Vec<u32>,
+}
+
+impl Before {
+    /// What the machine shows of this core. `NoSuchCore` (42), or `NoMemory` (43).
+    pub fn of(alloc: Global, machine: &Machine, core: u8) -> Result<Before, RunFault>
+        ensures { IfOk result (IsBefore machine.now core) }
+    {
+        if core >= machine.cores() {
+            return Err(RunFault::NoSuchCore);
+        }
+        let reads = lines_of(alloc, machine, core, Kind::Read)?;
+        let writes = lines_of(alloc, machine, core, Kind::Write)?;
+        Ok(Before {
+            asked: Asked::of(machine, core).unwrap(),
+            regs: machine.regs(core).unwrap(),
+            reach: machine.reach(core).unwrap(),
+            reads,
+            writes,
+        })
+    }
+}

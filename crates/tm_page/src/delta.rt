@@ -1,0 +1,49 @@
+//! What a step changes.
+
+use ia_regs::Flags;
+use tm_model::{CoreState, Hit, Outcome};
+use tm_rule::Access;
+
+/// A byte that was stored.
+#[derive(Clone, Copy, PartialEq, Eq, Debug)]
+pub struct StoredByte {
+    /// Where it stands.
+    pub address: u64,
+    /// What stands there behind the step.
+    pub byte: u8,
+}
+
+/// The registers that a step changed, each with its value behind the step.
+#[derive(Clone, Copy, PartialEq, Eq, Debug)]
+pub struct Changes {
+    /// Of EAX, ECX, EDX, EBX, ESP, EBP, ESI and EDI, by number.
+    pub gpr: [Option<u32>; 8],
+    /// The six flags.
+    pub flags: Option<Flags>,
+    /// The instruction pointer.
+    pub eip: Option<u32>,
+}
+
+/// What one step changed.
+#[derive(Drop, Debug)]
+pub struct PageDelta {
+    /// The core that stepped.
+    pub core: u8,
+    /// What its step was.
+    pub outcome: Outcome,
+    /// What the core is doing behind the step.
+    pub state: CoreState,
+    /// The registers of the core that are others behind the step.
+    pub registers: Changes,
+    /// The lines that joined its read set.
+    pub reads: Vec<u32>,
+    /// The lines that joined its write set.
+    pub writes: Vec<u32>,
+    /// Which bytes it loaded.
+    pub load: Option<Access>,
+    /// The bytes that it stored: of a step inside, those that its transaction keeps for itself; of a commit, all that it kept;
+    /// of any other step, memory's.
+    pub stored: Vec<StoredByte>,
+    /// For each core, the hit by which the step condemned its transaction, where it did.
+    pub hits: [Option<Hit>; 64],
+}

@@ -1,0 +1,154 @@
+//! What is other behind a step.
+
+ghost use Rattle.std.specs.Prelude.{◌≡◌, ◌<◌, ◌&&◌, not, ℕ, IfOk, Ok, Some, None, if◌then◌else◌, length, slice_index_or};
+ghost use Rattle.std.specs.FinSet as set;
+ghost use Rattle.tm_core.specs.Theorem.{ShownMachine, lines_shown, view_at};
+ghost use Rattle.tm_core.specs.TmModel.Runs.{is_aborted_by};
+ghost use Rattle.tm_page.specs.Applied.{hit_on, is_listed, patched, stored_at};
+ghost use Rattle.tm_page.specs.Before.{IsBefore};
+ghost use Rattle.tm_page.specs.Difference.{IsDifference, addresses_told, byte_told};
+ghost use Rattle.tm_page.specs.Shows.{IsAddress};
+
+use crate::before::Before;
+use crate::bytes::{accessed_bytes, memory_bytes, private_bytes};
+use crate::changes::changes;
+use crate::delta::{PageDelta, StoredByte};
+use crate::lines::{joined, lines_of};
+use std::alloc::{AllocError, Global};
+use tm_core::{Machine, RunFault};
+use tm_model::{Hit, Outcome};
+use tm_sets::Kind;
+use tm_why::Asked;
+
+/// What the step of this outcome changed, of what was shown before it, where these are all addresses at which the transaction
+/// of its core keeps a byte for itself. `NoSuchCore` (42), or `NoMemory` (43).
+pub fn delta_of(
+    alloc: Global,
+    before: &Before,
+    outcome: Outcome,
+    kept: &[u64],
+    machine: &Machine,
+) -> Result<PageDelta, RunFault>
+    ensures { IfOk result (λ delta. (start : ShownMachine) → IsBefore start before.now.asked.core before.now →
+        IsDifference start machine.now before.now.asked.core outcome before.now.reach kept.now delta) }
+{
+    let core = before.asked.core;
+    if core >= machine.cores() {
+        return Err(RunFault::NoSuchCore);
+    }
+    let reads = lines_joined(alloc, machine, core, Kind::Read, before.reads.as_slice())?;
+    let writes = lines_joined(alloc, machine, core, Kind::Write, before.writes.as_slice())?;
+    let stored = granted(stored_by(alloc, before, outcome, kept, machine))?;
+    Ok(put_together(before, outcome, reads, writes, stored, machine))
+}
+
+// A delta of these lists, and of what the machine shows behind the step.
+fn put_together(
+    before: &Before,
+    outcome: Outcome,
+    reads: Vec<u32>,
+    writes: Vec<u32>,
+    stored: Vec<StoredByte>,
+    machine: &Machine,
+) -> PageDelta
+    requires { before.now.asked.core < length machine.now.views }
+    ensures core { result.core ≡ before.now.asked.core }
+    ensures outcome { result.outcome ≡ outcome }
+    ensures state { result.state ≡ (view_at machine.now before.now.asked.core).mode }
+    ensures registers { patched result.registers before.now.regs ≡ (view_at machine.now before.now.asked.core).regs }
+    ensures reads { result.reads ≡ reads }
+    ensures writes { result.writes ≡ writes }
+    ensures stored { result.stored ≡ stored }
+    ensures hits { (other : ℕ) → hit_on result other
+        ≡ (if is_aborted_by outcome then None else slice_index_or before.now.asked.hits other None) }
+{
+    let core = before.asked.core;
+    PageDelta {
+        core,
+        outcome,
+        state: machine.state(core).unwrap(),
+        registers: changes(&before.regs, &machine.regs(core).unwrap()),
+        reads,
+        writes,
+        load: before.reach.load,
+        stored,
+        hits: hits_made(&before.asked, outcome),
+    }
+}
+
+// The lines of a set that were not in it before.
+fn lines_joined(
+    alloc: Global,
+    machine: &Machine,
+    core: u8,
+    kind: Kind,
+    old: &[u32],
+) -> Result<Vec<u32>, RunFault>
+    ensures { IfOk result (λ lines. (line : ℕ) → is_listed lines.items line
+        ≡ (set.contains (lines_shown (view_at machine.now core) kind) line && not (is_listed old.now line))) }
+{
+    let new = lines_of(alloc, machine, core, kind)?;
+    granted(joined(alloc, old, new.as_slice()))
+}
+
+// A list, where there is memory for it.
+fn granted<T>(made: Result<Vec<T>, AllocError>) -> Result<Vec<T>, RunFault>
+    ensures { IfOk result (λ list. made ≡ Ok list) }
+{
+    match made {
+        Ok(list) => Ok(list),
+        Err(_) => Err(RunFault::NoMemory),
+    }
+}
+
+// The bytes that a step stored.
+fn stored_by(
+    alloc: Global,
+    before: &Before,
+    outcome: Outcome,
+    kept: &[u64],
+    machine: &Machine,
+) -> Result<Vec<StoredByte>, AllocError>
+    requires { before.now.asked.core < length machine.now.views }
+    ensures { IfOk result (λ bytes. (address : ℕ) → IsAddress (length machine.now.memory) address → stored_at bytes.items address
+        ≡ (if is_listed (addresses_told outcome before.now.reach kept.now) address
+        then Some (byte_told outcome machine.now before.now.asked.core address)
+        else None)) }
+{
+    match outcome {
+        Outcome::Inside => private_bytes(alloc, machine, before.asked.core, before.reach.store),
+        Outcome::Plain => accessed_bytes(alloc, machine.view(), before.reach.store),
+        Outcome::Committed => memory_bytes(alloc, machine.view(), kept),
+        Outcome::Loaded
+        | Outcome::Stopped(_)
+        | Outcome::Idle
+        | Outcome::Begun
+        | Outcome::Aborted(_)
+        | Outcome::AbortedBy(_, _) => Ok(Vec::new(alloc)),
+    }
+}
+
+// The hits of a step that was made: none, where an abort from outside came in its place.
+fn hits_made(asked: &Asked, outcome: Outcome) -> [Option<Hit>; 64]
+    ensures { (other : ℕ) → slice_index_or result other None
+        ≡ (if is_aborted_by outcome then None else slice_index_or asked.now.hits other None) }
+{
+    match outcome {
+        Outcome::AbortedBy(_, _) => no_hits(),
+        Outcome::Plain
+        | Outcome::Loaded
+        | Outcome::Stopped(_)
+        | Outcome::Idle
+        | Outcome::Begun
+        | Outcome::Inside
+        | Outcome::Committed
+        | Outcome::Aborted(_) => asked.hits,
+    }
+}
+
+// No hit on any core.
+fn no_hits() -> [Option<Hit>; 64]
+    ensures { (other : ℕ) → slice_index_or result other None ≡ None }
+{
+    [None; 64]
+}
