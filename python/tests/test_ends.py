@@ -221,7 +221,8 @@ class NoElide(Case):
 
     def test_commands(self) -> None:
         whole = (
-            '{"format":1,"command":"outcomes","show":[],"outcomes":[],"states":1,"whole":true'
+            '{"format":1,"command":"outcomes","show":[],"outcomes":[],"violations":[],"stops":[]'
+            ',"stuck":null,"states":1,"whole":true'
             ',"status":0}'
         )
         for text in (
@@ -246,7 +247,8 @@ class NoElide(Case):
                         elide.outcomes(program, "")
         path = self.fake(f"print({whole!r})")
         with elide.Program.from_source(COUNTER, elide=path) as program:
-            self.assertEqual(elide.outcomes(program, ""), elide.Outcomes((), (), 1, True))
+            found = elide.outcomes(program, "")
+            self.assertEqual(found, elide.Outcomes((), (), (), (), None, 1, True))
 
     def test_a_replay_that_differs(self) -> None:
         """Its status is that of a fault, and its object is whole."""
