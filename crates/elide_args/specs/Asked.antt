@@ -10,6 +10,7 @@ use Rattle.elide_args.specs.declared.hunt_options.HuntOptions.{HuntOptions}
 use Rattle.elide_args.specs.declared.subcommand.DrawOptions.{DrawOptions}
 use Rattle.elide_args.specs.declared.subcommand.MachineOptions.{MachineOptions}
 use Rattle.elide_args.specs.declared.subcommand.OutcomesOptions.{OutcomesOptions}
+use Rattle.elide_args.specs.declared.subcommand.PageOptions.{PageOptions}
 use Rattle.elide_args.specs.declared.subcommand.ReplayOptions.{ReplayOptions}
 use Rattle.elide_args.specs.declared.subcommand.RunOptions.{RunOptions}
 use Rattle.elide_args.specs.declared.subcommand.ScheduleOptions.{ScheduleOptions}
@@ -20,7 +21,7 @@ use Rattle.elide_args.specs.declared.subcommand.TestOptions.{TestOptions}
 use Rattle.elide_args.specs.declared.subcommand.ThreadsOptions.{ThreadsOptions}
 use Rattle.elide_args.specs.declared.subcommand.Subcommand.TheVariants.{Asm, Dis, Run, Threads, Replay, Debug, Gdb}
 use Rattle.elide_args.specs.declared.subcommand.Subcommand.TheVariants.{Hunt}
-use Rattle.elide_args.specs.declared.subcommand.Subcommand.TheVariants.{Outcomes, Test, Stats, Draw, Explain}
+use Rattle.elide_args.specs.declared.subcommand.Subcommand.TheVariants.{Outcomes, Test, Stats, Draw, Page, Explain}
 
 -- the flag of this name: false, unless clap read `true` of it
 pub record IsFlag (found : Found) (name : List ℕ) (flag : Bool) : Type 0 where
@@ -108,6 +109,7 @@ pub record IsSearch (found : Found) (options : OutcomesOptions) : Type 0 where
   pub forbids : texts_of options.forbids.items ≡ values_of found (codes "forbid")
   pub stops : texts_of options.stops.items ≡ values_of found (codes "stop")
   pub stuck : IsFlag found (codes "stuck") options.asks_stuck
+  pub page : texts_of options.page.items ≡ values_of found (codes "page")
   pub json : IsFlag found (codes "json") options.is_json
 
 pub record IsHunt (found : Found) (options : HuntOptions) : Type 0 where
@@ -124,6 +126,7 @@ pub record IsHunt (found : Found) (options : HuntOptions) : Type 0 where
   pub limit : first_value found (codes "limit") ≡ option_copied options.limit
   pub jobs : first_value found (codes "jobs") ≡ option_copied options.jobs
   pub path : first_value found (codes "record") ≡ option_copied options.«record»
+  pub page : first_value found (codes "page") ≡ option_copied options.page
   pub json : IsFlag found (codes "json") options.is_json
 
 pub record IsTrying (found : Found) (options : TestOptions) : Type 0 where
@@ -153,6 +156,16 @@ pub record IsPicture (found : Found) (options : DrawOptions) : Type 0 where
   pub to : first_value found (codes "to") ≡ option_copied options.to
   pub cores : first_value found (codes "core") ≡ option_copied options.cores
 
+pub record IsPage (found : Found) (options : PageOptions) : Type 0 where
+  pub machine : IsMachine found options.machine
+  pub shown : IsShown found options.machine
+  pub schedule : IsSchedule found options.schedule
+  pub from : first_value found (codes "from") ≡ option_copied options.from
+  pub to : first_value found (codes "to") ≡ option_copied options.to
+  pub notes : texts_of options.notes.items ≡ values_of found (codes "note")
+  pub title : first_value found (codes "title") ≡ option_copied options.title
+  pub output : first_value found (codes "output") ≡ option_copied options.output
+
 -- the subcommand of this name, with these values
 abbrev pub Asks : Found → List ℕ → Subcommand → Type 0
 Asks found name (Asm options) =
@@ -171,5 +184,6 @@ Asks found name (Outcomes options) = (name ≡ codes "outcomes") × IsSearch fou
 Asks found name (Test options) = (name ≡ codes "test") × IsTrying found options
 Asks found name (Stats options) = (name ≡ codes "stats") × IsCounting found options
 Asks found name (Draw options) = (name ≡ codes "draw") × IsPicture found options
+Asks found name (Page options) = (name ≡ codes "page") × IsPage found options
 Asks found name (Explain options) =
     (name ≡ codes "explain") × (first_value found (codes "FAULT") ≡ option_copied options.fault)

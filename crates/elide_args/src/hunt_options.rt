@@ -29,6 +29,8 @@ pub struct HuntOptions<'a> {
     pub jobs: Option<&'a str>,
     /// `--record`: the path that the schedule is written to.
     pub record: Option<&'a str>,
+    /// `--page`: the path that the page of the run that fails is written to.
+    pub page: Option<&'a str>,
     /// Whether JSON is printed in place of lines.
     pub is_json: bool,
 }

@@ -7,6 +7,7 @@
 
 mod hunt_options;
 mod line;
+mod near;
 mod options;
 mod subcommand;
 mod subcommands;
@@ -15,7 +16,7 @@ mod words;
 pub use hunt_options::HuntOptions;
 pub use subcommand::{
     AsmOptions, CommandLine, DisOptions, DrawOptions, ExplainOptions, MachineOptions,
-    OutcomesOptions, ReplayOptions, RunOptions, ScheduleOptions, SessionOptions, StatsOptions,
-    Subcommand, TestOptions, ThreadsOptions,
+    OutcomesOptions, PageOptions, ReplayOptions, RunOptions, ScheduleOptions, SessionOptions,
+    StatsOptions, Subcommand, TestOptions, ThreadsOptions,
 };
 pub use words::{NotASubcommand, command_line_of};

@@ -53,6 +53,10 @@ fn argument<'a>(alloc: Global, option: &OptionText) -> Arg<'a> {
         Form::Default(value, default) => {
             with_value(plain, option.name, value).default_value(default)
         }
+        Form::Each(values) => plain
+            .long(option.name)
+            .value_names(values)
+            .action(ArgAction::Set),
     }
 }
 

@@ -30,6 +30,8 @@ pub enum Form {
     Several(&'static str),
     /// `--name` and a value of this name, or else the second.
     Default(&'static str, &'static str),
+    /// `--name` and one value of each of these names.
+    Each(&'static [&'static str]),
 }
 
 pub const SOURCE: OptionText = OptionText {
@@ -306,6 +308,54 @@ pub const SHOW_DRAWN: OptionText = OptionText {
     name: "show",
     form: Form::Several("AT"),
     help: "Draws a row of the doubleword there, where it changes; AT is a sum of symbols and numbers",
+};
+
+pub const SHOW_ON_PAGE: OptionText = OptionText {
+    name: "show",
+    form: Form::Several("AT"),
+    help: "Shows the doubleword there at each step, and what a core alone sees; AT is a sum of symbols and numbers [default: up to six symbols that transactions use]",
+};
+
+pub const NOTE: OptionText = OptionText {
+    name: "note",
+    form: Form::Several("STEP:TEXT"),
+    help: "Shows this text at this step, counted from 1, or at 0 before the first",
+};
+
+pub const TITLE: OptionText = OptionText {
+    name: "title",
+    form: Form::Value("TEXT"),
+    help: "The title of the page [default: the name of FILE]",
+};
+
+pub const FROM_ON_PAGE: OptionText = OptionText {
+    name: "from",
+    form: Form::Value("A"),
+    help: "The first step that the page has, counted from 1 [default: 1]",
+};
+
+pub const TO_ON_PAGE: OptionText = OptionText {
+    name: "to",
+    form: Form::Value("B"),
+    help: "The last step that the page has [default: the last]",
+};
+
+pub const OUTPUT: OptionText = OptionText {
+    name: "output",
+    form: Form::Value("PATH"),
+    help: "Writes the page to this file, whole or not at all [default: standard output]",
+};
+
+pub const PAGE_OF_FAILURE: OptionText = OptionText {
+    name: "page",
+    form: Form::Value("PATH"),
+    help: "Writes the shortened run that fails as a page to this file, as `elide page` does",
+};
+
+pub const PAGE_OF_OUTCOME: OptionText = OptionText {
+    name: "page",
+    form: Form::Each(&["N", "PATH"]),
+    help: "Writes the run of the Nth outcome, counted from 1, as a page to this file, as `elide page` does",
 };
 
 pub const STOP_OF_ALL: OptionText = OptionText {

@@ -40,6 +40,8 @@ pub enum Subcommand<'a> {
     Stats(StatsOptions<'a>),
     /// `draw`.
     Draw(DrawOptions<'a>),
+    /// `page`.
+    Page(PageOptions<'a>),
     /// `explain`.
     Explain(ExplainOptions<'a>),
 }
@@ -158,6 +160,8 @@ pub struct OutcomesOptions<'a> {
     pub stops: Vec<&'a str>,
     /// `--stuck`: whether states without a way to an end fail the search.
     pub asks_stuck: bool,
+    /// `--page`: the number of an outcome, and the path that the page of its run is written to; nothing, or both.
+    pub page: Vec<&'a str>,
     /// Whether JSON is printed in place of lines.
     pub is_json: bool,
 }
@@ -203,6 +207,25 @@ pub struct DrawOptions<'a> {
     pub to: Option<&'a str>,
     /// `--core`: the cores that are drawn.
     pub cores: Option<&'a str>,
+}
+
+/// The options of `page`.
+#[derive(Drop)]
+pub struct PageOptions<'a> {
+    /// The machine. Its `--show` are the variables that are shown.
+    pub machine: MachineOptions<'a>,
+    /// The schedule.
+    pub schedule: ScheduleOptions<'a>,
+    /// `--from`: the first step that the page has.
+    pub from: Option<&'a str>,
+    /// `--to`: the last step that the page has.
+    pub to: Option<&'a str>,
+    /// `--note`: the notes, in the order of the command line.
+    pub notes: Vec<&'a str>,
+    /// `--title`: the title.
+    pub title: Option<&'a str>,
+    /// `--output`: the path that the page is written to.
+    pub output: Option<&'a str>,
 }
 
 /// The options of each command that makes a machine, of which only FILE is there for certain.

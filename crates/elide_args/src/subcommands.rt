@@ -3,10 +3,11 @@
 use crate::options::{
     BUDGET, BURST, CHECK, CHECK_OF_ALL, CODE, COLOR, CORE, CORES, COUNTS, COUNTS_JSON, DUMP,
     DUMP_READ, ENTRY, EVENT_SEED, EVENT_SEED_OF_CORES, EVENTS, EVENTS_OF_ALL, EVENTS_OF_RUNS,
-    EXPECT_HALT, FAULT, FILE, FORBID, FORBID_OF_ALL, FROM, IN_TURN, JOBS, JSON, JSON_LINES, LABELS,
-    LIMIT, LIST, MEM, METHOD, NAMES, OptionText, RANDOM, READS, RECORD, RECORD_FIRST, RUNS,
-    SCHEDULE, SEED, SHOW, SHOW_DRAWN, SHOW_VALUE, SOURCE, STATES, STEPS, STOP, STOP_OF_ALL, STUCK,
-    TESTS, TESTS_JOBS, TESTS_LISTED, TO, TRACE, WHY, WORDS, WRITES,
+    EXPECT_HALT, FAULT, FILE, FORBID, FORBID_OF_ALL, FROM, FROM_ON_PAGE, IN_TURN, JOBS, JSON,
+    JSON_LINES, LABELS, LIMIT, LIST, MEM, METHOD, NAMES, NOTE, OUTPUT, OptionText, PAGE_OF_FAILURE,
+    PAGE_OF_OUTCOME, RANDOM, READS, RECORD, RECORD_FIRST, RUNS, SCHEDULE, SEED, SHOW, SHOW_DRAWN,
+    SHOW_ON_PAGE, SHOW_VALUE, SOURCE, STATES, STEPS, STOP, STOP_OF_ALL, STUCK, TESTS, TESTS_JOBS,
+    TESTS_LISTED, TITLE, TO, TO_ON_PAGE, TRACE, WHY, WORDS, WRITES,
 };
 
 /// A subcommand.
@@ -23,8 +24,8 @@ pub struct SubcommandText {
 }
 
 /// The subcommands, in the order of the help.
-pub const SUBCOMMANDS: [SubcommandText; 13] = [
-    ASM, DIS, RUN, THREADS, REPLAY, DEBUG, GDB, HUNT, OUTCOMES, TEST, STATS, DRAW, EXPLAIN,
+pub const SUBCOMMANDS: [SubcommandText; 14] = [
+    ASM, DIS, RUN, THREADS, REPLAY, DEBUG, GDB, HUNT, OUTCOMES, TEST, STATS, DRAW, PAGE, EXPLAIN,
 ];
 
 const ASM: SubcommandText = SubcommandText {
@@ -150,6 +151,7 @@ const HUNT: SubcommandText = SubcommandText {
         LIMIT,
         JOBS,
         RECORD,
+        PAGE_OF_FAILURE,
         JSON_LINES,
         WORDS,
         COLOR,
@@ -175,6 +177,7 @@ const OUTCOMES: SubcommandText = SubcommandText {
         FORBID_OF_ALL,
         STOP_OF_ALL,
         STUCK,
+        PAGE_OF_OUTCOME,
         JSON_LINES,
         WORDS,
         COLOR,
@@ -205,6 +208,35 @@ const DRAW: SubcommandText = SubcommandText {
     options: &[
         FILE, CORES, MEM, ENTRY, READS, WRITES, SHOW_DRAWN, STEPS, SCHEDULE, IN_TURN, RANDOM,
         EVENTS, EVENT_SEED, LIMIT, RECORD, FROM, TO, CORE, WORDS, COLOR,
+    ],
+};
+
+const PAGE: SubcommandText = SubcommandText {
+    name: "page",
+    about: "Runs a schedule of core steps and writes it as one HTML page to step through, forward and back",
+    example: "Example: elide page examples/conflict.asm --cores 2 --steps '0 0 0 1 1 1 0 1 0 0' --output page.html",
+    options: &[
+        FILE,
+        CORES,
+        MEM,
+        ENTRY,
+        READS,
+        WRITES,
+        SHOW_ON_PAGE,
+        STEPS,
+        SCHEDULE,
+        IN_TURN,
+        RANDOM,
+        EVENTS,
+        EVENT_SEED,
+        LIMIT,
+        FROM_ON_PAGE,
+        TO_ON_PAGE,
+        NOTE,
+        TITLE,
+        OUTPUT,
+        WORDS,
+        COLOR,
     ],
 };
 

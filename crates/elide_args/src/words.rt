@@ -2,16 +2,17 @@
 
 ghost use Rattle.std.specs.Prelude.{◌≡◌, IfOk, IfSome, Some, codes};
 ghost use Rattle.clap.specs.Matches.{first_value, found_of};
-ghost use Rattle.elide_args.specs.Asked.{Asks, IsCounting, IsHunt, IsMachine, IsPicture, IsSchedule};
+ghost use Rattle.elide_args.specs.Asked.{Asks, IsCounting, IsHunt, IsMachine, IsPage, IsPicture, IsSchedule};
 ghost use Rattle.elide_args.specs.Asked.{IsSearch, IsSession, IsShown, IsTrying, IsWork, ShowsNothing};
 ghost use Rattle.elide_args.specs.Asked.{texts_of, values_of};
 
 use crate::hunt_options::HuntOptions;
 use crate::line::command_line;
+use crate::near::near_subcommand;
 use crate::subcommand::{
     AsmOptions, CommandLine, DisOptions, DrawOptions, ExplainOptions, MachineOptions,
-    OutcomesOptions, ReplayOptions, RunOptions, ScheduleOptions, SessionOptions, StatsOptions,
-    Subcommand, TestOptions, ThreadsOptions,
+    OutcomesOptions, PageOptions, ReplayOptions, RunOptions, ScheduleOptions, SessionOptions,
+    StatsOptions, Subcommand, TestOptions, ThreadsOptions,
 };
 use clap::error::ErrorKind;
 use clap::{ArgMatches, Error};
@@ -46,23 +47,45 @@ pub fn command_line_of<'a, O: Out, E: Out>(
     };
     match line.try_get_matches_from(words) {
         Ok(matches) => asked(alloc, &matches).ok_or(NotASubcommand::NoMemory),
-        Err(error) => Err(told(&error, out, err)),
+        Err(error) => Err(told(alloc, &error, words, out, err)),
     }
 }
 
 // Tells why clap met no subcommand.
-fn told<O: Out, E: Out>(error: &Error, out: &mut O, err: &mut E) -> NotASubcommand {
+fn told<O: Out, E: Out>(
+    alloc: Global,
+    error: &Error,
+    words: &[&str],
+    out: &mut O,
+    err: &mut E,
+) -> NotASubcommand {
     match error.kind() {
         ErrorKind::OutOfMemory => NotASubcommand::NoMemory,
         ErrorKind::DisplayHelp | ErrorKind::DisplayVersion => match write(error, out) {
             Ok(()) => NotASubcommand::Helped,
             Err(_) => NotASubcommand::NotWritten,
         },
-        _ => {
+        ErrorKind::InvalidSubcommand => {
             // A failure here has no further place to be told.
+            let _ = write(error, err);
+            suggest(alloc, words, err);
+            NotASubcommand::Misused
+        }
+        _ => {
             let _ = write(error, err);
             NotASubcommand::Misused
         }
+    }
+}
+
+// Writes the name that the first word is near, in clap's words, where clap has written none.
+fn suggest<E: Out>(alloc: Global, words: &[&str], err: &mut E) {
+    let Some(word) = words.first() else {
+        return;
+    };
+    if let Ok(Some(name)) = near_subcommand(alloc, word) {
+        let mut device = Device { out: err };
+        let _ = writeln!(device, "\n  tip: a similar subcommand exists: '{name}'");
     }
 }
 
@@ -149,6 +172,7 @@ fn subcommand_named<'a>(
         "gdb" => Some(Subcommand::Gdb(session_of(alloc, file, options)?)),
         "stats" => Some(Subcommand::Stats(stats_of(alloc, file, options))),
         "draw" => Some(Subcommand::Draw(draw_of(alloc, file, options)?)),
+        "page" => Some(Subcommand::Page(page_of(alloc, file, options)?)),
         _ => None,
     }
 }
@@ -171,6 +195,7 @@ fn hunt_of<'a>(alloc: Global, options: &ArgMatches<'a>) -> Option<HuntOptions<'a
         limit: options.get_str("limit"),
         jobs: options.get_str("jobs"),
         record: options.get_str("record"),
+        page: options.get_str("page"),
         is_json: options.get_flag("json"),
     })
 }
@@ -190,6 +215,7 @@ fn search_of<'a>(alloc: Global, options: &ArgMatches<'a>) -> Option<OutcomesOpti
         forbids: several_of(alloc, options, "forbid").ok()?,
         stops: several_of(alloc, options, "stop").ok()?,
         asks_stuck: options.get_flag("stuck"),
+        page: several_of(alloc, options, "page").ok()?,
         is_json: options.get_flag("json"),
     })
 }
@@ -278,6 +304,21 @@ fn draw_of<'a>(alloc: Global, file: &'a str, options: &ArgMatches<'a>) -> Option
         from: options.get_str("from"),
         to: options.get_str("to"),
         cores: options.get_str("core"),
+    })
+}
+
+fn page_of<'a>(alloc: Global, file: &'a str, options: &ArgMatches<'a>) -> Option<PageOptions<'a>>
+    requires { first_value (found_of options.now) (codes "FILE") ≡ Some file.now }
+    ensures { IfSome result (IsPage (found_of options.now)) }
+{
+    Some(PageOptions {
+        machine: shown_machine_of(alloc, file, options)?,
+        schedule: schedule_of(options),
+        from: options.get_str("from"),
+        to: options.get_str("to"),
+        notes: several_of(alloc, options, "note").ok()?,
+        title: options.get_str("title"),
+        output: options.get_str("output"),
     })
 }
 
