@@ -37,13 +37,13 @@ pub enum ReadFault {
 
 /// A text that writes itself.
 pub trait Text {
-    // The bytes of the text.
-    ghost bytes: { Self → List ℕ };
+    // The text can have these bytes.
+    ghost tells: { Self → List ℕ → Type 0 };
 
     /// Writes the text, and gives the device back. A beginning of the text, where the device fails.
     fn write_to<O: Out + Drop>(&self, out: O) -> Result<O, WriteFault>
-        ensures written { IfOk result (λ given.
-            Appends (O.device out).contents (O.device given).contents (bytes self.now)) };
+        ensures written { IfOk result (λ given. (bytes : List ℕ) × tells self.now bytes
+            × Appends (O.device out).contents (O.device given).contents bytes) };
 }
 
 /// The files that a command reads and writes.
@@ -63,7 +63,7 @@ pub trait Paths {
     /// Makes a file with this text, or replaces one that is there. Where that fails, a file that was there stays as it was.
     /// What is no regular file, such as a device, is written as it is.
     fn write<T: Text>(&mut self, path: &str, text: &T) -> Result<(), Failed>
-        ensures written { OnOk result (IfSome (content self.new path.now) (λ bytes. bytes ≡ T.bytes text.now)) };
+        ensures written { OnOk result (IfSome (content self.new path.now) (T.tells text.now)) };
 
     /// Whether both paths lead to one regular file. No file is changed.
     fn is_same_file(&mut self, path: &str, other: &str) -> bool
