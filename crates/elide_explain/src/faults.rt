@@ -238,6 +238,10 @@ const FILES: &str = "\
     No test of that file is carried out.
     To do: see `Tests` in docs/FORMATS.md.
     Example: ; expect: nothing
+85 PageTooLong
+    Of `page`: the run has more than 200,000 steps, or its window, where --from or --to is given.
+    To do: choose a window of fewer steps by --from and --to, or a lower --limit.
+    Example: elide page examples/elision.asm --cores 8 --random 1
 ";
 
 const EXECUTABLES: &str = "\

@@ -29,6 +29,7 @@ fault_number fault.OutOfRange = 73
 fault_number fault.Output = 81
 fault_number fault.NoWords = 83
 fault_number (fault.BadTest line) = 84
+fault_number fault.PageTooLong = 85
 
 -- the line of a schedule that is told
 abbrev pub schedule_line : ScheduleFault → Option ℕ
@@ -53,6 +54,7 @@ fault_line fault.OutOfRange = None
 fault_line fault.Output = None
 fault_line fault.NoWords = None
 fault_line (fault.BadTest line) = Some line
+fault_line fault.PageTooLong = None
 
 -- 1 for a fault, 2 for a misuse
 abbrev pub refusal_status : Refusal → ℕ

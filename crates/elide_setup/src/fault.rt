@@ -62,6 +62,9 @@ pub enum Fault {
     /// A comment of a test cannot be read: its line, from 1.
     #[error("BadTest")]
     BadTest(usize),
+    /// A run has more steps than a page shows.
+    #[error("PageTooLong")]
+    PageTooLong,
 }
 
 impl Fault {
@@ -86,6 +89,7 @@ impl Fault {
             Fault::Output => 81,
             Fault::NoWords => 83,
             Fault::BadTest(_) => 84,
+            Fault::PageTooLong => 85,
         }
     }
 

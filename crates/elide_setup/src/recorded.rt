@@ -44,7 +44,7 @@ pub fn record<P: Paths>(path: Option<&str>, picks: &[Pick], paths: &mut P) -> Re
 struct Schedule<'a>(&'a [Pick]);
 
 impl Text for Schedule<'_> {
-    ghost bytes = { λ s. schedule_text s.0.now };
+    ghost tells = { λ s bytes. bytes ≡ schedule_text s.0.now };
 
     fn write_to<O: Out + Drop>(&self, out: O) -> Result<O, WriteFault> {
         let mut page = Gathered::new(out);

@@ -1,4 +1,4 @@
-use Rattle.std.proofs.Common.{ℕ, List, Option}
+use Rattle.std.proofs.Common.{ℕ, List, Option, refl}
 use Rattle.tm_schedule.specs.Schedule.{schedule_text}
 use Rattle.elide_setup.proofs.Records.{passed_on}
 use Rattle.elide_setup.specs.Gathering.{told}
@@ -9,6 +9,10 @@ pub returns : goal.returns
 returns g c =
     let held : Gathered g.row.O.Denot → Option (List ℕ) = λ m. told (g.O.Out.device m.out).contents (g.O.Out.device m.before.value).contents m.failures m.row.items in
     record {
-      written = passed_on (g.O.Out.device c.args.out).contents (held c.new-page.result) (held c.write_schedule.new.out) (g.O.Out.device c.in_ok-out.out).contents
-          (schedule_text c.args.self.now.0.now) c.new-page.ensures.kept c.in_ok-write_schedule.ensures.written.bytes c.in_ok-out.ensures.kept;
+      written = (
+        schedule_text c.args.self.now.0.now,
+        refl,
+        passed_on (g.O.Out.device c.args.out).contents (held c.new-page.result) (held c.write_schedule.new.out) (g.O.Out.device c.in_ok-out.out).contents
+            (schedule_text c.args.self.now.0.now) c.new-page.ensures.kept c.in_ok-write_schedule.ensures.written.bytes c.in_ok-out.ensures.kept,
+      );
     }

@@ -1,0 +1,62 @@
+//! Pages of runs that a command finds, as `hunt` and `outcomes` ask for them.
+
+ghost use Rattle.std.specs.Prelude.{◌≡◌, ℕ, IfOk, List};
+
+use crate::fault::Refusal;
+use elide_args::MachineOptions;
+use elide_program::Paths;
+use std::alloc::Global;
+use tm_hist::Pick;
+
+/// What became of the page of a run.
+#[derive(Clone, Copy, PartialEq, Eq, Debug)]
+pub enum Paged {
+    /// It was written, where one was asked for.
+    AsAsked,
+    /// The run has more steps than a page can have, and no file was changed.
+    TooLong,
+}
+
+/// What writes runs as pages. Commands that find a run are given it, so that they do not wait for the page's own crates.
+pub trait Pages {
+    /// Writes the run of these steps to a file, as a whole or not at all: of the machine of these options and of the program
+    /// whose text FILE has. 81 `Output` where the file cannot be written.
+    fn write_page<P: Paths>(
+        &self,
+        alloc: Global,
+        machine: &MachineOptions<'_>,
+        text: &[u8],
+        picks: &[Pick],
+        path: &str,
+        paths: &mut P,
+    ) -> Result<Paged, Refusal>;
+}
+
+/// The path that `--page` gives, which is neither that of the program nor that of the record.
+pub fn page_path<'a, P: Paths>(
+    path: Option<&'a str>,
+    file: &str,
+    record: Option<&str>,
+    paths: &mut P,
+) -> Result<Option<&'a str>, Refusal>
+    ensures kept { (other : List ℕ) → P.content paths.new other ≡ P.content paths.old other }
+    ensures given { IfOk result (λ given. given ≡ path.entry) }
+{
+    let Some(page) = path else {
+        return Ok(None);
+    };
+    if paths.is_same_file(page, file) || is_path(record, page, paths) {
+        return Err(Refusal::Usage("--page"));
+    }
+    Ok(Some(page))
+}
+
+// Whether both paths are one.
+fn is_path<P: Paths>(record: Option<&str>, page: &str, paths: &mut P) -> bool
+    ensures { (other : List ℕ) → P.content paths.new other ≡ P.content paths.old other }
+{
+    match record {
+        Some(record) => record == page || paths.is_same_file(page, record),
+        None => false,
+    }
+}
