@@ -1,22 +1,24 @@
 -- Machines whose memory is what it was but on the lines that were noted.
-use Rattle.std.proofs.Common.{◌≡◌, inl, inr, ℕ, ◌+◌, ◌<◌, ◌/◌, List, [], ◌∷◌, ◌++◌, Some, length, refl, sym, ap, ◌∙◌, subst, arith, length-append}
-use Rattle.std.specs.Prelude.{Contains}
+use Rattle.std.proofs.Common.{◌≡◌, inl, inr, ℕ, ◌+◌, ◌<◌, ◌≤◌, List, [], ◌∷◌, ◌++◌, Some, length, refl, sym, ap, ◌∙◌, subst, arith, length-append}
+use Rattle.std.specs.Prelude.{All, Contains, option_and_then}
 use Rattle.std.proofs.lemmas.Bool.{cases_lt}
 use Rattle.tm_core.specs.IaImage.Program.{opening_memory}
-use Rattle.tm_outcomes.specs.Elsewhere.{IsSameElsewhere}
+use Rattle.tm_core.specs.Reopening.{IsSameElsewhere}
 use Rattle.tm_core.specs.Theorem.{StandsFor, machine_setting}
 use Rattle.tm_model.specs.Setting.{Setting}
 use Rattle.tm_model.specs.declared.outcome.Pick.{Pick}
 use Rattle.tm_outcomes.specs.Nodes.{HasRun, IsPickOf, IsTree, schedule_at}
-use Rattle.tm_outcomes.specs.Outcomes.{trial_opening, trial_setting}
-use Rattle.tm_outcomes.specs.Places.{GoesTo, IsAt, IsPlaceOf}
+use Rattle.tm_outcomes.specs.Outcomes.{IsAllowed, trial_opening, trial_setting}
+use Rattle.tm_outcomes.specs.Places.{IsAt, IsPlaceOf}
+use Rattle.tm_outcomes.specs.Resting.{Advances}
 use Rattle.tm_outcomes.specs.Schedules.{Situation, after_schedule}
 use Rattle.tm_outcomes.specs.Written.{IsPlaceIn, IsWithin, IsWrittenOf, StoresOn}
 use Rattle.tm_outcomes.specs.declared.nodes.Node.{Node}
 use Rattle.tm_outcomes.specs.declared.place.Place.{Place}
 use Rattle.tm_outcomes.specs.declared.trial.Trial.{Trial}
 use Rattle.tm_outcomes.specs.declared.written.Written.{Written}
-use Rattle.tm_outcomes.proofs.Runs.{one_more}
+use Rattle.tm_outcomes.proofs.Catching.{lead_memory, lead_runs}
+use Rattle.tm_outcomes.proofs.Runs.{run_then}
 use Rattle.tm_outcomes.proofs.Somes.{same_in}
 use Rattle.tm_outcomes.proofs.Stored.{on_more, then_same}
 use Rattle.tm_outcomes.proofs.Trees.{grows, schedule_new, schedule_old}
@@ -52,19 +54,28 @@ module _ (trial : Trial) (before after : Written) (same : after.opening ≡ befo
 
 -- ---- a step
 
--- a schedule with a step more, whose stores were noted
-pub within_next : (trial : Trial) (lines : List ℕ) (schedule : List Pick) (place after : Place) (pick : Pick) →
-    IsAt trial place schedule → GoesTo (trial_setting trial) place after pick → IsWithin trial lines schedule →
+-- a schedule with a step more, whose stores were noted, and with the unseen steps behind it, which store nothing
+pub within_advanced : (trial : Trial) (lines : List ℕ) (schedule : List Pick) (place after : Place) (pick : Pick) (steps : List Pick) →
+    IsAt trial place schedule → Advances trial place after pick steps → IsWithin trial lines schedule →
     ((now : Situation) → StandsFor place.machine now.state now.doomed →
-    StoresOn (machine_setting place.machine) lines now pick.core) → IsWithin trial lines (schedule ++ pick ∷ [])
-within_next trial lines schedule place after pick at goes within noted = λ now is_run.
-    let next = goes at.now at.stands in
-    let same : next.next ≡ now =
-    same_in (sym (one_more (trial_setting trial) (trial_opening trial) schedule at.now next.next pick at.is_run next.is_next) ∙ is_run) in
+    StoresOn (machine_setting place.machine) lines now pick.core) → IsWithin trial lines (schedule ++ steps)
+within_advanced trial lines schedule place after pick steps at advances within noted = λ now is_run.
+    let setting : Setting = trial_setting trial in
+    let step = advances.goes at.now at.stands in
+    let runs : after_schedule setting at.now (pick ∷ advances.rest) ≡ Some step.end =
+    ap (option_and_then (λ (next : Situation). after_schedule setting next advances.rest)) step.is_next
+    ∙ lead_runs setting (IsAllowed trial.events) advances.rest step.next step.end step.rests in
+    let ends : after_schedule setting (trial_opening trial) (schedule ++ steps) ≡ Some step.end =
+    run_then setting (trial_opening trial) schedule steps at.now step.end at.is_run
+    (subst (λ (s : List Pick). after_schedule setting at.now s ≡ Some step.end) (sym advances.made) runs) in
+    let same : step.end ≡ now = same_in (sym ends ∙ is_run) in
+    let memory : step.end.state.memory ≡ step.next.state.memory =
+    lead_memory setting (IsAllowed trial.events) advances.rest step.next step.end step.rests in
     subst (λ (x : Situation). IsSameElsewhere lines x.state.memory (opening_memory trial.program.now)) same
-    (then_same lines next.next.state.memory at.now.state.memory (opening_memory trial.program.now)
-    (subst (λ (setting : Setting). StoresOn setting lines at.now pick.core) at.rules (noted at.now at.stands) pick.event next.next
-    next.is_next) (within at.now at.is_run))
+    (subst (λ m. IsSameElsewhere lines m (opening_memory trial.program.now)) (sym memory)
+    (then_same lines step.next.state.memory at.now.state.memory (opening_memory trial.program.now)
+    (subst (λ (rules : Setting). StoresOn rules lines at.now pick.core) at.rules (noted at.now at.stands) pick.event step.next
+    step.is_next) (within at.now at.is_run)))
 
 -- a machine at the end of such a schedule
 pub place_at : (trial : Trial) (written : Written) (place : Place) (schedule : List Pick) →
@@ -80,14 +91,14 @@ place_at trial written place schedule opening is at within = record {
 -- ---- a node more
 
 written_new : (trial : Trial) (nodes after : List Node) (node : Node) (written : Written) (old : IsWrittenOf trial nodes written) →
-    after ≡ nodes ++ node ∷ [] → node.parent < length nodes → IsPickOf trial node.pick →
-    HasRun trial (schedule_at old.schedules node.parent ++ node.pick ∷ []) →
-    IsWithin trial written.lines.items (schedule_at old.schedules node.parent ++ node.pick ∷ []) →
+    after ≡ nodes ++ node ∷ [] → node.parent < length nodes → All (IsPickOf trial) node.steps.items → length node.steps.items ≤ 4097 →
+    HasRun trial (schedule_at old.schedules node.parent ++ node.steps.items) →
+    IsWithin trial written.lines.items (schedule_at old.schedules node.parent ++ node.steps.items) →
     IsWrittenOf trial after written
-written_new trial nodes after node written old added parent is_pick has_run within =
-    let last : List Pick = schedule_at old.schedules node.parent ++ node.pick ∷ [] in
+written_new trial nodes after node written old added parent are_picks few has_run within =
+    let last : List Pick = schedule_at old.schedules node.parent ++ node.steps.items in
     let grown : List (List Pick) = old.schedules ++ last ∷ [] in
-    let tree : IsTree trial (nodes ++ node ∷ []) grown = grows trial nodes old.schedules node old.tree parent is_pick has_run in
+    let tree : IsTree trial (nodes ++ node ∷ []) grown = grows trial nodes old.schedules node old.tree parent are_picks few has_run in
     let long : length after ≡ length nodes + 1 = ap (λ (ns : List Node). length ns) added ∙ length-append nodes (node ∷ []) in
     let counted : length old.schedules ≡ length nodes = old.tree.counted in
     record {
@@ -107,14 +118,14 @@ written_new trial nodes after node written old added parent is_pick has_run with
 -- the same with more lines
 pub written_after : (trial : Trial) (before after : Written) → after.opening ≡ before.opening →
     ((line : ℕ) → Contains before.lines.items line → Contains after.lines.items line) → (nodes nodes_now : List Node) (node : Node)
-    (old : IsWrittenOf trial nodes before) → nodes_now ≡ nodes ++ node ∷ [] → node.parent < length nodes → IsPickOf trial node.pick →
-    HasRun trial (schedule_at old.schedules node.parent ++ node.pick ∷ []) →
-    IsWithin trial after.lines.items (schedule_at old.schedules node.parent ++ node.pick ∷ []) →
+    (old : IsWrittenOf trial nodes before) → nodes_now ≡ nodes ++ node ∷ [] → node.parent < length nodes → All (IsPickOf trial) node.steps.items → length node.steps.items ≤ 4097 →
+    HasRun trial (schedule_at old.schedules node.parent ++ node.steps.items) →
+    IsWithin trial after.lines.items (schedule_at old.schedules node.parent ++ node.steps.items) →
     IsWrittenOf trial nodes_now after
 unfolding written_more
-written_after trial before after same among nodes nodes_now node old added parent is_pick has_run within =
-    written_new trial nodes nodes_now node after (written_more trial before after same among nodes old) added parent is_pick has_run
-    within
+written_after trial before after same among nodes nodes_now node old added parent are_picks few has_run within =
+    written_new trial nodes nodes_now node after (written_more trial before after same among nodes old) added parent are_picks few
+    has_run within
 
 -- ---- before the first step
 

@@ -8,7 +8,8 @@ use Rattle.tm_outcomes.specs.Links.{IsLink}
 use Rattle.tm_outcomes.specs.Nodes.{IsEnd, IsExplored, IsFollowed, IsShown, IsStep, IsUntouched, LeadsAlong, LeadsTo}
 use Rattle.tm_outcomes.specs.Nodes.{schedule_at}
 use Rattle.tm_outcomes.specs.Outcomes.{trial_opening, trial_setting}
-use Rattle.tm_outcomes.specs.Places.{GoesTo, IsAt}
+use Rattle.tm_outcomes.specs.Places.{IsAt}
+use Rattle.tm_outcomes.specs.Resting.{Advances}
 use Rattle.tm_outcomes.specs.Schedules.{Situation, after_schedule}
 use Rattle.tm_outcomes.specs.declared.findings.Findings.{Findings}
 use Rattle.tm_outcomes.specs.declared.links.Link.{Link}
@@ -18,17 +19,20 @@ use Rattle.tm_outcomes.proofs.Leads.{leads_stands, stands_leads}
 use Rattle.tm_outcomes.proofs.Trees.{schedule_old}
 
 -- the place after a step stands for what a node leads to
-pub follows : (trial : Trial) (schedules : List (List Pick)) (index : ℕ) (pick : Pick) (before after other : Place)
-    (to : ℕ) → IsAt trial before (schedule_at schedules index) → GoesTo (trial_setting trial) before after pick →
+pub follows : (trial : Trial) (schedules : List (List Pick)) (index : ℕ) (pick : Pick) (steps : List Pick) (before after other : Place)
+    (to : ℕ) → IsAt trial before (schedule_at schedules index) → Advances trial before after pick steps →
     to < length schedules → IsAt trial other (schedule_at schedules to) →
     ((now : Situation) → StandsFor after.machine now.state now.doomed → StandsFor other.machine now.state now.doomed) →
     LeadsAlong trial schedules index pick to
-follows trial schedules index pick before after other to at goes within there same = λ now leads.
-    let step = goes now (leads_stands trial schedules index before now at leads) in
+follows trial schedules index pick steps before after other to at advances within there same = λ now leads.
+    let step = advances.goes now (leads_stands trial schedules index before now at leads) in
     record {
       next = step.next;
       is_next = step.is_next;
-      leads = stands_leads trial schedules to other step.next within there (same step.next step.stands);
+      rest = advances.rest;
+      end = step.end;
+      rests = step.rests;
+      leads = stands_leads trial schedules to other step.end within there (same step.end step.stands);
     }
 
 -- ---- in a tree that has grown
@@ -56,7 +60,14 @@ module _ (trial : Trial) (schedules more : List (List Pick)) where
       LeadsAlong trial (schedules ++ more) from pick to
   along_grown from pick to within along = λ now leads.
       let step = along now (from_grown from now within leads) in
-      record { next = step.next; is_next = step.is_next; leads = to_grown to step.next step.leads }
+      record {
+        next = step.next;
+        is_next = step.is_next;
+        rest = step.rest;
+        end = step.end;
+        rests = step.rests;
+        leads = to_grown to step.end step.leads;
+      }
 
   pub followed_grown : (links : List Link) (index : ℕ) (pick : Pick) → index < length schedules →
       IsFollowed trial schedules links index pick → IsFollowed trial (schedules ++ more) links index pick

@@ -188,7 +188,14 @@ module _ (trial : Trial) (most index core : ℕ) where
         is_link = followed.is_link;
         along = λ now leads.
             let step = followed.along now leads in
-            record { next = step.next; is_next = same now leads event ∙ step.is_next; leads = step.leads };
+            record {
+              next = step.next;
+              is_next = same now leads event ∙ step.is_next;
+              rest = step.rest;
+              end = step.end;
+              rests = step.rests;
+              leads = step.leads;
+            };
       }
 
 -- a search that goes on has done the one, and so the other

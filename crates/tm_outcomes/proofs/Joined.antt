@@ -65,30 +65,32 @@ to_known trial most index to pick before after nodes links few within there is_p
       };
 }
 
-pub to_new : (trial : Trial) (most index : ℕ) (pick : Pick) (node : Node) (before after : Searching) → node.parent ≡ index →
-    node.pick ≡ pick → after.nodes.items ≡ before.nodes.items ++ node ∷ [] →
+pub to_new : (trial : Trial) (most index : ℕ) (pick : Pick) (steps : List Pick) (node : Node) (before after : Searching) → node.parent ≡ index →
+    node.steps.items ≡ steps → All (IsPickOf trial) steps → length steps ≤ 4097 → after.nodes.items ≡ before.nodes.items ++ node ∷ [] →
     after.links.items ≡ before.links.items ++ record { from = index; to = length before.nodes.items } ∷ [] →
     length before.nodes.items < most → index < length before.nodes.items → IsPickOf trial pick →
-    ((schedules : List (List Pick)) → IsTree trial before.nodes.items schedules → HasRun trial (schedule_at schedules index ++ pick ∷ [])) →
+    ((schedules : List (List Pick)) → IsTree trial before.nodes.items schedules → HasRun trial (schedule_at schedules index ++ steps)) →
     ((schedules : List (List Pick)) → IsTree trial before.nodes.items schedules →
-    LeadsAlong trial (schedules ++ (schedule_at schedules index ++ pick ∷ []) ∷ []) index pick (length schedules)) →
+    LeadsAlong trial (schedules ++ (schedule_at schedules index ++ steps) ∷ []) index pick (length schedules)) →
     IsFollowedIn trial most before after index pick.core (IsThis pick.event)
-to_new trial most index pick node before after parent is nodes links few within is_pick run along = record {
+to_new trial most index pick steps node before after parent is are_picks short nodes links few within is_pick run along = record {
   few = subst (λ (ns : List Node). length ns ≤ most) (sym nodes)
       (let long = length-append before.nodes.items (node ∷ []) in omega arith);
   kept = kept_links before.links.items after.links.items (record { from = index; to = length before.nodes.items }) links;
   grows = λ schedules tree.
       let counted = tree.counted in
-      let added : List Pick = schedule_at schedules index ++ pick ∷ [] in
-      let same : schedule_at schedules node.parent ++ node.pick ∷ [] ≡ added =
-      ap (λ i. schedule_at schedules i ++ node.pick ∷ []) parent ∙ ap (λ (p : Pick). schedule_at schedules index ++ p ∷ []) is in
+      let added : List Pick = schedule_at schedules index ++ steps in
+      let same : schedule_at schedules node.parent ++ node.steps.items ≡ added =
+      ap (λ i. schedule_at schedules i ++ node.steps.items) parent ∙ ap (λ (s : List Pick). schedule_at schedules index ++ s) is in
       let now : List (List Pick) = schedules ++ added ∷ [] in
       let longer : length now ≡ length schedules + 1 = length-append schedules (added ∷ []) in
       let leads : LeadsAlong trial now index pick (length before.nodes.items) =
       subst (λ n. LeadsAlong trial now index pick n) counted (along schedules tree) in
       let tree_now : IsTree trial (before.nodes.items ++ node ∷ []) now =
       subst (λ (s : List Pick). IsTree trial (before.nodes.items ++ node ∷ []) (schedules ++ s ∷ [])) same
-      (grows trial before.nodes.items schedules node tree (omega arith) (subst (λ (p : Pick). IsPickOf trial p) (sym is) is_pick)
+      (grows trial before.nodes.items schedules node tree (omega arith)
+      (subst (λ (s : List Pick). All (IsPickOf trial) s) (sym is) are_picks)
+      (subst (λ (s : List Pick). length s ≤ 4097) (sym is) short)
       (subst (λ (s : List Pick). HasRun trial s) (sym same) (run schedules tree))) in
       record {
         grown = now;

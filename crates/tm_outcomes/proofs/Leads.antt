@@ -17,7 +17,7 @@ use Rattle.tm_outcomes.proofs.Alike.{same_under, same_views}
 use Rattle.tm_outcomes.proofs.Somes.{same_in}
 
 -- what a machine shows, under the rules of its trial
-shows : (machine : ShownMachine) (setting : Setting) (now : Situation) → machine_setting machine ≡ setting → StandsFor machine now.state now.doomed →
+pub shows : (machine : ShownMachine) (setting : Setting) (now : Situation) → machine_setting machine ≡ setting → StandsFor machine now.state now.doomed →
     (core : ℕ) → core < length machine.views → view_of setting now.state.memory (now.state.cores core) (now.doomed core) ≡ Some (view_at machine core)
 shows machine setting now rules stands core below =
     subst (λ (s : Setting). view_of s now.state.memory (now.state.cores core) (now.doomed core) ≡ Some (view_at machine core)) rules (stands.each core below)

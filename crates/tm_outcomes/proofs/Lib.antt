@@ -1,7 +1,11 @@
 pub mod Somes
 pub mod Runs
+pub mod UnseenCores
+pub mod Crossing
+pub mod Catching
 pub mod Details
 pub mod Alike
+pub mod Resting
 pub mod Leads
 pub mod Tables
 pub mod Trees

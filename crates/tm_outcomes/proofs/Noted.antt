@@ -1,6 +1,6 @@
 -- The lines that are noted before a step cover what the step stores to.
-use Rattle.std.proofs.Common.{◌≡◌, inl, inr, ℕ, suc, ◌+◌, ◌<◌, ◌≤◌, ◌/◌, Bool, true, false, cond, List, [], Option, Some, None, get_or, length, map}
-use Rattle.std.proofs.Common.{refl, sym, ap, ◌∙◌, subst, arith}
+use Rattle.std.proofs.Common.{◌≡◌, inr, ℕ, suc, ◌<◌, ◌/◌, Bool, true, false, cond, List, [], Option, Some, None, get_or, length, map}
+use Rattle.std.proofs.Common.{refl, sym, ap, ◌∙◌, subst}
 use Rattle.std.specs.Prelude.{Contains, nat_eq, option_and_then, option_map, slice_index}
 use Rattle.std.specs.List.{list_any}
 use Rattle.std.specs.FinSet as set
@@ -12,7 +12,7 @@ use Rattle.ia_word.specs.Line.{line}
 use Rattle.tm_rule.specs.declared.kinds.OutsideResult.{OutsideResult}
 use Rattle.tm_rule.specs.declared.kinds.OutsideResult.TheVariants.{Goes, Begins, Stops}
 use Rattle.tm_rule.specs.declared.kinds.Stop.{Stop}
-use Rattle.tm_outcomes.specs.Elsewhere.{IsSameElsewhere}
+use Rattle.tm_core.specs.Reopening.{IsSameElsewhere}
 use Rattle.tm_model.specs.Access.{Lines, lines_of, memory_after, stored_addresses}
 use Rattle.tm_model.specs.Explained.{addresses_stored_at}
 use Rattle.tm_model.specs.Isolated.{Body, isolated_body, write_set}
@@ -24,13 +24,13 @@ use Rattle.tm_model.specs.Steps.{after_load, after_plain, after_step_of, step}
 use Rattle.tm_model.specs.declared.outcome.Event.{Event}
 use Rattle.tm_model.specs.declared.outcome.Event.TheVariants as event
 use Rattle.tm_model.specs.declared.outcome.CoreState.{CoreState}
-use Rattle.tm_model.specs.declared.outcome.CoreState.TheVariants.{Running, Mid, Open, Condemned, Stopped as AtStop}
+use Rattle.tm_model.specs.declared.outcome.CoreState.TheVariants.{Running, Mid, Condemned, Stopped as AtStop}
 use Rattle.tm_model.specs.declared.outcome.Outcome.{Outcome}
 use Rattle.tm_model.specs.declared.outcome.Outcome.TheVariants.{Plain, Loaded, Stopped, Idle, Begun, Inside}
 use Rattle.tm_model.specs.declared.outcome.Outcome.TheVariants.{Committed, Aborted, AbortedBy}
 use Rattle.tm_outcomes.specs.Places.{is_open}
 use Rattle.tm_outcomes.specs.Schedules.{Situation, after_pick, with_state}
-use Rattle.tm_outcomes.proofs.Runs.{Changes, step_changes}
+use Rattle.tm_outcomes.proofs.Runs.{step_changes}
 use Rattle.tm_outcomes.proofs.Somes.{same_in}
 use Rattle.tm_outcomes.proofs.Stored.{IsCommit, IsSameBut, Made, before_commit, begun, committed, else_of, halted, keeps}
 use Rattle.tm_outcomes.proofs.Stored.{left, loaded, on_lines, plain, stored, then_of}

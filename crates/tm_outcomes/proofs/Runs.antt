@@ -38,6 +38,17 @@ one_more setting start (first ∷ picks) now next pick e is_next =
     (λ after. after_schedule setting after (picks ++ pick ∷ [])) now next
     (λ middle run. one_more setting middle picks now next pick run is_next) e
 
+-- one schedule behind another
+pub run_then : (setting : Setting) (start : Situation) (picks more : List Pick) (now end : Situation) →
+    after_schedule setting start picks ≡ Some now → after_schedule setting now more ≡ Some end →
+    after_schedule setting start (picks ++ more) ≡ Some end
+run_then setting start [] more now end e run =
+    subst (λ (x : Situation). after_schedule setting x more ≡ Some end) (sym (same_in e)) run
+run_then setting start (first ∷ picks) more now end e run =
+    under (after_pick setting start first) (λ after. after_schedule setting after picks)
+    (λ after. after_schedule setting after (picks ++ more)) now end
+    (λ middle is_run. run_then setting middle picks more now end is_run run) e
+
 -- what a step changes
 pub record Changes (state next : State) (number : ℕ) (change : Change) : Type 0 where
   pub made : List ℕ × Core

@@ -3,7 +3,7 @@ use Rattle.std.proofs.Common.{◌≡◌, ℕ, ◌≤◌, List, Option, length, s
 use Rattle.std.specs.Prelude.{All, IfSome}
 use Rattle.std.proofs.lemmas.Bool.{false≢true}
 use Rattle.tm_model.specs.declared.outcome.Pick.{Pick}
-use Rattle.tm_outcomes.specs.Outcomes.{AreDistinct, AreTold, IsSearch, IsTold}
+use Rattle.tm_outcomes.specs.Outcomes.{AreDistinct, AreTold, IsAllowed, IsSearch, IsTold, trial_setting}
 use Rattle.tm_outcomes.specs.Searching.{AreFindings, AreStops, AreViolations, IsCutOf, IsSearching, IsWholeOf}
 use Rattle.tm_outcomes.specs.Searching.{TellsWayless}
 use Rattle.tm_outcomes.specs.Verdicts.{IsStopTold, IsStuck, IsVerdict, IsViolationTold}
@@ -14,7 +14,8 @@ use Rattle.tm_outcomes.specs.declared.stuck.Stuck.{Stuck}
 use Rattle.tm_outcomes.specs.declared.table.Told.{Told}
 use Rattle.tm_outcomes.specs.declared.trial.Trial.{Trial}
 use Rattle.tm_outcomes.specs.declared.violations.Violation.{Violation}
-use Rattle.tm_outcomes.proofs.Complete.{all_told, met}
+use Rattle.tm_outcomes.proofs.Catching.{stays_stopped}
+use Rattle.tm_outcomes.proofs.Complete.{all_told, met, met_end}
 use Rattle.tm_outcomes.proofs.Ways.{is_free, is_stuck}
 
 module _ (trial : Trial) (most done : ℕ) (search : Searching) (schedules : List (List Pick)) (told : Search)
@@ -49,12 +50,14 @@ module _ (trial : Trial) (most done : ℕ) (search : Searching) (schedules : Lis
         once = all.once;
         no_stop = λ _ schedule now reached why asked stopped.
             let there = met trial most done search schedules searching whole schedule now reached in
+            let stopped_there = stays_stopped (trial_setting trial) (IsAllowed trial.events) there.steps now there.end why there.rests stopped in
             subst (λ (s : List ReachedStop). IsStopTold s why) stops
-            ((searching.explored.shown there.0 (let w = there.1.within in omega arith)).stops now there.1 why asked stopped);
+            ((searching.explored.shown there.index (let w = there.leads.within in omega arith)).stops there.end there.leads why asked
+            stopped_there);
         violations = violated.told;
         violated_once = violated.once;
         no_violation = λ _ schedule end reached has_ended index check asked violates.
-            let there = met trial most done search schedules searching whole schedule end reached in
+            let there = met_end trial most done search schedules searching whole schedule end reached has_ended in
             subst (λ (vs : List Violation). IsViolationTold vs index) violations
             ((searching.explored.shown there.0 (let w = there.1.within in omega arith)).checks end there.1 has_ended index check asked
             violates);

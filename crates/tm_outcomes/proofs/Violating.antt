@@ -1,5 +1,5 @@
 -- Violations that are told.
-use Rattle.std.proofs.Common.{ℕ, ◌<◌, List, ◌++◌, length, ◌∙◌, arith, length-append}
+use Rattle.std.proofs.Common.{ℕ, List, ◌++◌, ◌∙◌, arith, length-append}
 use Rattle.std.proofs.lemmas.List.{get_or_append_left}
 use Rattle.tm_outcomes.specs.Verdicts.{IsViolationTold}
 use Rattle.tm_outcomes.specs.declared.violations.Violation.{Violation}

@@ -1,12 +1,13 @@
 -- Nodes with a way to an end, and nodes without one.
-use Rattle.std.proofs.Common.{◌≡◌, ℕ, ◌<◌, ◌≤◌, Bool, List, [], ◌∷◌, Option, Some, None, length, refl, sym, ap, ◌∙◌, subst, arith}
+use Rattle.std.proofs.Common.{◌≡◌, ℕ, zero, suc, ◌<◌, ◌≤◌, Bool, List, [], ◌∷◌, ◌++◌, Option, Some, None, length, refl, sym, ap, ◌∙◌, subst, arith}
 use Rattle.std.specs.Prelude.{All, IfSome, option_and_then}
-use Rattle.std.proofs.lemmas.List.Elements.{All-cons, All-contains, All-head, All-nil, All-tail, All-weaker}
+use Rattle.std.proofs.lemmas.List.Elements.{All-append, All-cons, All-contains, All-head, All-nil, All-tail, All-weaker}
+use Rattle.tm_model.specs.declared.outcome.Event.{Event}
 use Rattle.tm_model.specs.declared.outcome.Pick.{Pick}
 use Rattle.tm_outcomes.specs.Links.{IsWay}
 use Rattle.tm_outcomes.specs.Marks.{AreMarks, IsMarked}
-use Rattle.tm_outcomes.specs.Nodes.{IsEnd, IsFollowed, IsPickOf, IsStep, LeadsTo, schedule_at}
-use Rattle.tm_outcomes.specs.Outcomes.{AreAllowed, trial_opening, trial_setting}
+use Rattle.tm_outcomes.specs.Nodes.{IsEnd, IsFollowed, IsPickOf, IsStep, LeadsTo, RestsAt, schedule_at}
+use Rattle.tm_outcomes.specs.Outcomes.{AreAllowed, IsAllowed, trial_opening, trial_setting}
 use Rattle.tm_outcomes.specs.Schedules.{HasEnded, Situation, after_pick, after_schedule}
 use Rattle.tm_outcomes.specs.Searching.{IsSearching, TellsWayless}
 use Rattle.tm_outcomes.specs.Verdicts.{CanEnd, IsReached, IsStuck}
@@ -14,8 +15,23 @@ use Rattle.tm_outcomes.specs.declared.links.Link.{Link}
 use Rattle.tm_outcomes.specs.declared.searching.Searching.{Searching}
 use Rattle.tm_outcomes.specs.declared.stuck.Stuck.{Stuck}
 use Rattle.tm_outcomes.specs.declared.trial.Trial.{Trial}
-use Rattle.tm_outcomes.proofs.Complete.{IsAllowedIn, leads_here, met, split, steps_to}
+use Rattle.tm_outcomes.proofs.Catching.{catches_up, ended_rests, lead_allowed, lead_runs, split}
+use Rattle.tm_outcomes.proofs.Complete.{IsAllowedIn, leads_here, met, steps_to}
+use Rattle.tm_outcomes.proofs.Runs.{run_then}
 use Rattle.tm_outcomes.proofs.Somes.{same_in}
+
+-- what leads by unseen steps to where some schedule goes on to an end goes on to it, too
+rested_end : (trial : Trial) (picks : List Pick) (now rest : Situation) → RestsAt trial now picks rest → CanEnd trial rest → CanEnd trial now
+rested_end trial picks now rest rests can =
+    let setting = trial_setting trial in
+    let under : Option Event → Type 0 = IsAllowed trial.events in
+    record {
+      schedule = picks ++ can.schedule;
+      allowed = All-append (IsAllowedIn trial) picks can.schedule (lead_allowed setting under picks now rest rests) can.allowed;
+      end = can.end;
+      is_run = run_then setting now picks can.schedule rest can.end (lead_runs setting under picks now rest rests) can.is_run;
+      has_ended = can.has_ended;
+    }
 
 -- along a way to an end some schedule goes on to it
 pub can_end : (trial : Trial) (schedules : List (List Pick)) (links : List Link) (ends : List ℕ) → All (IsStep trial schedules) links →
@@ -32,7 +48,8 @@ can_end trial schedules links ends steps are_ends (next ∷ way) node now is lea
     let link : Link = record { from = node; to = next } in
     let step : IsStep trial schedules link = All-contains (IsStep trial schedules) links link steps is.0 in
     let goes = step.along now leads in
-    let rest = can_end trial schedules links ends steps are_ends way next goes.next is.1 goes.leads in
+    let rest = rested_end trial goes.rest goes.next goes.end goes.rests
+    (can_end trial schedules links ends steps are_ends way next goes.end is.1 goes.leads) in
     record {
       schedule = step.pick ∷ rest.schedule;
       allowed = All-cons (IsAllowedIn trial) step.pick rest.schedule step.is_pick.allowed rest.allowed;
@@ -49,20 +66,27 @@ module _ (trial : Trial) (most done : ℕ) (search : Searching) (schedules : Lis
   followed index below = (let counted = searching.tree.counted in searching.explored.followed index (omega arith))
 
   -- from a node that is not marked no schedule leads to an end
-  never_ends : (picks : List Pick) (now end : Situation) (node : ℕ) → ¬ IsMarked marked node → LeadsTo trial schedules node now →
-      AreAllowed trial picks → after_schedule (trial_setting trial) now picks ≡ Some end → HasEnded end.state → ⊥
-  never_ends [] now end node not_marked leads allowed e has_ended =
+  never_ends : (most : ℕ) (picks : List Pick) (now end : Situation) (node : ℕ) → length picks ≤ most → ¬ IsMarked marked node →
+      LeadsTo trial schedules node now → AreAllowed trial picks → after_schedule (trial_setting trial) now picks ≡ Some end →
+      HasEnded end.state → ⊥
+  never_ends most [] now end node few not_marked leads allowed e has_ended =
       let counted = searching.tree.counted in
       let ended : HasEnded now.state = subst (λ (x : Situation). HasEnded x.state) (sym (same_in e)) has_ended in
       not_marked (marks.ended node
       ((searching.explored.shown node (let w = leads.within in omega arith)).end now leads ended))
-  never_ends (pick ∷ picks) now end node not_marked leads allowed e has_ended =
+  never_ends zero (pick ∷ picks) now end node few not_marked leads allowed e has_ended = absurd (omega arith)
+  never_ends (suc most) (pick ∷ picks) now end node few not_marked leads allowed e has_ended =
       let setting = trial_setting trial in
+      let under : Option Event → Type 0 = IsAllowed trial.events in
       let parts = split (after_pick setting now pick) (λ next. after_schedule setting next picks) end e in
       let step = steps_to trial schedules search.links.items followed pick now parts.0 node
       (All-head (IsAllowedIn trial) pick picks allowed) leads parts.1.0 in
-      never_ends picks parts.0 end step.to (λ is. not_marked (marks.passed node step.to step.is_link is)) step.leads
-      (All-tail (IsAllowedIn trial) pick picks allowed) parts.1.1 has_ended
+      let up = catches_up setting under picks step.rest parts.0 step.end end step.rests
+      (All-tail (IsAllowedIn trial) pick picks allowed) parts.1.1 in
+      let same : end ≡ up.last = ended_rests setting under up.steps end up.last has_ended up.leads in
+      never_ends most up.picks step.end up.last step.to (let f = up.few in omega arith)
+      (λ is. not_marked (marks.passed node step.to step.is_link is)) step.leads up.are_allowed up.is_run
+      (subst (λ (x : Situation). HasEnded x.state) same has_ended)
 
   pub is_stuck : (stuck : Option Stuck) → TellsWayless search.nodes.items marked stuck →
       IfSome stuck (λ told. IsStuck trial told.schedule.items)
@@ -80,7 +104,8 @@ module _ (trial : Trial) (most done : ℕ) (search : Searching) (schedules : Lis
               (schedule_at schedules tells.node) (tree.picks tells.node tells.within));
           is_run = subst (λ (s : List Pick). after_schedule (trial_setting trial) (trial_opening trial) s ≡ Some run.0) same run.1;
         },
-        λ can. never_ends can.schedule run.0 can.end tells.node tells.not_marked leads can.allowed can.is_run can.has_ended,
+        λ can. never_ends (length can.schedule) can.schedule run.0 can.end tells.node (omega arith) tells.not_marked leads
+            can.allowed can.is_run can.has_ended,
       )
 
   pub is_free : TellsWayless search.nodes.items marked None → (schedule : List Pick) (now : Situation) → IsReached trial schedule now →
@@ -88,5 +113,7 @@ module _ (trial : Trial) (most done : ℕ) (search : Searching) (schedules : Lis
   is_free all schedule now reached =
       let counted = searching.tree.counted in
       let there = met trial most done search schedules searching whole schedule now reached in
-      let way = marks.ways there.0 (all there.0 (let w = there.1.within in omega arith)) in
-      can_end trial schedules search.links.items search.found.ends.items searching.steps searching.ends way.0 there.0 now way.1 there.1
+      let way = marks.ways there.index (all there.index (let w = there.leads.within in omega arith)) in
+      rested_end trial there.steps now there.end there.rests
+      (can_end trial schedules search.links.items search.found.ends.items searching.steps searching.ends way.0 there.index
+      there.end way.1 there.leads)

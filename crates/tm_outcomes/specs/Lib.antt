@@ -1,10 +1,11 @@
-pub mod Elsewhere
 pub mod Schedules
+pub mod Unseen
 pub mod Outcomes
 pub mod Verdicts
 pub mod Places
 pub mod Links
 pub mod Marks
 pub mod Nodes
+pub mod Resting
 pub mod Searching
 pub mod Written

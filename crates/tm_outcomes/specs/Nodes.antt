@@ -1,5 +1,5 @@
 -- The states that a search has met, each as the last step of a schedule that leads there, and the node of the rest.
-use Rattle.std.specs.Prelude.{◌≡◌, ℕ, ◌<◌, ◌≤◌, List, [], ◌∷◌, ◌++◌, All, Contains, Some, None, length, map}
+use Rattle.std.specs.Prelude.{◌≡◌, ℕ, ◌*◌, ◌<◌, ◌≤◌, List, [], ◌++◌, All, Contains, Some, None, length, map}
 use Rattle.std.specs.Prelude.{slice_get, slice_index_or}
 use Rattle.tm_condition.specs.Conditions.{Violates}
 use Rattle.tm_condition.specs.declared.check.Check.{Check}
@@ -11,6 +11,7 @@ use Rattle.tm_outcomes.specs.Links.{IsLink, LiesWithin}
 use Rattle.tm_outcomes.specs.Outcomes.{AreTold, IsAllowed, trial_opening, trial_setting, value_of}
 use Rattle.tm_outcomes.specs.Places.{AreAlike, IsAt}
 use Rattle.tm_outcomes.specs.Schedules.{HasEnded, Situation, after_pick, after_schedule}
+use Rattle.tm_outcomes.specs.Unseen.{LeadUnseen}
 use Rattle.tm_outcomes.specs.Verdicts.{IsStopTold, IsViolationTold, StopsBy, seen_at}
 use Rattle.tm_outcomes.specs.declared.findings.Findings.{Findings}
 use Rattle.tm_outcomes.specs.declared.links.Link.{Link}
@@ -18,11 +19,12 @@ use Rattle.tm_outcomes.specs.declared.nodes.Node.{Node}
 use Rattle.tm_outcomes.specs.declared.place.Place.{Place}
 use Rattle.tm_outcomes.specs.declared.trial.Trial.{Trial}
 
-abbrev pub no_node : Node
-no_node = record { parent = 0; pick = record { core = 0; event = None }; digest = 0; older = None }
+abbrev pub parent_at : List Node → ℕ → ℕ
+parent_at nodes index = slice_index_or (map (λ (node : Node). node.parent) nodes) index 0
 
-abbrev pub node_at : List Node → ℕ → Node
-node_at nodes index = slice_index_or nodes index no_node
+-- the steps that lead to a node from the one before it
+abbrev pub steps_at : List Node → ℕ → List Pick
+steps_at nodes index = slice_index_or (map (λ (node : Node). node.steps.items) nodes) index []
 
 abbrev pub schedule_at : List (List Pick) → ℕ → List Pick
 schedule_at schedules index = slice_index_or schedules index []
@@ -43,11 +45,10 @@ pub record IsTree (trial : Trial) (nodes : List Node) (schedules : List (List Pi
   pub counted : length schedules ≡ length nodes
   pub some : 0 < length nodes
   pub root : schedule_at schedules 0 ≡ []
-  pub lower : (index : ℕ) → 0 < index → index < length nodes → (node_at nodes index).parent < index
+  pub lower : (index : ℕ) → 0 < index → index < length nodes → parent_at nodes index < index
   pub longer : (index : ℕ) → 0 < index → index < length nodes →
-      schedule_at schedules index
-      ≡ schedule_at schedules (node_at nodes index).parent ++ (node_at nodes index).pick ∷ []
-  pub short : (index : ℕ) → index < length nodes → length (schedule_at schedules index) ≤ index
+      schedule_at schedules index ≡ schedule_at schedules (parent_at nodes index) ++ steps_at nodes index
+  pub short : (index : ℕ) → index < length nodes → length (schedule_at schedules index) ≤ 4097 * index
   pub picks : (index : ℕ) → index < length nodes → All (IsPickOf trial) (schedule_at schedules index)
   pub runs : (index : ℕ) → index < length nodes → HasRun trial (schedule_at schedules index)
 
@@ -72,14 +73,21 @@ pub record LeadsTo (trial : Trial) (schedules : List (List Pick)) (index : ℕ) 
   pub same : AreSame trial end now
   pub count : now.state.count ≡ length trial.program.now.entries
 
--- this node leads to the situation after this pick
+-- steps that no other core sees lead from one situation to another, under what the trial says
+abbrev pub RestsAt : Trial → Situation → List Pick → Situation → Type 0
+RestsAt trial now picks end = LeadUnseen (trial_setting trial) (IsAllowed trial.events) now picks end
+
+-- this node leads to a situation after this pick, and some steps behind it that no other core sees
 pub record GoesOnTo (trial : Trial) (schedules : List (List Pick)) (now : Situation) (pick : Pick) (to : ℕ)
     : Type 0 where
   pub next : Situation
   pub is_next : after_pick (trial_setting trial) now pick ≡ Some next
-  pub leads : LeadsTo trial schedules to next
+  pub rest : List Pick
+  pub end : Situation
+  pub rests : RestsAt trial next rest end
+  pub leads : LeadsTo trial schedules to end
 
--- a pick leads from the one node to the other
+-- a pick, and then such steps, lead from the one node to the other
 abbrev pub LeadsAlong : Trial → List (List Pick) → ℕ → Pick → ℕ → Type 0
 LeadsAlong trial schedules from pick to =
     (now : Situation) → LeadsTo trial schedules from now → GoesOnTo trial schedules now pick to

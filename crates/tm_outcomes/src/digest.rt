@@ -2,7 +2,7 @@
 //! compared.
 
 ghost use Rattle.std.specs.Prelude.{◌≡◌, ◌+◌, ◌/◌, ◌<◌, ◌≤◌, ℕ, IsTrue, length, slice_index};
-ghost use Rattle.tm_outcomes.specs.Elsewhere.{IsSameElsewhere};
+ghost use Rattle.tm_core.specs.Reopening.{IsSameElsewhere};
 
 /// An odd number with bits set all over: 2^64 divided by the golden ratio.
 const MIX: u64 = 0x9e37_79b9_7f4a_7c15;

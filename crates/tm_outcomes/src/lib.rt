@@ -1,18 +1,20 @@
 //! Every outcome of a small program: all schedules, each state once.
 //!
-//! A [`Trial`] is a program, and what is shown of it and checked where each core has stopped. [`outcomes`] searches the
-//! states that its schedules lead to, breadth first, and goes on from each but once. Promised: each outcome that is told
-//! is that of the schedule beside it, run from the program's opening state, and none is told twice; and where the search
-//! is not cut at its limit on states, no schedule of any length has another. It also tells a schedule behind which none
-//! leads on to an end, one to each stop that is looked for, and one to an end that violates each check; where it is not
-//! cut and tells none, there is none. How many states show an outcome or have no way to an end, and how many there are, is
-//! compared by `doc_tests`. The words for it stand in `specs/Schedules.antt`, `specs/Outcomes.antt` and
-//! `specs/Verdicts.antt`, over the machine's definitions in `tm_model` alone.
+//! A [`Trial`] is a program, and what is shown of it and checked where each core has stopped. [`outcomes`] searches
+//! the states that its schedules lead to, breadth first, and goes on from each but once. Promised: each outcome that
+//! is told is that of the schedule beside it, run from the program's opening state, and none is told twice; and where
+//! the search is not cut at its limit on states, no schedule of any length has another. It also tells a schedule
+//! behind which none leads on to an end, one to each stop that is looked for, and one to an end that violates each
+//! check; where it is not cut and tells none, there is none. How many states show an outcome or have no way to an
+//! end, and how many there are, is compared by `doc_tests`. The words for it stand in `specs/Schedules.antt`,
+//! `specs/Outcomes.antt` and `specs/Verdicts.antt`, over the machine's definitions in `tm_model` alone.
 //!
-//! Two states count as one where memory and what is shown of each core are the same: the machine's steps are a function
-//! of these. A state is kept as the last step of a schedule that leads there. Two machines are kept, each of which comes to a
-//! state by a run of its schedule, from before the first step on. A digest only says which states may be the same: they are
-//! compared before one is dropped.
+//! Two states count as one where memory and what is shown of each core are the same: the machine's steps are a
+//! function of these. Behind each step that is followed, the steps of all cores are made at once that no other core
+//! sees and none changes (`specs/Unseen.antt`): whatever comes between them, the same states follow, so no schedule
+//! is lost that way. A state is kept as the last steps of a schedule that leads there. Two machines are kept, each of
+//! which comes to a state by a run of its schedule, from before the first step on. A digest only says which states
+//! may be the same: they are compared before one is dropped.
 #![tactic(auto)]
 
 mod bench;
@@ -23,6 +25,7 @@ mod links;
 mod marks;
 mod nodes;
 mod place;
+mod rest;
 mod searching;
 mod stops;
 mod stuck;

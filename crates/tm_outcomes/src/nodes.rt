@@ -1,6 +1,6 @@
 //! The states that were met.
 
-ghost use Rattle.std.specs.Prelude.{◌≡◌, ◌<◌, ◌≤◌, ◌^◌, List, IfErr, IfOk, IfSome, length};
+ghost use Rattle.std.specs.Prelude.{◌≡◌, ◌<◌, ◌≤◌, ◌^◌, ◌++◌, List, IfErr, IfOk, IfSome, length, reverse};
 ghost use Rattle.tm_model.specs.declared.outcome.Pick.{Pick};
 ghost use Rattle.tm_outcomes.specs.Nodes.{HaveSchedules, IsFound, IsTree, schedule_at};
 ghost use Rattle.tm_outcomes.specs.Outcomes.{IsRefusal};
@@ -15,13 +15,13 @@ use crate::written::Written;
 use std::alloc::{AllocError, Global};
 use tm_model::Pick;
 
-/// A state: the last step of a schedule that leads there, and the node of the rest. The first is the opening state.
-#[derive(Clone, Copy, Debug)]
+/// A state: the last steps of a schedule that leads there, and the node of the rest. The first is the opening state.
+#[derive(Debug, Drop)]
 pub struct Node {
-    /// The node before the last step.
+    /// The node before these steps.
     pub parent: u32,
-    /// The last step.
-    pub pick: Pick,
+    /// The steps: one that is followed, and then those that no other core sees.
+    pub steps: Vec<Pick>,
     /// Equal for states that go on alike.
     pub digest: u64,
     /// The node before this one whose digest is the same.
@@ -38,12 +38,24 @@ pub fn schedule_of(alloc: Global, nodes: &[Node], index: usize) -> Result<Vec<Pi
     let mut picks = Vec::new(alloc);
     let mut at = index;
     'steps: while at > 0 {
-        let node = nodes[at];
-        picks.push(node.pick)?;
+        let node = &nodes[at];
+        push_reversed(&mut picks, node.steps.as_slice())?;
         at = node.parent as usize;
     }
     picks.as_mut_slice().reverse();
     Ok(picks)
+}
+
+// Adds these steps, the last one first.
+fn push_reversed(picks: &mut Vec<Pick>, steps: &[Pick]) -> Result<(), AllocError>
+    ensures { IfOk result (λ _. picks.new.items ≡ picks.old.items ++ reverse steps.now) }
+{
+    let mut left = steps;
+    'steps: while let Some((last, before)) = left.split_last() {
+        picks.push(*last)?;
+        left = before;
+    }
+    Ok(())
 }
 
 /// Brings a place to the node.

@@ -2,7 +2,7 @@
 
 ghost use Rattle.std.specs.Prelude.{◌≡◌, ◌↔◌, ◌<◌, ◌≤◌, ◌+◌, ◌++◌, ◌∷◌, ◌^◌, [], ℕ, All, List, Option, Some, IfErr, IfOk, IsOk, IsTrue};
 ghost use Rattle.std.specs.Prelude.{length, map, slice_index};
-ghost use Rattle.tm_outcomes.specs.Elsewhere.{IsSameElsewhere};
+ghost use Rattle.tm_core.specs.Reopening.{IsSameElsewhere};
 ghost use Rattle.tm_core.specs.Theorem.{SameMachine, StandsFor, TakesStepUnder, view_at};
 ghost use Rattle.tm_model.specs.Conflicts.{Doomed};
 ghost use Rattle.tm_model.specs.State.{State};
@@ -87,7 +87,7 @@ impl Place {
         requires core { core < length self.now.machine.views }
         requires size { length self.now.machine.memory ≡ trial.now.program.now.mem_size }
         requires detail { core < length self.now.details.items }
-        requires small { slice_index self.now.details.items core < 2 ^ 40 }
+        requires small { slice_index self.now.details.items core < 2 ^ 46 }
         ensures value { result ≡ detail_after outcome (slice_index self.now.details.items core)
             (value_at (trial_setting trial.now) (view_at self.now.machine core).base self.now.machine.memory) }
         ensures few { (n : ℕ) → slice_index self.now.details.items core ≤ 2 ^ 32 + n → result ≤ 2 ^ 32 + (n + 1) }
@@ -103,7 +103,7 @@ impl Place {
     /// The next step of a pick's core, under its event.
     pub fn step(&mut self, trial: &Trial<'_>, pick: Pick)
         requires core { pick.core < length trial.now.program.now.entries }
-        requires at { (schedule : List Pick) × (IsAt trial.now self.old schedule × (length schedule < 2 ^ 32)) }
+        requires at { (schedule : List Pick) × (IsAt trial.now self.old schedule × (length schedule < 2 ^ 45)) }
         ensures goes { GoesTo (trial_setting trial.now) self.old self.new pick }
         ensures at { (schedule : List Pick) → IsAt trial.now self.old schedule →
             IsAt trial.now self.new (schedule ++ pick ∷ []) }
@@ -136,14 +136,18 @@ impl Place {
         requires { IsPlaceIn trial.now written.now self.old }
         ensures { IsAt trial.now self.new [] }
     {
-        self.machine.reopen(trial.program);
+        self.machine.reopen_lines(
+            trial.program,
+            written.opening.as_slice(),
+            written.lines.as_slice(),
+        );
         self.details.as_mut_slice().fill(0);
     }
 
     /// The end of a schedule, from before the first step on.
     pub fn replay(&mut self, trial: &Trial<'_>, written: &Written, schedule: &[Pick])
         requires cores { All (λ (pick : Pick). pick.core < length trial.now.program.now.entries) schedule.now }
-        requires short { length schedule.now < 2 ^ 32 }
+        requires short { length schedule.now < 2 ^ 45 }
         requires place { IsPlaceIn trial.now written.now self.old }
         requires within { IsWithin trial.now written.now.lines.items schedule.now }
         ensures at { IsAt trial.now self.new schedule.now }

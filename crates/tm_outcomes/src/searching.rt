@@ -86,10 +86,7 @@ impl Searching {
         };
         search.add(Node {
             parent: 0,
-            pick: Pick {
-                core: 0,
-                event: None,
-            },
+            steps: Vec::new(alloc),
             digest,
             older: None,
         })?;
@@ -104,8 +101,9 @@ impl Searching {
         ensures found { self.new.found ≡ self.old.found }
     {
         let number = self.nodes.len() as u32;
+        let digest = node.digest;
         self.nodes.push(node)?;
-        self.newest.insert(node.digest, number)?;
+        self.newest.insert(digest, number)?;
         Ok(())
     }
 
@@ -125,7 +123,7 @@ impl Searching {
         Ok(())
     }
 
-    // Takes up the state after a pick, where it is new.
+    // Takes up the state after a pick and the steps behind it that no other core sees, where it is new.
     fn follow(
         &mut self,
         alloc: Global,
@@ -153,7 +151,7 @@ impl Searching {
         place_of(alloc, trial, self.nodes.as_slice(), index, noted, here)?;
         let was_open = here.is_open(pick.core);
         noted.note(alloc, &here.machine, pick.core)?;
-        here.step(trial, pick);
+        let steps = here.advance(alloc, trial, pick)?;
         let digest = here.digest(noted);
         let newest = self.newest.get(&digest).copied();
         if let Some(known) = find(
@@ -181,7 +179,7 @@ impl Searching {
         self.join(index, number)?;
         self.add(Node {
             parent: index as u32,
-            pick,
+            steps,
             digest,
             older: newest,
         })?;

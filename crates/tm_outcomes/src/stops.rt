@@ -23,7 +23,7 @@ use tm_rule::Stop;
 pub struct ReachedStop {
     /// Why a core stops.
     pub why: Stop,
-    /// The steps of a schedule that leads there: of those found, a shortest.
+    /// The steps of a schedule that leads there: of those found, one with the fewest steps that are followed.
     pub schedule: Vec<Pick>,
 }
 

@@ -18,7 +18,7 @@ use tm_model::Pick;
 pub struct Stuck {
     /// How many there are, 1 or more.
     pub states: u32,
-    /// The steps of a shortest schedule that leads to one.
+    /// The steps of a schedule that leads to one: one with the fewest steps that are followed.
     pub schedule: Vec<Pick>,
 }
 

@@ -12,7 +12,7 @@ use tm_model::Pick;
 pub struct Told {
     /// The value of each item.
     pub values: Vec<u32>,
-    /// The steps of a schedule that shows it: of those found, a shortest.
+    /// The steps of a schedule that shows it: of those found, one with the fewest steps that are followed.
     pub schedule: Vec<Pick>,
     /// How many states that were found show it.
     pub ends: u32,

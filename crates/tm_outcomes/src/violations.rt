@@ -22,7 +22,7 @@ use tm_model::Pick;
 pub struct Violation {
     /// The check, by its index in the trial's.
     pub check: usize,
-    /// The steps of a schedule that leads to the end: of those found, a shortest.
+    /// The steps of a schedule that leads to the end: of those found, one with the fewest steps that are followed.
     pub schedule: Vec<Pick>,
 }
 

@@ -20,7 +20,7 @@ replay-requires-clause-cores c =
 pub replay-requires-clause-short : goal.replay-requires-clause-short
 replay-requires-clause-short c =
     let tree = c.requires.tree.1 in
-    subst (λ (s : List Pick). length s < 4294967296)
+    subst (λ (s : List Pick). length s < 35184372088832)
     (sym (c.as_slice.ensures.value ∙ c.in_ok-schedule.ensures c.args.trial.now c.requires.tree.0 tree))
     (let h = tree.short c.args.index c.requires.within in omega arith)
 

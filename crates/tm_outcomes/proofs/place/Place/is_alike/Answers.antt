@@ -1,5 +1,5 @@
-use Rattle.std.proofs.Common.{List, ℕ, sym, subst}
-use Rattle.tm_outcomes.specs.Elsewhere.{IsSameElsewhere}
+use Rattle.std.proofs.Common.{sym, subst}
+use Rattle.tm_core.specs.Reopening.{IsSameElsewhere}
 use Rattle.tm_outcomes.proofs.place.Place.is_alike.Goals as goal
 
 pub are_same-requires-clause-these : goal.are_same-requires-clause-these

@@ -5,7 +5,7 @@ use Rattle.tm_outcomes.specs.Nodes.{IsFound, IsTree, schedule_at}
 use Rattle.tm_outcomes.specs.Places.{IsAt}
 use Rattle.tm_outcomes.specs.Written.{IsPlaceIn, IsWithin, IsWrittenOf}
 use Rattle.tm_outcomes.specs.declared.nodes.Node.{Node}
-use Rattle.tm_outcomes.proofs.Benches.{place_at, place_more, within_more, within_next, written_after, written_more}
+use Rattle.tm_outcomes.proofs.Benches.{place_at, place_more, within_more, within_advanced, written_after, written_more}
 use Rattle.tm_outcomes.proofs.Follows.{follows}
 use Rattle.tm_outcomes.proofs.Joined.{to_known, to_new}
 use Rattle.tm_outcomes.proofs.Leads.{alike_stands, untouched_at}
@@ -19,21 +19,21 @@ returns-in-Some-clause-followed c = λ _.
     let pick = c.args.pick in
     let old = c.args.self.now in
     let nodes = old.nodes.items in
-    let found = subst (λ (o : Option ℕ). IfSome o (IsFound trial c.as_slice-2.result.now c.step.new.self)) c.in-Some.is c.in_ok-known.ensures.ok in
+    let found = subst (λ (o : Option ℕ). IfSome o (IsFound trial c.as_slice-2.result.now c.advance.new.self)) c.in-Some.is c.in_ok-known.ensures.ok in
     let there : c.in-Some.known < length nodes =
     (let f = found.within in let e = ap (λ (ns : List Node). length ns) c.as_slice-2.ensures.value in omega arith) in
     to_known trial c.args.most index c.in-Some.known pick old c.join.new.self (ap (λ v. v.items) c.in_ok-join.ensures.nodes)
     c.in_ok-join.ensures.links c.requires.few c.requires.within there c.requires.is_pick
     (λ schedules tree.
     let before = c.place_of.new.place in
-    let after = c.step.new.self in
+    let after = c.advance.new.self in
     let at : IsAt trial before (schedule_at schedules index) =
     c.in_ok-place_of.ensures.ok schedules (subst (λ (ns : List Node). IsTree trial ns schedules) (sym c.as_slice.ensures.value) tree) in
     let other = found.alike schedules (subst (λ (ns : List Node). IsTree trial ns schedules) (sym c.as_slice-2.ensures.value) tree) in
-    follows trial schedules index pick before after other.0 c.in-Some.known at c.step.ensures.goes
+    follows trial schedules index pick c.in_ok-steps.steps.items before after other.0 c.in-Some.known at c.in_ok-steps.ensures
     (let t = tree.counted in omega arith) other.1.0
-    (λ now stands. alike_stands trial after other.0 (schedule_at schedules index ++ pick ∷ []) _ now
-    (c.step.ensures.at (schedule_at schedules index) at) other.1.0 other.1.1 stands))
+    (λ now stands. alike_stands trial after other.0 (schedule_at schedules index ++ c.in_ok-steps.steps.items) _ now
+    (c.in_ok-steps.ensures.at (schedule_at schedules index) at) other.1.0 other.1.1 stands))
 
 pub returns-clause-followed : goal.returns-clause-followed
 returns-clause-followed c = λ _.
@@ -41,10 +41,10 @@ returns-clause-followed c = λ _.
     let index = c.args.index in
     let pick = c.args.pick in
     let old = c.args.self.now in
-    let node : Node = record { parent = index; pick = pick; digest = c.digest-digest.result; older = c.copied-newest.result } in
+    let node : Node = record { parent = index; steps = c.in_ok-steps.steps; digest = c.digest-digest.result; older = c.copied-newest.result } in
     let joined = c.in_ok-join-2.ensures in
     let place = c.place_of.new.place in
-    to_new trial c.args.most index pick node old c.add.new.self refl refl
+    to_new trial c.args.most index pick c.in_ok-steps.steps.items node old c.add.new.self refl refl c.in_ok-steps.ensures.are_picks c.in_ok-steps.ensures.few
     (c.in_ok-add.ensures.nodes ∙ ap (λ v. v.items ++ node ∷ []) joined.nodes)
     (ap (λ v. v.items) c.in_ok-add.ensures.links ∙ joined.links
     ∙ ap (λ (n : ℕ). old.links.items ++ record { from = index; to = n } ∷ [])
@@ -52,21 +52,21 @@ returns-clause-followed c = λ _.
     (λ schedules tree.
     let at : IsAt trial place (schedule_at schedules index) =
     c.in_ok-place_of.ensures.ok schedules (subst (λ (ns : List Node). IsTree trial ns schedules) (sym c.as_slice.ensures.value) tree) in
-    let after = c.step.ensures.at (schedule_at schedules index) at in
+    let after = c.in_ok-steps.ensures.at (schedule_at schedules index) at in
     (after.now, after.is_run, sym after.stands.same_count ∙ after.count))
     (λ schedules tree.
-    let after = c.step.new.self in
+    let after = c.advance.new.self in
     let at : IsAt trial place (schedule_at schedules index) =
     c.in_ok-place_of.ensures.ok schedules (subst (λ (ns : List Node). IsTree trial ns schedules) (sym c.as_slice.ensures.value) tree) in
-    let added : List Pick = schedule_at schedules index ++ pick ∷ [] in
+    let added : List Pick = schedule_at schedules index ++ c.in_ok-steps.steps.items in
     let grown : List (List Pick) = schedules ++ added ∷ [] in
     let counted = tree.counted in
     let longer : length grown ≡ length schedules + 1 = length-append schedules (added ∷ []) in
     let here : schedule_at grown index ≡ schedule_at schedules index = schedule_old schedules (added ∷ []) index (let w = c.requires.within in omega arith) in
     let new : schedule_at grown (length schedules) ≡ added = schedule_new schedules added (length schedules) refl in
-    follows trial grown index pick place after after (length schedules)
-    (subst (λ (s : List Pick). IsAt trial place s) (sym here) at) c.step.ensures.goes (omega arith)
-    (subst (λ (s : List Pick). IsAt trial after s) (sym new) (c.step.ensures.at (schedule_at schedules index) at))
+    follows trial grown index pick c.in_ok-steps.steps.items place after after (length schedules)
+    (subst (λ (s : List Pick). IsAt trial place s) (sym here) at) c.in_ok-steps.ensures (omega arith)
+    (subst (λ (s : List Pick). IsAt trial after s) (sym new) (c.in_ok-steps.ensures.at (schedule_at schedules index) at))
     (λ now stands. stands))
 
 pub is_open-was_open-requires : goal.is_open-was_open-requires
@@ -106,6 +106,18 @@ place_of-requires-clause-written c =
     subst (λ (ns : List Node). IsWrittenOf c.args.trial.now ns c.args.bench.now.noted) (sym c.as_slice.ensures.value)
     c.requires.bench.written
 
+pub advance-requires-clause-at : goal.advance-requires-clause-at
+advance-requires-clause-at c =
+    let trial = c.args.trial.now in
+    let schedules = c.requires.tree.0 in
+    let tree = c.requires.tree.1 in (
+      schedule_at schedules c.args.index,
+      (
+        c.in_ok-place_of.ensures.ok schedules (subst (λ (ns : List Node). IsTree trial ns schedules) (sym c.as_slice.ensures.value) tree),
+        (let short = tree.short c.args.index c.requires.within in let within = c.requires.within in omega arith),
+      ),
+    )
+
 pub note-requires : goal.note-requires
 note-requires c =
     let trial = c.args.trial.now in
@@ -130,7 +142,7 @@ find-requires-clause-at c =
     let at : IsAt trial c.place_of.new.place schedule =
     c.in_ok-place_of.ensures.ok written.schedules
     (subst (λ (ns : List Node). IsTree trial ns written.schedules) (sym c.as_slice.ensures.value) written.tree) in
-    (schedule ++ c.args.pick ∷ [], c.step.ensures.at schedule at)
+    (schedule ++ c.in_ok-steps.steps.items, c.in_ok-steps.ensures.at schedule at)
 
 pub find-requires-clause-place : goal.find-requires-clause-place
 find-requires-clause-place c =
@@ -142,13 +154,13 @@ find-requires-clause-place c =
     let at : IsAt trial c.place_of.new.place schedule =
     c.in_ok-place_of.ensures.ok written.schedules
     (subst (λ (ns : List Node). IsTree trial ns written.schedules) (sym c.as_slice.ensures.value) written.tree) in
-    let within : IsWithin trial new.lines.items (schedule ++ c.args.pick ∷ []) =
-    within_next trial new.lines.items schedule c.place_of.new.place c.step.new.self c.args.pick at c.step.ensures.goes
+    let within : IsWithin trial new.lines.items (schedule ++ c.in_ok-steps.steps.items) =
+    within_advanced trial new.lines.items schedule c.place_of.new.place c.advance.new.self c.args.pick c.in_ok-steps.steps.items at c.in_ok-steps.ensures
     (within_more trial old.lines.items new.lines.items schedule c.in_ok-note.ensures.kept
     (written.within c.args.index c.requires.within)) c.in_ok-note.ensures.noted in
-    let here : IsPlaceIn trial new c.step.new.self =
-    place_at trial new c.step.new.self (schedule ++ c.args.pick ∷ [])
-    (ap (λ v. v.items) c.in_ok-note.ensures.opening ∙ written.opening) c.step.ensures.place (c.step.ensures.at schedule at) within in
+    let here : IsPlaceIn trial new c.advance.new.self =
+    place_at trial new c.advance.new.self (schedule ++ c.in_ok-steps.steps.items)
+    (ap (λ v. v.items) c.in_ok-note.ensures.opening ∙ written.opening) c.in_ok-steps.ensures.is_place (c.in_ok-steps.ensures.at schedule at) within in
     here
 
 pub find-requires-clause-other : goal.find-requires-clause-other
@@ -166,13 +178,13 @@ returns-in-Some-clause-bench c =
     let at : IsAt trial c.place_of.new.place schedule =
     c.in_ok-place_of.ensures.ok written.schedules
     (subst (λ (ns : List Node). IsTree trial ns written.schedules) (sym c.as_slice.ensures.value) written.tree) in
-    let within : IsWithin trial new.lines.items (schedule ++ c.args.pick ∷ []) =
-    within_next trial new.lines.items schedule c.place_of.new.place c.step.new.self c.args.pick at c.step.ensures.goes
+    let within : IsWithin trial new.lines.items (schedule ++ c.in_ok-steps.steps.items) =
+    within_advanced trial new.lines.items schedule c.place_of.new.place c.advance.new.self c.args.pick c.in_ok-steps.steps.items at c.in_ok-steps.ensures
     (within_more trial old.lines.items new.lines.items schedule c.in_ok-note.ensures.kept
     (written.within c.args.index c.requires.within)) c.in_ok-note.ensures.noted in
-    let here : IsPlaceIn trial new c.step.new.self =
-    place_at trial new c.step.new.self (schedule ++ c.args.pick ∷ [])
-    (ap (λ v. v.items) c.in_ok-note.ensures.opening ∙ written.opening) c.step.ensures.place (c.step.ensures.at schedule at) within in
+    let here : IsPlaceIn trial new c.advance.new.self =
+    place_at trial new c.advance.new.self (schedule ++ c.in_ok-steps.steps.items)
+    (ap (λ v. v.items) c.in_ok-note.ensures.opening ∙ written.opening) c.in_ok-steps.ensures.is_place (c.in_ok-steps.ensures.at schedule at) within in
     record {
       here = here;
       other = c.in_ok-known.ensures.other;
@@ -190,13 +202,13 @@ returns-then-len-most-clause-bench c =
     let at : IsAt trial c.place_of.new.place schedule =
     c.in_ok-place_of.ensures.ok written.schedules
     (subst (λ (ns : List Node). IsTree trial ns written.schedules) (sym c.as_slice.ensures.value) written.tree) in
-    let within : IsWithin trial new.lines.items (schedule ++ c.args.pick ∷ []) =
-    within_next trial new.lines.items schedule c.place_of.new.place c.step.new.self c.args.pick at c.step.ensures.goes
+    let within : IsWithin trial new.lines.items (schedule ++ c.in_ok-steps.steps.items) =
+    within_advanced trial new.lines.items schedule c.place_of.new.place c.advance.new.self c.args.pick c.in_ok-steps.steps.items at c.in_ok-steps.ensures
     (within_more trial old.lines.items new.lines.items schedule c.in_ok-note.ensures.kept
     (written.within c.args.index c.requires.within)) c.in_ok-note.ensures.noted in
-    let here : IsPlaceIn trial new c.step.new.self =
-    place_at trial new c.step.new.self (schedule ++ c.args.pick ∷ [])
-    (ap (λ v. v.items) c.in_ok-note.ensures.opening ∙ written.opening) c.step.ensures.place (c.step.ensures.at schedule at) within in
+    let here : IsPlaceIn trial new c.advance.new.self =
+    place_at trial new c.advance.new.self (schedule ++ c.in_ok-steps.steps.items)
+    (ap (λ v. v.items) c.in_ok-note.ensures.opening ∙ written.opening) c.in_ok-steps.ensures.is_place (c.in_ok-steps.ensures.at schedule at) within in
     record {
       here = here;
       other = c.in_ok-known.ensures.other;
@@ -213,26 +225,26 @@ returns-clause-bench c =
     let at : IsAt trial c.place_of.new.place schedule =
     c.in_ok-place_of.ensures.ok written.schedules
     (subst (λ (ns : List Node). IsTree trial ns written.schedules) (sym c.as_slice.ensures.value) written.tree) in
-    let within : IsWithin trial new.lines.items (schedule ++ c.args.pick ∷ []) =
-    within_next trial new.lines.items schedule c.place_of.new.place c.step.new.self c.args.pick at c.step.ensures.goes
+    let within : IsWithin trial new.lines.items (schedule ++ c.in_ok-steps.steps.items) =
+    within_advanced trial new.lines.items schedule c.place_of.new.place c.advance.new.self c.args.pick c.in_ok-steps.steps.items at c.in_ok-steps.ensures
     (within_more trial old.lines.items new.lines.items schedule c.in_ok-note.ensures.kept
     (written.within c.args.index c.requires.within)) c.in_ok-note.ensures.noted in
-    let here : IsPlaceIn trial new c.step.new.self =
-    place_at trial new c.step.new.self (schedule ++ c.args.pick ∷ [])
-    (ap (λ v. v.items) c.in_ok-note.ensures.opening ∙ written.opening) c.step.ensures.place (c.step.ensures.at schedule at) within in
+    let here : IsPlaceIn trial new c.advance.new.self =
+    place_at trial new c.advance.new.self (schedule ++ c.in_ok-steps.steps.items)
+    (ap (λ v. v.items) c.in_ok-note.ensures.opening ∙ written.opening) c.in_ok-steps.ensures.is_place (c.in_ok-steps.ensures.at schedule at) within in
     let nodes = c.args.self.now.nodes.items in
     let node : Node = record {
       parent = c.args.index;
-      pick = c.args.pick;
+      steps = c.in_ok-steps.steps;
       digest = c.digest-digest.result;
       older = c.copied-newest.result;
     } in
-    let after = c.step.ensures.at schedule at in
+    let after = c.in_ok-steps.ensures.at schedule at in
     record {
       here = here;
       other = c.in_ok-known.ensures.other;
       written = written_after trial old new c.in_ok-note.ensures.opening c.in_ok-note.ensures.kept nodes
           c.add.new.self.nodes.items node written
           (c.in_ok-add.ensures.nodes ∙ ap (λ v. v.items ++ node ∷ []) c.in_ok-join-2.ensures.nodes) c.requires.within
-          c.requires.is_pick (after.now, after.is_run, sym after.stands.same_count ∙ after.count) within;
+          c.in_ok-steps.ensures.are_picks c.in_ok-steps.ensures.few (after.now, after.is_run, sym after.stands.same_count ∙ after.count) within;
     }

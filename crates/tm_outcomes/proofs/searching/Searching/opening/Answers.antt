@@ -16,7 +16,7 @@ use Rattle.tm_outcomes.proofs.searching.Searching.opening.Goals as goal
 
 pub returns : goal.returns
 returns c = λ trial.
-    let node : Node = record { parent = 0; pick = record { core = 0; event = None }; digest = c.args.digest; older = None } in
+    let node : Node = record { parent = 0; steps = c.new-5.result; digest = c.args.digest; older = None } in
     let nodes : c.add.new.self.nodes.items ≡ node ∷ [] = c.in_ok-add.ensures.nodes ∙ ap (λ (ns : List Node). ns ++ node ∷ []) c.new.ensures.items in
     let links : c.add.new.self.links.items ≡ [] = ap (λ v. v.items) c.in_ok-add.ensures.links ∙ c.new-3.ensures.items in
     let found = c.in_ok-add.ensures.found in

@@ -1,4 +1,4 @@
-use Rattle.std.proofs.Common.{◌≡◌, ℕ, ◌+◌, ◌/◌, ◌≤◌, inl, inr, List, Option, Some, sym, subst, arith}
+use Rattle.std.proofs.Common.{◌/◌, ◌≤◌, inl, inr, Option, subst, arith}
 use Rattle.std.specs.Prelude.{Contains}
 use Rattle.std.proofs.lemmas.Bool.{cases_lt}
 use Rattle.ia_word.specs.Width.{bytes_of}

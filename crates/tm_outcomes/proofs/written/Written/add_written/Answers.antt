@@ -1,7 +1,7 @@
 use Rattle.std.proofs.Common.{List, ℕ, ◌∙◌, sym, ap, subst}
 use Rattle.std.specs.FinSet as set
 use Rattle.std.specs.Ordering.{nat_cmp}
-use Rattle.tm_outcomes.specs.Elsewhere.{IsSameElsewhere}
+use Rattle.tm_core.specs.Reopening.{IsSameElsewhere}
 use Rattle.tm_core.specs.Theorem.{machine_setting, view_at}
 use Rattle.tm_outcomes.proofs.Noted.{open_noted, step_made}
 use Rattle.tm_outcomes.proofs.Stored.{on_more}

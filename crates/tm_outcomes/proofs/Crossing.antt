@@ -1,0 +1,247 @@
+-- An unseen step, and a step of another core: in either order they lead to the same situation.
+use Rattle.std.proofs.Common.{◌≡◌, ℕ, Bool, true, false, cond, List, [], Option, Some, None, refl, sym, ap, ◌∙◌, subst}
+use Rattle.std.specs.Prelude.{nat_eq, nat_lt, option_map}
+use Rattle.std.proofs.Math.Path.{fun_ext}
+use Rattle.std.proofs.lemmas.Bool.{eqb-true, false≢true}
+use Rattle.tm_model.specs.Conflicts.{addresses_loaded_by, addresses_stored_by, doom_after_other, doom_after_own}
+use Rattle.tm_model.specs.Owed.{owed_under}
+use Rattle.tm_model.specs.Setting.{Setting}
+use Rattle.tm_model.specs.State.{Core}
+use Rattle.tm_model.specs.Steps.{Change, after_step_of, state_with, step}
+use Rattle.tm_model.specs.declared.outcome.Outcome.{Outcome}
+use Rattle.tm_model.specs.declared.outcome.Pick.{Pick}
+use Rattle.tm_outcomes.specs.Schedules.{Situation, after_pick, owed_by, with_state}
+use Rattle.tm_outcomes.specs.Unseen.{IsUnseen, is_unseen}
+use Rattle.tm_outcomes.proofs.Somes.{same_in}
+use Rattle.tm_outcomes.proofs.UnseenCores.{IsUnseenStep, unseen_step, untouched}
+
+same_situation : (a b : Situation) → a.state.memory ≡ b.state.memory → a.state.count ≡ b.state.count →
+    ((number : ℕ) → a.state.cores number ≡ b.state.cores number) → ((number : ℕ) → a.doomed number ≡ b.doomed number) → a ≡ b
+same_situation a b memory count cores doomed = λ i. record {
+  state = record { memory = memory i; count = count i; cores = fun_ext cores i };
+  doomed = fun_ext doomed i;
+}
+
+-- ---- a step, by what it makes of memory and of its core
+
+abbrev pub moved : Setting → Situation → ℕ → Outcome → List ℕ × Core → Situation
+moved setting now core outcome made = with_state setting now core outcome (state_with now.state core made)
+
+pub record IsPicked (setting : Setting) (now : Situation) (pick : Pick) (next : Situation) : Type 0 where
+  pub below : nat_lt pick.core now.state.count ≡ true
+  pub made : List ℕ × Core
+  pub is_made : after_step_of setting now.state.memory (now.state.cores pick.core) (owed_by setting now pick) ≡ Some made
+  pub is_next : next ≡ moved setting now pick.core (owed_by setting now pick) made
+
+picked_by : (setting : Setting) (now next : Situation) (pick : Pick) (below : Bool) (change : Change) → nat_lt pick.core now.state.count ≡ below →
+    after_step_of setting now.state.memory (now.state.cores pick.core) (owed_by setting now pick) ≡ change →
+    option_map (with_state setting now pick.core (owed_by setting now pick)) (cond below (option_map (state_with now.state pick.core) change) None) ≡ Some next →
+    IsPicked setting now pick next
+picked_by setting now next pick true (Some made) below is_made e = record { below = below; made = made; is_made = is_made; is_next = sym (same_in e) }
+picked_by setting now next pick true None below is_made e = absurd (cc)
+picked_by setting now next pick false change below is_made e = absurd (cc)
+
+pub picked : (setting : Setting) (now next : Situation) (pick : Pick) → after_pick setting now pick ≡ Some next → IsPicked setting now pick next
+picked setting now next pick e =
+    picked_by setting now next pick (nat_lt pick.core now.state.count)
+    (after_step_of setting now.state.memory (now.state.cores pick.core) (owed_by setting now pick)) refl refl e
+
+pub picks : (setting : Setting) (now : Situation) (pick : Pick) (outcome : Outcome) (made : List ℕ × Core) → nat_lt pick.core now.state.count ≡ true →
+    owed_by setting now pick ≡ outcome → after_step_of setting now.state.memory (now.state.cores pick.core) outcome ≡ Some made →
+    after_pick setting now pick ≡ Some (moved setting now pick.core outcome made)
+picks setting now pick outcome made below owed is_made =
+    ap (λ (o : Outcome). option_map (with_state setting now pick.core o) (step setting now.state pick.core o)) owed
+    ∙ (ap (λ t. option_map (with_state setting now pick.core outcome)
+    (cond t (option_map (state_with now.state pick.core) (after_step_of setting now.state.memory (now.state.cores pick.core) outcome)) None)) below
+    ∙ ap (λ (c : Change). option_map (with_state setting now pick.core outcome) (option_map (state_with now.state pick.core) c)) is_made)
+
+abbrev pub rested : (setting : Setting) (now : Situation) (core : ℕ) → IsUnseenStep setting (now.state.cores core) (now.doomed core) → Situation
+rested setting now core is = moved setting now core is.outcome (now.state.memory, is.next)
+
+pub unseen_at : (setting : Setting) (now : Situation) (core : ℕ) → IsUnseen setting now core → IsUnseenStep setting (now.state.cores core) (now.doomed core)
+unseen_at setting now core unseen = unseen_step setting now.state.memory (now.state.cores core) (now.doomed core) unseen
+
+-- whatever the event
+pub unseen_goes : (setting : Setting) (now : Situation) (pick : Pick) (is : IsUnseenStep setting (now.state.cores pick.core) (now.doomed pick.core)) →
+    nat_lt pick.core now.state.count ≡ true → after_pick setting now pick ≡ Some (rested setting now pick.core is)
+unseen_goes setting now pick is below =
+    picks setting now pick is.outcome (now.state.memory, is.next) below (is.is_owed pick.event now.state.memory) (is.is_made now.state.memory)
+
+-- ---- in either order
+
+swap : {A : Type 0} (a b : Bool) (x y z : A) → (a ≡ true → b ≡ true → ⊥) → cond a x (cond b y z) ≡ cond b y (cond a x z)
+swap true true x y z apart = absurd (apart refl refl)
+swap true false x y z apart = refl
+swap false b x y z apart = refl
+
+-- of an unseen step and a step of another core
+pub record Crosses (setting : Setting) (one other : Pick) (after_one after_other : Situation) : Type 0 where
+  pub end : Situation
+  pub other_last : after_pick setting after_one other ≡ Some end
+  pub one_last : after_pick setting after_other one ≡ Some end
+  pub still : IsUnseen setting after_other one.core
+
+module _ (setting : Setting) (now : Situation) (one other : Pick)
+    (is : IsUnseenStep setting (now.state.cores one.core) (now.doomed one.core))
+    (below_one : nat_lt one.core now.state.count ≡ true) (below_other : nat_lt other.core now.state.count ≡ true)
+    (made : List ℕ × Core)
+    (is_made : after_step_of setting now.state.memory (now.state.cores other.core) (owed_by setting now other) ≡ Some made)
+    (apart : nat_eq other.core one.core ≡ false) (apart_too : nat_eq one.core other.core ≡ false) where
+  abbrev outcome : Outcome
+  outcome = owed_by setting now other
+
+  abbrev memory : List ℕ
+  memory = now.state.memory
+
+  -- after the unseen one
+  abbrev first : Situation
+  first = rested setting now one.core is
+
+  -- after the other
+  abbrev second : Situation
+  second = moved setting now other.core outcome made
+
+  first_core : (number : ℕ) → nat_eq number one.core ≡ false → first.state.cores number ≡ now.state.cores number
+  first_core number e = ap (λ t. cond t is.next (now.state.cores number)) e
+
+  first_doom : (number : ℕ) → nat_eq number one.core ≡ false → first.doomed number ≡ now.doomed number
+  first_doom number e =
+      let loads : List ℕ = addresses_loaded_by setting memory (now.state.cores one.core) is.outcome in
+      let stores : List ℕ = addresses_stored_by setting memory (now.state.cores one.core) is.outcome in
+      ap (λ t. cond t (doom_after_own is.outcome (now.doomed one.core))
+      (doom_after_other setting memory loads stores (now.state.cores number) (now.doomed number))) e
+      ∙ (ap (λ l. doom_after_other setting memory l stores (now.state.cores number) (now.doomed number)) (is.loads memory)
+      ∙ (ap (λ s. doom_after_other setting memory [] s (now.state.cores number) (now.doomed number)) (is.stores memory)
+      ∙ untouched setting memory (now.state.cores number) (now.doomed number)))
+
+  owed_first : owed_by setting first other ≡ outcome
+  owed_first =
+      ap (λ (x : Core). owed_under other.event setting memory x (first.doomed other.core)) (first_core other.core apart)
+      ∙ ap (λ (d : Option ℕ). owed_under other.event setting memory (now.state.cores other.core) d) (first_doom other.core apart)
+
+  other_last : after_pick setting first other ≡ Some (moved setting first other.core outcome made)
+  other_last =
+      picks setting first other outcome made below_other owed_first
+      (ap (λ (x : Core). after_step_of setting memory x outcome) (first_core other.core apart) ∙ is_made)
+
+  second_core : second.state.cores one.core ≡ now.state.cores one.core
+  second_core = ap (λ t. cond t made.1 (now.state.cores one.core)) apart_too
+
+  abbrev loads : List ℕ
+  loads = addresses_loaded_by setting memory (now.state.cores other.core) outcome
+
+  abbrev stores : List ℕ
+  stores = addresses_stored_by setting memory (now.state.cores other.core) outcome
+
+  second_doom : second.doomed one.core ≡ now.doomed one.core
+  second_doom =
+      ap (λ t. cond t (doom_after_own outcome (now.doomed other.core))
+      (doom_after_other setting memory loads stores (now.state.cores one.core) (now.doomed one.core))) apart_too
+      ∙ is.before memory loads stores
+
+  still : IsUnseen setting second one.core
+  still =
+      ap (λ (x : Core). is_unseen setting made.0 x (second.doomed one.core)) second_core
+      ∙ (ap (λ (d : Option ℕ). is_unseen setting made.0 (now.state.cores one.core) d) second_doom ∙ is.still made.0)
+
+  one_last : after_pick setting second one ≡ Some (moved setting second one.core is.outcome (made.0, is.next))
+  one_last =
+      picks setting second one is.outcome (made.0, is.next) below_one
+      (ap (λ (x : Core). owed_under one.event setting made.0 x (second.doomed one.core)) second_core
+      ∙ (ap (λ (d : Option ℕ). owed_under one.event setting made.0 (now.state.cores one.core) d) second_doom
+      ∙ is.is_owed one.event made.0))
+      (ap (λ (x : Core). after_step_of setting made.0 x is.outcome) second_core ∙ is.is_made made.0)
+
+  not_both : (number : ℕ) → nat_eq number other.core ≡ true → nat_eq number one.core ≡ true → ⊥
+  not_both number is_other is_one =
+      false≢true (sym apart ∙ (ap (λ n. nat_eq n one.core) (sym (eqb-true number other.core is_other)) ∙ is_one))
+
+  -- the unseen step hits none
+  quiet : (number : ℕ) → nat_eq number one.core ≡ false →
+      (moved setting second one.core is.outcome (made.0, is.next)).doomed number ≡ second.doomed number
+  quiet number e =
+      let l : List ℕ = addresses_loaded_by setting made.0 (second.state.cores one.core) is.outcome in
+      let s : List ℕ = addresses_stored_by setting made.0 (second.state.cores one.core) is.outcome in
+      ap (λ t. cond t (doom_after_own is.outcome (second.doomed one.core))
+      (doom_after_other setting made.0 l s (second.state.cores number) (second.doomed number))) e
+      ∙ (ap (λ x. doom_after_other setting made.0 x s (second.state.cores number) (second.doomed number))
+      (ap (λ (x : Core). addresses_loaded_by setting made.0 x is.outcome) second_core ∙ is.loads made.0)
+      ∙ (ap (λ x. doom_after_other setting made.0 [] x (second.state.cores number) (second.doomed number))
+      (ap (λ (x : Core). addresses_stored_by setting made.0 x is.outcome) second_core ∙ is.stores made.0)
+      ∙ untouched setting made.0 (second.state.cores number) (second.doomed number)))
+
+  -- the other hits the same
+  hits : (number : ℕ) → nat_eq number other.core ≡ false → (moved setting first other.core outcome made).doomed number
+      ≡ doom_after_other setting memory loads stores (first.state.cores number) (first.doomed number)
+  hits number e =
+      let l : List ℕ = addresses_loaded_by setting memory (first.state.cores other.core) outcome in
+      let s : List ℕ = addresses_stored_by setting memory (first.state.cores other.core) outcome in
+      ap (λ t. cond t (doom_after_own outcome (first.doomed other.core))
+      (doom_after_other setting memory l s (first.state.cores number) (first.doomed number))) e
+      ∙ (ap (λ x. doom_after_other setting memory x s (first.state.cores number) (first.doomed number))
+      (ap (λ (x : Core). addresses_loaded_by setting memory x outcome) (first_core other.core apart))
+      ∙ ap (λ x. doom_after_other setting memory loads x (first.state.cores number) (first.doomed number))
+      (ap (λ (x : Core). addresses_stored_by setting memory x outcome) (first_core other.core apart)))
+
+  dooms : (number : ℕ) (is_other is_one : Bool) → nat_eq number other.core ≡ is_other → nat_eq number one.core ≡ is_one →
+      (moved setting first other.core outcome made).doomed number
+      ≡ (moved setting second one.core is.outcome (made.0, is.next)).doomed number
+  dooms number true true a b = absurd (not_both number a b)
+  dooms number true false a b =
+      ap (λ t. cond t (doom_after_own outcome (first.doomed other.core))
+      (doom_after_other setting memory (addresses_loaded_by setting memory (first.state.cores other.core) outcome)
+      (addresses_stored_by setting memory (first.state.cores other.core) outcome) (first.state.cores number) (first.doomed number))) a
+      ∙ (ap (doom_after_own outcome) (first_doom other.core apart)
+      ∙ sym (quiet number b ∙ ap (λ t. cond t (doom_after_own outcome (now.doomed other.core))
+      (doom_after_other setting memory loads stores (now.state.cores number) (now.doomed number))) a))
+  dooms number false true a b =
+      hits number a
+      ∙ (ap (λ t. doom_after_other setting memory loads stores (cond t is.next (now.state.cores number)) (first.doomed number)) b
+      ∙ (ap (λ t. doom_after_other setting memory loads stores is.next (cond t (doom_after_own is.outcome (now.doomed one.core))
+      (doom_after_other setting memory (addresses_loaded_by setting memory (now.state.cores one.core) is.outcome)
+      (addresses_stored_by setting memory (now.state.cores one.core) is.outcome) (now.state.cores number) (now.doomed number)))) b
+      ∙ (is.after memory loads stores
+      ∙ sym (ap (λ t. cond t (doom_after_own is.outcome (second.doomed one.core))
+      (doom_after_other setting made.0 (addresses_loaded_by setting made.0 (second.state.cores one.core) is.outcome)
+      (addresses_stored_by setting made.0 (second.state.cores one.core) is.outcome) (second.state.cores number) (second.doomed number))) b
+      ∙ ap (doom_after_own is.outcome) second_doom))))
+  dooms number false false a b =
+      hits number a
+      ∙ (ap (λ (x : Core). doom_after_other setting memory loads stores x (first.doomed number)) (first_core number b)
+      ∙ (ap (λ (d : Option ℕ). doom_after_other setting memory loads stores (now.state.cores number) d) (first_doom number b)
+      ∙ sym (quiet number b ∙ ap (λ t. cond t (doom_after_own outcome (now.doomed other.core))
+      (doom_after_other setting memory loads stores (now.state.cores number) (now.doomed number))) a)))
+
+  crosses : Crosses setting one other first second
+  crosses = record {
+    end = moved setting first other.core outcome made;
+    other_last = other_last;
+    one_last = one_last ∙ ap Some (sym (same_situation (moved setting first other.core outcome made)
+        (moved setting second one.core is.outcome (made.0, is.next)) refl refl
+        (λ number. swap (nat_eq number other.core) (nat_eq number one.core) made.1 is.next (now.state.cores number) (not_both number))
+        (λ number. dooms number (nat_eq number other.core) (nat_eq number one.core) refl refl)));
+    still = still;
+  }
+
+pub unseen_first : (setting : Setting) (now after_one after_other : Situation) (one other : Pick) → IsUnseen setting now one.core →
+    nat_eq other.core one.core ≡ false → nat_eq one.core other.core ≡ false →
+    after_pick setting now one ≡ Some after_one → after_pick setting now other ≡ Some after_other →
+    Crosses setting one other after_one after_other
+unseen_first setting now after_one after_other one other unseen apart apart_too goes goes_other =
+    let is = unseen_at setting now one.core unseen in
+    let step_one = picked setting now after_one one goes in
+    let step_other = picked setting now after_other other goes_other in
+    let first_is : rested setting now one.core is ≡ after_one = same_in (sym (unseen_goes setting now one is step_one.below) ∙ goes) in
+    subst (λ (x : Situation). Crosses setting one other x after_other) first_is
+    (subst (λ (x : Situation). Crosses setting one other (rested setting now one.core is) x) (sym step_other.is_next)
+    (crosses setting now one other is step_one.below step_other.below step_other.made step_other.is_made apart apart_too))
+
+-- an unseen step is the same whatever its event
+pub same_under_any : (setting : Setting) (now next : Situation) (one other : Pick) → IsUnseen setting now one.core → one.core ≡ other.core →
+    after_pick setting now one ≡ Some next → after_pick setting now other ≡ Some next
+same_under_any setting now next one other unseen same goes =
+    let is = unseen_at setting now one.core unseen in
+    let step_one = picked setting now next one goes in
+    let other_is : Pick = record { core = one.core; event = other.event } in
+    subst (λ n. after_pick setting now (record { core = n; event = other.event }) ≡ Some next) same
+    (unseen_goes setting now other_is is step_one.below ∙ (sym (unseen_goes setting now one is step_one.below) ∙ goes))

@@ -1,0 +1,210 @@
+//! Steps that no other core sees.
+//!
+//! Such a step touches no memory, conflicts with none, and is the same whatever the other cores do before it: in
+//! whichever order it and their steps are made, the same states follow. So a search makes these steps at once, and
+//! follows the others (`specs/Unseen.antt`).
+
+ghost use Rattle.std.specs.Prelude.{◌≡◌, ◌<◌, ◌≤◌, ◌+◌, ◌^◌, ℕ, IfOk, List, length, true};
+ghost use Rattle.tm_core.specs.Theorem.{StandsFor, view_at};
+ghost use Rattle.tm_model.specs.Access.{loaded_addresses};
+ghost use Rattle.tm_model.specs.Setting.{program_setting};
+ghost use Rattle.tm_model.specs.declared.outcome.Pick.{Pick};
+ghost use Rattle.tm_outcomes.specs.Nodes.{IsPickOf};
+ghost use Rattle.tm_outcomes.specs.Outcomes.{IsAllowed, trial_setting};
+ghost use Rattle.tm_outcomes.specs.Places.{IsAt, IsPlaceOf};
+ghost use Rattle.tm_outcomes.specs.Resting.{Advances, RestsBy, is_condemned, is_running};
+ghost use Rattle.tm_outcomes.specs.Schedules.{Situation};
+ghost use Rattle.tm_outcomes.specs.Unseen.{are_none, is_unseen, touches_nothing};
+
+use crate::place::Place;
+use crate::trial::{Events, Trial};
+use ia_regs::Regs;
+use std::alloc::{AllocError, Global};
+use tm_core::{CoreState, Program};
+use tm_model::{Event, Pick};
+use tm_rule::{Access, Code, fetch, load_at, row};
+
+/// The most steps that are made at once: one that is followed, and behind it at most 4096 that no other core sees,
+/// since a core may never see memory again.
+const MOST_STEPS: usize = 4097;
+
+fn is_running(state: CoreState) -> bool
+    ensures { result ≡ is_running state }
+{
+    matches!(state, CoreState::Running)
+}
+
+fn is_condemned(state: CoreState) -> bool
+    ensures { result ≡ is_condemned state }
+{
+    matches!(state, CoreState::Condemned(_))
+}
+
+// Whether the instruction at these registers loads nothing.
+fn loads_nothing(program: &Program, regs: &Regs) -> bool
+    ensures { (reads writes : ℕ) →
+        result ≡ are_none ((program_setting program.now reads writes).load_of regs.now) }
+{
+    let code = Code {
+        bytes: program.code(),
+        base: program.base(),
+        rows: program.rows(),
+    };
+    let size = program.mem_size();
+    match row(&code, regs.eip) {
+        Some(row) => is_absent(load_at(row, regs, size)),
+        None => is_absent(load_at(&fetch(&code, regs.eip), regs, size)),
+    }
+}
+
+// Whether there is no access.
+fn is_absent(access: Option<Access>) -> bool
+    ensures { result ≡ are_none (loaded_addresses access) }
+{
+    match access {
+        Some(_) => false,
+        None => true,
+    }
+}
+
+impl Trial<'_> {
+    // What a step comes under that is the same under each event: the first that the trial says.
+    fn usual_event(&self) -> Option<Event>
+        ensures { IsAllowed self.now.events result }
+    {
+        match self.events {
+            Events::Never => None,
+            Events::May(_) => None,
+            Events::Always(event) => Some(event),
+        }
+    }
+}
+
+impl Place {
+    // Whether the next instruction of a core outside of transactions touches no memory.
+    fn touches_nothing(&self, trial: &Trial<'_>, core: u8) -> bool
+        requires place { IsPlaceOf trial.now self.now }
+        requires core { core < length trial.now.program.now.entries }
+        requires running { is_running (view_at self.now.machine core).mode ≡ true }
+        ensures { (now : Situation) → StandsFor self.now.machine now.state now.doomed →
+            result ≡ touches_nothing (trial_setting trial.now) now.state.memory (view_at self.now.machine core).base }
+    {
+        let Ok(regs) = self.machine.base_regs(core) else {
+            unreachable!();
+        };
+        let Ok(reach) = self.machine.reach(core) else {
+            unreachable!();
+        };
+        if !loads_nothing(trial.program, &regs) {
+            return false;
+        }
+        is_absent(reach.store)
+    }
+
+    // Whether no other core sees the next step of a core, and none changes it.
+    fn is_unseen(&self, trial: &Trial<'_>, core: u8) -> bool
+        requires place { IsPlaceOf trial.now self.now }
+        requires core { core < length trial.now.program.now.entries }
+        ensures { (now : Situation) → StandsFor self.now.machine now.state now.doomed →
+            result ≡ is_unseen (trial_setting trial.now) now.state.memory (now.state.cores core) (now.doomed core) }
+    {
+        let Ok(state) = self.machine.state(core) else {
+            unreachable!();
+        };
+        if is_condemned(state) {
+            return true;
+        }
+        if !is_running(state) {
+            return false;
+        }
+        self.touches_nothing(trial, core)
+    }
+
+    // Whether a core is where it was at the mark, so that it goes round in a loop that touches no memory. The mark
+    // moves with each doubling of the steps, so that it comes to lie in such a loop.
+    fn has_come_back(&self, core: u8, count: usize, mark: &mut Option<Regs>) -> bool {
+        let Ok(regs) = self.machine.base_regs(core) else {
+            return false;
+        };
+        if let Some(marked) = *mark {
+            if marked == regs {
+                return true;
+            }
+            if !count.is_power_of_two() {
+                return false;
+            }
+        }
+        *mark = Some(regs);
+        false
+    }
+
+    // Makes the unseen steps of a core, and adds them to these: until there is none, the core goes round, or there
+    // are as many as are made at once.
+    fn rest_core(
+        &mut self,
+        trial: &Trial<'_>,
+        core: u8,
+        steps: &mut Vec<Pick>,
+    ) -> Result<(), AllocError>
+        requires core { core < length trial.now.program.now.entries }
+        requires place { IsPlaceOf trial.now self.old }
+        requires few { length steps.old.items ≤ 4097 }
+        requires at { (schedule : List Pick) × (IsAt trial.now self.old schedule
+            × (length schedule + 4097 ≤ 2 ^ 45 + length steps.old.items)) }
+        ensures place { IfOk result (λ _. IsPlaceOf trial.now self.new) }
+        ensures few { IfOk result (λ _. length steps.new.items ≤ 4097) }
+        ensures rests { IfOk result (λ _. RestsBy trial.now self.old self.new steps.old.items steps.new.items) }
+    {
+        let pick = Pick {
+            core,
+            event: trial.usual_event(),
+        };
+        let mut mark: Option<Regs> = None;
+        'steps: while steps.as_slice().len() < MOST_STEPS {
+            if self.has_come_back(core, steps.as_slice().len(), &mut mark) {
+                return Ok(());
+            }
+            if !self.is_unseen(trial, core) {
+                return Ok(());
+            }
+            steps.push(pick)?;
+            self.step(trial, pick);
+        }
+        Ok(())
+    }
+
+    // Makes the unseen steps of each core, and adds them to these.
+    fn come_to_rest(&mut self, trial: &Trial<'_>, steps: &mut Vec<Pick>) -> Result<(), AllocError>
+        requires place { IsPlaceOf trial.now self.old }
+        requires few { length steps.old.items ≤ 4097 }
+        requires at { (schedule : List Pick) × (IsAt trial.now self.old schedule
+            × (length schedule + 4097 ≤ 2 ^ 45 + length steps.old.items)) }
+        ensures place { IfOk result (λ _. IsPlaceOf trial.now self.new) }
+        ensures few { IfOk result (λ _. length steps.new.items ≤ 4097) }
+        ensures rests { IfOk result (λ _. RestsBy trial.now self.old self.new steps.old.items steps.new.items) }
+    {
+        for core in 0..trial.program.cores() {
+            self.rest_core(trial, core, steps)?;
+        }
+        Ok(())
+    }
+
+    /// The step of a pick, and behind it steps that no other core sees, core by core, until no core's next step is
+    /// such a one, or there are as many as are made at once. Answers the steps that were made.
+    pub fn advance(
+        &mut self,
+        alloc: Global,
+        trial: &Trial<'_>,
+        pick: Pick,
+    ) -> Result<Vec<Pick>, AllocError>
+        requires pick { IsPickOf trial.now pick }
+        requires at { (schedule : List Pick) × (IsAt trial.now self.old schedule × (length schedule + 4097 ≤ 2 ^ 45)) }
+        ensures { IfOk result (λ steps. Advances trial.now self.old self.new pick steps.items) }
+    {
+        let mut steps = Vec::new(alloc);
+        steps.push(pick)?;
+        self.step(trial, pick);
+        self.come_to_rest(trial, &mut steps)?;
+        Ok(steps)
+    }
+}
