@@ -52,7 +52,9 @@ ran_more way n p q s pick text line turn ran go =
       steps_before = ran;
       goes_on = turn;
       step = go.1;
-      line = ap (λ l. text ++ l) go.2;
+      line = line;
+      tells = go.2;
+      whole = refl;
     } in
     let same : suc n ≡ n + 1 = omega arith in
     subst (λ (k : ℕ). IsRunOf way k p (text ++ line) s) same more

@@ -25,6 +25,10 @@ use Rattle.tm_reason.specs.TmBack.Back.{IsFirst}
 use Rattle.tm_reason.specs.History.{IsReasonOf}
 use Rattle.tm_reason.specs.Lines.{reason_line}
 use Rattle.tm_reason.specs.TmWhy.Reason.{Reason}
+use Rattle.tm_trace.specs.Deeds.{IsBefore, IsDeed}
+use Rattle.tm_trace.specs.Lines.{step_line}
+use Rattle.tm_trace.specs.declared.deed.Before.{Before}
+use Rattle.tm_trace.specs.declared.deed.Deed.{Deed}
 use Rattle.debug_command.specs.declared.command.Command.{Command}
 use Rattle.debug_command.specs.declared.command.Command.TheVariants.{Step, Run, Next, Back, Break, Clear, Regs, Mem}
 use Rattle.debug_command.specs.declared.command.Command.TheVariants.{Sets, Why}
@@ -199,6 +203,22 @@ pub record IsStep (from : SessionValue) (pick : Pick) (outcome : Outcome) (to : 
   pub breaks : to.breaks ≡ from.breaks
   pub next : to.next ≡ pick.core + 1
 
+-- what is told of a step besides its outcome: plainly nothing, and in a spoken session what it did, by the machine
+-- before it and the one behind it
+abbrev pub IsTold : Manner → Board → ℕ → Outcome → Board → Option Deed → Type 0
+IsTold Plain from core outcome to told = told ≡ None
+IsTold Spoken from core outcome to told = (before : Before) × (deed : Deed) × (told ≡ Some deed)
+    × IsBefore from.machine from.program core before × IsDeed before to.machine core outcome deed
+
+-- the line of a step
+abbrev pub told_line : List Symbol → ℕ → Outcome → Option Deed → List ℕ
+told_line labels core outcome None = outcome_line core outcome
+told_line labels core outcome (Some deed) = step_line labels core outcome deed
+
+abbrev pub IsStepLine : SessionValue → ℕ → Outcome → SessionValue → List ℕ → Type 0
+IsStepLine from core outcome to line = (told : Option Deed)
+    × IsTold from.manner from.board core outcome to.board told × (line ≡ told_line (told_labels from) core outcome told)
+
 -- the last of some steps of a run
 pub record LastStep (way : Way) (ran : List ℕ → SessionValue → Type 0) (first : Bool) (text : List ℕ)
     (to : SessionValue) : Type 0 where
@@ -209,7 +229,9 @@ pub record LastStep (way : Way) (ran : List ℕ → SessionValue → Type 0) (fi
   pub steps_before : ran lines before
   pub goes_on : run_check way before first ≡ Go pick
   pub step : IsStep before pick outcome to
-  pub line : text ≡ lines ++ outcome_line pick.core outcome
+  pub line : List ℕ
+  pub tells : IsStepLine before pick.core outcome to line
+  pub whole : text ≡ lines ++ line
 
 -- so many steps of a run lead from p to q, with these outcome lines
 abbrev pub IsRunOf : Way → ℕ → SessionValue → List ℕ → SessionValue → Type 0
@@ -242,14 +264,15 @@ abbrev pub step_by : SessionValue → Option Pick → List ℕ → SessionValue 
 step_by from None text to = (text ≡ refusal_line from.manner (NoSuchCore (cores_of from))) × (to ≡ from)
 step_by from (Some pick) text to =
     ((length from.board.history ≡ from.board.limit) × (text ≡ refusal_line from.manner LimitReached) × (to ≡ from))
-    ⊎ ((outcome : Outcome) × IsStep from pick outcome to × (text ≡ outcome_line pick.core outcome))
+    ⊎ ((outcome : Outcome) × IsStep from pick outcome to × IsStepLine from pick.core outcome to text)
 
 abbrev pub StepAnswer : SessionValue → ℕ → Option Event → List ℕ → SessionValue → Type 0
 StepAnswer from core event text to = step_by from (pick_named from core event) text to
 
 -- the step of a pick whose turn it is
 abbrev pub GoAnswer : SessionValue → Pick → List ℕ → SessionValue → Type 0
-GoAnswer from pick text to = (outcome : Outcome) × IsStep from pick outcome to × (text ≡ outcome_line pick.core outcome)
+GoAnswer from pick text to =
+    (outcome : Outcome) × IsStep from pick outcome to × IsStepLine from pick.core outcome to text
 
 -- 1 to 100000 steps
 abbrev pub run_by : Bool → Way → ℕ → SessionValue → List ℕ → SessionValue → Type 0

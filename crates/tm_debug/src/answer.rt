@@ -12,12 +12,13 @@ ghost use Rattle.debug_command.specs.Refusals.{refusal_line};
 ghost use Rattle.ia_text.specs.TextLine.{line_end};
 
 use crate::state::{MOST_BREAKPOINTS, RunCheck, SessionState, core_count};
+use crate::told::{told_step, write_told};
 use debug_command::{Manner, Range, Refusal, Symbol, refuse, write_labelled, write_place};
 use ia_text::page::{push, push_eight};
 use ia_text::text_line::{TextLine, push_number};
 use ia_text::{Out, WriteFault};
 use tm_model::{Event, Pick};
-use tm_reason::{Machine, Program, StepFault, write_core, write_dump, write_outcome};
+use tm_reason::{Machine, Program, StepFault, write_core, write_dump};
 
 /// Tells that there is no core of a number.
 pub fn refuse_core<O: Out>(state: &SessionState, out: &mut O) -> Result<(), WriteFault>
@@ -65,8 +66,8 @@ pub fn step<O: Out>(
         return refuse_core(state, out);
     };
     let manner = state.manner;
-    match state.step(Pick { core, event }) {
-        Ok(outcome) => write_outcome(core, &outcome, out),
+    match told_step(state, Pick { core, event }) {
+        Ok(told) => write_told(state.told_labels(), core, &told, out),
         Err(StepFault::NoSuchCore) => refuse_core(state, out),
         Err(StepFault::LimitReached) => refuse(manner, Refusal::LimitReached, out),
     }

@@ -4,10 +4,11 @@
 //! input's end, and the board that comes back has made the steps that these answers tell. Where the input fails, or
 //! memory is wanting, the answers to the lines before stand whole; where the output fails, at most a rest of the last
 //! answer is missing, of a run a rest of its last line. The fault gives the board back, after the steps that the
-//! answers tell. It waits for its input only.
+//! answers tell. It waits for its input only. The line of each step of a spoken session goes on with what the step did.
 //!
 //! It stands on `debug_command` (commands, as lines write them), `tm_hist` (boards, and the texts of outcomes, states and
-//! dumps), `tm_back` (steps that are taken back), `tm_reason` (why a core aborts), `ia_text` (listings, and devices that are written to) and `ia_lex` (lines).
+//! dumps), `tm_back` (steps that are taken back), `tm_reason` (why a core aborts), `tm_trace` (what a step did),
+//! `ia_text` (listings, and devices that are written to) and `ia_lex` (lines).
 #![tactic(auto)]
 
 mod answer;
@@ -21,6 +22,7 @@ mod run;
 mod session;
 mod sets;
 mod state;
+mod told;
 mod why;
 
 pub use debug_command::{CommandName, Manner, Names, Range, Refusal, Symbol};

@@ -8,10 +8,10 @@ ghost use Rattle.tm_debug.specs.Session.{value_of};
 
 use crate::answer::end_run;
 use crate::state::{RunCheck, SessionState, Way};
+use crate::told::{told_step, write_told};
 use debug_command::{Range, Refusal, refuse};
 use ia_text::{Out, WriteFault};
 use tm_model::Pick;
-use tm_reason::write_outcome;
 
 // The step of a pick whose turn it is.
 fn go<O: Out>(state: &mut SessionState, pick: Pick, out: &mut O) -> Result<(), WriteFault>
@@ -20,8 +20,8 @@ fn go<O: Out>(state: &mut SessionState, pick: Pick, out: &mut O) -> Result<(), W
     ensures { TellsAnswer (GoAnswer (value_of state.old) pick) (O.device out.old) (O.device out.new)
         (value_of state.new) result }
 {
-    match state.step(pick) {
-        Ok(outcome) => write_outcome(pick.core, &outcome, out),
+    match told_step(state, pick) {
+        Ok(told) => write_told(state.told_labels(), pick.core, &told, out),
         Err(_) => unreachable!(),
     }
 }

@@ -368,7 +368,8 @@ pub fn serve<W: Wait, I: In, O: Out>(
 
 /// Answers the lines of an input with a board in this manner: plainly as [`serve`] does, or spoken, with a prompt before
 /// each line is read. The plan has the core of each step that `next` makes: the first is that of the board's first step. Commands
-/// may write addresses by the names' symbols, and the answers of a spoken session tell them by the names' labels.
+/// may write addresses by the names' symbols, and the answers of a spoken session tell them by the names' labels, and
+/// of each step what it did.
 pub fn serve_in<W: Wait, I: In, O: Out>(
     rt: &W,
     alloc: Global,

@@ -151,8 +151,10 @@ fn a_plain_output_is_cut(rt: HostRuntime) {
 #[test]
 fn a_spoken_output_is_cut(rt: HostRuntime) {
     let lines = b"step 0\nstep 0\nquit\nleft".as_slice();
-    let text =
-        b"elide> 0 begun\nelide> error 74: the session has made its most steps\nelide> bye\n".as_slice();
+    let text = b"elide> 0 begun 00000100 xbegin 0x115\n\
+        elide> error 74: the session has made its most steps\n\
+        elide> bye\n"
+        .as_slice();
     for room in 0..=text.len() {
         let made = if room < 7 { 0 } else { 1 };
         let is_whole = room == text.len();
@@ -168,9 +170,9 @@ fn a_spoken_output_is_cut(rt: HostRuntime) {
         );
         let want = if room < 7 {
             23
-        } else if room < 22 {
+        } else if room < 44 {
             16
-        } else if room < 75 {
+        } else if room < 97 {
             9
         } else {
             4
