@@ -1,1 +1,3 @@
+mod Labelled
+mod Lines
 mod Printed

@@ -1,4 +1,5 @@
 -- What `elide asm` and `elide dis` print (docs/FORMATS.md, "Options of the command line").
+use Rattle.std.specs.Io.KnownBytes.{Appends}
 use Rattle.std.specs.Prelude.{◌≡◌, ◌≤◌, ◌⊎◌, ℕ, Bool, true, false, List, length, take, Option, Ok}
 use Rattle.ia_asm.specs.Assembles.{AssemblesCode, GivesListing, RefusedAs}
 use Rattle.ia_asm.specs.declared.assembly.CodeImage.{CodeImage}
@@ -14,6 +15,8 @@ use Rattle.elide_program.specs.declared.fault.ProgramFault.TheVariants as fault
 use Rattle.elide_program.specs.declared.fault.ProgramRefusal.{ProgramRefusal}
 use Rattle.elide_program.specs.declared.fault.ProgramRefusal.TheVariants as refusal
 use Rattle.elide_program.specs.declared.file.ProgramFile.{ProgramFile}
+use Rattle.elide_asm.specs.Labelled.{IsListed}
+use Rattle.elide_asm.specs.declared.marks.Mark.{Mark}
 
 -- ---- asm
 
@@ -61,3 +64,17 @@ IsCodeListing file text = (file_code_len file ≤ length (file_bytes file))
 abbrev pub PrintsListing : Option (List ℕ) → Device → Device → Type 0
 PrintsListing content before after = (source : List ℕ) × Gives content most_bytes source
     × (file : ProgramFile) × IsFile source file × Prints (IsCodeListing file) before after
+
+-- the same with some labels; where these stand and what they are called is no part of it
+abbrev pub IsLabelledListing : ProgramFile → List ℕ → Type 0
+IsLabelledListing file text = (file_code_len file ≤ length (file_bytes file)) × (marks : List Mark)
+    × IsListed marks (take (file_code_len file) (file_bytes file)) (file_base file) (file_code_len file) text
+
+-- such a listing was written
+abbrev pub AppendsLabelled : ProgramFile → Option (List ℕ) → Option (List ℕ) → Type 0
+AppendsLabelled file before after = (text : List ℕ) × IsLabelledListing file text × Appends before after text
+
+-- FILE is read as a program, and the listing of its code with labels was written
+abbrev pub PrintsLabelled : Option (List ℕ) → Option (List ℕ) → Option (List ℕ) → Type 0
+PrintsLabelled content before after = (source : List ℕ) × Gives content most_bytes source
+    × (file : ProgramFile) × IsFile source file × AppendsLabelled file before after

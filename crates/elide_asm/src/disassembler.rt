@@ -1,27 +1,29 @@
 //! `elide dis`.
 
-ghost use Rattle.std.specs.Prelude.{◌≡◌, ◌≤◌, false, length, take, IfOk, IfSome, Ok};
+ghost use Rattle.std.specs.Prelude.{◌≡◌, ◌≤◌, false, length, take, true, IfOk};
 ghost use Rattle.elide_program.specs.declared.file.ProgramFile.{ProgramFile};
 ghost use Rattle.elide_program.specs.ProgramFile.{IsFile, file_bytes, file_code_len};
-ghost use Rattle.elide_asm.specs.Printed.{IsCodeListing, Prints, PrintsListing};
+ghost use Rattle.elide_asm.specs.Printed.{AppendsLabelled, IsCodeListing, Prints, PrintsLabelled, PrintsListing};
 
 use crate::labels::list_labelled;
 use elide_args::DisOptions;
 use elide_places::Places;
 use elide_program::{Paths, ProgramFault, ProgramFile, ProgramRefusal, read_file};
 use ia_image::LoadFault;
-use ia_text::{Out, WriteFault, disassemble};
+use ia_text::{Out, disassemble};
 use std::alloc::Global;
 
-/// Prints the listing of the code, with its labels where they are asked for.
-pub fn dis<P: Paths, O: Out>(
+/// Prints the listing of the code, with its labels where they are asked for, and gives the device back.
+pub fn dis<P: Paths, O: Out + Drop>(
     alloc: Global,
     options: &DisOptions<'_>,
     paths: &mut P,
-    out: &mut O,
-) -> Result<(), ProgramRefusal>
-    ensures { options.now.shows_labels ≡ false → IfOk result (λ _. PrintsListing
-        (P.content paths.old options.now.file.now) (O.device out.old) (O.device out.new)) }
+    out: O,
+) -> Result<O, ProgramRefusal>
+    ensures listing { options.now.shows_labels ≡ false → IfOk result (λ given. PrintsListing
+        (P.content paths.old options.now.file.now) (O.device out) (O.device given)) }
+    ensures labelled { options.now.shows_labels ≡ true → IfOk result (λ given. PrintsLabelled
+        (P.content paths.old options.now.file.now) (O.device out).contents (O.device given).contents) }
 {
     let text = read_file(options.file, paths)?;
     let listed = list_text(alloc, options.shows_labels, text.as_slice(), out);
@@ -30,57 +32,62 @@ pub fn dis<P: Paths, O: Out>(
 }
 
 // Prints the listing of a file of this text.
-fn list_text<O: Out>(
+fn list_text<O: Out + Drop>(
     alloc: Global,
     shows_labels: bool,
     text: &[u8],
-    out: &mut O,
-) -> Result<(), ProgramRefusal>
-    ensures { shows_labels ≡ false → IfOk result (λ _. (file : ProgramFile) × IsFile text.now file
-        × Prints (IsCodeListing file) (O.device out.old) (O.device out.new)) }
+    out: O,
+) -> Result<O, ProgramRefusal>
+    ensures listing { shows_labels ≡ false → IfOk result (λ given. (file : ProgramFile) × IsFile text.now file
+        × Prints (IsCodeListing file) (O.device out) (O.device given)) }
+    ensures labelled { shows_labels ≡ true → IfOk result (λ given. (file : ProgramFile) × IsFile text.now file
+        × AppendsLabelled file (O.device out).contents (O.device given).contents) }
 {
     let file = ProgramFile::read(alloc, text)?;
-    let listed = list(alloc, shows_labels, text, &file, out);
+    let listed = if shows_labels {
+        list_with_labels(alloc, text, &file, out)
+    } else {
+        list(&file, out)
+    };
     drop(file);
     listed
 }
 
-fn list<O: Out>(
-    alloc: Global,
-    shows_labels: bool,
-    text: &[u8],
-    file: &ProgramFile<'_>,
-    out: &mut O,
-) -> Result<(), ProgramRefusal>
-    ensures { shows_labels ≡ false → IfOk result (λ _. Prints (IsCodeListing file.now)
-        (O.device out.old) (O.device out.new)) }
+// Prints the listing of a program's file.
+fn list<O: Out + Drop>(file: &ProgramFile<'_>, out: O) -> Result<O, ProgramRefusal>
+    ensures { IfOk result (λ given. Prints (IsCodeListing file.now) (O.device out) (O.device given)) }
 {
-    let Some(code) = code_of(file) else {
-        return Err(ProgramRefusal::Fault(ProgramFault::Load(LoadFault::CodeTooLong)));
-    };
-    if shows_labels {
-        let places = Places::of_text(alloc, text)?;
-        let written = list_labelled(alloc, code, file.base(), &places, out)?;
-        told(written)
-    } else {
-        told(disassemble(code, file.base(), out))
-    }
-}
-
-// What a listing's writing came to.
-fn told(written: Result<(), WriteFault>) -> Result<(), ProgramRefusal>
-    ensures { IfOk result (λ x. written ≡ Ok x) }
-{
-    match written {
-        Ok(()) => Ok(()),
+    let code = code_of(file)?;
+    let mut out = out;
+    match disassemble(code, file.base(), &mut out) {
+        Ok(()) => Ok(out),
         Err(fault) => Err(ProgramRefusal::Fault(ProgramFault::Write(fault))),
     }
 }
 
+// The same with the labels of the file's text.
+fn list_with_labels<O: Out + Drop>(
+    alloc: Global,
+    text: &[u8],
+    file: &ProgramFile<'_>,
+    out: O,
+) -> Result<O, ProgramRefusal>
+    ensures { IfOk result (λ given. AppendsLabelled file.now (O.device out).contents (O.device given).contents) }
+{
+    let code = code_of(file)?;
+    let places = Places::of_text(alloc, text)?;
+    let listed = list_labelled(alloc, code, file.base(), &places, out);
+    drop(places);
+    listed
+}
+
 // The code, where the image has as many bytes as the file says.
-fn code_of<'f>(file: &'f ProgramFile<'_>) -> Option<&'f [u8]>
-    ensures { IfSome result (λ code. (file_code_len file.now ≤ length (file_bytes file.now))
+fn code_of<'f>(file: &'f ProgramFile<'_>) -> Result<&'f [u8], ProgramRefusal>
+    ensures { IfOk result (λ code. (file_code_len file.now ≤ length (file_bytes file.now))
         × (code.now ≡ take (file_code_len file.now) (file_bytes file.now))) }
 {
-    file.bytes().get(..file.code_len() as usize)
+    match file.bytes().get(..file.code_len() as usize) {
+        Some(code) => Ok(code),
+        None => Err(ProgramRefusal::Fault(ProgramFault::Load(LoadFault::CodeTooLong))),
+    }
 }

@@ -1,0 +1,47 @@
+//! Labels by their addresses.
+
+ghost use Rattle.std.specs.Prelude.{◌≡◌, IfOk, length, map};
+ghost use Rattle.std.specs.List.Sorted.{IsNonDecreasingBy, IsPermutation};
+ghost use Rattle.elide_places.specs.Shown.{shown_name};
+ghost use Rattle.elide_asm.specs.Labelled.{marks_at};
+
+use elide_places::Label;
+use std::alloc::{AllocError, Global};
+
+/// Where a label stands, and its name as it is shown.
+#[derive(Clone, Copy)]
+pub struct Mark<'a> {
+    /// The address.
+    pub address: u32,
+    /// The name, as [`Label::shown`] has it.
+    pub name: &'a [u8],
+}
+
+/// Each label's address and name, in the order of the addresses; of several at one address in the order of the list.
+///
+/// [`AllocError`] where there is no memory for them.
+pub fn marks_of<'a>(alloc: Global, labels: &'a [Label]) -> Result<Vec<Mark<'a>>, AllocError>
+    ensures sorted { IfOk result (λ marks. IsNonDecreasingBy (λ m. m.address) marks.items) }
+    ensures names { IfOk result (λ marks. IsPermutation (map (λ l. shown_name l.name.items) labels.now)
+        (map (λ m. m.name.now) marks.items)) }
+{
+    let mut marks = Vec::new(alloc);
+    for label in labels {
+        marks.push(Mark {
+            address: label.address(),
+            name: label.shown(),
+        })?;
+    }
+    marks.sort_by_key(|mark| mark.address)?;
+    Ok(marks)
+}
+
+/// Those that stand at an address, of marks in the order of their addresses.
+pub fn standing_at<'m, 'a>(marks: &'m [Mark<'a>], at: u32) -> &'m [Mark<'a>]
+    requires { IsNonDecreasingBy (λ (m : Mark). m.address) marks.now }
+    ensures { result.now ≡ marks_at marks.now at }
+{
+    let first = marks.partition_point(|mark| mark.address < at);
+    let end = marks.partition_point(|mark| mark.address <= at);
+    &marks[first..end]
+}
