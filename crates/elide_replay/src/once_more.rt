@@ -20,10 +20,10 @@ ghost use Rattle.elide_why.specs.TmHist.Replay.{Replays};
 use crate::agreement::{Agreement, agreement_of};
 use elide_args::ReplayOptions;
 use elide_json::put_replay;
-use elide_places::Places;
 use elide_why::{
-    Board, Course, Fault, Gathered, Paths, Progress, Refusal, RunFault, Serial, Setup, ShownMemory,
-    record, record_path, scheduled, scheduled_places, show, shown_memory, tell_history,
+    Board, Course, Fault, Gathered, NamedPlaces, Paths, Progress, Refusal, RunFault, Serial, Setup,
+    ShownMemory, record, record_path, scheduled, scheduled_places, show, shown_memory,
+    tell_history,
 };
 use ia_text::Out;
 use std::alloc::{AllocError, Global};
@@ -31,12 +31,14 @@ use tm_model::Pick;
 
 /// Runs a schedule on a board, and its history again on one memory; prints the aborts with their reasons where they are
 /// asked for, the state, what is asked for of memory, and whether both ended alike, which they always do: a board's history replays;
-/// as lines, or as one object (docs/JSON.md, "replay"), which has no reasons. Gives the device back.
+/// as lines, or as one object (docs/JSON.md, "replay"), which has no reasons. `names` says whether a reason names code where the
+/// subset ends. Gives the device back.
 ///
 /// [`Refusal::Usage`] of `--json`, where reasons are asked for too.
 pub fn replay<P: Paths, O: Out + Drop, G: Progress>(
     alloc: Global,
     options: &ReplayOptions<'_>,
+    names: bool,
     paths: &mut P,
     out: O,
     progress: &mut G,
@@ -49,7 +51,7 @@ pub fn replay<P: Paths, O: Out + Drop, G: Progress>(
         return Err(Refusal::Usage("--json"));
     }
     let path = record_path(options.record, options.machine.file, paths)?;
-    let (setup, course, places) = begun(alloc, options, paths)?;
+    let (setup, course, places) = begun(alloc, options, names, paths)?;
     let board = board_of(alloc, &setup, &course, progress)?;
     compared(
         alloc,
@@ -98,7 +100,7 @@ fn compared<P: Paths, O: Out + Drop, G: Progress>(
     setup: &Setup,
     board: &Board,
     options: &ReplayOptions<'_>,
-    places: Option<&Places>,
+    places: Option<&NamedPlaces>,
     path: Option<&str>,
     paths: &mut P,
     out: O,
@@ -152,8 +154,9 @@ fn write_record<P: Paths>(
 fn begun<P: Paths>(
     alloc: Global,
     options: &ReplayOptions<'_>,
+    names: bool,
     paths: &mut P,
-) -> Result<(Setup, Course, Option<Places>), Refusal>
+) -> Result<(Setup, Course, Option<NamedPlaces>), Refusal>
     ensures setup { IfOk result (λ r. IsAsked (P.content paths.old options.now.machine.file.now) options.now.machine r.0) }
     ensures course { IfOk result (λ r. (picks : List Pick) → AreOf r.1 picks →
         AreAsked (P.content paths.old) options.now.schedule picks) }
@@ -166,7 +169,7 @@ fn begun<P: Paths>(
             &options.schedule,
             paths,
         )?;
-        Ok((setup, course, Some(places)))
+        Ok((setup, course, Some(NamedPlaces { places, names })))
     } else {
         let (setup, course) = scheduled(alloc, &options.machine, &options.schedule, paths)?;
         Ok((setup, course, None))

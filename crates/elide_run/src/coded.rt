@@ -46,10 +46,12 @@ pub fn run_coded<P: Paths, O: Out + Drop, G: Progress>(
     Ok((setup, machine, page))
 }
 
-/// The same with the reasons of the aborts, each behind its instruction.
+/// The same with the reasons of the aborts, each behind its instruction. `names` says whether code where the subset ends
+/// is named.
 pub fn run_coded_explained<P: Paths, O: Out + Drop, G: Progress>(
     alloc: Global,
     options: &RunOptions<'_>,
+    names: bool,
     paths: &mut P,
     page: Gathered<O>,
     progress: &mut G,
@@ -66,11 +68,12 @@ pub fn run_coded_explained<P: Paths, O: Out + Drop, G: Progress>(
         paths,
     )?;
     let labels = labels_of(alloc, &places)?;
+    let teller = Teller::new(&setup.program, options.machine.file, &places, true);
     let teller = ReasonTeller {
         alloc,
         program: &setup.program,
         labels: labels.as_slice(),
-        teller: Teller::new(&setup.program, options.machine.file, &places, true),
+        teller: teller.naming(names),
     };
     let made = stepped(alloc, teller, &setup, &course, path, paths, page, progress);
     drop(labels);

@@ -20,10 +20,11 @@ use std::alloc::Global;
 use tm_model::Pick;
 
 /// Makes a run's steps, and prints the line of each abort with its reason, and the other outcomes where they are asked
-/// for; writes the schedule where there is a path.
+/// for; writes the schedule where there is a path. `names` says whether code where the subset ends is named.
 pub fn run_explained<P: Paths, O: Out + Drop, G: Progress>(
     alloc: Global,
     options: &RunOptions<'_>,
+    names: bool,
     paths: &mut P,
     page: Gathered<O>,
     progress: &mut G,
@@ -45,6 +46,7 @@ pub fn run_explained<P: Paths, O: Out + Drop, G: Progress>(
         &places,
         options.traces,
     );
+    let teller = teller.naming(names);
     let made = stepped(alloc, teller, &setup, &course, path, paths, page, progress);
     drop(places);
     drop(course);

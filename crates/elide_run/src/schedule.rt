@@ -26,12 +26,14 @@ use tm_model::Pick;
 
 /// Runs a schedule of core steps, and prints the outcomes where they are asked for, with their instructions, the reasons of the aborts where these
 /// are, the state, and what is asked for of memory; and where it is expected that all cores stop, those that did not: as lines, or
-/// as one object (docs/JSON.md, "run"), which has no reasons. Answers whether there is one then, and gives the device back.
+/// as one object (docs/JSON.md, "run"), which has no reasons. `names` says whether a reason names code where the subset ends.
+/// Answers whether there is one then, and gives the device back.
 ///
 /// [`Refusal::Usage`] of `--code` without the outcomes, and of `--json`, where instructions or reasons are asked for too.
 pub fn run<P: Paths, O: Out + Drop, G: Progress>(
     alloc: Global,
     options: &RunOptions<'_>,
+    names: bool,
     paths: &mut P,
     out: O,
     progress: &mut G,
@@ -47,7 +49,7 @@ pub fn run<P: Paths, O: Out + Drop, G: Progress>(
     if options.is_json {
         run_object(alloc, options, paths, out, progress)
     } else {
-        run_lines(alloc, options, paths, out, progress)
+        run_lines(alloc, options, names, paths, out, progress)
     }
 }
 
@@ -55,6 +57,7 @@ pub fn run<P: Paths, O: Out + Drop, G: Progress>(
 fn run_lines<P: Paths, O: Out + Drop, G: Progress>(
     alloc: Global,
     options: &RunOptions<'_>,
+    names: bool,
     paths: &mut P,
     out: O,
     progress: &mut G,
@@ -63,7 +66,7 @@ fn run_lines<P: Paths, O: Out + Drop, G: Progress>(
         (O.device out).contents (O.device r.1).contents) }
 {
     let page = Gathered::new(out);
-    let (setup, machine, page) = run_steps(alloc, options, paths, page, progress)?;
+    let (setup, machine, page) = run_steps(alloc, options, names, paths, page, progress)?;
     let told = tell(&machine, &setup, options, page);
     drop(machine);
     drop(setup);
@@ -74,6 +77,7 @@ fn run_lines<P: Paths, O: Out + Drop, G: Progress>(
 fn run_steps<P: Paths, O: Out + Drop, G: Progress>(
     alloc: Global,
     options: &RunOptions<'_>,
+    names: bool,
     paths: &mut P,
     page: Gathered<O>,
     progress: &mut G,
@@ -82,8 +86,8 @@ fn run_steps<P: Paths, O: Out + Drop, G: Progress>(
         (⟦<Gathered<O> as Out>⟧.device page).contents (⟦<Gathered<O> as Out>⟧.device r.2).contents) }
 {
     match (options.explains, options.shows_code) {
-        (true, true) => run_coded_explained(alloc, options, paths, page, progress),
-        (true, false) => run_explained(alloc, options, paths, page, progress),
+        (true, true) => run_coded_explained(alloc, options, names, paths, page, progress),
+        (true, false) => run_explained(alloc, options, names, paths, page, progress),
         (false, true) => run_coded(alloc, options, paths, page, progress),
         (false, false) => run_plainly(alloc, options, paths, page, progress),
     }

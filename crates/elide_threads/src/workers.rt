@@ -27,7 +27,7 @@ use elide_setup::{
     events_of, new_board, number_of, read_file, show, shown_memory,
 };
 use elide_stats::tell_counts;
-use elide_why::tell_history;
+use elide_why::{NamedPlaces, tell_history};
 use ia_text::Out;
 use std::alloc::Global;
 use std::sync::Wait;
@@ -41,12 +41,14 @@ const FIRST_SEED: u32 = 1;
 /// Runs each core on a thread of its own, writes the schedule that came about where it is asked for, and prints the aborts
 /// with their reasons where these are asked for, and then what the transactions came to, or where that is not asked for
 /// the state and what is asked for of memory, as lines or as one object (docs/JSON.md, "threads"), which has no reasons. While the
-/// cores run, `progress` is told how many steps the history has. Gives the device back.
+/// cores run, `progress` is told how many steps the history has. `names` says whether a reason names code where the subset ends.
+/// Gives the device back.
 ///
 /// [`Refusal::Usage`] of `--json`, where reasons and no counts are asked for too.
 pub fn threads<R: Threads + Wait + Sync + AllocGlobal, P: Paths, O: Out + Drop, G: Progress + Send>(
     rt: &R,
     options: &ThreadsOptions<'_>,
+    names: bool,
     paths: &mut P,
     out: O,
     progress: &mut G,
@@ -58,7 +60,7 @@ pub fn threads<R: Threads + Wait + Sync + AllocGlobal, P: Paths, O: Out + Drop, 
         return Err(Refusal::Usage("--json"));
     }
     let settings = Settings::read(&options.machine)?;
-    let work = Work::read(options, paths)?;
+    let work = Work::read(options, names, paths)?;
     let text = read_file(options.machine.file, paths)?;
     let end = threads_of_text(
         rt,
@@ -74,7 +76,7 @@ pub fn threads<R: Threads + Wait + Sync + AllocGlobal, P: Paths, O: Out + Drop, 
     end
 }
 
-// What is asked of the workers.
+// What is asked of the workers, and how it is told what they did.
 #[derive(Clone, Copy)]
 struct Work<'a> {
     // How many steps each core makes.
@@ -85,10 +87,16 @@ struct Work<'a> {
     plan: EventPlan,
     // Where the schedule that comes about is written.
     path: Option<&'a str>,
+    // Whether reasons of its aborts name code where the subset ends.
+    names: bool,
 }
 
 impl<'a> Work<'a> {
-    fn read<P: Paths>(options: &ThreadsOptions<'a>, paths: &mut P) -> Result<Work<'a>, Refusal>
+    fn read<P: Paths>(
+        options: &ThreadsOptions<'a>,
+        names: bool,
+        paths: &mut P,
+    ) -> Result<Work<'a>, Refusal>
         ensures budget { IfOk result (λ work. number_said (option_copied options.now.budget) ≡ Some work.budget) }
         ensures kept { (other : List ℕ) → P.content paths.new other ≡ P.content paths.old other }
     {
@@ -101,6 +109,7 @@ impl<'a> Work<'a> {
             burst,
             plan,
             path,
+            names,
         })
     }
 }
@@ -128,7 +137,7 @@ fn threads_of_text<
     let alloc = rt.alloc();
     let file = ProgramFile::read(alloc, text)?;
     let setup = Setup::of_file(alloc, settings, &file)?;
-    let places = places_of(alloc, options, text)?;
+    let places = places_of(alloc, options, work.names, text)?;
     let end = run_and_tell(
         rt,
         options,
@@ -158,7 +167,7 @@ fn run_and_tell<
     work: Work<'_>,
     file: &ProgramFile<'_>,
     setup: &Setup,
-    places: Option<&Places>,
+    places: Option<&NamedPlaces>,
     paths: &mut P,
     out: O,
     progress: &mut G,
@@ -200,7 +209,7 @@ fn tell_run<O: Out + Drop, G: Progress>(
     options: &ThreadsOptions<'_>,
     file: &ProgramFile<'_>,
     setup: &Setup,
-    places: Option<&Places>,
+    places: Option<&NamedPlaces>,
     board: &Board,
     out: O,
     progress: &mut G,
@@ -231,12 +240,14 @@ fn tell_run<O: Out + Drop, G: Progress>(
 fn places_of(
     alloc: Global,
     options: &ThreadsOptions<'_>,
+    names: bool,
     text: &[u8],
-) -> Result<Option<Places>, Refusal>
+) -> Result<Option<NamedPlaces>, Refusal>
     ensures { IfOk result (λ places. options.now.explains ≡ false → places ≡ None) }
 {
     if options.explains {
-        Ok(Some(Places::of_text(alloc, text)?))
+        let places = Places::of_text(alloc, text)?;
+        Ok(Some(NamedPlaces { places, names }))
     } else {
         Ok(None)
     }

@@ -3,8 +3,8 @@
 ghost use Rattle.std.specs.Prelude.{ℕ, IfOk, List};
 ghost use Rattle.ia_text.specs.Writing.{Wrote};
 
+use crate::placed::NamedPlaces;
 use crate::teller::Teller;
-use elide_places::Places;
 use elide_setup::{Board, Fault, Machine, Progress, Refusal};
 use ia_text::Out;
 use std::alloc::Global;
@@ -17,7 +17,7 @@ pub fn tell_history<O: Out, G: Progress>(
     alloc: Global,
     board: &Board,
     path: &str,
-    places: &Places,
+    places: &NamedPlaces,
     out: &mut O,
     progress: &mut G,
 ) -> Result<(), Refusal>
@@ -32,7 +32,7 @@ fn told_steps<O: Out, G: Progress>(
     alloc: Global,
     board: &Board,
     path: &str,
-    places: &Places,
+    places: &NamedPlaces,
     out: &mut O,
     progress: &mut G,
 ) -> Result<(), Refusal>
@@ -40,7 +40,8 @@ fn told_steps<O: Out, G: Progress>(
 {
     let machine = Machine::new(alloc, board.program(), board.limits());
     let mut machine = machine.map_err(Fault::Machine)?;
-    let mut teller = Teller::new(board.program(), path, places, false);
+    let teller = Teller::new(board.program(), path, &places.places, false);
+    let mut teller = teller.naming(places.names);
     let history = board.history();
     for index in 0..history.len() {
         if index % PORTION == 0 {

@@ -12,6 +12,16 @@ use elide_places::Places;
 use elide_setup::{Course, Paths, Plan, ProgramFile, Refusal, Settings, Setup, planned, read_file};
 use std::alloc::Global;
 
+/// What the reasons of a history are told by: the places of the program's text, and whether code where the subset ends is
+/// named.
+#[derive(Drop)]
+pub struct NamedPlaces {
+    /// The places.
+    pub places: Places,
+    /// Whether it is told of such code what it is, as `16-bit move`.
+    pub names: bool,
+}
+
 /// The program, the schedule and the places of FILE, as [`elide_setup::scheduled`] answers them without the places. FILE is
 /// read once.
 pub fn scheduled_places<P: Paths>(

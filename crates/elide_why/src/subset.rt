@@ -1,6 +1,6 @@
 //! Where the subset ends: code that is no instruction of it.
 
-ghost use Rattle.std.specs.Prelude.{◌≡◌, ◌+◌, ◌≤◌, ◌++◌, drop, length, take};
+ghost use Rattle.std.specs.Prelude.{◌≡◌, ◌+◌, ◌≤◌, ◌++◌, None, drop, length, take};
 ghost use Rattle.arrayvec.specs.ArrayVec.{array_vec_len};
 ghost use Rattle.ia_text.specs.Writing.{Writes};
 ghost use Rattle.elide_why.specs.Subset.{code_from, code_text, name_text, outside_text, stop_line, symbols_text};
@@ -21,6 +21,7 @@ impl<'a> Outside<'a> {
     pub fn at(program: &'a Program, places: &Places, address: u32) -> Outside<'a>
         ensures code { result.code.now ≡ code_from program.now address }
         ensures address { result.address ≡ address }
+        ensures unnamed { result.name ≡ None }
     {
         let mut place = SymbolText::new();
         push_code_place(&mut place, places, address);

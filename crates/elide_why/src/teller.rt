@@ -47,13 +47,10 @@ impl<'a> Teller<'a> {
         }
     }
 
-    /// The same, and of code where the subset ends it is told what it is, as `16-bit move`, where it is a known
+    /// The same, and of code where the subset ends it is told or not what it is, as `16-bit move`, where it is a known
     /// instruction.
-    pub fn naming(self) -> Teller<'a> {
-        Teller {
-            names: true,
-            ..self
-        }
+    pub fn naming(self, names: bool) -> Teller<'a> {
+        Teller { names, ..self }
     }
 
     // What the text of the program says of a reason.
