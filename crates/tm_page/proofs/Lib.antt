@@ -1,10 +1,10 @@
 mod Parts
-mod Own
+pub mod Own
 mod Rows
 mod Moved
 mod Others
 mod Memory
-mod Step
+pub mod Step
 mod Run
 mod Lists
 mod Made

@@ -1,5 +1,5 @@
 -- Lists that grow by one element.
-use Rattle.std.proofs.Common.{◌≡◌, ℕ, ◌+◌, ◌<◌, ◌≤◌, Bool, true, false, cond, eqb, ◌||◌, ◌&&◌, not, List, [], ◌∷◌, ◌++◌, take, length, get_or, Option, Some, None, refl, sym, ap, ◌∙◌, subst, arith, ⊎_elim}
+use Rattle.std.proofs.Common.{◌≡◌, ℕ, zero, suc, ◌+◌, ◌<◌, ◌≤◌, Bool, true, false, cond, eqb, ◌||◌, ◌&&◌, not, List, [], ◌∷◌, ◌++◌, take, length, get_or, Option, Some, None, refl, sym, ap, ◌∙◌, subst, arith, ⊎_elim}
 use Rattle.std.specs.Option.{option_or}
 use Rattle.std.proofs.lemmas.Bool.{cases_eq, eq-eqb, ne_eqb, eqb-true}
 use Rattle.std.proofs.lemmas.List.Folds.{list_any-append, list_any_more}
@@ -21,9 +21,20 @@ stays_out : (a : Bool) → a ≡ (a || (true && false))
 stays_out true = refl
 stays_out false = refl
 
+or_true : (a : Bool) → (a || true) ≡ true
+or_true true = refl
+or_true false = refl
+
 stays_off : (a b : Bool) → a ≡ (a || (false && b))
 stays_off true b = refl
 stays_off false b = refl
+
+-- what stands at a place of a list stands in it
+pub stands_there : (lines : List ℕ) (place line : ℕ) → place < length lines → get_or lines place 0 ≡ line → is_listed lines line ≡ true
+stands_there [] place line h e = absurd (omega arith)
+stands_there (first ∷ lines) zero line h e = ap (λ t. t || is_listed lines line) (eq-eqb line first (sym e))
+stands_there (first ∷ lines) (suc place) line h e =
+    ap (λ t. eqb line first || t) (stands_there lines place line (omega arith) e) ∙ or_true (eqb line first)
 
 -- one that was not there
 pub line_joins : (lines old : List ℕ) (new : ℕ) → is_listed old new ≡ false → (line : ℕ) →

@@ -10,7 +10,7 @@ loop-index-preserved c =
     record {
       end = c.loop-index.invariant.end;
       told = lines_next c.loop-index.lines.items c.join.new.lines.items c.args.old.now c.args.new.now c.loop-index.index within
-          c.loop-index.invariant.told c.in_ok-join.ensures;
+          c.loop-index.invariant.told c.in_ok-place.ensures;
     }
 
 pub returns : goal.returns

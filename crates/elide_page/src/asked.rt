@@ -1,0 +1,48 @@
+//! What is asked for beside the program and its schedule.
+
+use crate::notes::{Note, notes_of};
+use crate::window::Extent;
+use elide_args::PageOptions;
+use elide_setup::{Paths, Refusal};
+use std::alloc::Global;
+
+/// What is asked for beside the program and its schedule.
+#[derive(Drop)]
+pub struct Asked<'a> {
+    /// `--output`: where the page is written.
+    pub output: Option<&'a str>,
+    /// `--from` and `--to`.
+    pub extent: Extent,
+    /// `--note`.
+    pub notes: Vec<Note<'a>>,
+}
+
+impl<'a> Asked<'a> {
+    /// Reads `--output`, `--from`, `--to` and `--note`.
+    pub fn read<P: Paths>(
+        alloc: Global,
+        options: &PageOptions<'a>,
+        paths: &mut P,
+    ) -> Result<Asked<'a>, Refusal> {
+        let output = output_path(options.output, options.machine.file, paths)?;
+        let extent = Extent::read(options.from, options.to)?;
+        let notes = notes_of(alloc, options.notes.as_slice())?;
+        Ok(Asked {
+            output,
+            extent,
+            notes,
+        })
+    }
+}
+
+// The path that `--output` gives, which is not that of the program.
+fn output_path<'a, P: Paths>(
+    path: Option<&'a str>,
+    file: &str,
+    paths: &mut P,
+) -> Result<Option<&'a str>, Refusal> {
+    match path {
+        Some(path) if paths.is_same_file(path, file) => Err(Refusal::Usage("--output")),
+        path => Ok(path),
+    }
+}

@@ -1,0 +1,12 @@
+-- The types that the other files speak of.
+pub use Rattle.ia_word.specs.declared.width.Width.{Width}
+pub use Rattle.ia_word.specs.declared.width.Width.TheVariants.{B, D}
+pub use Rattle.tm_page.specs.declared.delta.Changes.{Changes}
+pub use Rattle.tm_page.specs.declared.delta.PageDelta.{PageDelta}
+pub use Rattle.tm_page.specs.declared.delta.StoredByte.{StoredByte}
+pub use Rattle.tm_page.specs.Types.{Hit, Regs}
+pub use Rattle.tm_page.specs.Types.{CoreState, Interference, Outcome, Aborted, AbortedBy, Begun, Committed, Idle, Inside}
+pub use Rattle.tm_page.specs.Types.{Loaded, Plain, Stopped}
+pub use Rattle.tm_model.specs.Types.{Access}
+pub use Rattle.tm_sets.specs.declared.interface.Kind.{Kind}
+pub use Rattle.tm_sets.specs.declared.interface.Kind.TheVariants.{Read, Write}

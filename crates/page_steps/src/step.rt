@@ -1,0 +1,34 @@
+//! The line of a step.
+
+ghost use Rattle.std.specs.Prelude.{OnOk};
+ghost use Rattle.ia_text.specs.Writing.{Wrote};
+ghost use Rattle.page_steps.specs.Steps.{step_text};
+
+use crate::members::write_members;
+use crate::numbers::write_numbers;
+use crate::registers::changed_registers;
+use crate::words::kind_letter;
+use ia_text::{Out, WriteFault};
+use page_text::write_number;
+use tm_model::CoreState;
+use tm_page::PageDelta;
+
+/// Writes a step: its core, what it was, the registers that changed, and what else did. `before` is what the core did before
+/// it. On 5 `Write` a beginning of it was written.
+pub fn write_step<O: Out>(
+    delta: &PageDelta,
+    before: CoreState,
+    out: &mut O,
+) -> Result<(), WriteFault>
+    ensures { OnOk result (Wrote (O.device out.old) (O.device out.new) (step_text delta.now before)) }
+{
+    out.put(b"[")?;
+    write_number(u64::from(delta.core), out)?;
+    out.put(b",\"")?;
+    out.put(kind_letter(delta.outcome))?;
+    out.put(b"\",")?;
+    write_numbers(changed_registers(&delta.registers).as_slice(), out)?;
+    write_members(delta, before, out)?;
+    out.put(b"]")?;
+    Ok(())
+}

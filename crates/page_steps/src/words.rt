@@ -1,0 +1,40 @@
+//! What a step was, and what a core does, in words.
+
+ghost use Rattle.std.specs.Prelude.{◌≡◌, OnOk};
+ghost use Rattle.ia_text.specs.Writing.{Wrote};
+ghost use Rattle.page_steps.specs.Words.{letter_of, quoted_state};
+
+use ia_text::page::push;
+use ia_text::text_line::TextLine;
+use ia_text::{Out, WriteFault};
+use tm_hist::push_state;
+use tm_model::{CoreState, Outcome};
+
+/// The letter of what a step was.
+pub fn kind_letter(outcome: Outcome) -> &'static [u8]
+    ensures { result.now ≡ letter_of outcome }
+{
+    match outcome {
+        Outcome::Plain => b"p",
+        Outcome::Loaded => b"l",
+        Outcome::Stopped(_) => b"s",
+        Outcome::Idle => b"z",
+        Outcome::Begun => b"b",
+        Outcome::Inside => b"i",
+        Outcome::Committed => b"c",
+        Outcome::Aborted(_) => b"a",
+        Outcome::AbortedBy(_, _) => b"e",
+    }
+}
+
+/// Writes what a core does, as the debugger prints it, as a string. On 5 `Write` a beginning of it was written.
+pub fn write_state<O: Out>(state: CoreState, out: &mut O) -> Result<(), WriteFault>
+    ensures { OnOk result (Wrote (O.device out.old) (O.device out.new) (quoted_state state)) }
+{
+    let mut row = TextLine::new();
+    push(&mut row, b"\"");
+    push_state(&mut row, state);
+    push(&mut row, b"\"");
+    out.put(row.as_slice())?;
+    Ok(())
+}

@@ -1,0 +1,95 @@
+//! The steps of a small run as deltas, and their lines.
+
+use ia_image::load;
+use ia_text::ToVec;
+use page_steps::{
+    kind_letter, register_values, write_numbers, write_state, write_step, write_stored,
+};
+use std::alloc::Global;
+use std::test::Fail;
+use tm_core::{CoreState, Limits, Machine, Outcome};
+use tm_page::{Before, StoredByte, delta_of};
+
+// XBEGIN at 100h with fallback 115h, a load of [1000h], INC EAX, a store to [1000h], XEND at 111h, and two HLT.
+const INCREMENT: [u8; 22] = [
+    0xc7, 0xf8, 0x0f, 0, 0, 0, 0xa1, 0, 0x10, 0, 0, 0x40, 0xa3, 0, 0x10, 0, 0, 0x0f, 0x01, 0xd5,
+    0xf4, 0xf4,
+];
+
+// The addresses that core 0 keeps before its XEND.
+const KEPT: [u64; 4] = [0x1000, 0x1001, 0x1002, 0x1003];
+
+// The lines of the steps of two cores, each in a transaction, of which the first to commit dooms the other.
+const LINES: &[u8] = b"[0,\"b\",[8,262],{\"q\":\"tx1\"}]\n\
+[0,\"i\",[8,267],{\"r\":[64],\"l\":[4096,4]}]\n\
+[1,\"b\",[8,262],{\"q\":\"tx1\"}]\n\
+[1,\"i\",[0,0,8,267],{\"r\":[64],\"l\":[4096,4]}]\n\
+[0,\"i\",[0,1,8,268]]\n\
+[0,\"i\",[8,273],{\"w\":[64],\"t\":[4096,\"01000000\"]}]\n\
+[0,\"c\",[8,276],{\"q\":\"run\",\"m\":[4096,\"01000000\"],\"d\":[[1,64,1]]}]\n\
+[1,\"a\",[0,6,8,277],{\"q\":\"run\"}]\n";
+
+// Makes a step, and writes its line.
+fn tell(alloc: Global, machine: &mut Machine, core: u8, out: &mut ToVec) -> Result<Outcome, Fail> {
+    let state = machine.state(core)?;
+    let before = Before::of(alloc, machine, core)?;
+    let outcome = machine.step(core)?;
+    let delta = delta_of(alloc, &before, outcome, &KEPT, machine)?;
+    write_step(&delta, state, out)?;
+    Ok(outcome)
+}
+
+#[test]
+fn a_conflict(rt: HostRuntime) -> Result<(), Fail> {
+    let alloc = rt.alloc();
+    let limits = Limits {
+        read_lines: 512,
+        write_lines: 512,
+    };
+    let program = load(alloc, &INCREMENT, 0x100, 22, 65536, &[0x100, 0x100])?;
+    let mut machine = Machine::new(alloc, &program, limits)?;
+    let mut out = ToVec::new(Vec::new(alloc));
+    for core in [0, 0, 1, 1, 0, 0, 0, 1] {
+        let _outcome = tell(alloc, &mut machine, core, &mut out)?;
+        out.bytes.extend_from_slice(b"\n")?;
+    }
+    assert_eq!(rt; out.bytes.as_slice(), LINES);
+    Ok(())
+}
+
+#[test]
+fn other_parts(rt: HostRuntime) -> Result<(), Fail> {
+    let alloc = rt.alloc();
+    let limits = Limits {
+        read_lines: 512,
+        write_lines: 512,
+    };
+    let program = load(alloc, &INCREMENT, 0x100, 22, 65536, &[0x100])?;
+    let machine = Machine::new(alloc, &program, limits)?;
+    let regs = machine.regs(0)?;
+    let mut out = ToVec::new(Vec::new(alloc));
+    write_numbers(register_values(&regs).as_slice(), &mut out)?;
+    write_state(CoreState::Open(2), &mut out)?;
+    let bytes = [
+        StoredByte {
+            address: 5,
+            byte: 255,
+        },
+        StoredByte {
+            address: 6,
+            byte: 0,
+        },
+        StoredByte {
+            address: 8,
+            byte: 1,
+        },
+    ];
+    write_stored(&bytes, &mut out)?;
+    let text = out.bytes.as_slice();
+    assert_eq!(rt;
+        text,
+        b"[0,1,0,0,65536,0,0,0,256,0]\"tx2\"[5,\"ff00\",8,\"01\"]".as_slice()
+    );
+    assert_eq!(rt; kind_letter(Outcome::Idle), b"z".as_slice());
+    Ok(())
+}
