@@ -1,7 +1,7 @@
 //! What is written beside each fault.
 
 use crate::asked::file_of;
-use crate::checks::advise_condition;
+use crate::checks::{advise_condition, asked_by};
 use crate::files::{advise_input, advise_length, advise_output};
 use crate::machine::{advise_executable, advise_limits, advise_load, advise_steps};
 use crate::misuse::advise_misuse;
@@ -48,8 +48,8 @@ fn advise_usage<P: Paths, O: Out>(
     paths: &mut P,
     page: &mut Page<'_, O>,
 ) -> fmt::Result {
-    if let (Subcommand::Hunt(options), "--check" | "--forbid") = (subcommand, name) {
-        return advise_condition(alloc, options, name, paths, page);
+    if let Some(asked) = asked_by(subcommand, name) {
+        return advise_condition(alloc, asked, name, paths, page);
     }
     if advise_symbol(alloc, subcommand, name, paths, page)? {
         return Ok(());

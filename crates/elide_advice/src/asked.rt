@@ -23,6 +23,7 @@ pub fn machine_of<'s, 'a>(subcommand: &'s Subcommand<'a>) -> Option<&'s MachineO
         Subcommand::Outcomes(options) => Some(&options.machine),
         Subcommand::Stats(options) => Some(&options.machine),
         Subcommand::Draw(options) => Some(&options.machine),
+        Subcommand::Page(options) => Some(&options.machine),
         _ => None,
     }
 }
@@ -36,6 +37,7 @@ pub fn schedule_of<'s, 'a>(subcommand: &'s Subcommand<'a>) -> Option<&'s Schedul
         Subcommand::Gdb(options) => Some(&options.schedule),
         Subcommand::Stats(options) => Some(&options.schedule),
         Subcommand::Draw(options) => Some(&options.schedule),
+        Subcommand::Page(options) => Some(&options.schedule),
         _ => None,
     }
 }
@@ -49,6 +51,7 @@ pub fn record_of<'s>(subcommand: &'s Subcommand<'_>) -> Option<&'s str> {
         Subcommand::Hunt(options) => options.record,
         Subcommand::Stats(options) => options.record,
         Subcommand::Draw(options) => options.record,
+        Subcommand::Page(options) => options.output,
         _ => None,
     }
 }
@@ -83,6 +86,8 @@ fn own_number_text<'s>(subcommand: &'s Subcommand<'_>, name: &str) -> Option<&'s
         (Subcommand::Outcomes(options), "--limit") => options.limit,
         (Subcommand::Draw(options), "--from") => options.from,
         (Subcommand::Draw(options), "--to") => options.to,
+        (Subcommand::Page(options), "--from") => options.from,
+        (Subcommand::Page(options), "--to") => options.to,
         (other, "--limit") => schedule_of(other)?.limit,
         (other, "--random") => schedule_of(other)?.random,
         (other, "--seed") => schedule_of(other)?.seed,

@@ -2,7 +2,7 @@
 
 use crate::page::Page;
 use crate::symbols::{advise_unknown, unknown_in};
-use elide_args::HuntOptions;
+use elide_args::Subcommand;
 use elide_checks::{Misread, Wanted, first_misread};
 use elide_program::{MOST_BYTES, Paths, ProgramFile};
 use ia_text::Out;
@@ -10,31 +10,70 @@ use std::alloc::Global;
 use std::fmt;
 use std::fmt::Write;
 
-/// Writes which words of `--check` or `--forbid` cannot be read, where they stand, and what is wanted there; or that one of
-/// the options is wanted, where none is given. FILE is read again.
+/// What is asked of a search by `--check` or `--forbid`.
+#[derive(Clone, Copy)]
+pub struct Asked<'s, 'a> {
+    /// The path of the program.
+    file: &'s str,
+    /// The values of the option.
+    conditions: &'s [&'a str],
+    /// What is said where all of these can be read: that one is wanted, or what this search does not take.
+    else_said: &'static str,
+}
+
+// What a search of runs wants.
+const ONE: &str = "one of --check, --forbid, --stop and --expect-halt is wanted";
+
+// What a search of all schedules does not take: it has no history.
+const COUNTS: &str = "counts of a run, as commits@* and aborts:conflict@1, are of hunt alone";
+
+/// What a subcommand asks by this option, where it is one that searches.
+pub fn asked_by<'s, 'a>(subcommand: &'s Subcommand<'a>, name: &str) -> Option<Asked<'s, 'a>> {
+    match subcommand {
+        Subcommand::Hunt(options) => Some(Asked {
+            file: options.machine.file,
+            conditions: named(name, options.checks.as_slice(), options.forbids.as_slice())?,
+            else_said: ONE,
+        }),
+        Subcommand::Outcomes(options) => Some(Asked {
+            file: options.machine.file,
+            conditions: named(name, options.checks.as_slice(), options.forbids.as_slice())?,
+            else_said: COUNTS,
+        }),
+        _ => None,
+    }
+}
+
+// The values of the option of this name.
+fn named<'s, 'a>(
+    name: &str,
+    checks: &'s [&'a str],
+    forbids: &'s [&'a str],
+) -> Option<&'s [&'a str]> {
+    match name {
+        "--check" => Some(checks),
+        "--forbid" => Some(forbids),
+        _ => None,
+    }
+}
+
+/// Writes which words of `--check` or `--forbid` cannot be read, where they stand, and what is wanted there; or what else is
+/// wrong with them. FILE is read again.
 pub fn advise_condition<P: Paths, O: Out>(
     alloc: Global,
-    options: &HuntOptions<'_>,
+    asked: Asked<'_, '_>,
     name: &str,
     paths: &mut P,
     page: &mut Page<'_, O>,
 ) -> fmt::Result {
-    let conditions = if name == "--forbid" {
-        options.forbids.as_slice()
-    } else {
-        options.checks.as_slice()
-    };
-    if conditions.is_empty() {
-        return writeln!(
-            page,
-            "one of --check, --forbid, --stop and --expect-halt is wanted"
-        );
+    if asked.conditions.is_empty() {
+        return writeln!(page, "{}", asked.else_said);
     }
-    let Ok(text) = paths.read(options.machine.file, MOST_BYTES) else {
+    let Ok(text) = paths.read(asked.file, MOST_BYTES) else {
         return Ok(());
     };
     match ProgramFile::read(alloc, text.as_slice()) {
-        Ok(file) => advise_first(alloc, conditions, name, text.as_slice(), &file, page),
+        Ok(file) => advise_first(alloc, asked, name, text.as_slice(), &file, page),
         Err(_) => Ok(()),
     }
 }
@@ -42,14 +81,16 @@ pub fn advise_condition<P: Paths, O: Out>(
 // The same of a program that was read.
 fn advise_first<O: Out>(
     alloc: Global,
-    conditions: &[&str],
+    asked: Asked<'_, '_>,
     name: &str,
     text: &[u8],
     file: &ProgramFile<'_>,
     page: &mut Page<'_, O>,
 ) -> fmt::Result {
-    let Ok(Some(misread)) = first_misread(alloc, conditions, text, file) else {
-        return Ok(());
+    let misread = match first_misread(alloc, asked.conditions, text, file) {
+        Ok(Some(misread)) => misread,
+        Ok(None) => return writeln!(page, "{}", asked.else_said),
+        Err(_) => return Ok(()),
     };
     if advise_unknown(alloc, unknown_word(&misread, file), file, page)? {
         return Ok(());

@@ -25,7 +25,19 @@ pub fn advise_misuse<O: Out>(
         ("--stop" | "--runs" | "--method" | "--show" | "--dump" | "--core", other) => {
             advise_form(other, name, page)
         }
-        ("--record", _) => writeln!(page, "--record takes another path than FILE"),
+        ("--record" | "--output", _) => writeln!(page, "{name} takes another path than FILE"),
+        ("--page", Subcommand::Outcomes(_)) => writeln!(
+            page,
+            "--page takes the number of an outcome that is told, from 1 on, and another path than FILE"
+        ),
+        ("--page", _) => writeln!(
+            page,
+            "--page takes another path than FILE and that of --record"
+        ),
+        ("--note", _) => writeln!(
+            page,
+            "--note takes STEP:TEXT, a step of the run, or 0 before the first, and what is said there"
+        ),
         ("--events", other) => advise_events(other, page),
         ("--seed", other) => advise_seed_or_number(other, name, page),
         ("--code", _) => writeln!(page, "--code goes with --trace"),

@@ -1,14 +1,14 @@
 //! What a command that was not refused came to.
 
 ghost use Rattle.std.specs.Prelude.{◌≡◌, ◌≤◌};
-ghost use Rattle.elide_command.specs.Answers.{IsAnswered, answer_status, ran_answer, replayed_answer};
+ghost use Rattle.elide_command.specs.Answers.{IsAnswered, answer_status, is_unpaged, ran_answer, replayed_answer};
 ghost use Rattle.elide_command.specs.Answers.{searched_answer, sought_answer};
 
 use elide_hunt::Answer as Hunted;
 use elide_outcomes::Answer as Searched;
 use elide_replay::Agreement;
 use elide_run::Ending;
-use elide_setup::Refusal;
+use elide_setup::{Paged, Refusal};
 
 /// What a command that was not refused came to.
 #[derive(Clone, Copy)]
@@ -19,6 +19,10 @@ pub enum Answer {
     Differs,
     /// A run failed what was asked of it, or a search was cut.
     Fails,
+    /// It did what it was asked, but for the page of a run that is too long for one.
+    DoneUnpaged,
+    /// A run failed what was asked of it, or a search was cut, and a run is too long for its page.
+    FailsUnpaged,
 }
 
 impl Answer {
@@ -28,10 +32,17 @@ impl Answer {
         ensures most { result ≤ 3 }
     {
         match self {
-            Answer::Done => 0,
+            Answer::Done | Answer::DoneUnpaged => 0,
             Answer::Differs => 1,
-            Answer::Fails => 3,
+            Answer::Fails | Answer::FailsUnpaged => 3,
         }
+    }
+
+    /// Whether a page that was asked for was not written, since its run is too long.
+    pub fn is_unpaged(self) -> bool
+        ensures { result ≡ is_unpaged self }
+    {
+        matches!(self, Answer::DoneUnpaged | Answer::FailsUnpaged)
     }
 }
 
@@ -56,22 +67,26 @@ pub fn ran<O: Drop>(end: Result<(Ending, O), Refusal>) -> Result<Answer, Refusal
 }
 
 /// What a search for a failing run came to, which gives its device back.
-pub fn sought<O: Drop>(end: Result<(Hunted, O), Refusal>) -> Result<Answer, Refusal>
-    ensures { IsAnswered (λ sought. sought_answer sought.0) end result }
+pub fn sought<O: Drop>(end: Result<(Hunted, Paged, O), Refusal>) -> Result<Answer, Refusal>
+    ensures { IsAnswered (λ sought. sought_answer sought.0 sought.1) end result }
 {
     match end? {
-        (Hunted::NoneFailed, _) => Ok(Answer::Done),
-        (Hunted::Failed, _) => Ok(Answer::Fails),
+        (Hunted::NoneFailed, Paged::AsAsked, _) => Ok(Answer::Done),
+        (Hunted::NoneFailed, Paged::TooLong, _) => Ok(Answer::DoneUnpaged),
+        (Hunted::Failed, Paged::AsAsked, _) => Ok(Answer::Fails),
+        (Hunted::Failed, Paged::TooLong, _) => Ok(Answer::FailsUnpaged),
     }
 }
 
 /// What a search over all schedules came to, which gives its device back.
-pub fn searched<O: Drop>(end: Result<(Searched, O), Refusal>) -> Result<Answer, Refusal>
-    ensures { IsAnswered (λ searched. searched_answer searched.0) end result }
+pub fn searched<O: Drop>(end: Result<(Searched, Paged, O), Refusal>) -> Result<Answer, Refusal>
+    ensures { IsAnswered (λ searched. searched_answer searched.0 searched.1) end result }
 {
     match end? {
-        (Searched::Whole, _) => Ok(Answer::Done),
-        (Searched::Cut | Searched::Faulty, _) => Ok(Answer::Fails),
+        (Searched::Whole, Paged::AsAsked, _) => Ok(Answer::Done),
+        (Searched::Whole, Paged::TooLong, _) => Ok(Answer::DoneUnpaged),
+        (Searched::Cut | Searched::Faulty, Paged::AsAsked, _) => Ok(Answer::Fails),
+        (Searched::Cut | Searched::Faulty, Paged::TooLong, _) => Ok(Answer::FailsUnpaged),
     }
 }
 

@@ -86,7 +86,13 @@ pub fn carry_out<
 {
     let look = Look::new(line, surroundings);
     match obey_warned(rt, &line.subcommand, paths, input, out, err, look, progress) {
-        Ok(answer) => answer.status(),
+        Ok(answer) => {
+            if answer.is_unpaged() {
+                let refusal = Refusal::Fault(Fault::PageTooLong);
+                tell_refusal(rt.alloc(), line, refusal, paths, look, err);
+            }
+            answer.status()
+        }
         Err(refusal) => tell_refusal(rt.alloc(), line, refusal, paths, look, err),
     }
 }
@@ -183,6 +189,7 @@ fn program_of<'s>(subcommand: &'s Subcommand<'_>) -> Option<&'s str> {
         Subcommand::Outcomes(options) => Some(options.machine.file),
         Subcommand::Stats(options) => Some(options.machine.file),
         Subcommand::Draw(options) => Some(options.machine.file),
+        Subcommand::Page(options) => Some(options.machine.file),
         Subcommand::Test(_) | Subcommand::Explain(_) => None,
     }
 }

@@ -14,6 +14,8 @@ pub struct Look {
     pub colors: Colors,
     /// Whether it is told beside a fault where it stands and what is meant.
     pub tells_words: bool,
+    /// Whether a reason goes on with what stands where the subset ends.
+    pub names_stops: bool,
     /// `--color` or `--words`, where its value says nothing. Then it counts as left out.
     pub misused: Option<&'static str>,
 }
@@ -31,6 +33,7 @@ impl Look {
             terminals: surroundings.terminals,
             colors: surroundings.colors(paints.unwrap_or(When::Auto)),
             tells_words: surroundings.words(tells.unwrap_or(When::Auto)),
+            names_stops: surroundings.names(tells.unwrap_or(When::Auto)),
             misused,
         }
     }

@@ -6,8 +6,8 @@
 use crate::answer::{Answer, done, ran, replayed, searched, sought};
 use crate::look::Look;
 use elide_args::{
-    AsmOptions, DisOptions, DrawOptions, HuntOptions, OutcomesOptions, ReplayOptions, RunOptions,
-    SessionOptions, StatsOptions, Subcommand, ThreadsOptions,
+    AsmOptions, DisOptions, DrawOptions, HuntOptions, OutcomesOptions, PageOptions, ReplayOptions,
+    RunOptions, SessionOptions, StatsOptions, Subcommand, ThreadsOptions,
 };
 use elide_asm::{asm, dis};
 use elide_color::PaintedWords;
@@ -17,6 +17,7 @@ use elide_explain::explain;
 use elide_gdb::gdb;
 use elide_hunt::hunt;
 use elide_outcomes::outcomes;
+use elide_page::{PageFiles, page};
 use elide_program::Paths;
 use elide_replay::replay;
 use elide_run::run;
@@ -45,15 +46,16 @@ pub fn obey<R: Threads + Wait + Sync + AllocGlobal, P: Paths, I: In, O: Out, G: 
         Subcommand::Dis(options) => disassemble(alloc, options, paths, out, look),
         Subcommand::Explain(options) => done(explain(options, out)),
         Subcommand::Test(_) => Err(Refusal::Usage("test")),
-        Subcommand::Threads(options) => obey_threads(rt, options, paths, out, progress),
+        Subcommand::Threads(options) => obey_threads(rt, options, paths, out, look, progress),
         Subcommand::Debug(options) => obey_debug(rt, options, paths, input, out, look.terminals),
         Subcommand::Gdb(options) => obey_gdb(rt, options, paths, input, out),
         Subcommand::Draw(options) => obey_draw(alloc, options, paths, out, progress),
+        Subcommand::Page(options) => obey_page(alloc, options, paths, out, progress),
         Subcommand::Stats(options) => obey_stats(alloc, options, paths, out, progress),
-        Subcommand::Run(options) => obey_run(alloc, options, paths, out, progress),
+        Subcommand::Run(options) => obey_run(alloc, options, paths, out, look, progress),
         Subcommand::Hunt(options) => obey_hunt(rt, options, paths, out, progress),
         Subcommand::Outcomes(options) => obey_outcomes(alloc, options, paths, out),
-        Subcommand::Replay(options) => obey_replay(alloc, options, paths, out, progress),
+        Subcommand::Replay(options) => obey_replay(alloc, options, paths, out, look, progress),
     }
 }
 
@@ -80,8 +82,9 @@ fn disassemble<P: Paths, O: Out>(
     out: &mut O,
     look: Look,
 ) -> Result<Answer, Refusal> {
-    let mut out = PaintedWords::new(out, look.listing());
-    dis(alloc, options, paths, &mut out)?;
+    let out = PaintedWords::new(out, look.listing());
+    let out = dis(alloc, options, paths, out)?;
+    drop(out);
     Ok(Answer::Done)
 }
 
@@ -91,9 +94,17 @@ fn obey_threads<R: Threads + Wait + Sync + AllocGlobal, P: Paths, O: Out, G: Pro
     options: &ThreadsOptions<'_>,
     paths: &mut P,
     out: &mut O,
+    look: Look,
     progress: &mut G,
 ) -> Result<Answer, Refusal> {
-    done(threads(rt, options, paths, Lent::new(out), progress))
+    done(threads(
+        rt,
+        options,
+        look.names_stops,
+        paths,
+        Lent::new(out),
+        progress,
+    ))
 }
 
 #[inline(never)]
@@ -131,6 +142,17 @@ fn obey_draw<P: Paths, O: Out, G: Progress>(
 }
 
 #[inline(never)]
+fn obey_page<P: Paths, O: Out, G: Progress>(
+    alloc: Global,
+    options: &PageOptions<'_>,
+    paths: &mut P,
+    out: &mut O,
+    progress: &mut G,
+) -> Result<Answer, Refusal> {
+    done(page(alloc, options, paths, out, progress))
+}
+
+#[inline(never)]
 fn obey_stats<P: Paths, O: Out, G: Progress>(
     alloc: Global,
     options: &StatsOptions<'_>,
@@ -147,9 +169,17 @@ fn obey_run<P: Paths, O: Out, G: Progress>(
     options: &RunOptions<'_>,
     paths: &mut P,
     out: &mut O,
+    look: Look,
     progress: &mut G,
 ) -> Result<Answer, Refusal> {
-    ran(run(alloc, options, paths, Lent::new(out), progress))
+    ran(run(
+        alloc,
+        options,
+        look.names_stops,
+        paths,
+        Lent::new(out),
+        progress,
+    ))
 }
 
 #[inline(never)]
@@ -160,7 +190,7 @@ fn obey_hunt<R: Threads + Wait + Sync + AllocGlobal, P: Paths, O: Out, G: Progre
     out: &mut O,
     progress: &mut G,
 ) -> Result<Answer, Refusal> {
-    sought(hunt(rt, options, paths, Lent::new(out), progress))
+    sought(hunt(rt, options, paths, &PageFiles, Lent::new(out), progress))
 }
 
 #[inline(never)]
@@ -170,7 +200,7 @@ fn obey_outcomes<P: Paths, O: Out>(
     paths: &mut P,
     out: &mut O,
 ) -> Result<Answer, Refusal> {
-    searched(outcomes(alloc, options, paths, Lent::new(out)))
+    searched(outcomes(alloc, options, paths, &PageFiles, Lent::new(out)))
 }
 
 #[inline(never)]
@@ -179,7 +209,15 @@ fn obey_replay<P: Paths, O: Out, G: Progress>(
     options: &ReplayOptions<'_>,
     paths: &mut P,
     out: &mut O,
+    look: Look,
     progress: &mut G,
 ) -> Result<Answer, Refusal> {
-    replayed(replay(alloc, options, paths, Lent::new(out), progress))
+    replayed(replay(
+        alloc,
+        options,
+        look.names_stops,
+        paths,
+        Lent::new(out),
+        progress,
+    ))
 }

@@ -48,4 +48,15 @@ impl Surroundings {
             When::Never => false,
         }
     }
+
+    /// Whether the reason of a stop where the subset ends, which stands on standard output, goes on with what stands there.
+    pub fn names(self, when: When) -> bool
+        ensures { result ≡ are_told when self.terminals.output self.tells_words }
+    {
+        match when {
+            When::Auto => self.terminals.output || self.tells_words,
+            When::Always => true,
+            When::Never => false,
+        }
+    }
 }

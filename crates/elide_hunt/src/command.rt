@@ -27,6 +27,7 @@ use elide_checks::{
     Demands, Gathered, Orders, Paths, ProgramFile, Progress, Refusal, Settings, Setup, read_file,
     record, record_path,
 };
+use elide_setup::{Paged, Pages, page_path};
 use ia_text::Out;
 use std::alloc::Global;
 use std::thread::Threads;
@@ -54,28 +55,60 @@ impl Answer {
     }
 }
 
-/// Makes runs by chance until one fails, shortens its schedule, writes it where that is asked for, and prints what came
-/// about. Answers whether a run failed, and gives the device back.
-pub fn hunt<R: Threads + Sync + AllocGlobal, P: Paths, O: Out + Drop, G: Progress>(
+/// Makes runs by chance until one fails, shortens its schedule, writes it and its page where that is asked for, and prints what
+/// came about. Answers whether a run failed and what became of its page, and gives the device back. Where the page cannot be
+/// written that is the refusal, and what came about is printed before.
+pub fn hunt<R: Threads + Sync + AllocGlobal, P: Paths, O: Out + Drop, G: Progress, W: Pages>(
     rt: &R,
     options: &HuntOptions<'_>,
     paths: &mut P,
+    pages: &W,
     out: O,
     progress: &mut G,
-) -> Result<(Answer, O), Refusal>
+) -> Result<(Answer, Paged, O), Refusal>
     ensures { IfOk result (λ r. IsPrinted (P.content paths.old) (P.content paths.new) options.now r.0
-        (O.device out).contents (O.device r.1).contents) }
+        (O.device out).contents (O.device r.2).contents) }
 {
     let settings = Settings::read(&options.machine)?;
     let orders = Orders::read(rt, options)?;
     let path = record_path(options.record, options.machine.file, paths)?;
+    let page = page_path(options.page, options.machine.file, options.record, paths)?;
     let text = read_file(options.machine.file, paths)?;
     let made = hunted(rt, options, &settings, &orders, text.as_slice(), progress);
-    drop(text);
     progress.end();
     let (search, before) = made?;
+    let paged = write_page(
+        rt.alloc(),
+        options,
+        &search,
+        text.as_slice(),
+        page,
+        pages,
+        paths,
+    );
+    drop(text);
     write_record(&search, path, paths)?;
-    tell(rt.alloc(), options, &search, before, out)
+    let (answer, out) = tell(rt.alloc(), options, &search, before, out)?;
+    Ok((answer, paged?, out))
+}
+
+// Writes the page of the run that failed, if one did, where there is a path.
+fn write_page<P: Paths, W: Pages>(
+    alloc: Global,
+    options: &HuntOptions<'_>,
+    search: &Search,
+    text: &[u8],
+    page: Option<&str>,
+    pages: &W,
+    paths: &mut P,
+) -> Result<Paged, Refusal> {
+    match (page, &search.found) {
+        (Some(page), Some(found)) => {
+            let picks = found.failure.deciding();
+            pages.write_page(alloc, &options.machine, text, picks, page, paths)
+        }
+        _ => Ok(Paged::AsAsked),
+    }
 }
 
 // Writes what decides of the run that failed, if one did, where there is a path.

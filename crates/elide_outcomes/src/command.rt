@@ -19,6 +19,7 @@ use crate::found::Found;
 use crate::items::items_of;
 use crate::names::labels_of;
 use crate::object::tell_object;
+use crate::paged::PageAsked;
 use crate::report::{sort, tell};
 use crate::shown::words_of;
 use crate::stops::stops_of;
@@ -27,7 +28,7 @@ use crate::verdict::Answer;
 use elide_args::OutcomesOptions;
 use elide_checks::EndChecks;
 use elide_program::{Paths, ProgramFile, Settings, number_of, read_file};
-use elide_setup::{Fault, Gathered, MachineFault, Refusal, RunFault, Setup};
+use elide_setup::{Fault, Gathered, MachineFault, Paged, Pages, Refusal, RunFault, Setup};
 use ia_text::Out;
 use std::alloc::Global;
 use tm_outcomes::{Events, Item, Search, SearchFault, Stop, Trial, outcomes as searched};
@@ -48,53 +49,59 @@ pub struct Asked<'a> {
     pub most: u32,
 }
 
-/// Searches all schedules of a program, and prints each outcome in the order of its values. Gives the device back.
-pub fn outcomes<P: Paths, O: Out + Drop>(
+/// Searches all schedules of a program, prints each outcome in the order of its values, and writes the page of one where that is
+/// asked for. Answers what the search came to and what became of the page, and gives the device back. Where there is no such
+/// outcome, or its page cannot be written, that is the refusal, and the outcomes are printed before.
+pub fn outcomes<P: Paths, O: Out + Drop, W: Pages>(
     alloc: Global,
     options: &OutcomesOptions<'_>,
     paths: &mut P,
+    pages: &W,
     out: O,
-) -> Result<(Answer, O), Refusal>
+) -> Result<(Answer, Paged, O), Refusal>
     ensures { IfOk result (λ r. IsPrinted (P.content paths.old) options.now r.0
-        (O.device out).contents (O.device r.1).contents) }
+        (O.device out).contents (O.device r.2).contents) }
 {
     let mut page = Gathered::new(out);
-    let answer = outcomes_of_options(alloc, options, paths, &mut page)?;
+    let (answer, paged) = outcomes_of_options(alloc, options, paths, pages, &mut page)?;
     let out = page.finish()?;
-    Ok((answer, out))
+    Ok((answer, paged?, out))
 }
 
-// The same on a device that is lent.
-fn outcomes_of_options<P: Paths, O: Out>(
+// The same on a device that is lent. What became of the page is told apart, so that the outcomes are printed before.
+fn outcomes_of_options<P: Paths, O: Out, W: Pages>(
     alloc: Global,
     options: &OutcomesOptions<'_>,
     paths: &mut P,
+    pages: &W,
     out: &mut O,
-) -> Result<Answer, Refusal>
-    ensures { IfOk result (λ answer. IsPrinted (P.content paths.old) options.now answer
+) -> Result<(Answer, Result<Paged, Refusal>), Refusal>
+    ensures { IfOk result (λ r. IsPrinted (P.content paths.old) options.now r.0
         (O.device out.old).contents (O.device out.new).contents) }
 {
     let stops = stops_of(alloc, options.stops.as_slice())?;
-    let answer = outcomes_with_stops(alloc, options, stops.as_slice(), paths, out);
+    let answer = outcomes_with_stops(alloc, options, stops.as_slice(), paths, pages, out);
     drop(stops);
     answer
 }
 
 // The same with the stops that are looked for.
-fn outcomes_with_stops<P: Paths, O: Out>(
+fn outcomes_with_stops<P: Paths, O: Out, W: Pages>(
     alloc: Global,
     options: &OutcomesOptions<'_>,
     stops: &[Stop],
     paths: &mut P,
+    pages: &W,
     out: &mut O,
-) -> Result<Answer, Refusal>
+) -> Result<(Answer, Result<Paged, Refusal>), Refusal>
     requires { AreStops options.now.stops.items stops.now }
-    ensures { IfOk result (λ answer. IsPrinted (P.content paths.old) options.now answer
+    ensures { IfOk result (λ r. IsPrinted (P.content paths.old) options.now r.0
         (O.device out.old).contents (O.device out.new).contents) }
 {
     let settings = Settings::read(&options.machine)?;
     let under = Under::read(options.events)?;
     let most = limit_of(options.limit)?;
+    let page = PageAsked::read(options, paths)?;
     let asked = Asked {
         options,
         under,
@@ -104,7 +111,10 @@ fn outcomes_with_stops<P: Paths, O: Out>(
     let text = read_file(options.machine.file, paths)?;
     let found = search_of_text(alloc, &asked, &settings, text.as_slice())?;
     write(alloc, options, &found, out)?;
-    Ok(Answer::of(options.asks_stuck, &found.search))
+    let answer = Answer::of(options.asks_stuck, &found.search);
+    let told = found.search.outcomes.as_slice();
+    let paged = page.write(alloc, &options.machine, text.as_slice(), told, pages, paths);
+    Ok((answer, paged))
 }
 
 // Prints what was found, in the form that is asked for.

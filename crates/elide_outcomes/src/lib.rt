@@ -7,8 +7,8 @@
 //! options, and the answer says whether the search ended at its limit or found what is wrong (`specs/Printed.antt`,
 //! `specs/Items.antt`, `specs/Under.antt`, `specs/Stops.antt`, `specs/Lines.antt`, `specs/Verdict.antt`). That what is told is so of
 //! the schedules beside it, and that nothing else is where the search is not cut, is proved of `tm_outcomes`; how many states show
-//! an outcome or have no way to an end, and that a schedule is a shortest, is compared by `doc_tests`. Stands on `elide_setup`,
-//! `elide_checks` and `tm_outcomes`.
+//! an outcome or have no way to an end, and that a schedule has the fewest steps that are followed, is compared by `doc_tests`.
+//! Stands on `elide_setup`, `elide_checks` and `tm_outcomes`.
 #![tactic(auto)]
 
 mod command;
@@ -18,6 +18,7 @@ mod named;
 mod names;
 mod naming;
 mod object;
+mod paged;
 mod report;
 mod search_object;
 mod sending;

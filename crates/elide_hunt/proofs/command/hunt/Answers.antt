@@ -1,13 +1,11 @@
 use Rattle.std.proofs.Common.{ℕ, List, Option, subst}
-use Rattle.std.proofs.lemmas.Result.{IfOk-weaker}
 use Rattle.std.specs.Borrow.{Bor}
 use Rattle.std.specs.Prelude.{IfSome}
 use Rattle.elide_setup.specs.ElideProgram.Files.{Gives, most_bytes}
 use Rattle.elide_setup.specs.ElideProgram.ProgramFile.{IsFile}
 use Rattle.elide_setup.specs.Recorded.{IsRecorded}
 use Rattle.tm_hunt.specs.Deciding.{deciding}
-use Rattle.elide_hunt.specs.Printed.{IsPrinted, IsTold, IsTrialOf}
-use Rattle.elide_hunt.specs.declared.command.Answer.{Answer}
+use Rattle.elide_hunt.specs.Printed.{IsTrialOf}
 use Rattle.elide_hunt.proofs.command.hunt.Goals as goal
 
 pub returns : goal.returns
@@ -17,14 +15,14 @@ returns g c =
     let options = c.args.options.now in
     let bytes : List ℕ = c.in_ok-text.text.items in
     let given : Gives (content options.machine.file.now) most_bytes bytes =
-    subst (λ (known : Option (List ℕ)). Gives known most_bytes bytes) (c.record_path.ensures.kept options.machine.file.now) c.in_ok-text.ensures.given in
+    subst (λ (known : Option (List ℕ)). Gives known most_bytes bytes)
+    (c.record_path.ensures.kept options.machine.file.now)
+    (subst (λ (known : Option (List ℕ)). Gives known most_bytes bytes)
+    (c.page_path.ensures.kept options.machine.file.now) c.in_ok-text.ensures.given) in
     let one = c.in_ok-search.search in
     let before = c.in_ok-search.before in
     let made = c.in_ok-search.ensures in
-    IfOk-weaker c.tell.result
-    (λ (r : Answer × g.row.O.Denot). IsTold options before one r.0 (g.O.Out.device c.args.out).contents (g.O.Out.device r.1).contents)
-    (λ (r : Answer × g.row.O.Denot). IsPrinted content left options r.0 (g.O.Out.device c.args.out).contents (g.O.Out.device r.1).contents)
-    (λ r told. record {
+    record {
       setup = made.1;
       asked = record {
         file = made.0;
@@ -43,7 +41,6 @@ returns g c =
       counts = before;
       search = one;
       hunted = made.6;
-      told = told;
+      told = c.in_ok-answer.ensures;
       recorded = subst (λ (path : Option (Bor (List ℕ))). IfSome one.found (λ found. IsRecorded left path (deciding found.failure))) c.in_ok-path.ensures.given c.in_ok-write_record.ensures;
-    })
-    c.tell.ensures
+    }

@@ -1,4 +1,5 @@
-use Rattle.std.proofs.Common.{List, subst, ℕ}
+use Rattle.std.proofs.Common.{List, Option, subst, ℕ}
+use Rattle.elide_program.specs.Files.{Gives, most_bytes}
 use Rattle.elide_program.specs.ProgramFile.{IsFile}
 use Rattle.elide_outcomes.specs.Printed.{IsTrialOf}
 use Rattle.elide_outcomes.proofs.command.outcomes_with_stops.Goals as goal
@@ -13,7 +14,9 @@ returns g c =
         file = made.0;
         read = record {
           text = c.in_ok-text.text.items;
-          given = c.in_ok-text.ensures.given;
+          given =
+              subst (λ (known : Option (List ℕ)). Gives known most_bytes c.in_ok-text.text.items)
+              (c.read-3.ensures options.machine.file.now) c.in_ok-text.ensures.given;
           read = subst (λ (text : List ℕ). IsFile text made.0) c.as_slice.ensures.value made.1;
         };
         settings = c.in_ok-settings.settings;
@@ -34,7 +37,7 @@ returns g c =
       told = record {
         found = c.in_ok-found.found;
         is_found = made.6;
-        came_to = c.of.ensures;
+        came_to = c.of-answer.ensures;
         wrote = c.in_ok-write.ensures;
       };
     }

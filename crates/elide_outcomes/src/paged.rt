@@ -1,0 +1,67 @@
+//! The page of an outcome.
+
+ghost use Rattle.std.specs.Prelude.{◌≡◌, ℕ, List};
+
+use elide_args::{MachineOptions, OutcomesOptions};
+use elide_program::{Paths, number_of};
+use elide_setup::{Paged, Pages, Refusal, page_path};
+use std::alloc::Global;
+use tm_outcomes::Told;
+
+/// `--page`: the page that is asked for.
+#[derive(Clone, Copy)]
+pub enum PageAsked<'a> {
+    /// None.
+    Nothing,
+    /// That of an outcome.
+    Of {
+        /// How many outcomes are told before it.
+        index: u32,
+        /// Where it is written.
+        path: &'a str,
+    },
+}
+
+impl<'a> PageAsked<'a> {
+    /// What the options ask for. `--page` is misused where its number is none from 1 on, or its path that of the program.
+    pub fn read<P: Paths>(
+        options: &OutcomesOptions<'a>,
+        paths: &mut P,
+    ) -> Result<PageAsked<'a>, Refusal>
+        ensures { (other : List ℕ) → P.content paths.new other ≡ P.content paths.old other }
+    {
+        let [number, path] = options.page.as_slice() else {
+            return Ok(PageAsked::Nothing);
+        };
+        let Some(path) = page_path(Some(path), options.machine.file, None, paths)? else {
+            return Ok(PageAsked::Nothing);
+        };
+        // (outcomes are counted from 1)
+        match number_of(Some(number), "--page")?.checked_sub(1) {
+            Some(index) => Ok(PageAsked::Of { index, path }),
+            None => Err(Refusal::Usage("--page")),
+        }
+    }
+
+    /// Writes the page. `--page` is misused where fewer outcomes were told.
+    pub fn write<P: Paths, W: Pages>(
+        self,
+        alloc: Global,
+        machine: &MachineOptions<'_>,
+        text: &[u8],
+        told: &[Told],
+        pages: &W,
+        paths: &mut P,
+    ) -> Result<Paged, Refusal> {
+        let PageAsked::Of { index, path } = self else {
+            return Ok(Paged::AsAsked);
+        };
+        match told.get(index as usize) {
+            Some(outcome) => {
+                let picks = outcome.schedule.as_slice();
+                pages.write_page(alloc, machine, text, picks, path, paths)
+            }
+            None => Err(Refusal::Usage("--page")),
+        }
+    }
+}
