@@ -13,6 +13,8 @@ UNTOLD = {1, 2, 3, 50, 53, 70, 71, 72, 74, 75}
 
 FAULT = re.compile(rb"fault (\d+) (\w+)(?: line (\d+))?\n")
 USAGE = re.compile(rb"usage: (--[a-z-]+|FAULT)\n")
+# A run that a search found is too long for its page.
+UNPAGED = b"fault 85 PageTooLong\n"
 MISUSE = re.compile(rb"error: .*\n", re.DOTALL)
 WARNING = re.compile(rb"warning line \d+: label '[\w.]+' alone on a line without a colon\n")
 PAINT = re.compile(rb"\x1b\[[0-9;]*m")
@@ -84,15 +86,18 @@ def what_is_wrong(answer):
     out, err = answer.out, answer.err
     if is_painted(answer.words):
         out, err = PAINT.sub(b"", out), PAINT.sub(b"", err)
-    if CONTROL.search(out) and answer.words[0] not in ("gdb", b"gdb"):
+    # A string of JSON may have DEL as it is (RFC 8259, section 7).
+    kept = out.replace(b"\x7f", b"") if {"--json", b"--json"} & set(answer.words) else out
+    if CONTROL.search(kept) and answer.words[0] not in ("gdb", b"gdb"):
         return "control characters on standard output"
     told = without_warnings(err)
     if answer.status in (0, 3):
-        return "words on standard error beside a status of 0 or 3" if told else None
+        return "words on standard error beside a status of 0 or 3" if told and told != UNPAGED else None
     if answer.status == 2:
         if not USAGE.fullmatch(told) and not MISUSE.fullmatch(told):
             return "status 2 without a word of misuse"
-        return "standard output beside a misuse" if answer.out else None
+        # What a search found is printed before it is known that there is no such outcome.
+        return "standard output beside a misuse" if answer.out and told != b"usage: --page\n" else None
     return what_is_wrong_with_a_fault(answer, told)
 
 
@@ -114,7 +119,7 @@ def what_is_wrong_with_a_fault(answer, told):
 
 # ---- kinds: what is new in an answer
 
-COMMANDS = b"asm dis run threads replay debug gdb hunt outcomes stats draw explain help".split()
+COMMANDS = b"asm dis run threads replay debug gdb hunt outcomes stats draw page explain help".split()
 NUMBER = re.compile(rb"0x[0-9a-fA-F]+|\b[0-9a-f]{8,}\b|\d+")
 REGISTER = re.compile(rb"\b(?:e?(?:ax|cx|dx|bx)|e(?:sp|bp|si|di)|[abcd][lh])\b")
 

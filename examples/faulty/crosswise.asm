@@ -41,5 +41,5 @@ count:  dd 0
 ; elide: outcomes --cores 2 --entry first,second --show count --stuck
 ; expect: status 3
 ; expect: line 00000002 ...
-; expect: line stuck  81  0 0 1 1
-; expect: line 1 outcomes in 259 states, 81 of them without a way to an end
+; expect: line stuck  4  0 1 0 0 0 0 1 1 1 1
+; expect: line 1 outcomes in 35 states, 4 of them without a way to an end

@@ -92,11 +92,19 @@ def address_of(word, symbols):
     return address if address >= 0 else 2**64
 
 
+# What a step was, as it is said everywhere; on a terminal the instruction follows.
+OUTCOMES = (
+    rb"plain|loaded|idle|begun|inside|committed|stopped (?:" + forms.WORDS + rb")"
+    rb"|aborted [0-9a-f]{8}(?: (?:interrupt|eviction|snoop))?"
+)
+
+
 def unspoken(said):
-    """What is said on a terminal without the prompts, the words of refusals and the names of labels."""
+    """What is said on a terminal without the prompts, the words of refusals, the instructions of steps and the names of labels."""
     said = re.sub(rb"(?m)^(?:elide> )+", b"", said)
     said = re.sub(rb"(?m)^(error 7[0-9]): .*$", rb"\1", said)
     said = re.sub(rb"(?m)^(break \d+ [0-9a-f]{8}) <.*>$", rb"\1", said)
+    said = re.sub(rb"(?m)^(\d+ (?:" + OUTCOMES + rb")) [0-9a-f]{8}(?: .*)?$", rb"\1", said)
     return re.sub(rb"(?m)^[\w.]+:\n", b"", said)
 
 

@@ -1,7 +1,9 @@
 """Executables: `dis FILE`, `run FILE`. The file is written here, and read by a reader of its own."""
 
+import re
 import struct
 
+import forms
 import mutations
 import readers
 from target import MOST_LISTED, Target, examples, expect, expect_commands, expect_fault, expect_listing, expect_loaded
@@ -168,7 +170,8 @@ class Executables(Target):
             expect_texts_again(starter, rows, read.base)
         if self.is_turn(case, 1, 3):
             labelled = starter.start("dis", name, "--labels")
-            expect(is_same_but_labels(labelled.out, answer.out, rows, read.symbols), "other labels than the file has")
+            code = read.content[:read.code_len]
+            expect(is_labelled(labelled.out, answer.out, rows, read.symbols, code, read.base), "other labels than the file has")
         if self.is_turn(case, 2, 8):
             starter.again(answer)
 
@@ -195,14 +198,32 @@ def shown(word):
     return b"".join(bytes([it]) if 33 <= it <= 126 and it != 92 else LETTERS.get(it, b"\\%03o" % it) for it in word)
 
 
-def is_same_but_labels(labelled, plain, rows, symbols):
-    """The listing with labels is that without, with the names of the symbols above the lines that they stand at."""
-    at = {address: [] for address, _, _ in rows}
+FOREIGN = re.compile(rb"([0-9a-f]{8})  ((?:[0-9a-f]{2})+) *  db 0x\S+(?:, 0x\S+)*  ; \S.*")
+
+
+def is_labelled(labelled, plain, rows, symbols, code, base):
+    """The lines of the listing have the code's bytes, one behind the other, and above each are the names of the symbols at its
+    address. A line is that of the listing without labels, where that has one there, or tells what is outside of the subset."""
+    lines = {row[0]: line for row, line in zip(rows, plain.split(b"\n"))}
+    names = {}
     for word, value in symbols:
-        if value in at:
-            at[value].append(shown(word) + b":\n")
-    lines = plain.split(b"\n")[:-1]
-    return labelled == b"".join(b"".join(at[row[0]]) + line + b"\n" for row, line in zip(rows, lines))
+        names.setdefault(value, []).append(shown(word) + b":")
+    at, above = base, []
+    for line in labelled.split(b"\n")[:-1]:
+        listed = forms.LISTED.fullmatch(line) or FOREIGN.fullmatch(line)
+        if not listed:
+            above.append(line)
+            continue
+        told = bytes.fromhex(listed[2].decode())
+        is_foreign = FOREIGN.fullmatch(line) is not None
+        if int(listed[1], 16) != at % 2**32 or told != code[at - base:at - base + len(told)] or above != names.get(at % 2**32, []):
+            return False
+        if not is_foreign and lines.get(at % 2**32, line) != line:
+            return False
+        if is_foreign and any((at + k) % 2**32 in names for k in range(1, len(told))):
+            return False
+        at, above = at + len(told), []
+    return at - base == len(code) and not above
 
 
 def look_at_symbols(name, read, starter):

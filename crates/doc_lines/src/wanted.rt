@@ -123,7 +123,7 @@ fn is_of_output(line: &str) -> bool {
 }
 
 // What is left behind a line, where the text begins with it: `...` is all that is left, and something; `^` is what the
-// command before printed; `*N LINE` is a line that stands there N times.
+// command before printed; `*N LINE` is a line that stands there N times; `~ LINE` is any lines, and then this one.
 fn behind<'s>(line: &str, text: &'s str, before: &str) -> Option<&'s str> {
     if line == "..." {
         return if text.is_empty() { None } else { Some("") };
@@ -131,10 +131,31 @@ fn behind<'s>(line: &str, text: &'s str, before: &str) -> Option<&'s str> {
     if line == "^" {
         return text.strip_prefix(before);
     }
+    if let Some(line) = line.strip_prefix("~ ") {
+        return behind_some(line, text);
+    }
     match repeated(line) {
         Some((count, line)) => behind_all(count, line, text),
         None => behind_one(line, text),
     }
+}
+
+// What is left behind the first of some lines that is this one.
+fn behind_some<'s>(line: &str, text: &'s str) -> Option<&'s str> {
+    let mut left = text;
+    for _ in text.lines() {
+        if let Some(rest) = behind_one(line, left) {
+            return Some(rest);
+        }
+        left = behind_any(left)?;
+    }
+    None
+}
+
+// What is left behind a line, whatever it is.
+fn behind_any<'s>(text: &'s str) -> Option<&'s str> {
+    let (_, rest) = text.split_once('\n')?;
+    Some(rest)
 }
 
 // The count and the line of `*N LINE`.
