@@ -10,11 +10,12 @@ _elide_options() {
     replay) echo '--help --cores --mem --entry --reads --writes --dump --show --steps --schedule --why --in-turn --random --events --seed --limit --record --json --words --color' ;;
     debug) echo '--help --cores --mem --entry --reads --writes --dump --steps --schedule --in-turn --random --events --seed --limit --words --color' ;;
     gdb) echo '--help --cores --mem --entry --reads --writes --steps --schedule --in-turn --random --events --seed --limit --words --color' ;;
-    hunt) echo '--help --cores --mem --entry --reads --writes --check --forbid --stop --expect-halt --runs --seed --method --events --limit --jobs --record --json --words --color' ;;
-    outcomes) echo '--help --cores --mem --entry --reads --writes --show --names --events --limit --check --forbid --stop --stuck --json --words --color' ;;
+    hunt) echo '--help --cores --mem --entry --reads --writes --check --forbid --stop --expect-halt --runs --seed --method --events --limit --jobs --record --page --json --words --color' ;;
+    outcomes) echo '--help --cores --mem --entry --reads --writes --show --names --events --limit --check --forbid --stop --stuck --page --json --words --color' ;;
     test) echo '--help --list --jobs --json --words --color' ;;
     stats) echo '--help --cores --mem --entry --reads --writes --steps --schedule --in-turn --random --events --seed --limit --record --json --words --color' ;;
     draw) echo '--help --cores --mem --entry --reads --writes --show --steps --schedule --in-turn --random --events --seed --limit --record --from --to --core --words --color' ;;
+    page) echo '--help --cores --mem --entry --reads --writes --show --steps --schedule --in-turn --random --events --seed --limit --from --to --note --title --output --words --color' ;;
     explain) echo '--help --words --color' ;;
     esac
 }
@@ -30,11 +31,14 @@ _elide_value() {
     'debug --schedule' | \
     'gdb --schedule' | \
     'hunt --record' | \
+    'hunt --page' | \
     'test --list' | \
     'stats --schedule' | \
     'stats --record' | \
     'draw --schedule' | \
-    'draw --record') echo path ;;
+    'draw --record' | \
+    'page --schedule' | \
+    'page --output') echo path ;;
     'asm --words' | \
     'asm --color' | \
     'dis --words' | \
@@ -59,6 +63,8 @@ _elide_value() {
     'stats --color' | \
     'draw --words' | \
     'draw --color' | \
+    'page --words' | \
+    'page --color' | \
     'explain --words' | \
     'explain --color') echo 'auto always never' ;;
     'hunt --method') echo 'seen uniform bursts pct mix' ;;
@@ -142,6 +148,7 @@ _elide_value() {
     'outcomes --check' | \
     'outcomes --forbid' | \
     'outcomes --stop' | \
+    'outcomes --page' | \
     'test --jobs' | \
     'stats --cores' | \
     'stats --mem' | \
@@ -166,18 +173,33 @@ _elide_value() {
     'draw --limit' | \
     'draw --from' | \
     'draw --to' | \
-    'draw --core') echo other ;;
+    'draw --core' | \
+    'page --cores' | \
+    'page --mem' | \
+    'page --entry' | \
+    'page --reads' | \
+    'page --writes' | \
+    'page --show' | \
+    'page --steps' | \
+    'page --random' | \
+    'page --events' | \
+    'page --seed' | \
+    'page --limit' | \
+    'page --from' | \
+    'page --to' | \
+    'page --note' | \
+    'page --title') echo other ;;
     esac
 }
 
 _elide_takes_file() {
     case $1 in
-    asm | dis | run | threads | replay | debug | gdb | hunt | outcomes | test | stats | draw) return 0 ;;
+    asm | dis | run | threads | replay | debug | gdb | hunt | outcomes | test | stats | draw | page) return 0 ;;
     *) return 1 ;;
     esac
 }
 
-_elide_commands='asm dis run threads replay debug gdb hunt outcomes test stats draw explain help'
+_elide_commands='asm dis run threads replay debug gdb hunt outcomes test stats draw page explain help'
 
 # What a word behind the subcommand can be, or `files` where it is one's path.
 _elide_choices() {

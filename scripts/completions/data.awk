@@ -4,7 +4,8 @@
 #   program ABOUT VERSION EXAMPLE
 #   command NAME ABOUT EXAMPLE
 #   option COMMAND NAME FORM VALUE DEFAULT HELP WORDS     in the order of the help; VALUE and DEFAULT are empty where there is
-#                                                         none, WORDS where a value is more than one of a few words
+#                                                         none, WORDS where a value is more than one of a few words; of
+#                                                         several values VALUE has their names with spaces between
 #
 # What it cannot read is told, with status 1, so that no option is left out in silence.
 
@@ -89,8 +90,19 @@ function form_of(name,    form) {
     if (form ~ /^(Word|FreeWords?|Flag)$/ && texts[name, "form"] == 0) return form
     if (form ~ /^(Value|Needed|Several)$/ && texts[name, "form"] == 1) return form
     if (form == "Default" && texts[name, "form"] == 2) return form
+    if (form == "Each" && texts[name, "form"] > 1) return form
     fail(name ": an unknown form of an option")
 }
+
+# The column `VALUE`.
+function value_of(name,    i, value) {
+    value = text[name, "form", 1]
+    if (form_of(name) == "Each") for (i = 2; i <= texts[name, "form"]; i++) value = value " " text[name, "form", i]
+    return value
+}
+
+# The column `DEFAULT`.
+function default_of(name) { return form_of(name) == "Default" ? text[name, "form", 2] : "" }
 
 # The words of which a value is one, by its name.
 function few_words(value) {
@@ -104,7 +116,7 @@ function print_command(constant,    command, i, name) {
     print "command", command, the_text(constant, "about"), the_text(constant, "example")
     for (i = 1; i <= words[constant, "options"]; i++) {
         name = word[constant, "options", i]
-        print "option", command, the_text(name, "name"), form_of(name), text[name, "form", 1], text[name, "form", 2], \
+        print "option", command, the_text(name, "name"), form_of(name), value_of(name), default_of(name), \
             the_text(name, "help"), few_words(text[name, "form", 1])
     }
 }

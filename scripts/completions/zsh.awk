@@ -28,11 +28,19 @@ function action(value) {
     return value == "FILE" || value == "PATH" ? "_files" : " "
 }
 
+# What completes the values of an option, of which there can be several.
+function values(names,    i, n, each, text) {
+    n = $4 == "Each" ? split(names, each, " ") : 1
+    if (n == 1) each[1] = names
+    for (i = 1; i <= n; i++) text = text ":" coloned(each[i]) ":" action(each[i])
+    return text
+}
+
 function spec(    value) {
     if ($4 == "Word") return "1:" $3 ":" action($3)
     if ($4 == "FreeWord") return "1::" $3 ":" action($3)
     if ($4 == "FreeWords") return "*:" $3 ":" action($3)
-    value = $4 == "Flag" ? "" : ":" coloned($5) ":" action($5)
+    value = $4 == "Flag" ? "" : values($5)
     return ($4 == "Several" ? "*" : "") "--" $3 "[" described($7) "]" value
 }
 
