@@ -21,6 +21,10 @@ def missing():
     return [package for program, package in wanted.items() if not shutil.which(program)]
 
 
+class NotStarted(Exception):
+    """The browser is there, and cannot be driven here."""
+
+
 def free_port():
     with socket.socket() as listener:
         listener.bind(("127.0.0.1", 0))
@@ -39,7 +43,7 @@ class Browser:
             self._await_driver()
             options = {"args": ARGUMENTS, "binary": shutil.which("chromium")}
             wanted = {"goog:chromeOptions": options, "goog:loggingPrefs": {"browser": "ALL"}}
-            made = self._send("POST", "/session", {"capabilities": {"alwaysMatch": wanted}})
+            made = self._session({"capabilities": {"alwaysMatch": wanted}})
             self.base += "/session/" + made["sessionId"]
             self._send("POST", "/timeouts", {"script": 300_000, "pageLoad": 300_000})
         except BaseException:
@@ -62,7 +66,13 @@ class Browser:
             except OSError:
                 pass
             time.sleep(0.1)
-        raise SystemExit("try-page: chromedriver did not start")
+        raise NotStarted("chromedriver does not answer")
+
+    def _session(self, wanted):
+        try:
+            return self._send("POST", "/session", wanted)
+        except SystemExit as refused:
+            raise NotStarted(refused.code) from None
 
     def _send(self, method, path, body=None):
         data = None if body is None else json.dumps(body).encode()
