@@ -18,3 +18,6 @@ pub mod Triples
 pub mod Gathering
 pub mod Placing
 pub mod Slotting
+pub mod Same
+pub mod CoreWalks
+pub mod Within

@@ -1,11 +1,12 @@
 //! What every representation of the sets answers.
 
 ghost use Rattle.std.specs.Prelude.{◌≡◌, ◌<◌, ◌≤◌, ◌^◌, ℕ, Bool, ◌&&◌, not, nat_eq, true, is_err, Option, IsSome, IfOk};
-ghost use Rattle.std.specs.Prelude.{OnOk, OnErr};
+ghost use Rattle.std.specs.Prelude.{OnOk, OnErr, IsTrue};
 ghost use Rattle.std.specs.FinSet as set;
 ghost use Rattle.std.specs.List.Sorted.{IsStrictlyIncreasing};
 ghost use Rattle.tm_sets.specs.Content.{Content, with_line, without_core, is_full};
 ghost use Rattle.tm_sets.specs.Content.{IsMaskOf, other_on_line, other_writes_line, AreSlots};
+ghost use Rattle.tm_sets.specs.declared.interface.Kind.{Kind};
 
 use crate::fault::{Full, NoMemory};
 use std::alloc::Global;
@@ -84,6 +85,17 @@ pub trait Sets {
         requires core { core < (content self.now).fixed.cores }
         requires line { line < (content self.now).fixed.line_count }
         ensures { result ≡ set.contains ((content self.now).lines core kind) line };
+
+    /// Whether a core has the same lines in its read set, and the same in its write set, as the core of this number has
+    /// in other sets of this representation, which may be made for other numbers of cores, lines and room. It takes no
+    /// memory.
+    fn is_same(&self, other: &Self, core: u8) -> bool
+        requires here { core < (content self.now).fixed.cores }
+        requires there { core < (content other.now).fixed.cores }
+        ensures lines { IsTrue result
+            → (kind : Kind) → (content self.now).lines core kind ≡ (content other.now).lines core kind }
+        ensures all { ((kind : Kind) → (content self.now).lines core kind ≡ (content other.now).lines core kind)
+            → IsTrue result };
 
     /// The slot of a line that the core has written, and nothing for any other line: a number below the core's room for
     /// written lines, and for each of them another one. It stays the line's slot until `clear` of the core.

@@ -2,7 +2,7 @@
 
 ghost use Rattle.std.specs.Prelude.{◌≡◌, ◌<◌, ◌≤◌, ◌&&◌, not, nat_le, length, is_err, is_some, IsSome, ℕ, [], IfOk};
 ghost use Rattle.std.specs.Prelude.{IfSome, OnOk};
-ghost use Rattle.std.specs.Prelude.{OnErr};
+ghost use Rattle.std.specs.Prelude.{OnErr, IsTrue};
 ghost use Rattle.std.specs.FinSet as set;
 ghost use Rattle.std.specs.List.Sorted.{IsStrictlyIncreasing};
 ghost use Rattle.tm_sets.specs.LineSet.{lines_of, place_of};
@@ -85,6 +85,14 @@ impl LineSet {
         Ok(())
     }
 
+    /// Whether another has the same lines, in any order.
+    pub fn is_same(&self, other: &LineSet) -> bool
+        ensures lines { IsTrue result → lines_of self.now.order ≡ lines_of other.now.order }
+        ensures all { lines_of self.now.order ≡ lines_of other.now.order → IsTrue result }
+    {
+        self.count() == other.count() && are_within(&self.lines, &other.lines)
+    }
+
     /// Takes all lines away.
     pub fn clear(&mut self)
         ensures lines { self.new.order ≡ [] }
@@ -116,4 +124,16 @@ fn place_in(lines: &[u32], line: u32) -> Option<usize>
         }
     }
     None
+}
+
+/// Whether each line of a list is in another list.
+fn are_within(lines: &[u32], others: &[u32]) -> bool
+    ensures { result ≡ set.is_subset (lines_of lines.now) (lines_of others.now) }
+{
+    for line in lines {
+        if place_in(others, *line).is_none() {
+            return false;
+        }
+    }
+    true
 }

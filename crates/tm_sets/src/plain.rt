@@ -206,6 +206,11 @@ impl Sets for PlainSets {
         }
     }
 
+    fn is_same(&self, other: &PlainSets, core: u8) -> bool {
+        self.reads[usize::from(core)].is_same(&other.reads[usize::from(core)])
+            && self.writes[usize::from(core)].is_same(&other.writes[usize::from(core)])
+    }
+
     fn slot(&self, core: u8, line: u32) -> Option<u32> {
         match self.writes[usize::from(core)].place(line) {
             Some(place) => Some(place as u32),

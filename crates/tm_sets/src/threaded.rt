@@ -237,6 +237,36 @@ impl Directory {
         }
         (mask, visited)
     }
+
+    /// Whether a line is in this set of the core. None is that is past the lines of memory.
+    fn has_line(&self, core: u8, line: u32, kind: Kind) -> bool
+        requires { core < length self.now.core_heads.items }
+        ensures { result ≡ set.contains (lines_in self.now.entries.items core kind) line }
+    {
+        line < self.line_count && self.find(core, line, kind).0.is_some()
+    }
+
+    /// Whether another has each line of the core that this one has, of the same kind.
+    fn is_within(&self, other: &Directory, core: u8) -> bool
+        requires here { core < length self.now.core_heads.items }
+        requires there { core < length other.now.core_heads.items }
+        ensures within { IsTrue result → (kind : Kind) → IsTrue (set.is_subset
+            (lines_in self.now.entries.items core kind) (lines_in other.now.entries.items core kind)) }
+        ensures all { ((kind : Kind) → IsTrue (set.is_subset
+            (lines_in self.now.entries.items core kind) (lines_in other.now.entries.items core kind)))
+            → IsTrue result }
+    {
+        let mut at = self.core_heads[usize::from(core)];
+        let mut visited = 0;
+        while at != 0 {
+            let entry = self.visit(at, &mut visited);
+            if !other.has_line(core, entry.line, entry.kind) {
+                return false;
+            }
+            at = entry.after_on_core;
+        }
+        true
+    }
 }
 
 /// So many free entries, each before the one of the next lower index.
@@ -408,6 +438,14 @@ impl Sets for Directory {
     fn holds(&self, core: u8, line: u32, kind: Kind) -> bool {
         let (place, _) = self.find(core, line, kind);
         place.is_some()
+    }
+
+    /// The counts are compared first; then the time is that of the core's own list, with one question of the other for
+    /// each of its lines.
+    fn is_same(&self, other: &Directory, core: u8) -> bool {
+        self.held_lines(core, Kind::Read) == other.held_lines(core, Kind::Read)
+            && self.held_lines(core, Kind::Write) == other.held_lines(core, Kind::Write)
+            && self.is_within(other, core)
     }
 
     fn slot(&self, core: u8, line: u32) -> Option<u32> {
