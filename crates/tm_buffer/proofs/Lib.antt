@@ -7,3 +7,4 @@ pub mod Runs
 pub mod Holding
 pub mod Drain
 pub mod Bits
+pub mod Alike

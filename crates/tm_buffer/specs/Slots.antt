@@ -48,3 +48,11 @@ pub record AreSlots (lines slots told marks stored : List ℕ) (room : ℕ) : Ty
   pub each : length slots ≡ length lines
   pub places : length told ≡ room
   pub held : AreHeld slots told room
+
+-- two maps have the same bytes on a line
+abbrev pub AreSameOn : Bytes → Bytes → ℕ → Type 0
+AreSameOn m n line = (address : ℕ) → address / 64 ≡ line → bytes_map.get m address ≡ bytes_map.get n address
+
+-- a map has no byte on a line
+abbrev pub IsBareOn : Bytes → ℕ → Type 0
+IsBareOn m line = (address : ℕ) → address / 64 ≡ line → bytes_map.get m address ≡ None

@@ -12,6 +12,7 @@
 #![tactic(auto)]
 
 mod fault;
+mod same;
 mod slots;
 mod stored;
 

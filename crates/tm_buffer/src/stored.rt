@@ -26,15 +26,15 @@ use std::marker::Model;
 #[derive(Drop)]
 pub struct Buffer {
     /// The line at each place.
-    lines: Vec<u32>,
+    pub(crate) lines: Vec<u32>,
     /// The slot of the line at each place.
     slots: Vec<u32>,
     /// For each slot, the place of the line that holds it, if one does.
     places: Vec<u32>,
     /// For each place, used or not, which bytes of the line are stored: bit k for the byte at offset k.
-    masks: Vec<u64>,
+    pub(crate) masks: Vec<u64>,
     /// 64 bytes a place.
-    bytes: Vec<u8>,
+    pub(crate) bytes: Vec<u8>,
     /// How many lines there is room for.
     room: usize,
     /// The place that was used last by a call without slots.
