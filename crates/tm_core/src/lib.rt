@@ -10,7 +10,8 @@
 //!
 //! A step is explained by calls that are asked before it, and that change nothing: `Machine::hit` (whom it hits, on which
 //! line), `Machine::abort_reason` (why it is an abort), `Machine::counts` (how large the sets are) and `Machine::reach`
-//! (which bytes it loads and stores). `Machine::seen` tells a byte of memory as a core sees it.
+//! (which bytes it loads and stores). `Machine::seen` tells a byte of memory as a core sees it, `Machine::kept` the value
+//! between the two steps of an instruction, and `Machine::is_core_alike` whether another machine shows a core as this one.
 //!
 //! `Machine::step_under` makes a step under an event: an abort from outside of the program, which hardware may do at any
 //! time. All other calls make steps under none, and promise that they tell of no such abort; and what is asked before a
@@ -29,6 +30,7 @@
 //! `Machine::reopen_lines` by the lines of memory that may have changed (`specs/Reopening.antt`).
 #![tactic(auto)]
 
+mod alike;
 mod alone;
 mod body;
 mod boundary;

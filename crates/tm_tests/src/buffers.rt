@@ -109,3 +109,31 @@ fn a_line_filled_by_slots(rt: HostRuntime) {
     );
     assert_eq!(rt; buffer.lines(), 1);
 }
+
+/// Neither the order of the stores nor the room counts, nor what was forgotten.
+#[test]
+fn the_same_bytes_in_another_order(rt: HostRuntime) {
+    let mut one = Buffer::with_lines(rt.alloc(), 4).expect(&rt, "memory");
+    let mut other = Buffer::with_lines(rt.alloc(), 3).expect(&rt, "memory");
+    assert!(rt; one.is_same(&other));
+    assert!(rt; other.put(0x2000, Width::D, 0x9999_9999).is_ok());
+    other.clear();
+    assert!(rt; one.put(0x1000, Width::D, 0x1122_3344).is_ok());
+    assert!(rt; one.put(0x2001, Width::B, 0x55).is_ok());
+    assert!(rt; other.put(0x2001, Width::B, 0x55).is_ok());
+    assert!(rt; !one.is_same(&other) && !other.is_same(&one), "a line more");
+    assert!(rt; other.put(0x1000, Width::D, 0x1122_3344).is_ok());
+    assert!(rt; one.is_same(&other) && other.is_same(&one), "two orders");
+    assert!(rt; other.put(0x1002, Width::B, 0x23).is_ok());
+    assert!(rt;
+        !one.is_same(&other) && !other.is_same(&one),
+        "another byte"
+    );
+    assert!(rt; other.put(0x1002, Width::B, 0x22).is_ok());
+    assert!(rt;
+        one.is_same(&other) && other.is_same(&one),
+        "the first byte again"
+    );
+    assert!(rt; other.put(0x1004, Width::B, 0).is_ok());
+    assert!(rt; !one.is_same(&other) && !other.is_same(&one), "a byte more");
+}

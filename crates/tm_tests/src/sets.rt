@@ -120,3 +120,58 @@ fn a_slot_for_each_written_line(rt: HostRuntime) {
     let mut directory = Directory::new(rt.alloc(), 2, 0x400, 4, 4).expect(&rt, "memory");
     slots(&rt, &mut directory);
 }
+
+// Of two sets that are made alike core 0 has the same lines, though it got them in another order and core 1 has others.
+fn same_lines<S: Sets>(rt: &impl Abort, sets: &mut S, others: &mut S)
+    requires cores { (S.content sets.old).fixed.cores ≡ 2 }
+    requires lines { (S.content sets.old).fixed.line_count ≡ 1024 }
+    requires other_cores { (S.content others.old).fixed.cores ≡ 2 }
+    requires other_lines { (S.content others.old).fixed.line_count ≡ 1024 }
+    ensures fixed { (S.content sets.new).fixed ≡ (S.content sets.old).fixed }
+    ensures other_fixed { (S.content others.new).fixed ≡ (S.content others.old).fixed }
+{
+    assert!(rt; sets.is_same(others, 0));
+    assert!(rt; sets.add(0, 7, Kind::Read).is_ok());
+    assert!(rt; sets.add(0, 8, Kind::Read).is_ok());
+    assert!(rt; sets.add(0, 8, Kind::Write).is_ok());
+    assert!(rt; others.add(0, 8, Kind::Write).is_ok());
+    assert!(rt; others.add(0, 8, Kind::Read).is_ok());
+    assert!(rt; !sets.is_same(others, 0));
+    assert!(rt; !others.is_same(sets, 0));
+    assert!(rt; others.add(0, 7, Kind::Read).is_ok());
+    assert!(rt; others.add(1, 7, Kind::Write).is_ok());
+    assert!(rt; sets.is_same(others, 0));
+    assert!(rt; !sets.is_same(others, 1));
+}
+
+// As many lines of each kind, of which one is another.
+fn other_lines<S: Sets>(rt: &impl Abort, sets: &mut S, others: &mut S)
+    requires cores { (S.content sets.old).fixed.cores ≡ 2 }
+    requires lines { (S.content sets.old).fixed.line_count ≡ 1024 }
+    requires other_cores { (S.content others.old).fixed.cores ≡ 2 }
+    requires other_lines { (S.content others.old).fixed.line_count ≡ 1024 }
+{
+    sets.clear(0);
+    others.clear(0);
+    assert!(rt; sets.add(0, 7, Kind::Read).is_ok());
+    assert!(rt; sets.add(0, 8, Kind::Write).is_ok());
+    assert!(rt; others.add(0, 7, Kind::Read).is_ok());
+    assert!(rt; others.add(0, 9, Kind::Write).is_ok());
+    assert!(rt; !sets.is_same(others, 0));
+    others.clear(0);
+    assert!(rt; others.add(0, 7, Kind::Write).is_ok());
+    assert!(rt; others.add(0, 8, Kind::Read).is_ok());
+    assert!(rt; !sets.is_same(others, 0));
+}
+
+#[test]
+fn the_same_lines_of_a_core(rt: HostRuntime) {
+    let mut plain = PlainSets::new(rt.alloc(), 2, 0x400, 4, 4).expect(&rt, "memory");
+    let mut other_plain = PlainSets::new(rt.alloc(), 2, 0x400, 4, 4).expect(&rt, "memory");
+    same_lines(&rt, &mut plain, &mut other_plain);
+    other_lines(&rt, &mut plain, &mut other_plain);
+    let mut directory = Directory::new(rt.alloc(), 2, 0x400, 4, 4).expect(&rt, "memory");
+    let mut other_directory = Directory::new(rt.alloc(), 2, 0x400, 4, 4).expect(&rt, "memory");
+    same_lines(&rt, &mut directory, &mut other_directory);
+    other_lines(&rt, &mut directory, &mut other_directory);
+}

@@ -19,6 +19,8 @@ fn cores_that_there_are_not(rt: HostRuntime) {
     assert!(rt; matches!(machine.run(rt.alloc(), &[0, 1]), Err(RunFault::NoSuchCore)));
     assert!(rt; machine.regs(1).is_err());
     assert!(rt; machine.base_regs(1).is_err());
+    assert_eq!(rt; machine.kept(1), Err(NoSuchCore));
+    assert_eq!(rt; machine.kept(0), Ok(0));
     assert_eq!(rt; machine.state(1), Err(NoSuchCore));
     assert!(rt;
         matches!(

@@ -1,0 +1,57 @@
+//! Whether two machines show a core alike.
+
+ghost use Rattle.std.specs.Prelude.{◌≡◌, ◌↔◌, ◌<◌, IsTrue, length};
+ghost use Rattle.tm_model.specs.Setting.{Setting};
+ghost use Rattle.tm_sets.specs.declared.interface.Kind.{Kind};
+ghost use Rattle.tm_core.specs.Representation.{Sane, cpu_view};
+ghost use Rattle.tm_core.specs.Theorem.{view_at};
+
+use crate::cpu::Cpu;
+use crate::machine::Machine;
+use tm_model::CoreState;
+use tm_sets::Sets;
+
+// Whether a core's open transaction has the same registers, bytes and lines.
+fn is_body_alike<S: Sets>(cpu: &Cpu, sets: &S, twin: &Cpu, twin_sets: &S, core: u8) -> bool
+    requires here { core < (S.content sets.now).fixed.cores }
+    requires there { core < (S.content twin_sets.now).fixed.cores }
+    ensures { IsTrue result ↔ ((cpu.now.regs ≡ twin.now.regs) × (cpu.now.buffer.bytes ≡ twin.now.buffer.bytes)
+        × ((kind : Kind) → (S.content sets.now).lines core kind ≡ (S.content twin_sets.now).lines core kind)) }
+{
+    cpu.regs == twin.regs && cpu.buffer.is_same(&twin.buffer) && sets.is_same(twin_sets, core)
+}
+
+// Whether a core is shown alike by its parts and by those of another machine.
+fn is_alike<S: Sets>(cpu: &Cpu, sets: &S, twin: &Cpu, twin_sets: &S, core: u8) -> bool
+    requires here { core < (S.content sets.now).fixed.cores }
+    requires there { core < (S.content twin_sets.now).fixed.cores }
+    ensures { (first second : Setting) →
+        Sane first (cpu_view (S.content sets.now) core cpu.now) cpu.now.state →
+        Sane second (cpu_view (S.content twin_sets.now) core twin.now) twin.now.state →
+        (IsTrue result ↔ (cpu_view (S.content sets.now) core cpu.now
+        ≡ cpu_view (S.content twin_sets.now) core twin.now)) }
+{
+    if cpu.state != twin.state || cpu.base != twin.base {
+        return false;
+    }
+    match cpu.state {
+        CoreState::Running | CoreState::Condemned(_) | CoreState::Stopped(_) => true,
+        CoreState::Mid => cpu.kept == twin.kept,
+        CoreState::Open(_) => is_body_alike(cpu, sets, twin, twin_sets, core),
+    }
+}
+
+impl<S: Sets> Machine<S> {
+    /// Whether another machine shows a core as this one does: what it is doing, its registers before its transaction and
+    /// now, the value between the two steps of an instruction, and the bytes and the lines of its transaction. Takes no
+    /// memory; the time is that of the transaction's lines.
+    pub fn is_core_alike(&self, other: &Machine<S>, core: u8) -> bool
+        requires here { core < length self.now.views }
+        requires there { core < length other.now.views }
+        ensures { IsTrue result ↔ (view_at self.now core ≡ view_at other.now core) }
+    {
+        let index = usize::from(core);
+        let (cpus, twins) = (self.cpus.as_slice(), other.cpus.as_slice());
+        is_alike(&cpus[index], &self.sets, &twins[index], &other.sets, core)
+    }
+}
