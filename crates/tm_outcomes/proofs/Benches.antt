@@ -1,5 +1,5 @@
 -- Machines whose memory is what it was but on the lines that were noted.
-use Rattle.std.proofs.Common.{◌≡◌, inl, inr, ℕ, ◌+◌, ◌<◌, ◌≤◌, List, [], ◌∷◌, ◌++◌, Some, length, refl, sym, ap, ◌∙◌, subst, arith, length-append}
+use Rattle.std.proofs.Common.{◌≡◌, inl, inr, ℕ, ◌+◌, ◌<◌, List, [], ◌∷◌, ◌++◌, Some, length, refl, sym, ap, ◌∙◌, subst, arith, length-append}
 use Rattle.std.specs.Prelude.{All, Contains, option_and_then}
 use Rattle.std.proofs.lemmas.Bool.{cases_lt}
 use Rattle.tm_core.specs.IaImage.Program.{opening_memory}
@@ -91,14 +91,14 @@ place_at trial written place schedule opening is at within = record {
 -- ---- a node more
 
 written_new : (trial : Trial) (nodes after : List Node) (node : Node) (written : Written) (old : IsWrittenOf trial nodes written) →
-    after ≡ nodes ++ node ∷ [] → node.parent < length nodes → All (IsPickOf trial) node.steps.items → length node.steps.items ≤ 4097 →
+    after ≡ nodes ++ node ∷ [] → node.parent < length nodes → All (IsPickOf trial) node.steps.items →
     HasRun trial (schedule_at old.schedules node.parent ++ node.steps.items) →
     IsWithin trial written.lines.items (schedule_at old.schedules node.parent ++ node.steps.items) →
     IsWrittenOf trial after written
-written_new trial nodes after node written old added parent are_picks few has_run within =
+written_new trial nodes after node written old added parent are_picks has_run within =
     let last : List Pick = schedule_at old.schedules node.parent ++ node.steps.items in
     let grown : List (List Pick) = old.schedules ++ last ∷ [] in
-    let tree : IsTree trial (nodes ++ node ∷ []) grown = grows trial nodes old.schedules node old.tree parent are_picks few has_run in
+    let tree : IsTree trial (nodes ++ node ∷ []) grown = grows trial nodes old.schedules node old.tree parent are_picks has_run in
     let long : length after ≡ length nodes + 1 = ap (λ (ns : List Node). length ns) added ∙ length-append nodes (node ∷ []) in
     let counted : length old.schedules ≡ length nodes = old.tree.counted in
     record {
@@ -118,13 +118,13 @@ written_new trial nodes after node written old added parent are_picks few has_ru
 -- the same with more lines
 pub written_after : (trial : Trial) (before after : Written) → after.opening ≡ before.opening →
     ((line : ℕ) → Contains before.lines.items line → Contains after.lines.items line) → (nodes nodes_now : List Node) (node : Node)
-    (old : IsWrittenOf trial nodes before) → nodes_now ≡ nodes ++ node ∷ [] → node.parent < length nodes → All (IsPickOf trial) node.steps.items → length node.steps.items ≤ 4097 →
+    (old : IsWrittenOf trial nodes before) → nodes_now ≡ nodes ++ node ∷ [] → node.parent < length nodes → All (IsPickOf trial) node.steps.items →
     HasRun trial (schedule_at old.schedules node.parent ++ node.steps.items) →
     IsWithin trial after.lines.items (schedule_at old.schedules node.parent ++ node.steps.items) →
     IsWrittenOf trial nodes_now after
 unfolding written_more
-written_after trial before after same among nodes nodes_now node old added parent are_picks few has_run within =
-    written_new trial nodes nodes_now node after (written_more trial before after same among nodes old) added parent are_picks few
+written_after trial before after same among nodes nodes_now node old added parent are_picks has_run within =
+    written_new trial nodes nodes_now node after (written_more trial before after same among nodes old) added parent are_picks
     has_run within
 
 -- ---- before the first step

@@ -15,7 +15,7 @@ use Rattle.tm_outcomes.specs.Unseen.{IsUnseen, is_unseen}
 use Rattle.tm_outcomes.proofs.Somes.{same_in}
 use Rattle.tm_outcomes.proofs.UnseenCores.{IsUnseenStep, unseen_step, untouched}
 
-same_situation : (a b : Situation) → a.state.memory ≡ b.state.memory → a.state.count ≡ b.state.count →
+pub same_situation : (a b : Situation) → a.state.memory ≡ b.state.memory → a.state.count ≡ b.state.count →
     ((number : ℕ) → a.state.cores number ≡ b.state.cores number) → ((number : ℕ) → a.doomed number ≡ b.doomed number) → a ≡ b
 same_situation a b memory count cores doomed = λ i. record {
   state = record { memory = memory i; count = count i; cores = fun_ext cores i };

@@ -66,14 +66,14 @@ to_known trial most index to pick before after nodes links few within there is_p
 }
 
 pub to_new : (trial : Trial) (most index : ℕ) (pick : Pick) (steps : List Pick) (node : Node) (before after : Searching) → node.parent ≡ index →
-    node.steps.items ≡ steps → All (IsPickOf trial) steps → length steps ≤ 4097 → after.nodes.items ≡ before.nodes.items ++ node ∷ [] →
+    node.steps.items ≡ steps → All (IsPickOf trial) steps → after.nodes.items ≡ before.nodes.items ++ node ∷ [] →
     after.links.items ≡ before.links.items ++ record { from = index; to = length before.nodes.items } ∷ [] →
     length before.nodes.items < most → index < length before.nodes.items → IsPickOf trial pick →
     ((schedules : List (List Pick)) → IsTree trial before.nodes.items schedules → HasRun trial (schedule_at schedules index ++ steps)) →
     ((schedules : List (List Pick)) → IsTree trial before.nodes.items schedules →
     LeadsAlong trial (schedules ++ (schedule_at schedules index ++ steps) ∷ []) index pick (length schedules)) →
     IsFollowedIn trial most before after index pick.core (IsThis pick.event)
-to_new trial most index pick steps node before after parent is are_picks short nodes links few within is_pick run along = record {
+to_new trial most index pick steps node before after parent is are_picks nodes links few within is_pick run along = record {
   few = subst (λ (ns : List Node). length ns ≤ most) (sym nodes)
       (let long = length-append before.nodes.items (node ∷ []) in omega arith);
   kept = kept_links before.links.items after.links.items (record { from = index; to = length before.nodes.items }) links;
@@ -90,7 +90,6 @@ to_new trial most index pick steps node before after parent is are_picks short n
       subst (λ (s : List Pick). IsTree trial (before.nodes.items ++ node ∷ []) (schedules ++ s ∷ [])) same
       (grows trial before.nodes.items schedules node tree (omega arith)
       (subst (λ (s : List Pick). All (IsPickOf trial) s) (sym is) are_picks)
-      (subst (λ (s : List Pick). length s ≤ 4097) (sym is) short)
       (subst (λ (s : List Pick). HasRun trial s) (sym same) (run schedules tree))) in
       record {
         grown = now;

@@ -7,13 +7,14 @@ use Rattle.tm_model.specs.Shown.{view_of}
 use Rattle.tm_model.specs.Steps.{step}
 use Rattle.tm_model.specs.declared.outcome.Outcome.{Outcome}
 use Rattle.tm_model.specs.declared.outcome.Pick.{Pick}
-use Rattle.tm_outcomes.specs.Nodes.{AreSame, IsUntouched, LeadsTo, schedule_at}
+use Rattle.tm_outcomes.specs.Nodes.{IsUntouched, LeadsTo, schedule_at}
+use Rattle.tm_outcomes.specs.Verdicts.{AreSame}
 use Rattle.tm_outcomes.specs.Outcomes.{trial_setting}
 use Rattle.tm_outcomes.specs.Places.{AreAlike, IsAt, is_open}
 use Rattle.tm_outcomes.specs.Schedules.{Situation, with_state}
 use Rattle.tm_outcomes.specs.declared.place.Place.{Place}
 use Rattle.tm_outcomes.specs.declared.trial.Trial.{Trial}
-use Rattle.tm_outcomes.proofs.Alike.{same_under, same_views}
+use Rattle.tm_outcomes.proofs.Shown.{same_under}
 use Rattle.tm_outcomes.proofs.Somes.{same_in}
 
 -- what a machine shows, under the rules of its trial
@@ -65,21 +66,10 @@ leads_stands trial schedules index place now at leads =
 pub alike_stands : (trial : Trial) (a b : Place) (s t : List Pick) (now : Situation) → IsAt trial a s → IsAt trial b t → AreAlike a b →
     StandsFor a.machine now.state now.doomed → StandsFor b.machine now.state now.doomed
 alike_stands trial a b s t now at other alike stands =
-    let setting : Setting = trial_setting trial in
-    let memory : other.now.state.memory ≡ at.now.state.memory = sym other.stands.same_memory ∙ (sym alike.memory ∙ at.stands.same_memory) in
-    stands_by b.machine setting now other.rules (sym alike.memory ∙ stands.same_memory) (sym alike.count ∙ stands.same_count)
+    stands_by b.machine (trial_setting trial) now other.rules (sym alike.memory ∙ stands.same_memory) (sym alike.count ∙ stands.same_count)
     (λ core below.
     let here : core < length a.machine.views = (let e = alike.count in omega arith) in
-    let entry : core < length trial.program.now.entries = (let e = at.count in omega arith) in
-    let one = alike.each core here in
-    let theirs : view_of setting at.now.state.memory (other.now.state.cores core) (other.now.doomed core) ≡ Some (view_at b.machine core) =
-    subst (λ m. view_of setting m (other.now.state.cores core) (other.now.doomed core) ≡ Some (view_at b.machine core)) memory
-    (shows b.machine setting other.now other.rules other.stands core below) in
-    shows a.machine setting now at.rules stands core here
-    ∙ ap Some (same_views setting at.now.state.memory (at.now.state.cores core) (other.now.state.cores core) (at.now.doomed core) (other.now.doomed core)
-    (view_at a.machine core) (view_at b.machine core)
-    (shows a.machine setting at.now at.rules at.stands core here) theirs one.mode one.base
-    (λ counts. sym (at.details core entry) ∙ (one.detail counts ∙ other.details core entry))))
+    shows a.machine (trial_setting trial) now at.rules stands core here ∙ ap Some (alike.each core here))
 
 -- the step of a core that no event aborts is under each what it is under none
 pub untouched_at : (trial : Trial) (schedules : List (List Pick)) (index : ℕ) (place : Place) (core : ℕ) →

@@ -1,12 +1,13 @@
 pub mod Somes
 pub mod Runs
+pub mod Alone
 pub mod UnseenCores
 pub mod Crossing
 pub mod Catching
-pub mod Details
-pub mod Alike
+pub mod Shown
 pub mod Resting
 pub mod Leads
+pub mod Idling
 pub mod Tables
 pub mod Trees
 pub mod Stored
@@ -22,5 +23,6 @@ pub mod Sourcing
 pub mod Passing
 pub mod Complete
 pub mod Ways
+pub mod Rounds
 pub mod Telling
 pub mod Underway

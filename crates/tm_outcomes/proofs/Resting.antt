@@ -1,5 +1,5 @@
 -- Unseen steps that are made at a place, one after another.
-use Rattle.std.proofs.Common.{◌≡◌, ℕ, ◌≤◌, Bool, true, false, cond, List, [], ◌∷◌, ◌++◌, Option, Some, None, length, refl, sym, ap, ◌∙◌, subst, append_assoc}
+use Rattle.std.proofs.Common.{◌≡◌, ℕ, Bool, true, false, cond, List, [], ◌∷◌, ◌++◌, Option, Some, None, refl, sym, ap, ◌∙◌, subst, append_assoc}
 use Rattle.std.specs.Prelude.{All, nat_eq, option_and_then}
 use Rattle.std.proofs.lemmas.Bool.{false≢true}
 use Rattle.std.proofs.lemmas.List.{append-nil}
@@ -157,14 +157,13 @@ module _ (trial : Trial) where
   pub advances : (before middle after : Place) (pick : Pick) (steps : List Pick) → IsPickOf trial pick →
       GoesTo (trial_setting trial) before middle pick →
       ((schedule : List Pick) → IsAt trial before schedule → IsAt trial middle (schedule ++ pick ∷ [])) →
-      RestsBy trial middle after (pick ∷ []) steps → length steps ≤ 4097 → IsPlaceOf trial after →
+      RestsBy trial middle after (pick ∷ []) steps → IsPlaceOf trial after →
       Advances trial before after pick steps
-  advances before middle after pick steps is_pick goes at rests few is_place = record {
+  advances before middle after pick steps is_pick goes at rests is_place = record {
     rest = rests.picks;
     made = rests.made;
     are_picks = subst (λ (s : List Pick). All (IsPickOf trial) s) (sym rests.made)
         (All-cons (IsPickOf trial) pick rests.picks is_pick rests.rests.are_picks);
-    few = few;
     is_place = is_place;
     at = λ schedule is_at. subst (λ (s : List Pick). IsAt trial after s)
         (append_assoc schedule (pick ∷ []) rests.picks ∙ ap (λ (s : List Pick). schedule ++ s) (sym rests.made))

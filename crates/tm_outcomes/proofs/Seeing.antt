@@ -15,7 +15,7 @@ use Rattle.tm_core.specs.Theorem.{ShownMachine, StandsFor, machine_setting, view
 use Rattle.tm_outcomes.specs.Outcomes.{regs_of}
 use Rattle.tm_outcomes.specs.Schedules.{Situation}
 use Rattle.tm_outcomes.specs.Verdicts.{seen_at}
-use Rattle.tm_outcomes.proofs.Alike.{base_is}
+use Rattle.tm_outcomes.proofs.Shown.{base_is}
 
 -- a register of a core that is there
 register_by : (is_core is_register : Bool) (a b : Regs) (register : ℕ) → (is_core ≡ true → a ≡ b) →

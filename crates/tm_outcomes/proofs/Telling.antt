@@ -6,7 +6,8 @@ use Rattle.tm_model.specs.declared.outcome.Pick.{Pick}
 use Rattle.tm_outcomes.specs.Outcomes.{AreDistinct, AreTold, IsAllowed, IsSearch, IsTold, trial_setting}
 use Rattle.tm_outcomes.specs.Searching.{AreFindings, AreStops, AreViolations, IsCutOf, IsSearching, IsWholeOf}
 use Rattle.tm_outcomes.specs.Searching.{TellsWayless}
-use Rattle.tm_outcomes.specs.Verdicts.{IsStopTold, IsStuck, IsVerdict, IsViolationTold}
+use Rattle.tm_outcomes.specs.Verdicts.{IsCycle, IsStopTold, IsStuck, IsVerdict, IsViolationTold}
+use Rattle.tm_outcomes.specs.declared.cycle.Cycle.{Cycle}
 use Rattle.tm_outcomes.specs.declared.searching.Search.{Search}
 use Rattle.tm_outcomes.specs.declared.searching.Searching.{Searching}
 use Rattle.tm_outcomes.specs.declared.stops.ReachedStop.{ReachedStop}
@@ -16,11 +17,11 @@ use Rattle.tm_outcomes.specs.declared.trial.Trial.{Trial}
 use Rattle.tm_outcomes.specs.declared.violations.Violation.{Violation}
 use Rattle.tm_outcomes.proofs.Catching.{stays_stopped}
 use Rattle.tm_outcomes.proofs.Complete.{all_told, met, met_end}
-use Rattle.tm_outcomes.proofs.Ways.{is_free, is_stuck}
+use Rattle.tm_outcomes.proofs.Ways.{is_cycle, is_free, is_stuck}
 
 module _ (trial : Trial) (most done : ℕ) (search : Searching) (schedules : List (List Pick)) (told : Search)
     (searching : IsSearching trial most search schedules done) (whole : length search.nodes.items ≤ done)
-    (of : IsWholeOf search told) where
+    (of : IsWholeOf trial search told) where
   pub is_search : IsSearch trial most told
   is_search =
       let outcomes : search.found.outcomes.items ≡ told.outcomes.items = sym (ap (λ v. v.items) of.outcomes) in
@@ -42,10 +43,12 @@ module _ (trial : Trial) (most done : ℕ) (search : Searching) (schedules : Lis
       subst (λ (vs : List Violation). AreViolations trial vs) violations searching.found.violations in
       let counted = searching.tree.counted in
       record {
-        stuck = is_stuck trial most done search schedules searching whole of.stuck.marked of.stuck.marks told.stuck of.stuck.tells;
-        free = λ _ none. is_free trial most done search schedules searching whole of.stuck.marked of.stuck.marks
-            (subst (λ (o : Option Stuck). TellsWayless search.nodes.items of.stuck.marked o) none of.stuck.tells);
+        stuck = is_stuck trial most done search schedules searching whole of.verdict.marked of.verdict.marks told.stuck of.verdict.stuck;
+        free = λ _ none. is_free trial most done search schedules searching whole of.verdict.marked of.verdict.marks
+            (subst (λ (o : Option Stuck). TellsWayless search.nodes.items of.verdict.marked o) none of.verdict.stuck);
         cut = λ cut. absurd (false≢true (sym of.is_cut ∙ cut));
+        cycle = is_cycle trial most done search schedules searching whole of.verdict.marked of.verdict.marks told.cycle of.verdict.cycle;
+        cut_cycle = λ cut. absurd (false≢true (sym of.is_cut ∙ cut));
         stops = all.told;
         once = all.once;
         no_stop = λ _ schedule now reached why asked stopped.
@@ -87,6 +90,8 @@ module _ (trial : Trial) (most : ℕ) (search : Searching) (told : Search) (full
         stuck = subst (λ (o : Option Stuck). IfSome o (λ s. IsStuck trial s.schedule.items)) (sym of.stuck) tt;
         free = λ whole. absurd (false≢true (sym whole ∙ of.is_cut));
         cut = λ _. of.stuck;
+        cycle = subst (λ (o : Option Cycle). IfSome o (λ c. IsCycle trial c.schedule.items c.steps.items)) (sym of.cycle) tt;
+        cut_cycle = λ _. of.cycle;
         stops = all.told;
         once = all.once;
         no_stop = λ whole. absurd (false≢true (sym whole ∙ of.is_cut));

@@ -1,5 +1,5 @@
 -- Trees that grow by one node.
-use Rattle.std.proofs.Common.{◌≡◌, inl, inr, ℕ, ◌+◌, ◌*◌, ◌<◌, ◌≤◌, List, [], ◌∷◌, ◌++◌, length, map, get_or, refl, sym, ap, ◌∙◌, subst, arith, length-append}
+use Rattle.std.proofs.Common.{◌≡◌, inl, inr, ℕ, ◌+◌, ◌<◌, List, [], ◌∷◌, ◌++◌, length, map, get_or, refl, sym, ap, ◌∙◌, subst, arith, length-append}
 use Rattle.std.specs.Prelude.{All}
 use Rattle.std.proofs.Math.Seq.{get_or-append_seam}
 use Rattle.std.proofs.lemmas.Bool.{cases_lt}
@@ -49,10 +49,10 @@ each P nodes node before here index below =
     ]
 
 pub grows : (trial : Trial) (nodes : List Node) (schedules : List (List Pick)) (node : Node) →
-    IsTree trial nodes schedules → node.parent < length nodes → All (IsPickOf trial) node.steps.items → length node.steps.items ≤ 4097 →
+    IsTree trial nodes schedules → node.parent < length nodes → All (IsPickOf trial) node.steps.items →
     HasRun trial (schedule_at schedules node.parent ++ node.steps.items) →
     IsTree trial (nodes ++ node ∷ []) (schedules ++ (schedule_at schedules node.parent ++ node.steps.items) ∷ [])
-grows trial nodes schedules node tree lower are_picks few has_run =
+grows trial nodes schedules node tree lower are_picks has_run =
     let steps : List Pick = node.steps.items in
     let added : List Pick = schedule_at schedules node.parent ++ steps in
     let nodes_now : List Node = nodes ++ node ∷ [] in
@@ -91,13 +91,6 @@ grows trial nodes schedules node tree lower are_picks few has_run =
           ∙ (ap (λ n. schedule_at now n ++ steps) (sym (parent_new i last))
           ∙ ap (λ s. schedule_at now (parent_at nodes_now i) ++ s) (sym (steps_new i last)))))
           index below positive;
-      short = each (λ i. length (schedule_at now i) ≤ 4097 * i) nodes node
-          (λ i less. subst (λ (s : List Pick). length s ≤ 4097 * i) (sym (old i less)) (tree.short i less))
-          (λ i last. subst (λ (s : List Pick). length s ≤ 4097 * i) (sym (new i last))
-          (let up = tree.short node.parent lower in
-          let long : length added ≡ length (schedule_at schedules node.parent) + length steps =
-          length-append (schedule_at schedules node.parent) steps in
-          omega arith));
       picks = each (λ i. All (IsPickOf trial) (schedule_at now i)) nodes node
           (λ i less. subst (λ (s : List Pick). All (IsPickOf trial) s) (sym (old i less)) (tree.picks i less))
           (λ i last. subst (λ (s : List Pick). All (IsPickOf trial) s) (sym (new i last))
@@ -117,7 +110,6 @@ first_tree trial node = record {
   root = refl;
   lower = λ index positive below. absurd (let same = only index below in omega arith);
   longer = λ index positive below. absurd (let same = only index below in omega arith);
-  short = λ index below. subst (λ i. length (schedule_at ([] ∷ []) i) ≤ 4097 * i) (only index below) (omega arith);
   picks = λ index below. subst (λ i. All (IsPickOf trial) (schedule_at ([] ∷ []) i)) (only index below)
       (All-nil (IsPickOf trial));
   runs = λ index below. subst (λ i. HasRun trial (schedule_at ([] ∷ []) i)) (only index below)

@@ -9,8 +9,9 @@ use Rattle.tm_outcomes.specs.Marks.{AreMarks, IsMarked}
 use Rattle.tm_outcomes.specs.Nodes.{IsEnd, IsFollowed, IsPickOf, IsStep, LeadsTo, RestsAt, schedule_at}
 use Rattle.tm_outcomes.specs.Outcomes.{AreAllowed, IsAllowed, trial_opening, trial_setting}
 use Rattle.tm_outcomes.specs.Schedules.{HasEnded, Situation, after_pick, after_schedule}
-use Rattle.tm_outcomes.specs.Searching.{IsSearching, TellsWayless}
-use Rattle.tm_outcomes.specs.Verdicts.{CanEnd, IsReached, IsStuck}
+use Rattle.tm_outcomes.specs.Searching.{IsRoundOf, IsSearching, TellsWayless}
+use Rattle.tm_outcomes.specs.Verdicts.{CanEnd, IsCycle, IsReached, IsStuck}
+use Rattle.tm_outcomes.specs.declared.cycle.Cycle.{Cycle}
 use Rattle.tm_outcomes.specs.declared.links.Link.{Link}
 use Rattle.tm_outcomes.specs.declared.searching.Searching.{Searching}
 use Rattle.tm_outcomes.specs.declared.stuck.Stuck.{Stuck}
@@ -117,3 +118,33 @@ module _ (trial : Trial) (most done : ℕ) (search : Searching) (schedules : Lis
       rested_end trial there.steps now there.end there.rests
       (can_end trial schedules search.links.items search.found.ends.items searching.steps searching.ends way.0 there.index
       there.end way.1 there.leads)
+
+  -- nor is a cycle told from where no end can be reached
+  pub is_cycle : (cycle : Option Cycle) → IfSome cycle (IsRoundOf trial search.nodes.items marked) →
+      IfSome cycle (λ told. IsCycle trial told.schedule.items told.steps.items)
+  is_cycle None tells = tt
+  is_cycle (Some cycle) tells =
+      let tree = searching.tree in
+      let counted = tree.counted in
+      let round = tells.round schedules tree in
+      let count = tree.runs tells.node tells.within in
+      let at : count.0 ≡ round.now = same_in (sym count.1 ∙ round.is_run) in
+      let entries : round.now.state.count ≡ length trial.program.now.entries =
+      subst (λ (x : Situation). x.state.count ≡ length trial.program.now.entries) at count.2 in
+      let same : schedule_at schedules tells.node ≡ cycle.schedule.items = sym (tells.schedule schedules tree) in
+      let leads = leads_here trial schedules tells.node round.now (let w = tells.within in omega arith) round.is_run entries in
+      let way = marks.ways tells.node tells.is_marked in
+      record {
+        now = round.now;
+        reached = record {
+          allowed = subst (λ (s : List Pick). AreAllowed trial s) same
+              (All-weaker (IsPickOf trial) (IsAllowedIn trial) (λ (pick : Pick) is. is.allowed)
+              (schedule_at schedules tells.node) (tree.picks tells.node tells.within));
+          is_run = subst (λ (s : List Pick). after_schedule (trial_setting trial) (trial_opening trial) s ≡ Some round.now) same
+              round.is_run;
+        };
+        goes_on = round.goes_on;
+        can_end = can_end trial schedules search.links.items search.found.ends.items searching.steps searching.ends way.0
+            tells.node round.now way.1 leads;
+        leads_back = round.leads_back;
+      }

@@ -1,18 +1,17 @@
 -- The states that a search has met, each as the last step of a schedule that leads there, and the node of the rest.
-use Rattle.std.specs.Prelude.{◌≡◌, ℕ, ◌*◌, ◌<◌, ◌≤◌, List, [], ◌++◌, All, Contains, Some, None, length, map}
+use Rattle.std.specs.Prelude.{◌≡◌, ℕ, ◌<◌, List, [], ◌++◌, All, Contains, Some, None, length, map}
 use Rattle.std.specs.Prelude.{slice_get, slice_index_or}
 use Rattle.tm_condition.specs.Conditions.{Violates}
 use Rattle.tm_condition.specs.declared.check.Check.{Check}
 use Rattle.tm_model.specs.declared.outcome.Event.{Event}
 use Rattle.tm_model.specs.declared.outcome.Pick.{Pick}
-use Rattle.tm_model.specs.Shown.{view_of}
 use Rattle.tm_rule.specs.declared.kinds.Stop.{Stop}
 use Rattle.tm_outcomes.specs.Links.{IsLink, LiesWithin}
 use Rattle.tm_outcomes.specs.Outcomes.{AreTold, IsAllowed, trial_opening, trial_setting, value_of}
 use Rattle.tm_outcomes.specs.Places.{AreAlike, IsAt}
 use Rattle.tm_outcomes.specs.Schedules.{HasEnded, Situation, after_pick, after_schedule}
 use Rattle.tm_outcomes.specs.Unseen.{LeadUnseen}
-use Rattle.tm_outcomes.specs.Verdicts.{IsStopTold, IsViolationTold, StopsBy, seen_at}
+use Rattle.tm_outcomes.specs.Verdicts.{AreSame, IsStopTold, IsViolationTold, StopsBy, seen_at}
 use Rattle.tm_outcomes.specs.declared.findings.Findings.{Findings}
 use Rattle.tm_outcomes.specs.declared.links.Link.{Link}
 use Rattle.tm_outcomes.specs.declared.nodes.Node.{Node}
@@ -48,7 +47,6 @@ pub record IsTree (trial : Trial) (nodes : List Node) (schedules : List (List Pi
   pub lower : (index : ℕ) → 0 < index → index < length nodes → parent_at nodes index < index
   pub longer : (index : ℕ) → 0 < index → index < length nodes →
       schedule_at schedules index ≡ schedule_at schedules (parent_at nodes index) ++ steps_at nodes index
-  pub short : (index : ℕ) → index < length nodes → length (schedule_at schedules index) ≤ 4097 * index
   pub picks : (index : ℕ) → index < length nodes → All (IsPickOf trial) (schedule_at schedules index)
   pub runs : (index : ℕ) → index < length nodes → HasRun trial (schedule_at schedules index)
 
@@ -56,14 +54,6 @@ abbrev pub HaveSchedules : Trial → List Node → Type 0
 HaveSchedules trial nodes = (schedules : List (List Pick)) × IsTree trial nodes schedules
 
 -- ---- states that go on alike
-
--- what is shown of memory and of each core is the same
-pub record AreSame (trial : Trial) (a b : Situation) : Type 0 where
-  pub memory : a.state.memory ≡ b.state.memory
-  pub count : a.state.count ≡ b.state.count
-  pub each : (core : ℕ) → core < a.state.count →
-      view_of (trial_setting trial) a.state.memory (a.state.cores core) (a.doomed core)
-      ≡ view_of (trial_setting trial) b.state.memory (b.state.cores core) (b.doomed core)
 
 -- the schedule of a node leads to this situation, or to one that goes on alike
 pub record LeadsTo (trial : Trial) (schedules : List (List Pick)) (index : ℕ) (now : Situation) : Type 0 where

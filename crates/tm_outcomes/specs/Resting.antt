@@ -1,5 +1,5 @@
 -- Steps that no other core sees, as they are made at a place.
-use Rattle.std.specs.Prelude.{◌≡◌, ◌≤◌, Bool, true, false, List, ◌∷◌, ◌++◌, All, Some, length}
+use Rattle.std.specs.Prelude.{◌≡◌, Bool, true, false, List, ◌∷◌, ◌++◌, All, Some}
 use Rattle.tm_core.specs.Theorem.{StandsFor}
 use Rattle.tm_model.specs.declared.outcome.CoreState.{CoreState}
 use Rattle.tm_model.specs.declared.outcome.CoreState.TheVariants.{Running, Mid, Open, Condemned, Stopped as AtStop}
@@ -57,7 +57,6 @@ pub record Advances (trial : Trial) (before after : Place) (pick : Pick) (steps 
   pub rest : List Pick
   pub made : steps ≡ pick ∷ rest
   pub are_picks : All (IsPickOf trial) steps
-  pub few : length steps ≤ 4097
   pub is_place : IsPlaceOf trial after
   pub at : (schedule : List Pick) → IsAt trial before schedule → IsAt trial after (schedule ++ steps)
   pub goes : (now : Situation) → StandsFor before.machine now.state now.doomed →

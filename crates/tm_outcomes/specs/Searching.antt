@@ -1,22 +1,29 @@
 -- A search while it goes on.
-use Rattle.std.specs.Prelude.{◌≡◌, ◌≢◌, ℕ, ◌<◌, ◌≤◌, Bool, true, false, List, All, Contains, Option, Some, None, length}
+use Rattle.std.specs.Prelude.{◌≡◌, ◌≢◌, ℕ, ◌<◌, ◌≤◌, Bool, true, false, List, ◌++◌, All, Contains, Option, Some, None, IfSome, length}
 use Rattle.std.specs.List.{AllPairs}
 use Rattle.tm_model.specs.declared.outcome.Event.{Event}
 use Rattle.tm_model.specs.declared.outcome.Pick.{Pick}
 use Rattle.tm_outcomes.specs.Links.{IsLink}
 use Rattle.tm_outcomes.specs.Marks.{AreMarks, IsMarked}
-use Rattle.tm_outcomes.specs.Nodes.{HasGrown, IsEnd, IsExplored, IsFollowed, IsShown, IsStep, IsTree, schedule_at}
-use Rattle.tm_outcomes.specs.Outcomes.{AreDistinct, IsAllowed, IsTold}
-use Rattle.tm_outcomes.specs.Verdicts.{IsStop, IsViolation}
+use Rattle.tm_outcomes.specs.Nodes.{HasGrown, IsEnd, IsExplored, IsFollowed, IsPickOf, IsShown, IsStep, IsTree, schedule_at}
+use Rattle.tm_outcomes.specs.Outcomes.{AreDistinct, IsAllowed, IsTold, trial_opening, trial_setting}
+use Rattle.tm_outcomes.specs.Places.{IsAt}
+use Rattle.tm_outcomes.specs.Schedules.{HasEnded, Situation, after_schedule}
+use Rattle.tm_outcomes.specs.Verdicts.{IsStop, IsViolation, LeadsBack}
+use Rattle.tm_outcomes.specs.Written.{IsPlaceIn}
+use Rattle.tm_outcomes.specs.declared.cycle.Cycle.{Cycle}
 use Rattle.tm_outcomes.specs.declared.findings.Findings.{Findings}
 use Rattle.tm_outcomes.specs.declared.links.Link.{Link}
 use Rattle.tm_outcomes.specs.declared.nodes.Node.{Node}
+use Rattle.tm_outcomes.specs.declared.place.Place.{Place}
 use Rattle.tm_outcomes.specs.declared.searching.Search.{Search}
 use Rattle.tm_outcomes.specs.declared.searching.Searching.{Searching}
 use Rattle.tm_outcomes.specs.declared.stops.ReachedStop.{ReachedStop}
 use Rattle.tm_outcomes.specs.declared.stuck.Stuck.{Stuck}
 use Rattle.tm_outcomes.specs.declared.trial.Trial.{Trial}
+use Rattle.tm_outcomes.specs.declared.verdict.Verdict.{Verdict}
 use Rattle.tm_outcomes.specs.declared.violations.Violation.{Violation}
+use Rattle.tm_outcomes.specs.declared.written.Written.{Written}
 
 -- stops that were looked for and found, each once
 pub record AreStops (trial : Trial) (stops : List ReachedStop) : Type 0 where
@@ -88,7 +95,7 @@ pub record IsUnderway (trial : Trial) (most : ℕ) (search : Searching) (index c
 abbrev pub HaveDone : Trial → ℕ → Searching → ℕ → Type 0
 HaveDone trial most search done = (schedules : List (List Pick)) × IsSearching trial most search schedules done
 
--- ---- what it came to
+-- ---- where it is over
 
 -- all of its nodes are done
 pub record IsOver (trial : Trial) (most : ℕ) (search : Searching) : Type 0 where
@@ -110,20 +117,52 @@ abbrev pub TellsWayless : List Node → List Bool → Option Stuck → Type 0
 TellsWayless nodes marked None = (node : ℕ) → node < length nodes → IsMarked marked node
 TellsWayless nodes marked (Some stuck) = IsWayless nodes marked stuck
 
+-- ---- a cycle
+
+-- these steps lead from one place to the other, whose memory is what it was but on the lines that are noted
+pub record IsMade (trial : Trial) (before after : Place) (old new : Written) (steps : List Pick) : Type 0 where
+  pub are_picks : All (IsPickOf trial) steps
+  pub at : (schedule : List Pick) → IsAt trial before schedule → IsAt trial after (schedule ++ steps)
+  pub place : IsPlaceIn trial new after
+  pub opening : new.opening ≡ old.opening
+  pub kept : (line : ℕ) → Contains old.lines.items line → Contains new.lines.items line
+
+-- where a node leads to some core has not stopped, and from there these steps lead back
+pub record GoesRound (trial : Trial) (schedules : List (List Pick)) (index : ℕ) (steps : List Pick) : Type 0 where
+  pub now : Situation
+  pub is_run : after_schedule (trial_setting trial) (trial_opening trial) (schedule_at schedules index) ≡ Some now
+  pub goes_on : ¬ HasEnded now.state
+  pub leads_back : LeadsBack trial now steps
+
+-- the schedule of a node that is marked, and steps that lead round from it
+pub record IsRoundOf (trial : Trial) (nodes : List Node) (marked : List Bool) (cycle : Cycle) : Type 0 where
+  pub node : ℕ
+  pub within : node < length nodes
+  pub is_marked : IsMarked marked node
+  pub schedule : (schedules : List (List Pick)) → IsTree trial nodes schedules →
+      cycle.schedule.items ≡ schedule_at schedules node
+  pub round : (schedules : List (List Pick)) → IsTree trial nodes schedules →
+      GoesRound trial schedules node cycle.steps.items
+
+-- ---- what it came to
+
 -- by marks that were passed on from the ends
-pub record TellsStuck (nodes : List Node) (links : List Link) (ends : List ℕ) (stuck : Option Stuck) : Type 0 where
+pub record IsVerdictOf (trial : Trial) (nodes : List Node) (links : List Link) (ends : List ℕ) (verdict : Verdict)
+    : Type 0 where
   pub marked : List Bool
   pub marks : AreMarks links ends (length nodes) marked
-  pub tells : TellsWayless nodes marked stuck
+  pub stuck : TellsWayless nodes marked verdict.stuck
+  pub cycle : IfSome verdict.cycle (IsRoundOf trial nodes marked)
 
 -- what a search that is over tells
-pub record IsWholeOf (search : Searching) (told : Search) : Type 0 where
+pub record IsWholeOf (trial : Trial) (search : Searching) (told : Search) : Type 0 where
   pub outcomes : told.outcomes ≡ search.found.outcomes
   pub stops : told.stops ≡ search.found.stops
   pub violations : told.violations ≡ search.found.violations
   pub states : told.states ≡ length search.nodes.items
   pub is_cut : told.is_cut ≡ false
-  pub stuck : TellsStuck search.nodes.items search.links.items search.found.ends.items told.stuck
+  pub verdict : IsVerdictOf trial search.nodes.items search.links.items search.found.ends.items
+      (record { stuck = told.stuck; cycle = told.cycle })
 
 -- what a search that is cut tells
 pub record IsCutOf (search : Searching) (told : Search) : Type 0 where
@@ -133,3 +172,4 @@ pub record IsCutOf (search : Searching) (told : Search) : Type 0 where
   pub states : told.states ≡ length search.nodes.items
   pub is_cut : told.is_cut ≡ true
   pub stuck : told.stuck ≡ None
+  pub cycle : told.cycle ≡ None

@@ -1,10 +1,11 @@
--- What a search says of states from which no schedule leads to an end, of cores that stop for a reason, and of ends
--- that violate a check.
+-- What a search says of states from which no schedule leads to an end, of cycles that can be made for ever, of cores
+-- that stop for a reason, and of ends that violate a check.
 use Rattle.std.specs.Prelude.{◌≡◌, ◌≢◌, ℕ, ◌<◌, true, false, List, All, Contains, Some, None, IfSome, slice_get}
 use Rattle.std.specs.List.{AllPairs, Any}
 use Rattle.ia_regs.specs.declared.Regs.{Regs}
 use Rattle.tm_condition.specs.Conditions.{Seen, Violates}
 use Rattle.tm_condition.specs.declared.check.Check.{Check}
+use Rattle.tm_model.specs.Shown.{view_of}
 use Rattle.tm_model.specs.State.{Core, Halted, State}
 use Rattle.tm_model.specs.declared.outcome.Pick.{Pick}
 use Rattle.tm_rule.specs.declared.kinds.Stop.{Stop}
@@ -20,6 +21,12 @@ pub record IsReached (trial : Trial) (schedule : List Pick) (now : Situation) : 
   pub allowed : AreAllowed trial schedule
   pub is_run : after_schedule (trial_setting trial) (trial_opening trial) schedule ≡ Some now
 
+abbrev pub HasStoppedBy : Core → Stop → Type 0
+HasStoppedBy core why = (regs : Regs) × (core ≡ Halted regs why)
+
+abbrev pub HasStopped : Core → Type 0
+HasStopped core = (why : Stop) × HasStoppedBy core why
+
 -- ---- states without a way to an end
 
 -- some schedule, whose steps come under what the trial says, goes on from here until each core has stopped
@@ -34,10 +41,38 @@ pub record CanEnd (trial : Trial) (now : Situation) : Type 0 where
 abbrev pub IsStuck : Trial → List Pick → Type 0
 IsStuck trial schedule = (now : Situation) × IsReached trial schedule now × ¬ CanEnd trial now
 
--- ---- stops
+-- ---- fair cycles
 
-abbrev pub HasStoppedBy : Core → Stop → Type 0
-HasStoppedBy core why = (regs : Regs) × (core ≡ Halted regs why)
+-- what is shown of memory and of each core is the same
+pub record AreSame (trial : Trial) (a b : Situation) : Type 0 where
+  pub memory : a.state.memory ≡ b.state.memory
+  pub count : a.state.count ≡ b.state.count
+  pub each : (core : ℕ) → core < a.state.count →
+      view_of (trial_setting trial) a.state.memory (a.state.cores core) (a.doomed core)
+      ≡ view_of (trial_setting trial) b.state.memory (b.state.cores core) (b.doomed core)
+
+-- one of these steps is the core's
+abbrev pub HasStepOf : ℕ → List Pick → Type 0
+HasStepOf core steps = Any (λ pick. pick.core ≡ core) steps
+
+-- These steps, one of each core that has not stopped among them, lead from a situation back to one that is shown alike,
+-- from which they lead back again, and so for ever.
+pub record LeadsBack (trial : Trial) (now : Situation) (steps : List Pick) : Type 0 where
+  pub allowed : AreAllowed trial steps
+  pub back : Situation
+  pub is_run : after_schedule (trial_setting trial) now steps ≡ Some back
+  pub same : AreSame trial now back
+  pub fair : (core : ℕ) → core < now.state.count → ¬ HasStopped (now.state.cores core) → HasStepOf core steps
+
+-- behind this schedule some core has not stopped, an end can be reached, and these steps lead back
+pub record IsCycle (trial : Trial) (schedule steps : List Pick) : Type 0 where
+  pub now : Situation
+  pub reached : IsReached trial schedule now
+  pub goes_on : ¬ HasEnded now.state
+  pub can_end : CanEnd trial now
+  pub leads_back : LeadsBack trial now steps
+
+-- ---- stops
 
 -- some core has stopped for this reason
 abbrev pub StopsBy : State → Stop → Type 0
@@ -75,15 +110,17 @@ IsViolationTold violations check = Any (λ told. told.check ≡ check) violation
 
 -- ---- what is told
 
--- No schedule is told as stuck behind which some schedule ends, none for a stop that it does not lead to, and none for
--- a check that its end does not violate; and where the search was not cut and tells none, each schedule goes on to an
--- end, none leads to a stop that is looked for, and each end passes each check. Where it was cut, none is told as
--- stuck.
+-- No schedule is told as stuck behind which some schedule ends, no steps as a cycle that do not lead back, no schedule
+-- for a stop that it does not lead to, and none for a check that its end does not violate; and where the search was
+-- not cut and tells none, each schedule goes on to an end, none leads to a stop that is looked for, and each end passes
+-- each check. Where it was cut, none is told as stuck, and no cycle.
 pub record IsVerdict (trial : Trial) (search : Search) : Type 0 where
   pub stuck : IfSome search.stuck (λ told. IsStuck trial told.schedule.items)
   pub free : search.is_cut ≡ false → search.stuck ≡ None → (schedule : List Pick) (now : Situation) →
       IsReached trial schedule now → CanEnd trial now
   pub cut : search.is_cut ≡ true → search.stuck ≡ None
+  pub cycle : IfSome search.cycle (λ told. IsCycle trial told.schedule.items told.steps.items)
+  pub cut_cycle : search.is_cut ≡ true → search.cycle ≡ None
   pub stops : All (IsStop trial) search.stops.items
   pub once : AllPairs (λ one other. one.why ≢ other.why) search.stops.items
   pub no_stop : search.is_cut ≡ false → (schedule : List Pick) (now : Situation) → IsReached trial schedule now →

@@ -1,5 +1,5 @@
 -- The lines that the steps of a search have stored to, outside of which memory is what it was before the first step.
-use Rattle.std.specs.Prelude.{◌≡◌, ℕ, ◌<◌, List, Option, Some, length}
+use Rattle.std.specs.Prelude.{◌≡◌, ⊤, ℕ, ◌<◌, List, Option, Some, None, length}
 use Rattle.tm_core.specs.IaImage.Program.{opening_memory}
 use Rattle.tm_core.specs.Reopening.{IsSameElsewhere}
 use Rattle.tm_model.specs.Setting.{Setting}
@@ -7,7 +7,7 @@ use Rattle.tm_model.specs.declared.outcome.Event.{Event}
 use Rattle.tm_model.specs.declared.outcome.Pick.{Pick}
 use Rattle.tm_outcomes.specs.Nodes.{IsTree, schedule_at}
 use Rattle.tm_outcomes.specs.Outcomes.{trial_opening, trial_setting}
-use Rattle.tm_outcomes.specs.Places.{IsPlaceOf}
+use Rattle.tm_outcomes.specs.Places.{IsAt, IsPlaceOf}
 use Rattle.tm_outcomes.specs.Schedules.{Situation, after_pick, after_schedule}
 use Rattle.tm_outcomes.specs.declared.bench.Bench.{Bench}
 use Rattle.tm_outcomes.specs.declared.nodes.Node.{Node}
@@ -41,8 +41,15 @@ pub record IsPlaceIn (trial : Trial) (written : Written) (here : Place) : Type 0
   pub opening : written.opening.items ≡ opening_memory trial.program.now
   pub memory : IsSameElsewhere written.lines.items here.machine.memory written.opening.items
 
+-- a machine at the end of this node's schedule, where one is told
+abbrev pub IsAtNode : Trial → List Node → Place → Option ℕ → Type 0
+IsAtNode trial nodes place None = ⊤
+IsAtNode trial nodes place (Some index) =
+    (schedules : List (List Pick)) → IsTree trial nodes schedules → IsAt trial place (schedule_at schedules index)
+
 -- both machines of a bench are such, for these nodes
 pub record IsBenchOf (trial : Trial) (nodes : List Node) (bench : Bench) : Type 0 where
   pub here : IsPlaceIn trial bench.noted bench.here
+  pub at : IsAtNode trial nodes bench.here bench.at
   pub other : IsPlaceIn trial bench.noted bench.other
   pub written : IsWrittenOf trial nodes bench.noted

@@ -9,7 +9,7 @@ ghost use Rattle.tm_outcomes.specs.Written.{IsBenchOf};
 
 use crate::bench::Bench;
 use crate::fault::SearchFault;
-use crate::nodes::{Node, place_of, schedule_of};
+use crate::nodes::{Node, schedule_of};
 use crate::stops::{ReachedStop, take_up_stops};
 use crate::table::{Told, take_up};
 use crate::trial::Trial;
@@ -66,7 +66,7 @@ impl Findings {
         ensures bench { OnOk result (IsBenchOf trial.now nodes.now bench.new) }
         ensures err { IfErr result (IsRefusal trial.now) }
     {
-        place_of(alloc, trial, nodes, index, &bench.noted, &mut bench.here)?;
+        bench.come_to(alloc, trial, nodes, index)?;
         take_up_stops(alloc, trial, nodes, index, &bench.here, &mut self.stops)?;
         if !bench.here.has_ended() {
             return Ok(());

@@ -5,9 +5,11 @@
 //! is told is that of the schedule beside it, run from the program's opening state, and none is told twice; and where
 //! the search is not cut at its limit on states, no schedule of any length has another. It also tells a schedule
 //! behind which none leads on to an end, one to each stop that is looked for, and one to an end that violates each
-//! check; where it is not cut and tells none, there is none. How many states show an outcome or have no way to an
-//! end, and how many there are, is compared by `doc_tests`. The words for it stand in `specs/Schedules.antt`,
-//! `specs/Outcomes.antt` and `specs/Verdicts.antt`, over the machine's definitions in `tm_model` alone.
+//! check; where it is not cut and tells none, there is none. Of states that can end but need not, it tells a schedule to
+//! one, and steps of all cores that go on, which lead back there; that there is none where it tells none is not promised.
+//! How many states show an outcome, have no way to an end or need not end, and how many there are, is compared by
+//! `doc_tests`. The words for it stand in `specs/Schedules.antt`, `specs/Outcomes.antt` and `specs/Verdicts.antt`, over the
+//! machine's definitions in `tm_model` alone.
 //!
 //! Two states count as one where memory and what is shown of each core are the same: the machine's steps are a
 //! function of these. Behind each step that is followed, the steps of all cores are made at once that no other core
@@ -18,24 +20,32 @@
 #![tactic(auto)]
 
 mod bench;
+mod components;
+mod cycle;
 mod digest;
 mod fault;
 mod findings;
+mod graph;
+mod laps;
 mod links;
 mod marks;
 mod nodes;
 mod place;
+mod replay;
 mod rest;
 mod searching;
 mod stops;
 mod stuck;
 mod table;
 mod trial;
+mod verdict;
 mod violations;
+mod watching;
 mod written;
 
+pub use cycle::Cycle;
 pub use fault::SearchFault;
-pub use searching::{Search, outcomes};
+pub use searching::{Search, outcomes, outcomes_watched};
 pub use stops::ReachedStop;
 pub use stuck::Stuck;
 pub use table::Told;
@@ -43,3 +53,4 @@ pub use tm_model::{Event, Interference, Pick};
 pub use tm_rule::Stop;
 pub use trial::{Events, Item, Trial};
 pub use violations::Violation;
+pub use watching::{Unwatched, Watching};

@@ -1,54 +1,36 @@
 //! A machine at the end of a schedule.
 
-ghost use Rattle.std.specs.Prelude.{◌≡◌, ◌↔◌, ◌<◌, ◌≤◌, ◌+◌, ◌++◌, ◌∷◌, ◌^◌, [], ℕ, All, List, Option, Some, IfErr, IfOk, IsOk, IsTrue};
-ghost use Rattle.std.specs.Prelude.{length, map, slice_index};
+ghost use Rattle.std.specs.Prelude.{◌≡◌, ◌↔◌, ◌<◌, ◌++◌, ◌∷◌, [], List, IfErr, IfOk, IsOk, IsTrue, length, map};
 ghost use Rattle.tm_core.specs.Reopening.{IsSameElsewhere};
 ghost use Rattle.tm_core.specs.Theorem.{SameMachine, StandsFor, TakesStepUnder, view_at};
 ghost use Rattle.tm_model.specs.Conflicts.{Doomed};
 ghost use Rattle.tm_model.specs.State.{State};
-ghost use Rattle.tm_model.specs.Setting.{program_setting, value_at};
 ghost use Rattle.tm_outcomes.specs.Outcomes.{AreThere, IsRefusal, IsThere, trial_setting, value_of};
 ghost use Rattle.tm_model.specs.declared.outcome.Pick.{Pick};
-ghost use Rattle.tm_outcomes.specs.Places.{AreAlike, GoesTo, IsAt, IsCoreAlike, detail_after, has_detail, has_stopped};
-ghost use Rattle.tm_outcomes.specs.Places.{IsPlaceOf, is_open};
+ghost use Rattle.tm_outcomes.specs.Places.{AreAlike, GoesTo, IsAt, IsPlaceOf, has_stopped, is_open};
 ghost use Rattle.tm_outcomes.specs.Schedules.{HasEnded, Situation};
 ghost use Rattle.tm_condition.specs.Conditions.{Violates};
 ghost use Rattle.tm_outcomes.specs.Verdicts.{StopsBy, seen_at};
-ghost use Rattle.tm_outcomes.specs.Written.{IsPlaceIn, IsWithin};
+ghost use Rattle.tm_outcomes.specs.Written.{IsPlaceIn};
 
 use crate::digest::{Digest, are_same};
 use crate::fault::SearchFault;
 use crate::trial::{Item, Trial};
 use crate::written::Written;
+use bitflags::Flags as _;
 use ia_regs::Regs;
 use ia_word::Width;
 use std::alloc::{AllocError, Global};
 use tm_condition::Check;
-use tm_core::memory::{load, read};
-use tm_core::{CoreState, Machine, MachineFault, NoSuchCore, Outcome, Program};
+use tm_core::memory::read;
+use tm_core::{CoreState, Machine, MachineFault, NoSuchCore, Outcome};
 use tm_model::Pick;
-use tm_rule::{Code, Stop, fetch, load_at};
+use tm_rule::Stop;
 
-/// A machine, and of each core what the machine does not show: the value that the first of two steps has loaded, or how
-/// many steps the open transaction has made.
+/// A machine at the end of a schedule.
 #[derive(Drop)]
 pub struct Place {
     pub machine: Machine,
-    pub details: Vec<u64>,
-}
-
-// The value that the instruction at these registers loads.
-fn value_on(program: &Program, regs: &Regs, memory: &[u8]) -> u32
-    requires { length memory.now ≡ program.now.mem_size }
-    ensures { (reads writes : ℕ) → result ≡ value_at (program_setting program.now reads writes) regs.now memory.now }
-{
-    let code = Code {
-        bytes: program.code(),
-        base: program.base(),
-        rows: program.rows(),
-    };
-    let row = fetch(&code, regs.eip);
-    load(memory, load_at(&row, regs, program.mem_size()))
 }
 
 impl Place {
@@ -57,63 +39,25 @@ impl Place {
         ensures ok { IfOk result (λ place. IsAt trial.now place []) }
         ensures err { IfErr result (IsRefusal trial.now) }
     {
-        let machine = match Machine::new(alloc, trial.program, trial.limits) {
-            Ok(machine) => machine,
-            Err(MachineFault::BadLimits) => return Err(SearchFault::BadLimits),
-            Err(MachineFault::NoMemory(_)) => return Err(SearchFault::NoMemory),
-        };
-        let details = vec![in alloc; 0; usize::from(machine.cores())]?;
-        Ok(Place { machine, details })
-    }
-}
-
-impl Place {
-    // The value that the instruction at a core's registers before its transaction loads.
-    fn loaded(&self, trial: &Trial<'_>, core: u8) -> u32
-        requires core { core < length self.now.machine.views }
-        requires size { length self.now.machine.memory ≡ trial.now.program.now.mem_size }
-        ensures value { result ≡ value_at (trial_setting trial.now) (view_at self.now.machine core).base
-            self.now.machine.memory }
-        ensures fits { result < 2 ^ 32 }
-    {
-        match self.machine.base_regs(core) {
-            Ok(regs) => value_on(trial.program, &regs, self.machine.view()),
-            Err(_) => unreachable!(),
-        }
-    }
-
-    // The detail of a core after its step.
-    fn next_detail(&self, trial: &Trial<'_>, core: u8, outcome: Outcome) -> u64
-        requires core { core < length self.now.machine.views }
-        requires size { length self.now.machine.memory ≡ trial.now.program.now.mem_size }
-        requires detail { core < length self.now.details.items }
-        requires small { slice_index self.now.details.items core < 2 ^ 46 }
-        ensures value { result ≡ detail_after outcome (slice_index self.now.details.items core)
-            (value_at (trial_setting trial.now) (view_at self.now.machine core).base self.now.machine.memory) }
-        ensures few { (n : ℕ) → slice_index self.now.details.items core ≤ 2 ^ 32 + n → result ≤ 2 ^ 32 + (n + 1) }
-    {
-        match outcome {
-            Outcome::Loaded => u64::from(self.loaded(trial, core)),
-            Outcome::Begun => 1,
-            Outcome::Inside => self.details[usize::from(core)] + 1,
-            _ => 0,
+        match Machine::new(alloc, trial.program, trial.limits) {
+            Ok(machine) => Ok(Place { machine }),
+            Err(MachineFault::BadLimits) => Err(SearchFault::BadLimits),
+            Err(MachineFault::NoMemory(_)) => Err(SearchFault::NoMemory),
         }
     }
 
     /// The next step of a pick's core, under its event.
     pub fn step(&mut self, trial: &Trial<'_>, pick: Pick)
+        requires place { IsPlaceOf trial.now self.old }
         requires core { pick.core < length trial.now.program.now.entries }
-        requires at { (schedule : List Pick) × (IsAt trial.now self.old schedule × (length schedule < 2 ^ 45)) }
         ensures goes { GoesTo (trial_setting trial.now) self.old self.new pick }
         ensures at { (schedule : List Pick) → IsAt trial.now self.old schedule →
             IsAt trial.now self.new (schedule ++ pick ∷ []) }
         ensures place { IsPlaceOf trial.now self.new }
     {
-        let Ok(outcome) = step_by(&mut self.machine, pick) else {
+        let Ok(_outcome) = step_by(&mut self.machine, pick) else {
             unreachable!();
         };
-        let detail = self.next_detail(trial, pick.core, outcome);
-        self.details[usize::from(pick.core)] = detail;
     }
 }
 
@@ -131,8 +75,8 @@ fn step_by(machine: &mut Machine, pick: Pick) -> Result<Outcome, NoSuchCore>
 }
 
 impl Place {
-    // Before the first step again.
-    fn reopen(&mut self, trial: &Trial<'_>, written: &Written)
+    /// Before the first step again.
+    pub fn reopen(&mut self, trial: &Trial<'_>, written: &Written)
         requires { IsPlaceIn trial.now written.now self.old }
         ensures { IsAt trial.now self.new [] }
     {
@@ -141,70 +85,21 @@ impl Place {
             written.opening.as_slice(),
             written.lines.as_slice(),
         );
-        self.details.as_mut_slice().fill(0);
     }
-
-    /// The end of a schedule, from before the first step on.
-    pub fn replay(&mut self, trial: &Trial<'_>, written: &Written, schedule: &[Pick])
-        requires cores { All (λ (pick : Pick). pick.core < length trial.now.program.now.entries) schedule.now }
-        requires short { length schedule.now < 2 ^ 45 }
-        requires place { IsPlaceIn trial.now written.now self.old }
-        requires within { IsWithin trial.now written.now.lines.items schedule.now }
-        ensures at { IsAt trial.now self.new schedule.now }
-        ensures place { IsPlaceIn trial.now written.now self.new }
-    {
-        self.reopen(trial, written);
-        for pick in schedule {
-            self.step(trial, *pick);
-        }
-    }
-}
-
-// Whether the details of a core count in this.
-fn has_detail(state: CoreState) -> bool
-    ensures { result ≡ has_detail state }
-{
-    !matches!(state, CoreState::Condemned(_))
 }
 
 impl Place {
-    // Whether a core of another place goes on as that of this one does.
-    fn is_core_alike(&self, other: &Place, core: u8) -> bool
-        requires here { core < length self.now.machine.views }
-        requires there { core < length other.now.machine.views }
-        requires detail { core < length self.now.details.items }
-        requires detail_there { core < length other.now.details.items }
-        ensures { IsTrue result → IsCoreAlike self.now other.now core }
-    {
-        let (Ok(state), Ok(other_state)) = (self.machine.state(core), other.machine.state(core))
-        else {
-            return false;
-        };
-        let (Ok(base), Ok(other_base)) = (
-            self.machine.base_regs(core),
-            other.machine.base_regs(core),
-        ) else {
-            return false;
-        };
-        let index = usize::from(core);
-        state == other_state
-            && base == other_base
-            && (!has_detail(state) || self.details[index] == other.details[index])
-    }
-
     /// Whether another place goes on as this one does.
     pub fn is_alike(&self, other: &Place, written: &Written) -> bool
         requires memory { IsSameElsewhere written.now.lines.items self.now.machine.memory written.now.opening.items }
         requires others { IsSameElsewhere written.now.lines.items other.now.machine.memory written.now.opening.items }
-        requires here { length self.now.machine.views ≤ length self.now.details.items }
-        requires there { length other.now.machine.views ≤ length other.now.details.items }
         ensures { IsTrue result → AreAlike self.now other.now }
     {
         if self.machine.cores() != other.machine.cores() {
             return false;
         }
         for core in 0..self.machine.cores() {
-            if !self.is_core_alike(other, core) {
+            if !self.machine.is_core_alike(&other.machine, core) {
                 return false;
             }
         }
@@ -229,8 +124,8 @@ impl Place {
         }
     }
 
-    // Whether a core has stopped.
-    fn has_stopped(&self, core: u8) -> bool
+    /// Whether a core has stopped.
+    pub fn has_stopped(&self, core: u8) -> bool
         requires { core < length self.now.machine.views }
         ensures { result ≡ has_stopped (view_at self.now.machine core).mode }
     {
@@ -316,7 +211,7 @@ impl Place {
     }
 
     /// A number that is the same for places of a trial that are alike: of each line that steps store to the bytes, where
-    /// they are not what they were before the first step, and what is known of each core.
+    /// they are not what they were before the first step, and of each core what it does and its registers.
     pub fn digest(&self, written: &Written) -> u64 {
         let mut digest = Digest::new();
         for line in written.lines.as_slice() {
@@ -328,25 +223,38 @@ impl Place {
         digest.value()
     }
 
-    // Adds what is known of a core.
+    // Adds what a core does and its registers, and between two steps the value that the first has loaded: in a transaction
+    // the registers before it, and where it is not doomed those now.
     fn digest_core(&self, core: u8, digest: &mut Digest) {
         let (Ok(state), Ok(base)) = (self.machine.state(core), self.machine.base_regs(core)) else {
             return;
         };
-        let kind: u8 = match state {
-            CoreState::Running => 0,
-            CoreState::Mid => 1,
-            CoreState::Open(depth) => 2 + depth % 8,
-            CoreState::Condemned(depth) => 10 + depth % 8,
-            CoreState::Stopped(_) => 18,
-        };
-        digest.add(u64::from(kind));
-        digest.add(u64::from(base.eip));
-        for register in base.gpr {
-            digest.add(u64::from(register));
+        digest.add(number_of(state));
+        add_regs(digest, &base);
+        if let (CoreState::Mid, Ok(kept)) = (state, self.machine.kept(core)) {
+            digest.add(u64::from(kept));
         }
-        if has_detail(state) && usize::from(core) < self.details.len() {
-            digest.add(self.details[usize::from(core)]);
+        if let (CoreState::Open(_), Ok(regs)) = (state, self.machine.regs(core)) {
+            add_regs(digest, &regs);
         }
+    }
+}
+
+// A number for what a core does.
+fn number_of(state: CoreState) -> u64 {
+    match state {
+        CoreState::Running => 0,
+        CoreState::Mid => 1,
+        CoreState::Open(depth) => 2 + u64::from(depth % 8),
+        CoreState::Condemned(depth) => 10 + u64::from(depth % 8),
+        CoreState::Stopped(_) => 18,
+    }
+}
+
+// Adds registers.
+fn add_regs(digest: &mut Digest, regs: &Regs) {
+    digest.add(u64::from(regs.eip) << 32 | u64::from(regs.flags.bits()));
+    for register in regs.gpr {
+        digest.add(u64::from(register));
     }
 }

@@ -4,14 +4,14 @@
 //! whichever order it and their steps are made, the same states follow. So a search makes these steps at once, and
 //! follows the others (`specs/Unseen.antt`).
 
-ghost use Rattle.std.specs.Prelude.{◌≡◌, ◌<◌, ◌≤◌, ◌+◌, ◌^◌, ℕ, IfOk, List, length, true};
+ghost use Rattle.std.specs.Prelude.{◌≡◌, ◌<◌, ℕ, IfOk, List, length, true};
 ghost use Rattle.tm_core.specs.Theorem.{StandsFor, view_at};
 ghost use Rattle.tm_model.specs.Access.{loaded_addresses};
 ghost use Rattle.tm_model.specs.Setting.{program_setting};
 ghost use Rattle.tm_model.specs.declared.outcome.Pick.{Pick};
 ghost use Rattle.tm_outcomes.specs.Nodes.{IsPickOf};
 ghost use Rattle.tm_outcomes.specs.Outcomes.{IsAllowed, trial_setting};
-ghost use Rattle.tm_outcomes.specs.Places.{IsAt, IsPlaceOf};
+ghost use Rattle.tm_outcomes.specs.Places.{IsPlaceOf};
 ghost use Rattle.tm_outcomes.specs.Resting.{Advances, RestsBy, is_condemned, is_running};
 ghost use Rattle.tm_outcomes.specs.Schedules.{Situation};
 ghost use Rattle.tm_outcomes.specs.Unseen.{are_none, is_unseen, touches_nothing};
@@ -68,8 +68,8 @@ fn is_absent(access: Option<Access>) -> bool
 }
 
 impl Trial<'_> {
-    // What a step comes under that is the same under each event: the first that the trial says.
-    fn usual_event(&self) -> Option<Event>
+    /// What a step comes under that is the same under each event: the first that the trial says, none where it need not be one.
+    pub fn usual_event(&self) -> Option<Event>
         ensures { IsAllowed self.now.events result }
     {
         match self.events {
@@ -148,11 +148,7 @@ impl Place {
     ) -> Result<(), AllocError>
         requires core { core < length trial.now.program.now.entries }
         requires place { IsPlaceOf trial.now self.old }
-        requires few { length steps.old.items ≤ 4097 }
-        requires at { (schedule : List Pick) × (IsAt trial.now self.old schedule
-            × (length schedule + 4097 ≤ 2 ^ 45 + length steps.old.items)) }
         ensures place { IfOk result (λ _. IsPlaceOf trial.now self.new) }
-        ensures few { IfOk result (λ _. length steps.new.items ≤ 4097) }
         ensures rests { IfOk result (λ _. RestsBy trial.now self.old self.new steps.old.items steps.new.items) }
     {
         let pick = Pick {
@@ -176,11 +172,7 @@ impl Place {
     // Makes the unseen steps of each core, and adds them to these.
     fn come_to_rest(&mut self, trial: &Trial<'_>, steps: &mut Vec<Pick>) -> Result<(), AllocError>
         requires place { IsPlaceOf trial.now self.old }
-        requires few { length steps.old.items ≤ 4097 }
-        requires at { (schedule : List Pick) × (IsAt trial.now self.old schedule
-            × (length schedule + 4097 ≤ 2 ^ 45 + length steps.old.items)) }
         ensures place { IfOk result (λ _. IsPlaceOf trial.now self.new) }
-        ensures few { IfOk result (λ _. length steps.new.items ≤ 4097) }
         ensures rests { IfOk result (λ _. RestsBy trial.now self.old self.new steps.old.items steps.new.items) }
     {
         for core in 0..trial.program.cores() {
@@ -198,7 +190,7 @@ impl Place {
         pick: Pick,
     ) -> Result<Vec<Pick>, AllocError>
         requires pick { IsPickOf trial.now pick }
-        requires at { (schedule : List Pick) × (IsAt trial.now self.old schedule × (length schedule + 4097 ≤ 2 ^ 45)) }
+        requires place { IsPlaceOf trial.now self.old }
         ensures { IfOk result (λ steps. Advances trial.now self.old self.new pick steps.items) }
     {
         let mut steps = Vec::new(alloc);

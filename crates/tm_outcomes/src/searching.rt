@@ -5,8 +5,9 @@ ghost use Rattle.std.specs.Prelude.{Option};
 ghost use Rattle.tm_model.specs.declared.outcome.Event.{Event};
 ghost use Rattle.tm_model.specs.declared.outcome.Pick.{Pick};
 ghost use Rattle.tm_outcomes.specs.Links.{LiesWithin};
-ghost use Rattle.tm_outcomes.specs.Nodes.{HaveSchedules, IsPickOf, IsTree, IsUntouched};
+ghost use Rattle.tm_outcomes.specs.Nodes.{HaveSchedules, IsPickOf, IsTree, IsUntouched, schedule_at};
 ghost use Rattle.tm_outcomes.specs.Outcomes.{AreThere, IsAllowed, IsNoneOrOneOf, IsRefusal, IsSearch};
+ghost use Rattle.tm_outcomes.specs.Places.{IsAt};
 ghost use Rattle.tm_outcomes.specs.Searching.{AreFindings, HaveDone, IsCutOf, IsFollowedIn, IsOneOf, IsOver, IsThis, IsWholeOf};
 ghost use Rattle.tm_outcomes.specs.Verdicts.{IsVerdict};
 ghost use Rattle.tm_outcomes.specs.Written.{IsBenchOf, IsPlaceIn};
@@ -14,18 +15,24 @@ ghost use Rattle.tm_outcomes.specs.declared.links.Link.{Link};
 ghost use Rattle.tm_outcomes.specs.declared.trial.Trial.{Trial};
 
 use crate::bench::Bench;
+use crate::cycle::Cycle;
 use crate::fault::SearchFault;
 use crate::findings::Findings;
 use crate::links::Link;
-use crate::nodes::{Node, find, place_of};
+use crate::nodes::{Node, find};
 use crate::stops::ReachedStop;
-use crate::stuck::{Stuck, stuck_of};
+use crate::stuck::Stuck;
 use crate::table::Told;
 use crate::trial::{Events, Trial};
+use crate::verdict::{Verdict, verdict_of};
 use crate::violations::Violation;
+use crate::watching::{Unwatched, Watching};
 use std::alloc::{AllocError, Global};
 use std::collections::HashMap;
 use tm_model::{Event, Pick};
+
+/// How many states are followed from one call of [`Watching::at`] to the next.
+const STATES_BETWEEN: u32 = 256;
 
 /// What a search came to.
 #[derive(Debug, Drop)]
@@ -38,6 +45,8 @@ pub struct Search {
     pub is_cut: bool,
     /// The states from which no schedule leads to an end, where there are such. None is told of a search that was cut.
     pub stuck: Option<Stuck>,
+    /// A cycle that can be made for ever though it need not, where one was found. None is told of a search that was cut.
+    pub cycle: Option<Cycle>,
     /// The stops that were looked for and found, in the order in which they were.
     pub stops: Vec<ReachedStop>,
     /// The checks that an end violates, in the order in which they were found, each once.
@@ -52,6 +61,8 @@ pub struct Searching {
     pub newest: HashMap<u64, u32>,
     /// The steps that were followed.
     pub links: Vec<Link>,
+    /// Of each the core whose step it is.
+    pub cores: Vec<u8>,
     pub found: Findings,
 }
 
@@ -82,6 +93,7 @@ impl Searching {
             nodes: Vec::new(alloc),
             newest: HashMap::new(alloc),
             links: Vec::new(alloc),
+            cores: Vec::new(alloc),
             found: Findings::new(alloc),
         };
         search.add(Node {
@@ -107,8 +119,8 @@ impl Searching {
         Ok(())
     }
 
-    // Adds a link.
-    fn join(&mut self, from: usize, to: usize) -> Result<(), AllocError>
+    // Adds a link, a step of this core.
+    fn join(&mut self, from: usize, to: usize, core: u8) -> Result<(), AllocError>
         requires from { from < 2 ^ 32 }
         requires to { to < 2 ^ 32 }
         ensures links { IfOk result (λ _. self.new.links.items
@@ -120,6 +132,7 @@ impl Searching {
             from: from as u32,
             to: to as u32,
         })?;
+        self.cores.push(core)?;
         Ok(())
     }
 
@@ -147,23 +160,58 @@ impl Searching {
         ensures bench { OnOk result (IsBenchOf trial.now self.new.nodes.items bench.new) }
         ensures err { IfErr result (IsRefusal trial.now) }
     {
-        let Bench { here, other, noted } = bench;
-        place_of(alloc, trial, self.nodes.as_slice(), index, noted, here)?;
+        bench.come_to(alloc, trial, self.nodes.as_slice(), index)?;
+        if bench.here.has_stopped(pick.core) {
+            // It stays where it is.
+            self.join(index, index, pick.core)?;
+            return Ok(Followed {
+                progress: Progress::GoesOn,
+                was_open: false,
+            });
+        }
+        self.follow_here(alloc, trial, bench, index, pick, most)
+    }
+
+    // The same where the machine stands at the node.
+    fn follow_here(
+        &mut self,
+        alloc: Global,
+        trial: &Trial<'_>,
+        bench: &mut Bench,
+        index: usize,
+        pick: Pick,
+        most: u32,
+    ) -> Result<Followed, SearchFault>
+        requires bench { IsBenchOf trial.now self.old.nodes.items bench.old }
+        requires here { (schedules : List (List Pick)) → IsTree trial.now self.old.nodes.items schedules →
+            IsAt trial.now bench.old.here (schedule_at schedules index) }
+        requires within { index < length self.old.nodes.items }
+        requires is_pick { IsPickOf trial.now pick }
+        requires few { length self.old.nodes.items ≤ most }
+        requires tree { HaveSchedules trial.now self.old.nodes.items }
+        ensures found { self.new.found ≡ self.old.found }
+        ensures followed { IfOk result (λ r. r.progress ≡ Progress.GoesOn →
+            IsFollowedIn trial.now most self.old self.new index pick.core (IsThis pick.event)) }
+        ensures untouched { IfOk result (λ r. r.was_open ≡ false → (schedules : List (List Pick)) →
+            IsTree trial.now self.old.nodes.items schedules → IsUntouched trial.now schedules index pick.core) }
+        ensures cut { IfOk result (λ r. r.progress ≡ Progress.IsCut → length self.new.nodes.items ≡ most) }
+        ensures bench { OnOk result (IsBenchOf trial.now self.new.nodes.items bench.new) }
+        ensures err { IfErr result (IsRefusal trial.now) }
+    {
+        let Bench {
+            here,
+            at,
+            other,
+            noted,
+        } = bench;
+        *at = None;
         let was_open = here.is_open(pick.core);
         noted.note(alloc, &here.machine, pick.core)?;
         let steps = here.advance(alloc, trial, pick)?;
         let digest = here.digest(noted);
-        let newest = self.newest.get(&digest).copied();
-        if let Some(known) = find(
-            alloc,
-            trial,
-            self.nodes.as_slice(),
-            newest,
-            noted,
-            here,
-            other,
-        )? {
-            self.join(index, known)?;
+        let old = self.newest.get(&digest).copied();
+        if let Some(known) = find(alloc, trial, self.nodes.as_slice(), old, noted, here, other)? {
+            self.join(index, known, pick.core)?;
             return Ok(Followed {
                 progress: Progress::GoesOn,
                 was_open,
@@ -176,12 +224,12 @@ impl Searching {
             });
         }
         let number = self.nodes.len();
-        self.join(index, number)?;
+        self.join(index, number, pick.core)?;
         self.add(Node {
             parent: index as u32,
             steps,
             digest,
-            older: newest,
+            older: old,
         })?;
         Ok(Followed {
             progress: Progress::GoesOn,
@@ -343,17 +391,25 @@ impl Searching {
     }
 
     // What it came to where it is over. The map, which takes most of its memory, goes before the marks come.
-    fn whole(self, alloc: Global) -> Result<Search, AllocError>
+    fn whole(
+        self,
+        alloc: Global,
+        trial: &Trial<'_>,
+        bench: &mut Bench,
+    ) -> Result<Search, SearchFault>
         requires few { length self.nodes.items < 2 ^ 32 }
-        requires tree { (trial : Trial) × HaveSchedules trial self.nodes.items }
+        requires tree { HaveSchedules trial.now self.nodes.items }
+        requires bench { IsBenchOf trial.now self.nodes.items bench.old }
         requires links { All (LiesWithin (length self.nodes.items)) self.links.items }
         requires ends { All (λ node. node < length self.nodes.items) self.found.ends.items }
-        ensures { IfOk result (IsWholeOf self) }
+        ensures ok { IfOk result (IsWholeOf trial.now self) }
+        ensures err { IfErr result (IsRefusal trial.now) }
     {
         let Searching {
             nodes,
             newest,
             links,
+            cores,
             found,
         } = self;
         drop(newest);
@@ -363,12 +419,22 @@ impl Searching {
             stops,
             violations,
         } = found;
-        let stuck = stuck_of(alloc, nodes.as_slice(), links.as_slice(), ends.as_slice())?;
+        let verdict = verdict_of(
+            alloc,
+            trial,
+            bench,
+            nodes.as_slice(),
+            links.as_slice(),
+            cores.as_slice(),
+            ends.as_slice(),
+        )?;
+        let Verdict { stuck, cycle } = verdict;
         Ok(Search {
             outcomes,
             states: nodes.len() as u32,
             is_cut: false,
             stuck,
+            cycle,
             stops,
             violations,
         })
@@ -383,10 +449,12 @@ impl Searching {
             nodes,
             newest,
             links,
+            cores,
             found,
         } = self;
         drop(newest);
         drop(links);
+        drop(cores);
         let Findings {
             outcomes,
             ends,
@@ -399,6 +467,7 @@ impl Searching {
             states: nodes.len() as u32,
             is_cut: true,
             stuck: None,
+            cycle: None,
             stops,
             violations,
         }
@@ -412,19 +481,22 @@ struct Explored {
 }
 
 // Takes up one state after another.
-fn explore(
+fn explore<W: Watching>(
     alloc: Global,
     trial: &Trial<'_>,
     bench: &mut Bench,
     most: u32,
+    watching: &mut W,
 ) -> Result<Explored, SearchFault>
     requires here { IsPlaceIn trial.now bench.old.noted bench.old.here }
     requires other { IsPlaceIn trial.now bench.old.noted bench.old.other }
+    requires at { bench.old.at ≡ None }
     requires there { AreThere trial.now }
     requires some { 1 ≤ most }
     ensures whole { IfOk result (λ explored. explored.progress ≡ Progress.GoesOn → IsOver trial.now most explored.search) }
     ensures cut { IfOk result (λ explored. explored.progress ≡ Progress.IsCut →
         (length explored.search.nodes.items ≡ most) × AreFindings trial.now explored.search.found) }
+    ensures bench { IfOk result (λ explored. IsBenchOf trial.now explored.search.nodes.items bench.new) }
     ensures err { IfErr result (IsRefusal trial.now) }
 {
     let mut search = Searching::opening(alloc, bench.here.digest(&bench.noted))?;
@@ -434,6 +506,9 @@ fn explore(
                 search,
                 progress: Progress::GoesOn,
             });
+        }
+        if index % STATES_BETWEEN == 0 {
+            watching.at(search.nodes.len() as u32, index);
         }
         let Progress::GoesOn = search.expand(alloc, trial, bench, index as usize, most)? else {
             return Ok(Explored {
@@ -449,7 +524,7 @@ fn explore(
 }
 
 /// Searches all schedules whose steps come under what the trial says, breadth first, each state once, up to a limit on
-/// states: 1 or more. Of a search that is not cut it is also known which states have no way to an end.
+/// states: 1 or more. Of a search that is not cut it is also known which states have no way to an end, and a cycle may be told.
 pub fn outcomes(alloc: Global, trial: &Trial<'_>, most: u32) -> Result<Search, SearchFault>
     requires there { AreThere trial.now }
     requires some { 1 ≤ most }
@@ -457,13 +532,28 @@ pub fn outcomes(alloc: Global, trial: &Trial<'_>, most: u32) -> Result<Search, S
     ensures verdict { IfOk result (IsVerdict trial.now) }
     ensures err { IfErr result (IsRefusal trial.now) }
 {
+    outcomes_watched(alloc, trial, most, &mut Unwatched)
+}
+
+/// The same, which tells on its way how far it is.
+pub fn outcomes_watched<W: Watching>(
+    alloc: Global,
+    trial: &Trial<'_>,
+    most: u32,
+    watching: &mut W,
+) -> Result<Search, SearchFault>
+    requires there { AreThere trial.now }
+    requires some { 1 ≤ most }
+    ensures ok { IfOk result (IsSearch trial.now most) }
+    ensures verdict { IfOk result (IsVerdict trial.now) }
+    ensures err { IfErr result (IsRefusal trial.now) }
+{
     let mut bench = Bench::new(alloc, trial)?;
-    let explored = explore(alloc, trial, &mut bench, most)?;
-    drop(bench);
+    let explored = explore(alloc, trial, &mut bench, most, watching)?;
     let Explored { search, progress } = explored;
     let Progress::GoesOn = progress else {
         return Ok(search.cut());
     };
-    let told = search.whole(alloc)?;
+    let told = search.whole(alloc, trial, &mut bench)?;
     Ok(told)
 }

@@ -1,14 +1,11 @@
 //! The states from which no schedule leads to an end.
 
-ghost use Rattle.std.specs.Prelude.{◌≡◌, ◌<◌, ◌≤◌, ◌^◌, ℕ, All, IfNone, IfOk, IfSome, length};
-ghost use Rattle.tm_outcomes.specs.Links.{LiesWithin};
+ghost use Rattle.std.specs.Prelude.{◌≡◌, ◌<◌, ◌≤◌, ◌^◌, ℕ, IfNone, IfOk, IfSome, length};
 ghost use Rattle.tm_outcomes.specs.Marks.{IsMarked, unmarked};
 ghost use Rattle.tm_outcomes.specs.Nodes.{HaveSchedules};
-ghost use Rattle.tm_outcomes.specs.Searching.{TellsStuck};
+ghost use Rattle.tm_outcomes.specs.Searching.{TellsWayless};
 ghost use Rattle.tm_outcomes.specs.declared.trial.Trial.{Trial};
 
-use crate::links::Link;
-use crate::marks::marks_of;
 use crate::nodes::{Node, schedule_of};
 use std::alloc::{AllocError, Global};
 use tm_model::Pick;
@@ -51,24 +48,17 @@ fn count_unmarked(marked: &[bool]) -> usize
     count
 }
 
-/// What the links of a search that is over say: the nodes from which none leads on to one of the ends.
-pub fn stuck_of(
-    alloc: Global,
-    nodes: &[Node],
-    links: &[Link],
-    ends: &[u32],
-) -> Result<Option<Stuck>, AllocError>
+/// The nodes of a search that is over from which no link leads on to one of the ends: those that are not marked.
+pub fn stuck_of(alloc: Global, nodes: &[Node], marked: &[bool]) -> Result<Option<Stuck>, AllocError>
     requires few { length nodes.now < 2 ^ 32 }
     requires tree { (trial : Trial) × HaveSchedules trial nodes.now }
-    requires links { All (LiesWithin (length nodes.now)) links.now }
-    requires ends { All (λ node. node < length nodes.now) ends.now }
-    ensures { IfOk result (TellsStuck nodes.now links.now ends.now) }
+    requires marked { length marked.now ≡ length nodes.now }
+    ensures { IfOk result (TellsWayless nodes.now marked.now) }
 {
-    let marked = marks_of(alloc, links, nodes.len(), ends)?;
-    let Some(first) = first_unmarked(marked.as_slice()) else {
+    let Some(first) = first_unmarked(marked) else {
         return Ok(None);
     };
-    let states = count_unmarked(marked.as_slice()) as u32;
+    let states = count_unmarked(marked) as u32;
     let schedule = schedule_of(alloc, nodes, first)?;
     Ok(Some(Stuck { states, schedule }))
 }

@@ -67,6 +67,13 @@ impl Written {
         ensures noted { OnOk result ((now : Situation) → StandsFor machine.now now.state now.doomed →
             StoresOn (machine_setting machine.now) self.new.lines.items now core) }
     {
+        let Ok(counts) = machine.counts(core) else {
+            unreachable!();
+        };
+        // The list takes time for the lines of all cores.
+        if counts.writes == 0 {
+            return Ok(());
+        }
         let Ok(lines) = machine.sets(alloc, core, Kind::Write) else {
             return Err(AllocError);
         };

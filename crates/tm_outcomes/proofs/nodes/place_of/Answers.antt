@@ -1,4 +1,4 @@
-use Rattle.std.proofs.Common.{◌<◌, List, length, sym, ◌∙◌, subst, arith}
+use Rattle.std.proofs.Common.{◌<◌, List, length, sym, ◌∙◌, subst}
 use Rattle.std.specs.Prelude.{All}
 use Rattle.std.proofs.lemmas.List.Elements.{All-weaker}
 use Rattle.tm_model.specs.declared.outcome.Pick.{Pick}
@@ -16,13 +16,6 @@ replay-requires-clause-cores c =
     (sym (c.as_slice.ensures.value ∙ c.in_ok-schedule.ensures trial c.requires.tree.0 tree))
     (All-weaker (IsPickOf trial) (λ (pick : Pick). pick.core < entries) (λ (pick : Pick) is. is.is_core)
     (schedule_at c.requires.tree.0 c.args.index) (tree.picks c.args.index c.requires.within))
-
-pub replay-requires-clause-short : goal.replay-requires-clause-short
-replay-requires-clause-short c =
-    let tree = c.requires.tree.1 in
-    subst (λ (s : List Pick). length s < 35184372088832)
-    (sym (c.as_slice.ensures.value ∙ c.in_ok-schedule.ensures c.args.trial.now c.requires.tree.0 tree))
-    (let h = tree.short c.args.index c.requires.within in omega arith)
 
 pub returns-clause-ok : goal.returns-clause-ok
 returns-clause-ok c = λ schedules tree.

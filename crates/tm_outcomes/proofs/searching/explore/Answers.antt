@@ -1,9 +1,10 @@
-use Rattle.std.proofs.Common.{◌≡◌, length, arith}
+use Rattle.std.proofs.Common.{◌≡◌, ℕ, Option, length, sym, subst, arith}
+use Rattle.tm_outcomes.specs.Written.{IsAtNode}
 use Rattle.tm_outcomes.proofs.Benches.{written_first}
 use Rattle.tm_outcomes.proofs.searching.explore.Goals as goal
 
 pub loop-index-init : goal.loop-index-init
-loop-index-init c =
+loop-index-init g c =
     let opened = c.in_ok-search.ensures c.args.trial.now in
     record {
       done = (
@@ -22,6 +23,7 @@ loop-index-init c =
           (let some = opened.1.tree.some in let few = opened.1.few in omega arith) in
           record {
             here = c.requires.here;
+            at = subst (λ (at : Option ℕ). IsAtNode c.args.trial.now c.in_ok-search.search.nodes.items c.args.bench.now.here at) (sym c.requires.at) tt;
             other = c.requires.other;
             written = written_first c.args.trial.now c.in_ok-search.search.nodes.items c.args.bench.now.noted opened.0
                 c.requires.here.opening opened.1.tree one;
@@ -29,15 +31,15 @@ loop-index-init c =
     }
 
 pub returns-then-index-len-clause-whole : goal.returns-then-index-len-clause-whole
-returns-then-index-len-clause-whole c = λ _.
+returns-then-index-len-clause-whole g c = λ _.
     let done = c.loop-index.invariant.done in
     record { done = c.loop-index.index; schedules = done.0; searching = done.1; whole = omega arith }
 
 pub returns-in_default-clause-cut : goal.returns-in_default-clause-cut
-returns-in_default-clause-cut c = λ _. c.in_ok-expand.ensures.cut c.in_default.is
+returns-in_default-clause-cut g c = λ _. c.in_ok-expand.ensures.cut c.in_default.is
 
 pub returns-clause-whole : goal.returns-clause-whole
-returns-clause-whole c = λ _.
+returns-clause-whole g c = λ _.
     let done = c.loop-index.invariant.done in
     record {
       done = c.loop-index.index;
@@ -45,3 +47,6 @@ returns-clause-whole c = λ _.
       searching = done.1;
       whole = (let few = done.1.few in omega arith);
     }
+
+pub overflow_cast-len : goal.overflow_cast-len
+overflow_cast-len g c = (let few = c.loop-index.invariant.done.1.few in omega arith)

@@ -3,7 +3,7 @@ use Rattle.tm_outcomes.specs.Written.{IsBenchOf}
 use Rattle.tm_outcomes.proofs.searching.explore.Given as goal
 
 abbrev pub invariant-loop-index : goal.invariant-loop-index
-invariant-loop-index l = record {
+invariant-loop-index g l = record {
   done : HaveDone l.trial l.most l.search l.index;
   bench : IsBenchOf l.trial l.search.nodes.items l.bench;
 }

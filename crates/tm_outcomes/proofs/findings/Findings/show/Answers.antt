@@ -13,10 +13,10 @@ use Rattle.tm_outcomes.proofs.findings.Findings.show.Goals as goal
 pub take_up-requires-clause-outcome : goal.take_up-requires-clause-outcome
 take_up-requires-clause-outcome c =
     let trial = c.args.trial.now in
-    let place = c.place_of.new.place in
+    let place = c.come_to.new.self.here in
     let schedules = c.requires.tree.0 in
     let tree = c.requires.tree.1 in
-    let at : IsAt trial place (schedule_at schedules c.args.index) = c.in_ok-place_of.ensures.ok schedules tree in
+    let at : IsAt trial place (schedule_at schedules c.args.index) = c.in_ok-come_to.ensures.here schedules tree in
     let same : c.in_ok-schedule.schedule.items ≡ schedule_at schedules c.args.index = c.in_ok-schedule.ensures trial schedules tree in
     record {
       allowed = subst (λ (s : List Pick). AreAllowed trial s) (sym same)
@@ -31,8 +31,8 @@ take_up-requires-clause-outcome c =
 pub returns-then-not-has_ended-clause-shows : goal.returns-then-not-has_ended-clause-shows
 returns-then-not-has_ended-clause-shows c = λ schedules tree.
     let trial = c.args.trial.now in
-    let place = c.place_of.new.place in
-    let at : IsAt trial place (schedule_at schedules c.args.index) = c.in_ok-place_of.ensures.ok schedules tree in
+    let place = c.come_to.new.self.here in
+    let at : IsAt trial place (schedule_at schedules c.args.index) = c.in_ok-come_to.ensures.here schedules tree in
     record {
       shown = record {
         outcome = λ now leads ended. absurd (false≢true (sym c.if-not-has_ended.true
@@ -60,9 +60,9 @@ pub returns-clause-shows : goal.returns-clause-shows
 returns-clause-shows c = λ schedules tree.
     let trial = c.args.trial.now in
     let index = c.args.index in
-    let place = c.place_of.new.place in
+    let place = c.come_to.new.self.here in
     let before = c.args.self.now.ends.items in
-    let at : IsAt trial place (schedule_at schedules index) = c.in_ok-place_of.ensures.ok schedules tree in
+    let at : IsAt trial place (schedule_at schedules index) = c.in_ok-come_to.ensures.here schedules tree in
     let here : IsEnd trial schedules index = record {
       within = (let t = tree.counted in let w = c.requires.within in omega arith);
       ended = λ now leads. (c.has_ended.ensures now (leads_stands trial schedules index place now at leads)).0 c.if-not-has_ended.false;
@@ -90,17 +90,3 @@ returns-clause-shows c = λ schedules tree.
             c.in_ok-take_up_checks.ensures.kept check (was.checks now leads ended check what asked violates);
       };
     }
-
-pub returns-then-not-has_ended-clause-bench : goal.returns-then-not-has_ended-clause-bench
-returns-then-not-has_ended-clause-bench c = record {
-  here = c.in_ok-place_of.ensures.place;
-  other = c.requires.bench.other;
-  written = c.requires.bench.written;
-}
-
-pub returns-clause-bench : goal.returns-clause-bench
-returns-clause-bench c = record {
-  here = c.in_ok-place_of.ensures.place;
-  other = c.requires.bench.other;
-  written = c.requires.bench.written;
-}

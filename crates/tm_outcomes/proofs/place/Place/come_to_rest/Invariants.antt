@@ -1,4 +1,4 @@
-use Rattle.std.proofs.Common.{◌≡◌, ◌≤◌, length}
+use Rattle.std.proofs.Common.{◌≡◌, length}
 use Rattle.tm_outcomes.specs.Places.{IsPlaceOf}
 use Rattle.tm_outcomes.specs.Resting.{RestsBy}
 use Rattle.tm_outcomes.proofs.place.Place.come_to_rest.Given as goal
@@ -8,6 +8,5 @@ abbrev pub invariant-loop-core : goal.invariant-loop-core
 invariant-loop-core l = record {
   end : l.core-end ≡ length l.trial.program.now.entries;
   place : IsPlaceOf l.trial l.self;
-  few : length l.steps.items ≤ 4097;
   rests : RestsBy l.trial l.initial.self l.self l.initial.steps.items l.steps.items;
 }

@@ -1,7 +1,7 @@
 use Rattle.std.proofs.Common.{◌<◌, refl, sym, ◌∙◌, arith}
 use Rattle.std.proofs.lemmas.Bool.{false≢true}
 use Rattle.tm_core.specs.Theorem.{machine_setting, view_at}
-use Rattle.tm_outcomes.proofs.Alike.{halted_is, stopped_is}
+use Rattle.tm_outcomes.proofs.Shown.{halted_is, stopped_is}
 use Rattle.tm_outcomes.proofs.place.Place.has_ended.Goals as goal
 
 pub returns-then-not-has_stopped : goal.returns-then-not-has_stopped

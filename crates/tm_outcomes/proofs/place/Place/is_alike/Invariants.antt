@@ -1,6 +1,6 @@
-use Rattle.std.proofs.Common.{ℕ, ◌<◌}
-use Rattle.tm_outcomes.specs.Places.{IsCoreAlike}
+use Rattle.std.proofs.Common.{◌≡◌, ℕ, ◌<◌}
+use Rattle.tm_core.specs.Theorem.{view_at}
 use Rattle.tm_outcomes.proofs.place.Place.is_alike.Given as goal
 
 abbrev pub invariant-loop-core : goal.invariant-loop-core
-invariant-loop-core l = (core : ℕ) → core < l.core → IsCoreAlike l.self l.other core
+invariant-loop-core l = (core : ℕ) → core < l.core → view_at l.self.machine core ≡ view_at l.other.machine core

@@ -1,4 +1,4 @@
-use Rattle.std.proofs.Common.{◌≤◌, ◌-◌, length}
+use Rattle.std.proofs.Common.{◌-◌, length}
 use Rattle.tm_outcomes.specs.Places.{IsPlaceOf}
 use Rattle.tm_outcomes.specs.Resting.{RestsBy}
 use Rattle.tm_outcomes.proofs.place.Place.rest_core.Given as goal
@@ -7,7 +7,6 @@ use Rattle.tm_outcomes.proofs.place.Place.rest_core.Given as goal
 abbrev pub invariant-steps : goal.invariant-steps
 invariant-steps l = record {
   place : IsPlaceOf l.trial l.self;
-  few : length l.steps.items ≤ 4097;
   rests : RestsBy l.trial l.initial.self l.self l.initial.steps.items l.steps.items;
 }
 

@@ -1,7 +1,7 @@
 use Rattle.std.proofs.Common.{◌<◌, refl, arith}
 use Rattle.std.proofs.lemmas.Bool.{false≢true}
 use Rattle.tm_core.specs.Theorem.{machine_setting, view_at}
-use Rattle.tm_outcomes.proofs.Alike.{by_stop, stopped_by}
+use Rattle.tm_outcomes.proofs.Shown.{by_stop, stopped_by}
 use Rattle.tm_outcomes.proofs.place.Place.stops_by.Goals as goal
 
 pub returns-then-has_stopped_by : goal.returns-then-has_stopped_by

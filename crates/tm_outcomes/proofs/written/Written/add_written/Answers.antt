@@ -1,4 +1,4 @@
-use Rattle.std.proofs.Common.{List, ℕ, ◌∙◌, sym, ap, subst}
+use Rattle.std.proofs.Common.{◌≡◌, List, [], ℕ, ◌∙◌, sym, ap, subst, arith}
 use Rattle.std.specs.FinSet as set
 use Rattle.std.specs.Ordering.{nat_cmp}
 use Rattle.tm_core.specs.Reopening.{IsSameElsewhere}
@@ -19,6 +19,21 @@ returns-clause-noted c = λ now stands event next e.
     let same : IsSameElsewhere lines step.made.0 memory =
     open_noted event setting memory (now.state.cores core) (now.doomed core) (view_at machine core) lines
     (stands.each core c.requires.core) c.requires.open
-    (ap (λ (xs : List ℕ). set.from_list {R = nat_cmp} xs) c.as_slice.ensures.value ∙ c.in-Ok.ensures.shown) step.made step.is_made in
+    (ap (λ (xs : List ℕ). set.from_list {R = nat_cmp} xs) c.as_slice.ensures.value ∙ c.in-Ok-sets.ensures.shown) step.made step.is_made in
     subst (λ m. IsSameElsewhere after m memory) (sym step.memory)
     (on_more lines after step.made.0 memory c.in_ok-add_all.ensures.all same)
+
+-- where it has stored nothing, to no line
+pub returns-then-counts-eq0-clause-noted : goal.returns-then-counts-eq0-clause-noted
+returns-then-counts-eq0-clause-noted c = λ now stands event next e.
+    let machine = c.args.machine.now in
+    let core = c.args.core in
+    let setting = machine_setting machine in
+    let memory = now.state.memory in
+    let step = step_made setting now next core event e in
+    let none : set.len (view_at machine core).writes ≡ 0 = omega (arith, c.in-Ok.ensures.writes) in
+    let same : IsSameElsewhere [] step.made.0 memory =
+    open_noted event setting memory (now.state.cores core) (now.doomed core) (view_at machine core) []
+    (stands.each core c.requires.core) c.requires.open (sym (set.empty_of_len (view_at machine core).writes none)) step.made step.is_made in
+    subst (λ m. IsSameElsewhere c.args.self.now.lines.items m memory) (sym step.memory)
+    (on_more [] c.args.self.now.lines.items step.made.0 memory (λ line (k, below, is). absurd (omega arith)) same)

@@ -4,34 +4,34 @@ use Rattle.tm_outcomes.specs.Links.{LiesWithin}
 use Rattle.tm_outcomes.specs.Nodes.{IsEnd, IsStep}
 use Rattle.tm_outcomes.specs.declared.links.Link.{Link}
 use Rattle.tm_outcomes.proofs.Telling.{is_cut_search, is_cut_verdict, is_search, is_verdict}
-use Rattle.tm_outcomes.proofs.searching.outcomes.Goals as goal
+use Rattle.tm_outcomes.proofs.searching.outcomes_watched.Goals as goal
 
 pub cut-requires : goal.cut-requires
-cut-requires c = (let full = (c.in_ok-explored.ensures.cut c.in_default.is).0 in omega arith)
+cut-requires g c = (let full = (c.in_ok-explored.ensures.cut c.in_default.is).0 in omega arith)
 
 pub returns-in_default-clause-ok : goal.returns-in_default-clause-ok
-returns-in_default-clause-ok c =
+returns-in_default-clause-ok g c =
     let cut = c.in_ok-explored.ensures.cut c.in_default.is in
     is_cut_search c.args.trial.now c.args.most c.in_ok-explored.explored.search c.cut.result cut.0 cut.1 c.cut.ensures
 
 pub returns-in_default-clause-verdict : goal.returns-in_default-clause-verdict
-returns-in_default-clause-verdict c =
+returns-in_default-clause-verdict g c =
     let cut = c.in_ok-explored.ensures.cut c.in_default.is in
     is_cut_verdict c.args.trial.now c.args.most c.in_ok-explored.explored.search c.cut.result cut.0 cut.1 c.cut.ensures
 
 pub whole-requires-clause-few : goal.whole-requires-clause-few
-whole-requires-clause-few c =
+whole-requires-clause-few g c =
     let over = c.in_ok-explored.ensures.whole c.in-GoesOn.is in
     let few = over.searching.few in
     omega arith
 
 pub whole-requires-clause-tree : goal.whole-requires-clause-tree
-whole-requires-clause-tree c =
+whole-requires-clause-tree g c =
     let over = c.in_ok-explored.ensures.whole c.in-GoesOn.is in
-    (c.args.trial.now, (over.schedules, over.searching.tree))
+    (over.schedules, over.searching.tree)
 
 pub whole-requires-clause-links : goal.whole-requires-clause-links
-whole-requires-clause-links c =
+whole-requires-clause-links g c =
     let over = c.in_ok-explored.ensures.whole c.in-GoesOn.is in
     let nodes = length c.in_ok-explored.explored.search.nodes.items in
     let counted = over.searching.tree.counted in
@@ -43,7 +43,7 @@ whole-requires-clause-links c =
     c.in_ok-explored.explored.search.links.items over.searching.steps
 
 pub whole-requires-clause-ends : goal.whole-requires-clause-ends
-whole-requires-clause-ends c =
+whole-requires-clause-ends g c =
     let over = c.in_ok-explored.ensures.whole c.in-GoesOn.is in
     let nodes = length c.in_ok-explored.explored.search.nodes.items in
     let counted = over.searching.tree.counted in
@@ -52,13 +52,13 @@ whole-requires-clause-ends c =
     c.in_ok-explored.explored.search.found.ends.items over.searching.ends
 
 pub returns-clause-ok : goal.returns-clause-ok
-returns-clause-ok c =
+returns-clause-ok g c =
     let over = c.in_ok-explored.ensures.whole c.in-GoesOn.is in
     is_search c.args.trial.now c.args.most over.done c.in_ok-explored.explored.search over.schedules c.in_ok-told.told
-    over.searching over.whole c.in_ok-told.ensures
+    over.searching over.whole c.in_ok-told.ensures.ok
 
 pub returns-clause-verdict : goal.returns-clause-verdict
-returns-clause-verdict c =
+returns-clause-verdict g c =
     let over = c.in_ok-explored.ensures.whole c.in-GoesOn.is in
     is_verdict c.args.trial.now c.args.most over.done c.in_ok-explored.explored.search over.schedules c.in_ok-told.told
-    over.searching over.whole c.in_ok-told.ensures
+    over.searching over.whole c.in_ok-told.ensures.ok

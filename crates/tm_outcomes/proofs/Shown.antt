@@ -1,4 +1,4 @@
--- Places that are alike stand for the same situations.
+-- What is shown of a core tells what the core is.
 use Rattle.std.proofs.Common.{◌≡◌, ℕ, Bool, true, false, cond, List, Option, Some, None, refl, sym, ap, ◌∙◌, subst}
 use Rattle.std.specs.Prelude.{option_and_then, nat_eq}
 use Rattle.tm_outcomes.proofs.Somes.{same_in}
@@ -17,16 +17,8 @@ use Rattle.tm_model.specs.declared.outcome.Event.TheVariants as event
 use Rattle.tm_model.specs.declared.outcome.CoreState.{CoreState}
 use Rattle.tm_model.specs.declared.outcome.CoreState.TheVariants.{Running, Mid, Open, Condemned, Stopped as AtStop}
 use Rattle.tm_outcomes.specs.Outcomes.{regs_of}
-use Rattle.tm_outcomes.specs.Places.{detail_of, has_detail, has_stopped, is_open}
+use Rattle.tm_outcomes.specs.Places.{has_stopped, is_open}
 use Rattle.tm_outcomes.specs.Verdicts.{HasStoppedBy}
-
--- what is shown of a core, by what a place knows of it
-abbrev pub view_from : Setting → List ℕ → CoreState → Regs → ℕ → Option View
-view_from setting memory Running base detail = Some (view_outside Running base)
-view_from setting memory Mid base detail = view_midway base detail (setting.outside base detail)
-view_from setting memory (Open depth) base detail = option_and_then (view_inside base) (isolated_body setting base memory detail)
-view_from setting memory (Condemned depth) base detail = Some (view_outside (Condemned depth) base)
-view_from setting memory (AtStop stop) base detail = Some (view_outside (AtStop stop) base)
 
 -- ---- each core's registers
 
@@ -58,55 +50,6 @@ base_is setting memory (Opened regs steps) (Some depth) view e = base_outside (C
 base_is setting memory (Closed regs) (Some depth) view e = cc
 base_is setting memory (Midway regs value) (Some depth) view e = cc
 base_is setting memory (Halted regs stop) (Some depth) view e = cc
-
--- ---- what is known of a core decides what is shown
-
-from_outside : (setting : Setting) (memory : List ℕ) (mode : CoreState) (regs : Regs) (detail : ℕ) (view : View) →
-    view_from setting memory mode regs detail ≡ Some (view_outside mode regs) → Some (view_outside mode regs) ≡ Some view →
-    view_from setting memory view.mode view.base detail ≡ Some view
-from_outside setting memory mode regs detail view from e =
-    subst (λ (v : View). view_from setting memory v.mode v.base detail ≡ Some v) (same_in e) from
-
-from : (setting : Setting) (memory : List ℕ) (mode : CoreState) (regs : Regs) (detail : ℕ) (view : View) →
-    view.mode ≡ mode → view.base ≡ regs → view_from setting memory mode regs detail ≡ Some view →
-    view_from setting memory view.mode view.base detail ≡ Some view
-from setting memory mode regs detail view mode_is base e =
-    subst (λ (m : CoreState). view_from setting memory m view.base detail ≡ Some view) (sym mode_is)
-    (subst (λ (r : Regs). view_from setting memory mode r detail ≡ Some view) (sym base) e)
-
-pub shown_by : (setting : Setting) (memory : List ℕ) (core : Core) (doom : Option ℕ) (view : View) →
-    view_of setting memory core doom ≡ Some view → view_from setting memory view.mode view.base (detail_of core) ≡ Some view
-shown_by setting memory (Closed regs) None view e = from_outside setting memory Running regs 0 view refl e
-shown_by setting memory (Midway regs value) None view e =
-    let known = base_midway regs value (setting.outside regs value) view e in
-    from setting memory Mid regs value view known.1 known.0 e
-shown_by setting memory (Halted regs stop) None view e = from_outside setting memory (AtStop stop) regs 0 view refl e
-shown_by setting memory (Opened regs steps) None view e =
-    let known = base_inside regs (isolated_body setting regs memory steps) view e in
-    from setting memory (Open known.1.0) regs steps view known.1.1 known.0 e
-shown_by setting memory (Opened regs steps) (Some depth) view e = from_outside setting memory (Condemned depth) regs steps view refl e
-shown_by setting memory (Closed regs) (Some depth) view e = cc
-shown_by setting memory (Midway regs value) (Some depth) view e = cc
-shown_by setting memory (Halted regs stop) (Some depth) view e = cc
-
-same_from : (setting : Setting) (memory : List ℕ) (mode : CoreState) (base : Regs) (a b : ℕ) → (has_detail mode ≡ true → a ≡ b) →
-    view_from setting memory mode base a ≡ view_from setting memory mode base b
-same_from setting memory Running base a b same = refl
-same_from setting memory Mid base a b same = ap (view_from setting memory Mid base) (same refl)
-same_from setting memory (Open depth) base a b same = ap (view_from setting memory (Open depth) base) (same refl)
-same_from setting memory (Condemned depth) base a b same = refl
-same_from setting memory (AtStop stop) base a b same = refl
-
--- two cores of which the same is known are shown alike
-pub same_views : (setting : Setting) (memory : List ℕ) (a b : Core) (doom other : Option ℕ) (v w : View) →
-    view_of setting memory a doom ≡ Some v → view_of setting memory b other ≡ Some w →
-    v.mode ≡ w.mode → v.base ≡ w.base → (has_detail v.mode ≡ true → detail_of a ≡ detail_of b) → v ≡ w
-same_views setting memory a b doom other v w first second mode base detail =
-    same_in (sym (shown_by setting memory a doom v first)
-    ∙ (same_from setting memory v.mode v.base (detail_of a) (detail_of b) detail
-    ∙ (ap (λ (m : CoreState). view_from setting memory m v.base (detail_of b)) mode
-    ∙ (ap (λ (r : Regs). view_from setting memory w.mode r (detail_of b)) base
-    ∙ shown_by setting memory b other w second))))
 
 -- ---- cores that have stopped
 
@@ -189,3 +132,11 @@ same_under (event.Abort by) setting memory (Opened regs steps) (Some depth) view
 same_under (event.Abort by) setting memory (Closed regs) doom view e closed = refl
 same_under (event.Abort by) setting memory (Midway regs value) doom view e closed = refl
 same_under (event.Abort by) setting memory (Halted regs stop) doom view e closed = refl
+
+-- a core that has stopped is in no transaction
+pub stopped_closed : (mode : CoreState) → has_stopped mode ≡ true → is_open mode ≡ false
+stopped_closed (AtStop stop) e = refl
+stopped_closed Running e = absurd (false≢true e)
+stopped_closed Mid e = absurd (false≢true e)
+stopped_closed (Open depth) e = absurd (false≢true e)
+stopped_closed (Condemned depth) e = absurd (false≢true e)

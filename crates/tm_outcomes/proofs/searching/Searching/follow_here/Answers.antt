@@ -1,0 +1,234 @@
+use Rattle.std.proofs.Common.{◌≡◌, ◌<◌, ◌+◌, ℕ, List, Option, [], ◌∷◌, ◌++◌, length, refl, sym, ap, ◌∙◌, subst, arith, length-append}
+use Rattle.std.specs.Prelude.{IfSome}
+use Rattle.tm_model.specs.declared.outcome.Pick.{Pick}
+use Rattle.tm_outcomes.specs.Nodes.{IsFound, IsTree, schedule_at}
+use Rattle.tm_outcomes.specs.Places.{IsAt}
+use Rattle.tm_outcomes.specs.Written.{IsPlaceIn, IsWithin, IsWrittenOf}
+use Rattle.tm_outcomes.specs.declared.nodes.Node.{Node}
+use Rattle.tm_outcomes.proofs.Benches.{place_at, place_more, within_more, within_advanced, written_after, written_more}
+use Rattle.tm_outcomes.proofs.Follows.{follows}
+use Rattle.tm_outcomes.proofs.Joined.{to_known, to_new}
+use Rattle.tm_outcomes.proofs.Leads.{alike_stands, untouched_at}
+use Rattle.tm_outcomes.proofs.Trees.{schedule_new, schedule_old}
+use Rattle.tm_outcomes.proofs.searching.Searching.follow_here.Goals as goal
+
+pub returns-in-Some-clause-followed : goal.returns-in-Some-clause-followed
+returns-in-Some-clause-followed c = λ _.
+    let trial = c.args.trial.now in
+    let index = c.args.index in
+    let pick = c.args.pick in
+    let old = c.args.self.now in
+    let nodes = old.nodes.items in
+    let found = subst (λ (o : Option ℕ). IfSome o (IsFound trial c.as_slice.result.now c.advance.new.self)) c.in-Some.is c.in_ok-known.ensures.ok in
+    let there : c.in-Some.known < length nodes =
+    (let f = found.within in let e = ap (λ (ns : List Node). length ns) c.as_slice.ensures.value in omega arith) in
+    to_known trial c.args.most index c.in-Some.known pick old c.join.new.self (ap (λ v. v.items) c.in_ok-join.ensures.nodes)
+    c.in_ok-join.ensures.links c.requires.few c.requires.within there c.requires.is_pick
+    (λ schedules tree.
+    let before = c.args.bench.now.here in
+    let after = c.advance.new.self in
+    let at : IsAt trial before (schedule_at schedules index) =
+    c.requires.here schedules tree in
+    let other = found.alike schedules (subst (λ (ns : List Node). IsTree trial ns schedules) (sym c.as_slice.ensures.value) tree) in
+    follows trial schedules index pick c.in_ok-steps.steps.items before after other.0 c.in-Some.known at c.in_ok-steps.ensures
+    (let t = tree.counted in omega arith) other.1.0
+    (λ now stands. alike_stands trial after other.0 (schedule_at schedules index ++ c.in_ok-steps.steps.items) _ now
+    (c.in_ok-steps.ensures.at (schedule_at schedules index) at) other.1.0 other.1.1 stands))
+
+pub returns-clause-followed : goal.returns-clause-followed
+returns-clause-followed c = λ _.
+    let trial = c.args.trial.now in
+    let index = c.args.index in
+    let pick = c.args.pick in
+    let old = c.args.self.now in
+    let node : Node = record { parent = index; steps = c.in_ok-steps.steps; digest = c.digest-digest.result; older = c.copied-old.result } in
+    let joined = c.in_ok-join-2.ensures in
+    let place = c.args.bench.now.here in
+    to_new trial c.args.most index pick c.in_ok-steps.steps.items node old c.add.new.self refl refl c.in_ok-steps.ensures.are_picks
+    (c.in_ok-add.ensures.nodes ∙ ap (λ v. v.items ++ node ∷ []) joined.nodes)
+    (ap (λ v. v.items) c.in_ok-add.ensures.links ∙ joined.links
+    ∙ ap (λ (n : ℕ). old.links.items ++ record { from = index; to = n } ∷ [])
+    (let e : c.len-number.result ≡ length old.nodes.items = omega arith in e)) (omega arith) c.requires.within c.requires.is_pick
+    (λ schedules tree.
+    let at : IsAt trial place (schedule_at schedules index) =
+    c.requires.here schedules tree in
+    let after = c.in_ok-steps.ensures.at (schedule_at schedules index) at in
+    (after.now, after.is_run, sym after.stands.same_count ∙ after.count))
+    (λ schedules tree.
+    let after = c.advance.new.self in
+    let at : IsAt trial place (schedule_at schedules index) =
+    c.requires.here schedules tree in
+    let added : List Pick = schedule_at schedules index ++ c.in_ok-steps.steps.items in
+    let grown : List (List Pick) = schedules ++ added ∷ [] in
+    let counted = tree.counted in
+    let longer : length grown ≡ length schedules + 1 = length-append schedules (added ∷ []) in
+    let here : schedule_at grown index ≡ schedule_at schedules index = schedule_old schedules (added ∷ []) index (let w = c.requires.within in omega arith) in
+    let new : schedule_at grown (length schedules) ≡ added = schedule_new schedules added (length schedules) refl in
+    follows trial grown index pick c.in_ok-steps.steps.items place after after (length schedules)
+    (subst (λ (s : List Pick). IsAt trial place s) (sym here) at) c.in_ok-steps.ensures (omega arith)
+    (subst (λ (s : List Pick). IsAt trial after s) (sym new) (c.in_ok-steps.ensures.at (schedule_at schedules index) at))
+    (λ now stands. stands))
+
+pub is_open-was_open-requires : goal.is_open-was_open-requires
+is_open-was_open-requires c =
+    let trial = c.args.trial.now in
+    let schedules = c.requires.tree.0 in
+    let at : IsAt trial c.args.bench.now.here (schedule_at schedules c.args.index) =
+    c.requires.here schedules c.requires.tree.1 in
+    let count = at.count in
+    let is_core = c.requires.is_pick.is_core in
+    omega arith
+
+-- what is known where the core was in no transaction that an event aborts
+pub returns-in-Some-clause-untouched : goal.returns-in-Some-clause-untouched
+returns-in-Some-clause-untouched c = λ closed schedules tree.
+    let trial = c.args.trial.now in
+    untouched_at trial schedules c.args.index c.args.bench.now.here c.args.pick.core c.requires.is_pick.is_core
+    (c.requires.here schedules tree)
+    (sym c.is_open-was_open.ensures ∙ closed)
+
+pub returns-then-len-most-clause-untouched : goal.returns-then-len-most-clause-untouched
+returns-then-len-most-clause-untouched c = λ closed schedules tree.
+    let trial = c.args.trial.now in
+    untouched_at trial schedules c.args.index c.args.bench.now.here c.args.pick.core c.requires.is_pick.is_core
+    (c.requires.here schedules tree)
+    (sym c.is_open-was_open.ensures ∙ closed)
+
+pub returns-clause-untouched : goal.returns-clause-untouched
+returns-clause-untouched c = λ closed schedules tree.
+    let trial = c.args.trial.now in
+    untouched_at trial schedules c.args.index c.args.bench.now.here c.args.pick.core c.requires.is_pick.is_core
+    (c.requires.here schedules tree)
+    (sym c.is_open-was_open.ensures ∙ closed)
+
+pub advance-requires-clause-place : goal.advance-requires-clause-place
+advance-requires-clause-place c = c.requires.bench.here.place
+
+pub note-requires : goal.note-requires
+note-requires c =
+    let trial = c.args.trial.now in
+    let schedules = c.requires.tree.0 in
+    let at : IsAt trial c.args.bench.now.here (schedule_at schedules c.args.index) =
+    c.requires.here schedules c.requires.tree.1 in
+    let count = at.count in
+    let is_core = c.requires.is_pick.is_core in
+    omega arith
+
+pub find-requires-clause-written : goal.find-requires-clause-written
+find-requires-clause-written c =
+    subst (λ (ns : List Node). IsWrittenOf c.args.trial.now ns c.note.new.self) (sym c.as_slice.ensures.value)
+    (written_more c.args.trial.now c.args.bench.now.noted c.note.new.self c.in_ok-note.ensures.opening
+    c.in_ok-note.ensures.kept c.args.self.now.nodes.items c.requires.bench.written)
+
+pub find-requires-clause-at : goal.find-requires-clause-at
+find-requires-clause-at c =
+    let trial = c.args.trial.now in
+    let written = c.requires.bench.written in
+    let schedule : List Pick = schedule_at written.schedules c.args.index in
+    let at : IsAt trial c.args.bench.now.here schedule =
+    c.requires.here written.schedules written.tree in
+    (schedule ++ c.in_ok-steps.steps.items, c.in_ok-steps.ensures.at schedule at)
+
+pub find-requires-clause-place : goal.find-requires-clause-place
+find-requires-clause-place c =
+    let trial = c.args.trial.now in
+    let old = c.args.bench.now.noted in
+    let new = c.note.new.self in
+    let written = c.requires.bench.written in
+    let schedule : List Pick = schedule_at written.schedules c.args.index in
+    let at : IsAt trial c.args.bench.now.here schedule =
+    c.requires.here written.schedules written.tree in
+    let within : IsWithin trial new.lines.items (schedule ++ c.in_ok-steps.steps.items) =
+    within_advanced trial new.lines.items schedule c.args.bench.now.here c.advance.new.self c.args.pick c.in_ok-steps.steps.items at c.in_ok-steps.ensures
+    (within_more trial old.lines.items new.lines.items schedule c.in_ok-note.ensures.kept
+    (written.within c.args.index c.requires.within)) c.in_ok-note.ensures.noted in
+    let here : IsPlaceIn trial new c.advance.new.self =
+    place_at trial new c.advance.new.self (schedule ++ c.in_ok-steps.steps.items)
+    (ap (λ v. v.items) c.in_ok-note.ensures.opening ∙ written.opening) c.in_ok-steps.ensures.is_place (c.in_ok-steps.ensures.at schedule at) within in
+    here
+
+pub find-requires-clause-other : goal.find-requires-clause-other
+find-requires-clause-other c =
+    place_more c.args.trial.now c.args.bench.now.noted c.note.new.self c.in_ok-note.ensures.opening
+    c.in_ok-note.ensures.kept c.args.bench.now.other c.requires.bench.other
+
+pub returns-in-Some-clause-bench : goal.returns-in-Some-clause-bench
+returns-in-Some-clause-bench c =
+    let trial = c.args.trial.now in
+    let old = c.args.bench.now.noted in
+    let new = c.note.new.self in
+    let written = c.requires.bench.written in
+    let schedule : List Pick = schedule_at written.schedules c.args.index in
+    let at : IsAt trial c.args.bench.now.here schedule =
+    c.requires.here written.schedules written.tree in
+    let within : IsWithin trial new.lines.items (schedule ++ c.in_ok-steps.steps.items) =
+    within_advanced trial new.lines.items schedule c.args.bench.now.here c.advance.new.self c.args.pick c.in_ok-steps.steps.items at c.in_ok-steps.ensures
+    (within_more trial old.lines.items new.lines.items schedule c.in_ok-note.ensures.kept
+    (written.within c.args.index c.requires.within)) c.in_ok-note.ensures.noted in
+    let here : IsPlaceIn trial new c.advance.new.self =
+    place_at trial new c.advance.new.self (schedule ++ c.in_ok-steps.steps.items)
+    (ap (λ v. v.items) c.in_ok-note.ensures.opening ∙ written.opening) c.in_ok-steps.ensures.is_place (c.in_ok-steps.ensures.at schedule at) within in
+    record {
+      here = here;
+      at = tt;
+      other = c.in_ok-known.ensures.other;
+      written = subst (λ (ns : List Node). IsWrittenOf trial ns new) (ap (λ v. v.items) (sym c.in_ok-join.ensures.nodes))
+          (written_more trial old new c.in_ok-note.ensures.opening c.in_ok-note.ensures.kept c.args.self.now.nodes.items written);
+    }
+
+pub returns-then-len-most-clause-bench : goal.returns-then-len-most-clause-bench
+returns-then-len-most-clause-bench c =
+    let trial = c.args.trial.now in
+    let old = c.args.bench.now.noted in
+    let new = c.note.new.self in
+    let written = c.requires.bench.written in
+    let schedule : List Pick = schedule_at written.schedules c.args.index in
+    let at : IsAt trial c.args.bench.now.here schedule =
+    c.requires.here written.schedules written.tree in
+    let within : IsWithin trial new.lines.items (schedule ++ c.in_ok-steps.steps.items) =
+    within_advanced trial new.lines.items schedule c.args.bench.now.here c.advance.new.self c.args.pick c.in_ok-steps.steps.items at c.in_ok-steps.ensures
+    (within_more trial old.lines.items new.lines.items schedule c.in_ok-note.ensures.kept
+    (written.within c.args.index c.requires.within)) c.in_ok-note.ensures.noted in
+    let here : IsPlaceIn trial new c.advance.new.self =
+    place_at trial new c.advance.new.self (schedule ++ c.in_ok-steps.steps.items)
+    (ap (λ v. v.items) c.in_ok-note.ensures.opening ∙ written.opening) c.in_ok-steps.ensures.is_place (c.in_ok-steps.ensures.at schedule at) within in
+    record {
+      here = here;
+      at = tt;
+      other = c.in_ok-known.ensures.other;
+      written = written_more trial old new c.in_ok-note.ensures.opening c.in_ok-note.ensures.kept c.args.self.now.nodes.items written;
+    }
+
+pub returns-clause-bench : goal.returns-clause-bench
+returns-clause-bench c =
+    let trial = c.args.trial.now in
+    let old = c.args.bench.now.noted in
+    let new = c.note.new.self in
+    let written = c.requires.bench.written in
+    let schedule : List Pick = schedule_at written.schedules c.args.index in
+    let at : IsAt trial c.args.bench.now.here schedule =
+    c.requires.here written.schedules written.tree in
+    let within : IsWithin trial new.lines.items (schedule ++ c.in_ok-steps.steps.items) =
+    within_advanced trial new.lines.items schedule c.args.bench.now.here c.advance.new.self c.args.pick c.in_ok-steps.steps.items at c.in_ok-steps.ensures
+    (within_more trial old.lines.items new.lines.items schedule c.in_ok-note.ensures.kept
+    (written.within c.args.index c.requires.within)) c.in_ok-note.ensures.noted in
+    let here : IsPlaceIn trial new c.advance.new.self =
+    place_at trial new c.advance.new.self (schedule ++ c.in_ok-steps.steps.items)
+    (ap (λ v. v.items) c.in_ok-note.ensures.opening ∙ written.opening) c.in_ok-steps.ensures.is_place (c.in_ok-steps.ensures.at schedule at) within in
+    let nodes = c.args.self.now.nodes.items in
+    let node : Node = record {
+      parent = c.args.index;
+      steps = c.in_ok-steps.steps;
+      digest = c.digest-digest.result;
+      older = c.copied-old.result;
+    } in
+    let after = c.in_ok-steps.ensures.at schedule at in
+    record {
+      here = here;
+      at = tt;
+      other = c.in_ok-known.ensures.other;
+      written = written_after trial old new c.in_ok-note.ensures.opening c.in_ok-note.ensures.kept nodes
+          c.add.new.self.nodes.items node written
+          (c.in_ok-add.ensures.nodes ∙ ap (λ v. v.items ++ node ∷ []) c.in_ok-join-2.ensures.nodes) c.requires.within
+          c.in_ok-steps.ensures.are_picks (after.now, after.is_run, sym after.stands.same_count ∙ after.count) within;
+    }
