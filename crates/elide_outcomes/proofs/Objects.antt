@@ -7,12 +7,13 @@ use Rattle.elide_object.proofs.Sending.{no_float_both, no_float_items}
 use Rattle.elide_object.specs.Object.{items_of, number_value, word_value}
 use Rattle.serde_json.specs.Data.{Data, null, string}
 use Rattle.serde_json.specs.Written.{has_float, items_have_float}
+use Rattle.tm_outcomes.specs.declared.cycle.Cycle.{Cycle}
 use Rattle.tm_outcomes.specs.declared.searching.Search.{Search}
 use Rattle.tm_outcomes.specs.declared.stops.ReachedStop.{ReachedStop}
 use Rattle.tm_outcomes.specs.declared.stuck.Stuck.{Stuck}
 use Rattle.tm_outcomes.specs.declared.table.Told.{Told}
 use Rattle.tm_outcomes.specs.declared.violations.Violation.{Violation}
-use Rattle.elide_outcomes.specs.Object.{check_value, forbid_value, option_value, outcome_value, search_value, stop_value}
+use Rattle.elide_outcomes.specs.Object.{check_value, cycle_value, forbid_value, option_value, outcome_value, search_value, stop_value}
 use Rattle.elide_outcomes.specs.Object.{stuck_value, violation_value}
 
 no_float_outcome : (told : Told) → has_float (outcome_value told) ≡ false
@@ -33,6 +34,15 @@ no_float_stuck None = refl
 no_float_stuck (Some stuck) =
     no_float_both (items_have_float (items_of word_value stuck.schedule.items)) false
     (no_float_items word_value (λ pick. refl) stuck.schedule.items) refl
+
+no_float_cycle : (cycle : Option Cycle) → has_float (cycle_value cycle) ≡ false
+no_float_cycle None = refl
+no_float_cycle (Some cycle) =
+    no_float_both (items_have_float (items_of word_value cycle.schedule.items))
+    (items_have_float (items_of word_value cycle.steps.items) || false)
+    (no_float_items word_value (λ pick. refl) cycle.schedule.items)
+    (no_float_both (items_have_float (items_of word_value cycle.steps.items)) false
+    (no_float_items word_value (λ pick. refl) cycle.steps.items) refl)
 
 no_float_text : (name : List ℕ) (text : Data) (schedule : List Pick) → has_float text ≡ false →
     has_float (option_value name text schedule) ≡ false
@@ -65,11 +75,13 @@ no_float_search options show status search =
     let violations = items_have_float (items_of (violation_value options) search.violations.items) in
     let stops = items_have_float (items_of stop_value search.stops.items) in
     let stuck = has_float (stuck_value search.stuck) in
-    no_float_both (items_have_float (items_of string show)) (outcomes || (violations || (stops || (stuck || false))))
+    let cycle = has_float (cycle_value search.cycle) in
+    no_float_both (items_have_float (items_of string show)) (outcomes || (violations || (stops || (stuck || (cycle || false)))))
     (no_float_items string (λ text. refl) show)
-    (no_float_both outcomes (violations || (stops || (stuck || false)))
+    (no_float_both outcomes (violations || (stops || (stuck || (cycle || false))))
     (no_float_items outcome_value no_float_outcome search.outcomes.items)
-    (no_float_both violations (stops || (stuck || false))
+    (no_float_both violations (stops || (stuck || (cycle || false)))
     (no_float_items (violation_value options) (no_float_violation options) search.violations.items)
-    (no_float_both stops (stuck || false) (no_float_items stop_value no_float_stop search.stops.items)
-    (no_float_both stuck false (no_float_stuck search.stuck) refl))))
+    (no_float_both stops (stuck || (cycle || false)) (no_float_items stop_value no_float_stop search.stops.items)
+    (no_float_both stuck (cycle || false) (no_float_stuck search.stuck)
+    (no_float_both cycle false (no_float_cycle search.cycle) refl)))))

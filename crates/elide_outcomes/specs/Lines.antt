@@ -10,6 +10,7 @@ use Rattle.ia_text.specs.Number.{eight_digits}
 use Rattle.ia_text.specs.TextLine.{line_end}
 use Rattle.elide_setup.specs.TmHist.Lines.{stop_word}
 use Rattle.tm_model.specs.declared.outcome.Pick.{Pick}
+use Rattle.tm_outcomes.specs.declared.cycle.Cycle.{Cycle}
 use Rattle.tm_outcomes.specs.declared.searching.Search.{Search}
 use Rattle.tm_outcomes.specs.declared.stops.ReachedStop.{ReachedStop}
 use Rattle.tm_outcomes.specs.declared.stuck.Stuck.{Stuck}
@@ -94,6 +95,21 @@ stuck_text (Some stuck) = stuck_line stuck
 abbrev pub stuck_lines : Bool → Option Stuck → List ℕ
 stuck_lines asks_stuck stuck = if asks_stuck then stuck_text stuck else []
 
+-- how many states a cycle can be made from for ever, a schedule that leads to one, and the steps of the cycle
+abbrev pub cycle_line : Cycle → List ℕ
+cycle_line cycle =
+    codes "cycle " ++ ends_text cycle.states ++ flat_map step_text cycle.schedule.items ++ codes " |"
+    ++ flat_map step_text cycle.steps.items ++ line_end
+
+-- where there are such
+abbrev pub cycle_text : Option Cycle → List ℕ
+cycle_text None = []
+cycle_text (Some cycle) = cycle_line cycle
+
+-- where it is asked for
+abbrev pub cycle_lines : Bool → Option Cycle → List ℕ
+cycle_lines asks_stuck cycle = if asks_stuck then cycle_text cycle else []
+
 -- ---- the last line
 
 abbrev pub states_text : ℕ → List ℕ
@@ -125,7 +141,7 @@ search_text options words labels search =
     items_line options.shows_names words
     ++ shown_lines (has_words words) labels search.outcomes.items
     ++ violation_lines options search.violations.items ++ stop_lines search.stops.items
-    ++ stuck_lines options.asks_stuck search.stuck
+    ++ stuck_lines options.asks_stuck search.stuck ++ cycle_lines options.asks_stuck search.cycle
     ++ count_line (has_words words) (length search.outcomes.items) search.states search.stuck search.is_cut
 
 -- those that were found, each once, in the order of their values: the first item decides, where it is alike the next

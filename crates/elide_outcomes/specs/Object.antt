@@ -6,6 +6,7 @@ use Rattle.elide_args.specs.declared.subcommand.OutcomesOptions.{OutcomesOptions
 use Rattle.elide_object.specs.Object.{list_value, number_value, object_text, schedule_value, text_list}
 use Rattle.elide_setup.specs.TmHist.Lines.{stop_word}
 use Rattle.serde_json.specs.Data.{Data, boolean, member, no_members, null, object, string}
+use Rattle.tm_outcomes.specs.declared.cycle.Cycle.{Cycle}
 use Rattle.tm_outcomes.specs.declared.searching.Search.{Search}
 use Rattle.tm_outcomes.specs.declared.stops.ReachedStop.{ReachedStop}
 use Rattle.tm_outcomes.specs.declared.stuck.Stuck.{Stuck}
@@ -33,6 +34,15 @@ stuck_value None = null
 stuck_value (Some stuck) =
     object (member (codes "states") (number_value stuck.states)
     (member (codes "schedule") (schedule_value stuck.schedule.items) no_members))
+
+-- states from which a cycle can be made for ever: how many, the steps of a schedule that leads to one, and those of the
+-- cycle
+abbrev pub cycle_value : Option Cycle → Data
+cycle_value None = null
+cycle_value (Some cycle) =
+    object (member (codes "states") (number_value cycle.states)
+    (member (codes "schedule") (schedule_value cycle.schedule.items)
+    (member (codes "steps") (schedule_value cycle.steps.items) no_members)))
 
 -- the option that says the check with this index: those of `--check` come first, then those of `--forbid`
 abbrev pub option_value : List ℕ → Data → List Pick → Data
@@ -65,9 +75,10 @@ search_value options show status search =
     (member (codes "violations") (list_value (violation_value options) search.violations.items)
     (member (codes "stops") (list_value stop_value search.stops.items)
     (member (codes "stuck") (stuck_value search.stuck)
+    (member (codes "cycle") (cycle_value search.cycle)
     (member (codes "states") (number_value search.states)
     (member (codes "whole") (boolean (not search.is_cut))
-    (member (codes "status") (number_value status) no_members))))))))))
+    (member (codes "status") (number_value status) no_members)))))))))))
 
 -- it was written on a line of its own
 abbrev pub IsObjectWritten : OutcomesOptions → List (List ℕ) → Search → Option (List ℕ) → Option (List ℕ) → Type 0

@@ -73,6 +73,7 @@ pub record IsSorted (trial : Trial) (most : ℕ) (found : Search) : Type 0 where
   pub states : found.states ≡ search.states
   pub cut : found.is_cut ≡ search.is_cut
   pub stuck : found.stuck ≡ search.stuck
+  pub cycle : found.cycle ≡ search.cycle
   pub stops : found.stops ≡ search.stops
   pub violations : found.violations ≡ search.violations
 

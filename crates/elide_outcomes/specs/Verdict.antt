@@ -13,9 +13,11 @@ abbrev pub has_violations : List Violation → Bool
 has_violations violations = nat_lt 0 (length violations)
 
 -- an end that violates a check, a stop that was looked for, or, where it is asked for, a state without a way to an end
+-- or a cycle that can be made for ever
 abbrev pub is_faulty : Bool → Search → Bool
 is_faulty asks_stuck search =
-    (has_violations search.violations.items || has_stops search.stops.items) || (asks_stuck && is_some search.stuck)
+    (has_violations search.violations.items || has_stops search.stops.items)
+    || (asks_stuck && (is_some search.stuck || is_some search.cycle))
 
 abbrev pub answer_of : Bool → Search → Answer
 answer_of asks_stuck search =

@@ -25,15 +25,18 @@ use crate::shown::words_of;
 use crate::stops::stops_of;
 use crate::under::Under;
 use crate::verdict::Answer;
+use crate::watched::Watched;
 use elide_args::OutcomesOptions;
 use elide_checks::EndChecks;
 use elide_program::{Paths, ProgramFile, Settings, number_of, read_file};
-use elide_setup::{Fault, Gathered, MachineFault, Paged, Pages, Refusal, RunFault, Setup};
+use elide_setup::{
+    Fault, Gathered, MachineFault, Paged, Pages, Progress, Refusal, RunFault, Setup,
+};
 use ia_text::Out;
 use std::alloc::Global;
-use tm_outcomes::{Events, Item, Search, SearchFault, Stop, Trial, outcomes as searched};
+use tm_outcomes::{Events, Item, Search, SearchFault, Stop, Trial, outcomes_watched};
 
-/// The most states by default: at some 50 bytes a state and 8 a link, of two cores some 70 million bytes.
+/// The most states by default: at some 50 bytes a state and 9 a link, of two cores some 70 million bytes.
 const USUAL_LIMIT: u32 = 1_000_000;
 
 /// What is asked of a search, beside its machine.
@@ -50,49 +53,60 @@ pub struct Asked<'a> {
 }
 
 /// Searches all schedules of a program, prints each outcome in the order of its values, and writes the page of one where that is
-/// asked for. Answers what the search came to and what became of the page, and gives the device back. Where there is no such
+/// asked for. While it searches, `progress` is told how many states were found. Answers what the search came to and what became of the page, and gives the device back. Where there is no such
 /// outcome, or its page cannot be written, that is the refusal, and the outcomes are printed before.
-pub fn outcomes<P: Paths, O: Out + Drop, W: Pages>(
+pub fn outcomes<P: Paths, O: Out + Drop, G: Progress, W: Pages>(
     alloc: Global,
     options: &OutcomesOptions<'_>,
     paths: &mut P,
     pages: &W,
     out: O,
+    progress: &mut G,
 ) -> Result<(Answer, Paged, O), Refusal>
     ensures { IfOk result (λ r. IsPrinted (P.content paths.old) options.now r.0
         (O.device out).contents (O.device r.2).contents) }
 {
     let mut page = Gathered::new(out);
-    let (answer, paged) = outcomes_of_options(alloc, options, paths, pages, &mut page)?;
+    let (answer, paged) = outcomes_of_options(alloc, options, paths, pages, &mut page, progress)?;
     let out = page.finish()?;
     Ok((answer, paged?, out))
 }
 
 // The same on a device that is lent. What became of the page is told apart, so that the outcomes are printed before.
-fn outcomes_of_options<P: Paths, O: Out, W: Pages>(
+fn outcomes_of_options<P: Paths, O: Out, G: Progress, W: Pages>(
     alloc: Global,
     options: &OutcomesOptions<'_>,
     paths: &mut P,
     pages: &W,
     out: &mut O,
+    progress: &mut G,
 ) -> Result<(Answer, Result<Paged, Refusal>), Refusal>
     ensures { IfOk result (λ r. IsPrinted (P.content paths.old) options.now r.0
         (O.device out.old).contents (O.device out.new).contents) }
 {
     let stops = stops_of(alloc, options.stops.as_slice())?;
-    let answer = outcomes_with_stops(alloc, options, stops.as_slice(), paths, pages, out);
+    let answer = outcomes_with_stops(
+        alloc,
+        options,
+        stops.as_slice(),
+        paths,
+        pages,
+        out,
+        progress,
+    );
     drop(stops);
     answer
 }
 
 // The same with the stops that are looked for.
-fn outcomes_with_stops<P: Paths, O: Out, W: Pages>(
+fn outcomes_with_stops<P: Paths, O: Out, G: Progress, W: Pages>(
     alloc: Global,
     options: &OutcomesOptions<'_>,
     stops: &[Stop],
     paths: &mut P,
     pages: &W,
     out: &mut O,
+    progress: &mut G,
 ) -> Result<(Answer, Result<Paged, Refusal>), Refusal>
     requires { AreStops options.now.stops.items stops.now }
     ensures { IfOk result (λ r. IsPrinted (P.content paths.old) options.now r.0
@@ -109,7 +123,9 @@ fn outcomes_with_stops<P: Paths, O: Out, W: Pages>(
         most,
     };
     let text = read_file(options.machine.file, paths)?;
-    let found = search_of_text(alloc, &asked, &settings, text.as_slice())?;
+    let made = search_of_text(alloc, &asked, &settings, text.as_slice(), progress);
+    progress.end();
+    let found = made?;
     write(alloc, options, &found, out)?;
     let answer = Answer::of(options.asks_stuck, &found.search);
     let told = found.search.outcomes.as_slice();
@@ -150,11 +166,12 @@ fn write_words<O: Out>(
 }
 
 // Searches a program's text. What is made in one of these functions is lent to the next, so that each has little to drop.
-fn search_of_text(
+fn search_of_text<G: Progress>(
     alloc: Global,
     asked: &Asked<'_>,
     settings: &Settings<'_>,
     text: &[u8],
+    progress: &mut G,
 ) -> Result<Found, Refusal>
     requires { 1 ≤ asked.now.most }
     ensures { IfOk result (λ found. (file : ProgramFile) × IsFile text.now file × (trial : Trial)
@@ -163,18 +180,19 @@ fn search_of_text(
         × IsFound file trial asked.now.most found) }
 {
     let file = ProgramFile::read(alloc, text)?;
-    let found = search_of_file(alloc, asked, settings, text, &file);
+    let found = search_of_file(alloc, asked, settings, text, &file, progress);
     drop(file);
     found
 }
 
 // The same of a program's file that was read.
-fn search_of_file(
+fn search_of_file<G: Progress>(
     alloc: Global,
     asked: &Asked<'_>,
     settings: &Settings<'_>,
     text: &[u8],
     file: &ProgramFile<'_>,
+    progress: &mut G,
 ) -> Result<Found, Refusal>
     requires { 1 ≤ asked.now.most }
     ensures { IfOk result (λ found. (trial : Trial) × (setup : Setup) × IsSetup file.now settings.now setup
@@ -194,7 +212,15 @@ fn search_of_file(
     let listed = asked.under.listed(alloc)?;
     let events = asked.under.events(listed.as_slice());
     let setup = Setup::of_file(alloc, settings, file)?;
-    let search = search_of_setup(alloc, asked, items.as_slice(), &ends, events, &setup)?;
+    let search = search_of_setup(
+        alloc,
+        asked,
+        items.as_slice(),
+        &ends,
+        events,
+        &setup,
+        progress,
+    )?;
     Ok(Found { search, labels })
 }
 
@@ -209,13 +235,14 @@ fn asks_more(options: &OutcomesOptions<'_>) -> bool
 }
 
 // The same of a machine, with what is shown and checked of it.
-fn search_of_setup<'x>(
+fn search_of_setup<'x, G: Progress>(
     alloc: Global,
     asked: &'x Asked<'x>,
     items: &'x [Item],
     ends: &'x EndChecks,
     events: Events<'x>,
     setup: &'x Setup,
+    progress: &mut G,
 ) -> Result<Search, Refusal>
     requires most { 1 ≤ asked.now.most }
     requires under { AreUnder asked.now.under events }
@@ -231,15 +258,20 @@ fn search_of_setup<'x>(
         stops: asked.stops,
         checks,
     };
-    sorted(alloc, &trial, asked.most)
+    sorted(alloc, &trial, asked.most, progress)
 }
 
 // The same of a machine, with what is shown of it: the outcomes stand in the order of their values.
-fn sorted(alloc: Global, trial: &Trial<'_>, most: u32) -> Result<Search, Refusal>
+fn sorted<G: Progress>(
+    alloc: Global,
+    trial: &Trial<'_>,
+    most: u32,
+    progress: &mut G,
+) -> Result<Search, Refusal>
     requires { 1 ≤ most }
     ensures { IfOk result (IsSorted trial.now most) }
 {
-    let mut search = search(alloc, trial, most)?;
+    let mut search = search(alloc, trial, most, progress)?;
     sort(&mut search.outcomes);
     Ok(search)
 }
@@ -258,7 +290,12 @@ fn limit_of(text: Option<&str>) -> Result<u32, Refusal>
 }
 
 // Searches, where what is to be shown is there.
-fn search(alloc: Global, trial: &Trial<'_>, most: u32) -> Result<Search, Refusal>
+fn search<G: Progress>(
+    alloc: Global,
+    trial: &Trial<'_>,
+    most: u32,
+    progress: &mut G,
+) -> Result<Search, Refusal>
     requires { 1 ≤ most }
     ensures there { OnOk result (AreThere trial.now) }
     ensures found { IfOk result (IsSearch trial.now most) }
@@ -267,7 +304,8 @@ fn search(alloc: Global, trial: &Trial<'_>, most: u32) -> Result<Search, Refusal
     if !trial.has_all() {
         return Err(Refusal::Fault(Fault::OutOfRange));
     }
-    match searched(alloc, trial, most) {
+    let mut watched = Watched { progress, most };
+    match outcomes_watched(alloc, trial, most, &mut watched) {
         Ok(search) => Ok(search),
         Err(SearchFault::BadLimits) => {
             Err(Refusal::Fault(Fault::Machine(MachineFault::BadLimits)))

@@ -7,7 +7,7 @@ ghost use Rattle.elide_args.specs.Asked.{texts_of};
 ghost use Rattle.elide_object.specs.Object.{SendsMember, list_value, object_text};
 ghost use Rattle.serde_json.specs.Events.{SendsValue};
 ghost use Rattle.elide_setup.specs.TmHist.Lines.{stop_word};
-ghost use Rattle.elide_outcomes.specs.Object.{IsObjectWritten, outcome_value, search_value, stop_value, stuck_value};
+ghost use Rattle.elide_outcomes.specs.Object.{IsObjectWritten, cycle_value, outcome_value, search_value, stop_value, stuck_value};
 ghost use Rattle.elide_outcomes.specs.Sent.{object_value};
 
 use crate::search_object::SearchObject;
@@ -21,7 +21,7 @@ use elide_setup::{Fault, Refusal, RunFault};
 use ia_text::Out;
 use serde::{Described, Serialize, Serializer};
 use std::alloc::{AllocError, Global};
-use tm_outcomes::{ReachedStop, Search, Stop, Stuck, Told};
+use tm_outcomes::{Cycle, ReachedStop, Search, Stop, Stuck, Told};
 
 /// Prints the object of a search whose outcomes stand in the order in which they are told, with the words of `--show`.
 pub fn tell_object<O: Out>(
@@ -72,7 +72,7 @@ impl Described for SearchObject<'_, '_> {
 impl Serialize for SearchObject<'_, '_> {
     fn serialize<S: Serializer>(&self, out: &mut S) -> Result<(), S::Error> {
         let search = self.search;
-        out.begin_map(Some(10))?;
+        out.begin_map(Some(11))?;
         send_number("format", 1, out)?;
         send_text("command", "outcomes", out)?;
         send_texts("show", self.show, out)?;
@@ -80,6 +80,7 @@ impl Serialize for SearchObject<'_, '_> {
         send_violations(self.options, search.violations.as_slice(), out)?;
         send_stops(search.stops.as_slice(), out)?;
         send_stuck(&search.stuck, out)?;
+        send_cycle(&search.cycle, out)?;
         send_number("states", u64::from(search.states), out)?;
         send_flag("whole", !search.is_cut, out)?;
         send_number("status", self.status, out)?;
@@ -175,5 +176,25 @@ fn send_stuck_states<S: Serializer>(stuck: &Stuck, out: &mut S) -> Result<(), S:
     out.begin_map(Some(2))?;
     send_number("states", u64::from(stuck.states), out)?;
     send_schedule("schedule", stuck.schedule.as_slice(), out)?;
+    out.end_map()
+}
+
+fn send_cycle<S: Serializer>(cycle: &Option<Cycle>, out: &mut S) -> Result<(), S::Error>
+    ensures { OnOk result (SendsMember (codes "cycle") (cycle_value cycle.now) (S.written out.old) (S.written out.new)) }
+{
+    out.key("cycle")?;
+    match cycle {
+        Some(cycle) => send_cycle_states(cycle, out),
+        None => out.unit(),
+    }
+}
+
+fn send_cycle_states<S: Serializer>(cycle: &Cycle, out: &mut S) -> Result<(), S::Error>
+    ensures { OnOk result (SendsValue (cycle_value (Some cycle.now)) (S.written out.old) (S.written out.new)) }
+{
+    out.begin_map(Some(3))?;
+    send_number("states", u64::from(cycle.states), out)?;
+    send_schedule("schedule", cycle.schedule.as_slice(), out)?;
+    send_schedule("steps", cycle.steps.as_slice(), out)?;
     out.end_map()
 }

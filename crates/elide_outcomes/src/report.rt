@@ -7,7 +7,8 @@ ghost use Rattle.ia_text.specs.Number.{eight_digits};
 ghost use Rattle.ia_text.specs.Writing.{Wrote, Writes};
 ghost use Rattle.std.specs.Fmt.{decimal};
 ghost use Rattle.elide_args.specs.Asked.{texts_of};
-ghost use Rattle.elide_outcomes.specs.Lines.{AreInOrder, count_line, counts_text, cut_text, ends_text, has_words};
+ghost use Rattle.elide_outcomes.specs.Lines.{AreInOrder, count_line, counts_text, cut_text, cycle_line, cycle_lines, cycle_text};
+ghost use Rattle.elide_outcomes.specs.Lines.{ends_text, has_words};
 ghost use Rattle.elide_outcomes.specs.Lines.{item_text, outcome_line, outcome_lines, search_text, shown_lines, states_text, step_text, stop_line};
 ghost use Rattle.elide_outcomes.specs.Lines.{stop_lines, stuck_line, stuck_lines, stuck_text, wayless_text};
 
@@ -22,7 +23,7 @@ use ia_text::page::{push, push_eight};
 use ia_text::text_line::TextLine;
 use ia_text::{Out, WriteFault};
 use itoa::Buffer;
-use tm_outcomes::{Pick, ReachedStop, Search, Stuck, Told};
+use tm_outcomes::{Cycle, Pick, ReachedStop, Search, Stuck, Told};
 
 /// Puts outcomes in the order of their values.
 pub fn sort(outcomes: &mut Vec<Told>)
@@ -49,6 +50,7 @@ pub fn tell<O: Out>(
     tell_violations(options, search.violations.as_slice(), out)?;
     tell_stops(search.stops.as_slice(), out)?;
     tell_stuck(options.asks_stuck, &search.stuck, out)?;
+    tell_cycle(options.asks_stuck, &search.cycle, out)?;
     tell_counts(shows, search, out)?;
     Ok(())
 }
@@ -222,6 +224,44 @@ fn tell_stuck_line<O: Out>(stuck: &Stuck, out: &mut O) -> Result<(), WriteFault>
     out.put(b"stuck ")?;
     tell_ends(stuck.states, out)?;
     tell_steps(stuck.schedule.as_slice(), out)?;
+    out.put(b"\n")?;
+    Ok(())
+}
+
+// The line of states from which all cores can go on for ever though they need not, where it is asked for.
+fn tell_cycle<O: Out>(
+    asks_stuck: bool,
+    cycle: &Option<Cycle>,
+    out: &mut O,
+) -> Result<(), WriteFault>
+    ensures { OnOk result (Wrote (O.device out.old) (O.device out.new) (cycle_lines asks_stuck cycle.now)) }
+{
+    if asks_stuck {
+        tell_cycle_states(cycle, out)
+    } else {
+        Ok(())
+    }
+}
+
+// That line, where there are such.
+fn tell_cycle_states<O: Out>(cycle: &Option<Cycle>, out: &mut O) -> Result<(), WriteFault>
+    ensures { OnOk result (Wrote (O.device out.old) (O.device out.new) (cycle_text cycle.now)) }
+{
+    match cycle {
+        Some(cycle) => tell_cycle_line(cycle, out),
+        None => Ok(()),
+    }
+}
+
+// How many there are, the steps of a schedule, and behind a bar the steps that can be made for ever.
+fn tell_cycle_line<O: Out>(cycle: &Cycle, out: &mut O) -> Result<(), WriteFault>
+    ensures { OnOk result (Wrote (O.device out.old) (O.device out.new) (cycle_line cycle.now)) }
+{
+    out.put(b"cycle ")?;
+    tell_ends(cycle.states, out)?;
+    tell_steps(cycle.schedule.as_slice(), out)?;
+    out.put(b" |")?;
+    tell_steps(cycle.steps.as_slice(), out)?;
     out.put(b"\n")?;
     Ok(())
 }

@@ -12,13 +12,13 @@ pub enum Answer {
     Whole,
     /// The limit on states was reached.
     Cut,
-    /// An end that violates a check was found, a stop that was looked for, or a state without a way to an end that was
-    /// asked for.
+    /// An end that violates a check was found, a stop that was looked for, or, where it was asked for, a state without a way
+    /// to an end or a cycle that can be made for ever.
     Faulty,
 }
 
 impl Answer {
-    /// That of a search, where states without a way to an end are asked for or are not.
+    /// That of a search, where states without a way to an end, and cycles, are asked for or are not.
     pub fn of(asks_stuck: bool, search: &Search) -> Answer
         ensures { result ≡ answer_of asks_stuck search.now }
     {
@@ -48,7 +48,7 @@ fn is_faulty(asks_stuck: bool, search: &Search) -> bool
 {
     has_violations(search.violations.as_slice())
         || has_stops(search.stops.as_slice())
-        || (asks_stuck && search.stuck.is_some())
+        || (asks_stuck && (search.stuck.is_some() || search.cycle.is_some()))
 }
 
 fn has_violations(violations: &[Violation]) -> bool

@@ -9,7 +9,7 @@ use Rattle.elide_outcomes.proofs.Trials.{found_of_file}
 use Rattle.elide_outcomes.proofs.command.search_of_file.Goals as goal
 
 pub returns : goal.returns
-returns c =
+returns g c =
     let asked = c.args.asked.now in
     let options = asked.options.now in
     let text = c.args.text.now in

@@ -4,7 +4,7 @@ use Rattle.elide_outcomes.proofs.Trials.{IsFoundOf, IsFoundOfText}
 use Rattle.elide_outcomes.proofs.command.search_of_text.Goals as goal
 
 pub returns : goal.returns
-returns c =
+returns g c =
     let settings = c.args.settings.now in
     let asked = c.args.asked.now in
     let text = c.args.text.now in

@@ -2,7 +2,7 @@ use Rattle.std.proofs.Common.{refl}
 use Rattle.elide_outcomes.proofs.command.sorted.Goals as goal
 
 pub returns : goal.returns
-returns c = record {
+returns g c = record {
   there = c.in_ok-search.ensures.there;
   search = c.in_ok-search.search;
   searched = c.in_ok-search.ensures.found;
@@ -11,6 +11,7 @@ returns c = record {
   states = refl;
   cut = refl;
   stuck = refl;
+  cycle = refl;
   stops = refl;
   violations = refl;
 }

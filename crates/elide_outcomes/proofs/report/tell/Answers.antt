@@ -2,7 +2,7 @@ use Rattle.std.proofs.Common.{Bool, ◌++◌, length, subst}
 use Rattle.elide_args.specs.Asked.{texts_of}
 use Rattle.ia_text.proofs.Writing.{wrote_then}
 use Rattle.ia_text.specs.Writing.{Wrote}
-use Rattle.elide_outcomes.specs.Lines.{count_line, items_line, shown_lines, stop_lines, stuck_lines}
+use Rattle.elide_outcomes.specs.Lines.{count_line, cycle_lines, items_line, shown_lines, stop_lines, stuck_lines}
 use Rattle.elide_outcomes.specs.Violated.{violation_lines}
 use Rattle.elide_outcomes.proofs.report.tell.Goals as goal
 
@@ -19,10 +19,11 @@ returns g c =
     (items_line options.shows_names (texts_of c.args.words.now)
     ++ shown_lines shows c.args.labels.now search.outcomes.items
     ++ violation_lines options search.violations.items ++ stop_lines search.stops.items
-    ++ stuck_lines options.asks_stuck search.stuck
+    ++ stuck_lines options.asks_stuck search.stuck ++ cycle_lines options.asks_stuck search.cycle
     ++ count_line shows (length search.outcomes.items) search.states search.stuck search.is_cut))
     c.has_words-shows.ensures
     (wrote_then
-    (wrote_then (wrote_then (wrote_then (wrote_then c.in_ok-tell_items.ensures shown) violated) stops)
+    (wrote_then (wrote_then (wrote_then (wrote_then (wrote_then c.in_ok-tell_items.ensures shown) violated) stops)
     c.in_ok-tell_stuck.ensures)
+    c.in_ok-tell_cycle.ensures)
     c.in_ok-tell_counts.ensures)

@@ -20,6 +20,7 @@ returns g c =
     let stops = sent_equal (codes "stops") (list_value stop_value) _ search.stops.items _ _
     c.as_slice-3.ensures.value c.in_ok-send_stops.ensures in
     let stuck = c.in_ok-send_stuck.ensures in
+    let cycle = c.in_ok-send_cycle.ensures in
     let states = sent_equal (codes "states") number_value _ search.states _ _ c.from.ensures c.in_ok-send_number-2.ensures in
     let whole = c.in_ok-send_flag.ensures in
     let status = c.in_ok-send_number-3.ensures in
@@ -62,16 +63,22 @@ returns g c =
                     stuck.1,
                     stuck.2,
                     (
-                      states.0,
-                      written c.send_number-2.new.out,
-                      states.1,
-                      states.2,
+                      cycle.0,
+                      written c.send_cycle.new.out,
+                      cycle.1,
+                      cycle.2,
                       (
-                        whole.0,
-                        written c.send_flag.new.out,
-                        whole.1,
-                        whole.2,
-                        (status.0, written c.send_number-3.new.out, status.1, status.2, ended),
+                        states.0,
+                        written c.send_number-2.new.out,
+                        states.1,
+                        states.2,
+                        (
+                          whole.0,
+                          written c.send_flag.new.out,
+                          whole.1,
+                          whole.2,
+                          (status.0, written c.send_number-3.new.out, status.1, status.2, ended),
+                        ),
                       ),
                     ),
                   ),
