@@ -1,5 +1,6 @@
 pub mod Shares
 pub mod Again
+pub mod Cycles
 pub mod Lines
 pub mod Object
 pub mod Sent

@@ -11,8 +11,10 @@ use Rattle.tm_model.specs.declared.outcome.Pick.{Pick}
 use Rattle.tm_hunt.specs.Cost.{events_in, switches_of}
 use Rattle.tm_hunt.specs.Deciding.{deciding}
 use Rattle.elide_hunt.specs.Again.{hunt_command}
+use Rattle.elide_hunt.specs.Cycles.{cycle_text}
 use Rattle.tm_hunt.specs.declared.searching.Found.{Found}
 use Rattle.tm_hunt.specs.declared.searching.Search.{Search}
+use Rattle.elide_hunt.specs.declared.report.Beside.{Beside}
 use Rattle.elide_hunt.specs.declared.report.Counts.{Counts}
 
 -- no run fails: how many there are, how many of them ended, and how many reached the limit
@@ -91,17 +93,19 @@ told_line options run picks = told_command options run picks ++ line_end
 unfoldable pub run_front : ℕ → List ℕ
 run_front run = codes "run " ++ decimal run ++ codes " fails "
 
--- a run fails: the check, how long its schedule was and is, how much of it decides, and the command that replays that
-abbrev pub failure_text : HuntOptions → Counts → Found → List ℕ
-failure_text options before found =
+-- a run fails: the check, how long its schedule was and is, how much of it decides, the loop that it comes to, and the
+-- command that replays what decides
+abbrev pub failure_text : HuntOptions → Beside → Found → List ℕ
+failure_text options beside found =
     run_front found.run ++ (check_text options found.failure.check
-    ++ (counts_line before (counts_of found.failure.picks.items) found.failure.front
-    ++ told_line options found.run (deciding found.failure)))
+    ++ (counts_line beside.before (counts_of found.failure.picks.items) found.failure.front
+    ++ (cycle_text found.failure.picks.items beside.cycle
+    ++ told_line options found.run (deciding found.failure))))
 
 -- what a search came to
-abbrev pub search_lines : HuntOptions → Counts → ℕ → ℕ → Option Found → List ℕ
-search_lines options before ended cut None = none_line ended cut
-search_lines options before ended cut (Some found) = failure_text options before found
+abbrev pub search_lines : HuntOptions → Beside → ℕ → ℕ → Option Found → List ℕ
+search_lines options beside ended cut None = none_line ended cut
+search_lines options beside ended cut (Some found) = failure_text options beside found
 
-abbrev pub search_text : HuntOptions → Counts → Search → List ℕ
-search_text options before search = search_lines options before search.ended search.cut search.found
+abbrev pub search_text : HuntOptions → Beside → Search → List ℕ
+search_text options beside search = search_lines options beside search.ended search.cut search.found

@@ -1,13 +1,17 @@
 -- The object that `elide hunt --json` prints (docs/JSON.md, "hunt").
-use Rattle.std.specs.Prelude.{ℕ, ◌-◌, List, codes, length, Option, Some, None, slice_get}
+use Rattle.std.specs.Prelude.{ℕ, ◌-◌, nat_lt, List, codes, length, Option, Some, None, if◌then◌else◌, slice_get}
 use Rattle.std.specs.Borrow.{Bor}
 use Rattle.elide_args.specs.declared.hunt_options.HuntOptions.{HuntOptions}
 use Rattle.elide_object.specs.Object.{number_value, schedule_value}
 use Rattle.serde_json.specs.Data.{Data, member, no_members, null, object, string}
+use Rattle.tm_model.specs.declared.outcome.Pick.{Pick}
+use Rattle.tm_hunt.specs.Cycle.{loop_of}
 use Rattle.tm_hunt.specs.Deciding.{deciding}
+use Rattle.tm_hunt.specs.declared.cycle.Cycle.{Cycle}
 use Rattle.tm_hunt.specs.declared.searching.Found.{Found}
 use Rattle.tm_hunt.specs.declared.searching.Search.{Search}
 use Rattle.elide_hunt.specs.Lines.{counts_of, told_command}
+use Rattle.elide_hunt.specs.declared.report.Beside.{Beside}
 use Rattle.elide_hunt.specs.declared.report.Counts.{Counts}
 
 -- the option that says the check with this index: those of `--check` come first, then those of `--forbid`, then those
@@ -39,22 +43,39 @@ counts_value counts =
     (member (codes "switches") (number_value counts.switches)
     (member (codes "events") (number_value counts.events) no_members)))
 
--- the run that failed: its check, how long its schedule was and is, how many of its steps decide, these, and the
--- command that replays them or makes the run again
-abbrev pub failure_value : HuntOptions → Counts → List ℕ → Found → Data
-failure_value options before replay found =
+-- the steps of a loop, where they are at most 64
+abbrev pub loop_value : List Pick → Data
+loop_value steps = if nat_lt 64 (length steps) then null else schedule_value steps
+
+-- a loop of these steps: how many steps come before it, how many it has, and these
+abbrev pub told_cycle : Cycle → List Pick → Data
+told_cycle cycle steps =
+    object (member (codes "start") (number_value cycle.start)
+    (member (codes "steps") (number_value cycle.steps)
+    (member (codes "schedule") (loop_value steps) no_members)))
+
+-- the loop that a run of these steps comes to
+abbrev pub cycle_value : List Pick → Option Cycle → Data
+cycle_value picks None = null
+cycle_value picks (Some cycle) = told_cycle cycle (loop_of picks cycle)
+
+-- the run that failed: its check, how long its schedule was and is, how many of its steps decide, these, the loop that
+-- it comes to, and the command that replays what decides or makes the run again
+abbrev pub failure_value : HuntOptions → Beside → List ℕ → Found → Data
+failure_value options beside replay found =
     object (member (codes "run") (number_value found.run)
     (member (codes "check") (check_value options found.failure.check)
-    (member (codes "before") (counts_value before)
+    (member (codes "before") (counts_value beside.before)
     (member (codes "after") (counts_value (counts_of found.failure.picks.items))
     (member (codes "deciding") (number_value found.failure.front)
     (member (codes "schedule") (schedule_value (deciding found.failure))
-    (member (codes "replay") (string replay) no_members)))))))
+    (member (codes "cycle") (cycle_value found.failure.picks.items beside.cycle)
+    (member (codes "replay") (string replay) no_members))))))))
 
-abbrev pub found_value : HuntOptions → Counts → Option Found → Data
-found_value options before None = null
-found_value options before (Some found) =
-    failure_value options before (told_command options found.run (deciding found.failure)) found
+abbrev pub found_value : HuntOptions → Beside → Option Found → Data
+found_value options beside None = null
+found_value options beside (Some found) =
+    failure_value options beside (told_command options found.run (deciding found.failure)) found
 
 -- the exit status
 abbrev pub search_status : {A : Type 0} → Option A → ℕ
@@ -75,6 +96,6 @@ hunt_value ended cut failure status =
     (member (codes "status") (number_value status) no_members)))))
 
 -- what a search came to
-abbrev pub search_value : HuntOptions → Counts → Search → Data
-search_value options before search =
-    hunt_value search.ended search.cut (found_value options before search.found) (search_status search.found)
+abbrev pub search_value : HuntOptions → Beside → Search → Data
+search_value options beside search =
+    hunt_value search.ended search.cut (found_value options beside search.found) (search_status search.found)

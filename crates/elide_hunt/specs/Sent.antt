@@ -11,7 +11,7 @@ text_value None = null
 text_value (Some text) = string text
 
 abbrev pub sent_failure : FailureObject → Data
-sent_failure o = failure_value o.options.now o.before o.replay.now o.found.now
+sent_failure o = failure_value o.options.now o.beside o.replay.now o.found.now
 
 abbrev pub failure_of : Option FailureObject → Data
 failure_of None = null

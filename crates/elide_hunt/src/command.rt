@@ -10,6 +10,7 @@ ghost use Rattle.elide_setup.specs.Recorded.{IsRecorded};
 ghost use Rattle.elide_setup.specs.Setup.{IsSetup};
 ghost use Rattle.elide_setup.specs.declared.machine.Setup.{Setup};
 ghost use Rattle.tm_hunt.specs.Attempts.{IsFailure, IsSearch};
+ghost use Rattle.tm_hunt.specs.Cycle.{IsCycle};
 ghost use Rattle.tm_hunt.specs.Deciding.{cost_told, deciding};
 ghost use Rattle.tm_hunt.specs.Kept.{KeepsKinds};
 ghost use Rattle.tm_hunt.specs.declared.trial.Trial.{Trial};
@@ -20,7 +21,7 @@ ghost use Rattle.elide_hunt.specs.Printed.{IsHunted, IsPrinted, IsTold, IsTrialO
 
 use crate::fault::fault_of;
 use crate::object::tell_object;
-use crate::report::{Counts, counts_of, tell_lines};
+use crate::report::{Beside, counts_of, tell_lines};
 use crate::searching::searched;
 use elide_args::HuntOptions;
 use elide_checks::{
@@ -31,7 +32,7 @@ use elide_setup::{Paged, Pages, page_path};
 use ia_text::Out;
 use std::alloc::Global;
 use std::thread::Threads;
-use tm_hunt::{Failure, Found, Search, Trial, shorten, usual_length};
+use tm_hunt::{Cycle, Failure, Found, Search, Trial, find_cycle, shorten, usual_length};
 use tm_pick::Plan;
 
 /// What a search came to.
@@ -76,7 +77,7 @@ pub fn hunt<R: Threads + Sync + AllocGlobal, P: Paths, O: Out + Drop, G: Progres
     let text = read_file(options.machine.file, paths)?;
     let made = hunted(rt, options, &settings, &orders, text.as_slice(), progress);
     progress.end();
-    let (search, before) = made?;
+    let (search, beside) = made?;
     let paged = write_page(
         rt.alloc(),
         options,
@@ -88,7 +89,7 @@ pub fn hunt<R: Threads + Sync + AllocGlobal, P: Paths, O: Out + Drop, G: Progres
     );
     drop(text);
     write_record(&search, path, paths)?;
-    let (answer, out) = tell(rt.alloc(), options, &search, before, out)?;
+    let (answer, out) = tell(rt.alloc(), options, &search, beside, out)?;
     Ok((answer, paged?, out))
 }
 
@@ -127,17 +128,17 @@ fn tell<O: Out + Drop>(
     alloc: Global,
     options: &HuntOptions<'_>,
     search: &Search,
-    before: Counts,
+    beside: Beside,
     out: O,
 ) -> Result<(Answer, O), Refusal>
-    ensures { IfOk result (λ r. IsTold options.now before search.now r.0
+    ensures { IfOk result (λ r. IsTold options.now beside search.now r.0
         (O.device out).contents (O.device r.1).contents) }
 {
     if options.is_json {
-        let out = put_object(alloc, options, search, before, out)?;
+        let out = put_object(alloc, options, search, beside, out)?;
         Ok((Answer::of(search), out))
     } else {
-        let out = put_lines(options, search, before, out)?;
+        let out = put_lines(options, search, beside, out)?;
         Ok((Answer::of(search), out))
     }
 }
@@ -147,14 +148,14 @@ fn put_object<O: Out + Drop>(
     alloc: Global,
     options: &HuntOptions<'_>,
     search: &Search,
-    before: Counts,
+    beside: Beside,
     out: O,
 ) -> Result<O, Refusal>
     ensures { IfOk result (λ given. Appends (O.device out).contents (O.device given).contents
-        (object_text (search_value options.now before search.now))) }
+        (object_text (search_value options.now beside search.now))) }
 {
     let mut page = Gathered::new(out);
-    tell_object(alloc, options, search, before, &mut page)?;
+    tell_object(alloc, options, search, beside, &mut page)?;
     let out = page.finish()?;
     Ok(out)
 }
@@ -163,19 +164,19 @@ fn put_object<O: Out + Drop>(
 fn put_lines<O: Out + Drop>(
     options: &HuntOptions<'_>,
     search: &Search,
-    before: Counts,
+    beside: Beside,
     out: O,
 ) -> Result<O, Refusal>
     ensures { IfOk result (λ given. Appends (O.device out).contents (O.device given).contents
-        (search_text options.now before search.now)) }
+        (search_text options.now beside search.now)) }
 {
     let mut page = Gathered::new(out);
-    tell_lines(options, search, before, &mut page)?;
+    tell_lines(options, search, beside, &mut page)?;
     let out = page.finish()?;
     Ok(out)
 }
 
-// Searches the program of a file, and shortens the schedule that is found; with how long that was before.
+// Searches the program of a file, and shortens the schedule that is found; with what is told beside it.
 fn hunted<R: Threads + Sync + AllocGlobal, G: Progress>(
     rt: &R,
     options: &HuntOptions<'_>,
@@ -183,7 +184,7 @@ fn hunted<R: Threads + Sync + AllocGlobal, G: Progress>(
     orders: &Orders,
     text: &[u8],
     progress: &mut G,
-) -> Result<(Search, Counts), Refusal>
+) -> Result<(Search, Beside), Refusal>
     ensures { IfOk result (λ made. (file : ProgramFile) × (setup : Setup) × (trial : Trial) × IsFile text.now file
         × IsSetup file settings.now setup × IsTrialOf text.now file options.now setup trial
         × IsHunted trial orders.now.events orders.now.first orders.now.end made.1 made.0) }
@@ -206,7 +207,7 @@ fn hunted_in<R: Threads + Sync + AllocGlobal, G: Progress>(
     setup: &Setup,
     orders: &Orders,
     progress: &mut G,
-) -> Result<(Search, Counts), Refusal>
+) -> Result<(Search, Beside), Refusal>
     ensures { (text : List ℕ) (file : ProgramFile) (options : HuntOptions) →
         AreChecks text file options demands.now.checks.items →
         IfOk result (λ made. (trial : Trial) × IsTrialOf text file options setup.now trial
@@ -222,24 +223,29 @@ fn hunted_in<R: Threads + Sync + AllocGlobal, G: Progress>(
     shortest(rt, &trial, orders, progress)
 }
 
-// A search whose schedule is shortened, with how long it was before.
+// A search whose schedule is shortened, with how long it was before and the loop that it comes to.
 fn shortest<R: Threads + Sync + AllocGlobal, G: Progress>(
     rt: &R,
     trial: &Trial<'_>,
     orders: &Orders,
     progress: &mut G,
-) -> Result<(Search, Counts), Refusal>
+) -> Result<(Search, Beside), Refusal>
     ensures { IfOk result (λ made. IsHunted trial.now orders.now.events orders.now.first orders.now.end made.1 made.0) }
 {
     let Search { found, ended, cut } = tried(rt, trial, orders, progress)?;
     let Some(Found { run, mut failure }) = found else {
         let found = None;
-        return Ok((Search { found, ended, cut }, counts_of(&[])));
+        let beside = Beside {
+            before: counts_of(&[]),
+            cycle: None,
+        };
+        return Ok((Search { found, ended, cut }, beside));
     };
     let before = counts_of(failure.picks.as_slice());
     shortened(rt.alloc(), trial, &mut failure)?;
+    let cycle = cycle_of(rt.alloc(), trial, &failure)?;
     let found = Some(Found { run, failure });
-    Ok((Search { found, ended, cut }, before))
+    Ok((Search { found, ended, cut }, Beside { before, cycle }))
 }
 
 // Makes the runs.
@@ -274,6 +280,16 @@ fn shortened(alloc: Global, trial: &Trial<'_>, failure: &mut Failure) -> Result<
 {
     match shorten(alloc, trial, failure) {
         Ok(()) => Ok(()),
+        Err(fault) => Err(Refusal::Fault(fault_of(fault))),
+    }
+}
+
+// Looks for the loop that a run comes to.
+fn cycle_of(alloc: Global, trial: &Trial<'_>, failure: &Failure) -> Result<Option<Cycle>, Refusal>
+    ensures { IfOk result (λ found. IfSome found (IsCycle trial.now failure.now)) }
+{
+    match find_cycle(alloc, trial, failure) {
+        Ok(found) => Ok(found),
         Err(fault) => Err(Refusal::Fault(fault_of(fault))),
     }
 }

@@ -9,7 +9,7 @@ ghost use Rattle.elide_hunt.specs.Object.{found_value, hunt_value, search_value}
 ghost use Rattle.elide_hunt.specs.Sent.{object_value};
 
 use crate::replay::command_bytes;
-use crate::report::Counts;
+use crate::report::Beside;
 use crate::sending::{FailureObject, HuntObject};
 use elide_args::HuntOptions;
 use elide_checks::{Fault, Refusal, RunFault};
@@ -19,18 +19,18 @@ use std::alloc::{AllocError, Global};
 use std::str;
 use tm_hunt::{Found, Search};
 
-/// Prints the object of a search, with how long the schedule of its failure was.
+/// Prints the object of a search, with what is told beside its failure.
 pub fn tell_object<O: Out>(
     alloc: Global,
     options: &HuntOptions<'_>,
     search: &Search,
-    before: Counts,
+    beside: Beside,
     out: &mut O,
 ) -> Result<(), Refusal>
     ensures { OnOk result (Appends (O.device out.old).contents (O.device out.new).contents
-        (object_text (search_value options.now before search.now))) }
+        (object_text (search_value options.now beside search.now))) }
 {
-    match search_line(alloc, options, search, before) {
+    match search_line(alloc, options, search, beside) {
         Ok(line) => {
             out.put(line.as_bytes())?;
             Ok(())
@@ -43,13 +43,13 @@ fn search_line(
     alloc: Global,
     options: &HuntOptions<'_>,
     search: &Search,
-    before: Counts,
+    beside: Beside,
 ) -> Result<String, AllocError>
-    ensures { IfOk result (λ line. string_bytes line ≡ object_text (search_value options.now before search.now)) }
+    ensures { IfOk result (λ line. string_bytes line ≡ object_text (search_value options.now beside search.now)) }
 {
     let (ended, cut) = (search.ended, search.cut);
     match &search.found {
-        Some(found) => failure_line(alloc, options, found, before, ended, cut),
+        Some(found) => failure_line(alloc, options, found, beside, ended, cut),
         None => line_of(
             alloc,
             &HuntObject {
@@ -66,12 +66,12 @@ fn failure_line(
     alloc: Global,
     options: &HuntOptions<'_>,
     found: &Found,
-    before: Counts,
+    beside: Beside,
     ended: u32,
     cut: u32,
 ) -> Result<String, AllocError>
     ensures { IfOk result (λ line. string_bytes line ≡ object_text (hunt_value ended cut
-        (found_value options.now before (Some found.now)) 3)) }
+        (found_value options.now beside (Some found.now)) 3)) }
 {
     let command = command_bytes(alloc, options, found.run, found.failure.deciding())?;
     // The words of a command line are UTF-8, and what stands between them is ASCII: this refuses nothing.
@@ -81,7 +81,7 @@ fn failure_line(
     let failure = Some(FailureObject {
         options,
         found,
-        before,
+        beside,
         replay,
     });
     line_of(

@@ -7,13 +7,14 @@ ghost use Rattle.ia_text.specs.Writing.{Wrote};
 ghost use Rattle.elide_hunt.specs.Lines.{check_text, counts_line, counts_of, counts_text, deciding_text};
 ghost use Rattle.elide_hunt.specs.Lines.{events_text, failure_text, front_text, none_line, run_front, search_text, some_text};
 
+use crate::cycle::put_cycle;
 use crate::replay::put_line;
 use arrayvec::ArrayVec;
 use elide_args::HuntOptions;
 use ia_text::page::push;
 use ia_text::{Failed, Out};
 use itoa::Buffer;
-use tm_hunt::{Found, Search, events, switches};
+use tm_hunt::{Cycle, Found, Search, events, switches};
 use tm_model::Pick;
 
 /// How long a schedule is.
@@ -25,6 +26,15 @@ pub struct Counts {
     pub switches: usize,
     /// How many of its steps come under an event.
     pub events: usize,
+}
+
+/// What is told of a run that failed, beside the run.
+#[derive(Clone, Copy)]
+pub struct Beside {
+    /// How long its schedule was before it was shortened.
+    pub before: Counts,
+    /// The loop that it comes to, where one is found.
+    pub cycle: Option<Cycle>,
 }
 
 /// How long this one is.
@@ -41,17 +51,17 @@ pub fn counts_of(picks: &[Pick]) -> Counts
 /// A line of numbers.
 pub type Line = ArrayVec<u8, 320>;
 
-/// Prints the lines of a search, with how long the schedule of its failure was.
+/// Prints the lines of a search, with what is told beside its failure.
 pub fn tell_lines<O: Out>(
     options: &HuntOptions<'_>,
     search: &Search,
-    before: Counts,
+    beside: Beside,
     out: &mut O,
 ) -> Result<(), Failed>
-    ensures { OnOk result (Wrote (O.device out.old) (O.device out.new) (search_text options.now before search.now)) }
+    ensures { OnOk result (Wrote (O.device out.old) (O.device out.new) (search_text options.now beside search.now)) }
 {
     match &search.found {
-        Some(found) => tell_failure(options, found, before, out),
+        Some(found) => tell_failure(options, found, beside, out),
         None => tell_none(search.ended, search.cut, out),
     }
 }
@@ -88,24 +98,25 @@ pub fn push_decimal(line: &mut Line, number: u64)
     push(line, Buffer::new().format(number).as_bytes());
 }
 
-// Tells the run that failed, what it failed, how long its schedule was and is, how much of it decides, and the command
-// that replays that.
+// Tells the run that failed, what it failed, how long its schedule was and is, how much of it decides, the loop that it
+// comes to, and the command that replays what decides.
 fn tell_failure<O: Out>(
     options: &HuntOptions<'_>,
     found: &Found,
-    before: Counts,
+    beside: Beside,
     out: &mut O,
 ) -> Result<(), Failed>
-    ensures { OnOk result (Wrote (O.device out.old) (O.device out.new) (failure_text options.now before found.now)) }
+    ensures { OnOk result (Wrote (O.device out.old) (O.device out.new) (failure_text options.now beside found.now)) }
 {
     put_run(found.run, out)?;
     put_check(options, found.failure.check, out)?;
     put_counts(
-        before,
+        beside.before,
         counts_of(found.failure.picks.as_slice()),
         found.failure.front,
         out,
     )?;
+    put_cycle(beside.cycle, found.failure.picks.as_slice(), out)?;
     put_line(options, found.run, found.failure.deciding(), out)
 }
 

@@ -4,14 +4,18 @@ ghost use Rattle.std.specs.Prelude.{◌≡◌, OnOk, codes};
 ghost use Rattle.std.specs.Option.{option_copied};
 ghost use Rattle.elide_object.specs.Object.{SendsMember};
 ghost use Rattle.serde_json.specs.Events.{SendsValue};
-ghost use Rattle.elide_hunt.specs.Object.{check_value, counts_value, option_value, runs_value, search_status};
+ghost use Rattle.elide_hunt.specs.Object.{check_value, counts_value, cycle_value, loop_value, option_value, runs_value};
+ghost use Rattle.elide_hunt.specs.Object.{search_status, told_cycle};
+ghost use Rattle.tm_hunt.specs.Cycle.{loop_of};
 ghost use Rattle.elide_hunt.specs.Sent.{failure_of, object_value, sent_failure, text_value};
 
-use crate::report::{Counts, counts_of};
+use crate::cycle::MOST_TOLD;
+use crate::report::{Beside, Counts, counts_of};
 use elide_args::HuntOptions;
 use elide_object::{send_number, send_schedule, send_text};
 use serde::{Described, Serialize, Serializer};
-use tm_hunt::Found;
+use tm_hunt::{Cycle, Found};
+use tm_model::Pick;
 
 /// What a search came to.
 #[derive(Clone, Copy)]
@@ -31,8 +35,8 @@ pub struct FailureObject<'a, 'o> {
     pub options: &'a HuntOptions<'o>,
     /// The run, with its shortened schedule and how much of it decides.
     pub found: &'a Found,
-    /// How long its schedule was.
-    pub before: Counts,
+    /// What is told beside it.
+    pub beside: Beside,
     /// The command that replays what decides of it, or makes the run again.
     pub replay: &'a str,
 }
@@ -93,13 +97,14 @@ impl FailureObject<'_, '_> {
         ensures { OnOk result (SendsValue (sent_failure self.now) (S.written out.old) (S.written out.new)) }
     {
         let failure = &self.found.failure;
-        out.begin_map(Some(7))?;
+        out.begin_map(Some(8))?;
         send_number("run", u64::from(self.found.run), out)?;
         send_check(self.options, failure.check, out)?;
-        send_counts("before", self.before, out)?;
+        send_counts("before", self.beside.before, out)?;
         send_counts("after", counts_of(failure.picks.as_slice()), out)?;
         send_number("deciding", failure.front as u64, out)?;
         send_schedule("schedule", failure.deciding(), out)?;
+        send_cycle(self.beside.cycle, failure.picks.as_slice(), out)?;
         send_text("replay", self.replay, out)?;
         out.end_map()
     }
@@ -160,4 +165,41 @@ fn send_counts<S: Serializer>(name: &str, counts: Counts, out: &mut S) -> Result
     send_number("switches", counts.switches as u64, out)?;
     send_number("events", counts.events as u64, out)?;
     out.end_map()
+}
+
+// Sends the loop that a run of these steps comes to, if any.
+fn send_cycle<S: Serializer>(
+    cycle: Option<Cycle>,
+    picks: &[Pick],
+    out: &mut S,
+) -> Result<(), S::Error>
+    ensures { OnOk result (SendsMember (codes "cycle") (cycle_value picks.now cycle) (S.written out.old) (S.written out.new)) }
+{
+    out.key("cycle")?;
+    match cycle {
+        Some(cycle) => send_told(cycle, picks, out),
+        None => out.unit(),
+    }
+}
+
+// Sends a loop of a run of these steps.
+fn send_told<S: Serializer>(cycle: Cycle, picks: &[Pick], out: &mut S) -> Result<(), S::Error>
+    ensures { OnOk result (SendsValue (told_cycle cycle (loop_of picks.now cycle)) (S.written out.old) (S.written out.new)) }
+{
+    out.begin_map(Some(3))?;
+    send_number("start", cycle.start as u64, out)?;
+    send_number("steps", cycle.steps as u64, out)?;
+    send_loop(cycle.steps_of(picks), out)?;
+    out.end_map()
+}
+
+// Sends the steps, where they are few.
+fn send_loop<S: Serializer>(steps: &[Pick], out: &mut S) -> Result<(), S::Error>
+    ensures { OnOk result (SendsMember (codes "schedule") (loop_value steps.now) (S.written out.old) (S.written out.new)) }
+{
+    if steps.len() > MOST_TOLD {
+        out.key("schedule")?;
+        return out.unit();
+    }
+    send_schedule("schedule", steps, out)
 }

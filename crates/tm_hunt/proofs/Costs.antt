@@ -1,8 +1,7 @@
 -- The beginning of a schedule is no less simple than the whole.
-use Rattle.std.proofs.Common.{◌≡◌, ℕ, zero, suc, ◌+◌, ◌*◌, ◌≤◌, ◌==◌, List, [], ◌∷◌, take, length, arith}
-use Rattle.std.specs.Prelude.{if◌then◌else◌}
+use Rattle.std.proofs.Common.{ℕ, zero, suc, ◌≤◌, List, [], ◌∷◌, take, length, arith}
 use Rattle.tm_model.specs.declared.outcome.Pick.{Pick}
-use Rattle.tm_hunt.specs.Cost.{cost_of, event_count, events_in, switches_behind, switches_of}
+use Rattle.tm_hunt.specs.Cost.{cost_of, events_in, switches_behind, switches_of}
 
 switches_front : (last count : ℕ) (picks : List Pick) →
     switches_behind last (take count picks) ≤ switches_behind last picks

@@ -3,3 +3,4 @@ pub mod Passing
 pub mod Told
 pub mod KeptKinds
 pub mod Costs
+pub mod Cycles

@@ -3,3 +3,5 @@ pub mod Attempts
 pub mod Cost
 pub mod Kept
 pub mod Deciding
+pub mod Cycle
+pub mod Chase

@@ -10,17 +10,23 @@
 //! machine is the run of their history.
 #![tactic(auto)]
 
+mod alike;
 mod attempt;
+mod chase;
 mod cost;
 mod cuts;
+mod cycle;
 mod failure;
 mod one_run;
+mod rounds;
 mod searching;
 mod shortening;
 mod trial;
+mod walker;
 
 pub use attempt::{HuntFault, usual_length};
 pub use cost::{events, switches};
+pub use cycle::{Cycle, find_cycle};
 pub use failure::Failure;
 pub use searching::{Found, Search, first_failing};
 pub use shortening::shorten;

@@ -20,7 +20,7 @@ returns g c =
     (subst (λ (known : Option (List ℕ)). Gives known most_bytes bytes)
     (c.page_path.ensures.kept options.machine.file.now) c.in_ok-text.ensures.given) in
     let one = c.in_ok-search.search in
-    let before = c.in_ok-search.before in
+    let beside = c.in_ok-search.beside in
     let made = c.in_ok-search.ensures in
     record {
       setup = made.1;
@@ -38,7 +38,7 @@ returns g c =
       runs = c.in_ok-orders.ensures.runs;
       events = c.in_ok-orders.orders.events;
       said = c.in_ok-orders.ensures.events;
-      counts = before;
+      beside = beside;
       search = one;
       hunted = made.6;
       told = c.in_ok-answer.ensures;

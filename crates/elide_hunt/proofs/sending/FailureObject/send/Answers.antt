@@ -1,10 +1,11 @@
-use Rattle.std.proofs.Common.{codes, ap, ◌∙◌}
+use Rattle.std.proofs.Common.{codes, List, ap, ◌∙◌}
 use Rattle.std.proofs.lemmas.Result.{on_ok_weaker}
 use Rattle.elide_object.specs.Object.{number_value, schedule_value}
 use Rattle.elide_object.proofs.Sending.{sent_equal}
+use Rattle.tm_model.specs.declared.outcome.Pick.{Pick}
 use Rattle.tm_hunt.specs.Deciding.{deciding}
 use Rattle.elide_hunt.specs.Lines.{counts_of}
-use Rattle.elide_hunt.specs.Object.{counts_value}
+use Rattle.elide_hunt.specs.Object.{counts_value, cycle_value}
 use Rattle.elide_hunt.proofs.sending.FailureObject.send.Goals as goal
 
 pub returns : goal.returns
@@ -21,6 +22,8 @@ returns g c =
     let front = c.in_ok-send_number-2.ensures in
     let steps = sent_equal (codes "schedule") schedule_value _ (deciding found.failure) _ _ c.deciding.ensures
     c.in_ok-send_schedule.ensures in
+    let round = sent_equal (codes "cycle") (λ (l : List Pick). cycle_value l c.args.self.now.beside.cycle) _ picks _ _
+    c.as_slice-2.ensures.value c.in_ok-send_cycle.ensures in
     let replay = c.in_ok-send_text.ensures in
     on_ok_weaker c.end_map.result (λ ended. (
       written c.begin_map.new.self,
@@ -55,7 +58,13 @@ returns g c =
                   written c.send_schedule.new.out,
                   steps.1,
                   steps.2,
-                  (replay.0, written c.send_text.new.out, replay.1, replay.2, ended),
+                  (
+                    round.0,
+                    written c.send_cycle.new.out,
+                    round.1,
+                    round.2,
+                    (replay.0, written c.send_text.new.out, replay.1, replay.2, ended),
+                  ),
                 ),
               ),
             ),
