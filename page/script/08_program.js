@@ -1,6 +1,9 @@
 // The program, with each core's next instruction.
 const rows = [];
 const rowAddress = new Map(run.at.map(([address, row]) => [row, address]));
+// The numbers of the lines of an executable's sources, by their rows.
+const lineNumbers = new Map((run.sources || []).flatMap(
+  ([first, count]) => Array.from({ length: count }, (_, index) => [first + index, index + 1])));
 // A label, an instruction and a comment.
 const sourceParts = /^(\s*(?:[\w.]+:|[^\s;]+:(?=$)))?((?:[^;'"]|'[^']*'|"[^"]*")*)(;.*)?$/s;
 
@@ -14,14 +17,21 @@ function sourceText(line) {
   return text;
 }
 
+function lineOfSource(line) {
+  const [, space, code] = /^(\s*)(.*)$/s.exec(line);
+  return element('span', 'text', space, element('span', 'instruction', code));
+}
+
 // A line of a listing: a label, or an address and an instruction; a gap is an empty line.
 function listedText(line, row) {
+  if (lineNumbers.has(row)) return lineOfSource(line);
   if (rowAddress.has(row)) return element('span', 'text', '  ', element('span', 'instruction', line.slice(10)));
   return element('span', 'text', element('span', 'label', line || '\u22ee'));
 }
 
 function rowNumber(line, row) {
   if (isSource) return String(row + 1);
+  if (lineNumbers.has(row)) return String(lineNumbers.get(row));
   return rowAddress.has(row) ? line.slice(0, 8).replace(/^0+(?=.{3})/, '') : '';
 }
 

@@ -1,9 +1,9 @@
 //! What is asked for beside the program and its schedule.
 
 use crate::notes::{Note, notes_of};
-use crate::window::Extent;
 use elide_args::PageOptions;
 use elide_setup::{Paths, Refusal};
+use page_run::Extent;
 use std::alloc::Global;
 
 /// What is asked for beside the program and its schedule.

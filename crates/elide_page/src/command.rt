@@ -5,77 +5,109 @@
 
 use crate::asked::Asked;
 use crate::commanded::command_of;
-use crate::job::{Form, Job, Subject, name_of};
+use crate::job::{Job, Subject, name_of};
 use crate::notes::check_notes;
 use crate::output::{write_page, write_page_to};
-use crate::survey::{Survey, surveyed};
 use elide_args::PageOptions;
 use elide_places::Places;
 use elide_setup::{
     Course, Paths, Plan, ProgramFile, Progress, Refusal, Settings, Setup, read_file,
 };
 use ia_text::Out;
+use page_program::{Form, Loaded, Sources};
+use page_run::{Stretch, Survey, surveyed};
 use std::alloc::Global;
 
 /// Runs a schedule of core steps, and writes the page of the steps that are asked for: to a file, as a whole or not at all,
-/// where there is a path, and else on the device.
-pub fn page<P: Paths, O: Out, G: Progress>(
+/// where there is a path, and else on the device, which it gives back.
+pub fn page<P: Paths, O: Out + Drop, G: Progress>(
     alloc: Global,
     options: &PageOptions<'_>,
     paths: &mut P,
-    out: &mut O,
+    out: O,
     progress: &mut G,
-) -> Result<(), Refusal> {
+) -> Result<O, Refusal> {
     let asked = Asked::read(alloc, options, paths)?;
-    let written = page_asked(alloc, options, &asked, paths, out, progress);
+    let request = Request {
+        alloc,
+        options,
+        asked: &asked,
+    };
+    let written = page_asked(request, paths, out, progress);
     drop(asked);
     written
 }
 
+// What is asked for.
+#[derive(Clone, Copy)]
+struct Request<'a> {
+    alloc: Global,
+    options: &'a PageOptions<'a>,
+    asked: &'a Asked<'a>,
+}
+
+// What was read beside it: the machine's options, and FILE.
+#[derive(Clone, Copy)]
+struct Given<'a> {
+    settings: &'a Settings<'a>,
+    text: &'a [u8],
+}
+
+// A program that is to run, and its schedule.
+#[derive(Clone, Copy)]
+struct Ready<'a> {
+    text: &'a [u8],
+    form: Form,
+    setup: &'a Setup,
+    course: &'a Course,
+}
+
+// What is known of it behind the first pass over its run.
+#[derive(Clone, Copy)]
+struct Known<'a> {
+    survey: &'a Survey,
+    places: &'a Places,
+    command: &'a [u8],
+}
+
 // Reads the rest of the options, and FILE. What is made in one of these functions is lent to the next, and what owns much is
 // dropped by a call, so that each is proved soon.
-fn page_asked<P: Paths, O: Out, G: Progress>(
-    alloc: Global,
-    options: &PageOptions<'_>,
-    asked: &Asked<'_>,
+fn page_asked<P: Paths, O: Out + Drop, G: Progress>(
+    request: Request<'_>,
     paths: &mut P,
-    out: &mut O,
+    out: O,
     progress: &mut G,
-) -> Result<(), Refusal> {
+) -> Result<O, Refusal> {
+    let options = request.options;
     let settings = Settings::read(&options.machine)?;
-    let plan = Plan::read(alloc, &options.schedule)?;
+    let plan = Plan::read(request.alloc, &options.schedule)?;
     let text = read_file(options.machine.file, paths)?;
-    let written = page_text_of(
-        alloc,
-        options,
-        asked,
-        &settings,
-        plan,
-        text.as_slice(),
-        paths,
-        out,
-        progress,
-    );
+    let given = Given {
+        settings: &settings,
+        text: text.as_slice(),
+    };
+    let written = page_given(request, given, plan, paths, out, progress);
     drop(text);
     written
 }
 
-fn page_text_of<P: Paths, O: Out, G: Progress>(
-    alloc: Global,
-    options: &PageOptions<'_>,
-    asked: &Asked<'_>,
-    settings: &Settings<'_>,
+fn page_given<P: Paths, O: Out + Drop, G: Progress>(
+    request: Request<'_>,
+    given: Given<'_>,
     plan: Plan<'_>,
-    text: &[u8],
     paths: &mut P,
-    out: &mut O,
+    out: O,
     progress: &mut G,
-) -> Result<(), Refusal> {
-    let (setup, form) = setup_of(alloc, settings, text)?;
-    let course = plan.course(alloc, paths)?;
-    let written = page_course(
-        alloc, options, asked, &setup, form, &course, text, paths, out, progress,
-    );
+) -> Result<O, Refusal> {
+    let (setup, form) = setup_of(request.alloc, given.settings, given.text)?;
+    let course = plan.course(request.alloc, paths)?;
+    let ready = Ready {
+        text: given.text,
+        form,
+        setup: &setup,
+        course: &course,
+    };
+    let written = page_ready(request, ready, paths, out, progress);
     drop(course);
     drop(setup);
     written
@@ -102,67 +134,96 @@ fn form_of(file: &ProgramFile<'_>) -> Form {
     }
 }
 
-fn page_course<P: Paths, O: Out, G: Progress>(
-    alloc: Global,
-    options: &PageOptions<'_>,
-    asked: &Asked<'_>,
-    setup: &Setup,
-    form: Form,
-    course: &Course,
-    text: &[u8],
+fn page_ready<P: Paths, O: Out + Drop, G: Progress>(
+    request: Request<'_>,
+    ready: Ready<'_>,
     paths: &mut P,
-    out: &mut O,
+    out: O,
     progress: &mut G,
-) -> Result<(), Refusal> {
-    let survey = surveyed(alloc, setup, course, asked.extent, progress)?;
-    let places = Places::of_text(alloc, text)?;
-    let command = command_of(alloc, options)?;
-    let subject = Subject {
-        alloc,
-        path: options.machine.file,
-        text,
-        form,
-        setup,
+) -> Result<O, Refusal> {
+    let alloc = request.alloc;
+    let asked = request.asked;
+    let survey = surveyed(alloc, ready.setup, ready.course, asked.extent, progress)?;
+    let places = Places::of_text(alloc, ready.text)?;
+    let command = command_of(alloc, request.options)?;
+    let known = Known {
+        survey: &survey,
         places: &places,
-        title: title_of(options),
         command: command.as_slice(),
-        sums: options.machine.shows.as_slice(),
-        notes: asked.notes.as_slice(),
     };
-    let written = page_surveyed(subject, asked, course, &survey, paths, out);
+    let written = page_known(request, ready, known, paths, out);
     drop(command);
     drop(places);
     drop(survey);
     written
 }
 
+// Writes the page of a run that was surveyed.
+fn page_known<'x, P: Paths, O: Out + Drop>(
+    request: Request<'x>,
+    ready: Ready<'x>,
+    known: Known<'x>,
+    paths: &mut P,
+    out: O,
+) -> Result<O, Refusal> {
+    let asked = request.asked;
+    let survey = known.survey;
+    let window = asked.extent.window(survey.made)?;
+    window.check()?;
+    check_notes(asked.notes.as_slice(), survey.made)?;
+    let options = request.options;
+    let path = options.machine.file;
+    let loaded = Loaded {
+        alloc: request.alloc,
+        setup: ready.setup,
+        places: known.places,
+    };
+    let sources = Sources::beside(loaded, path, survey.ran.as_slice(), paths)?;
+    let job = Job {
+        subject: Subject {
+            loaded,
+            path,
+            text: ready.text,
+            form: ready.form,
+            sources: &sources,
+            title: title_of(options),
+            command: known.command,
+            sums: options.machine.shows.as_slice(),
+            notes: asked.notes.as_slice(),
+        },
+        stretch: Stretch {
+            alloc: request.alloc,
+            setup: ready.setup,
+            course: ready.course,
+            total: survey.made,
+            window,
+        },
+        survey,
+    };
+    let written = write_job(&job, asked.output, paths, out);
+    drop(sources);
+    written
+}
+
+// Writes a page to a file, where there is a path, and else to the device.
+fn write_job<P: Paths, O: Out + Drop>(
+    job: &Job<'_>,
+    path: Option<&str>,
+    paths: &mut P,
+    out: O,
+) -> Result<O, Refusal> {
+    match path {
+        Some(path) => {
+            write_page_to(job, path, paths)?;
+            Ok(out)
+        }
+        None => write_page(job, out),
+    }
+}
+
 fn title_of<'a>(options: &PageOptions<'a>) -> &'a str {
     match options.title {
         Some(title) => title,
         None => name_of(options.machine.file),
-    }
-}
-
-// Writes the page of a run that was surveyed.
-fn page_surveyed<P: Paths, O: Out>(
-    subject: Subject<'_>,
-    asked: &Asked<'_>,
-    course: &Course,
-    survey: &Survey,
-    paths: &mut P,
-    out: &mut O,
-) -> Result<(), Refusal> {
-    let window = asked.extent.window(survey.made)?;
-    window.check()?;
-    check_notes(asked.notes.as_slice(), survey.made)?;
-    let job = Job {
-        subject,
-        course,
-        survey,
-        window,
-    };
-    match asked.output {
-        Some(path) => write_page_to(&job, path, paths),
-        None => write_page(&job, out),
     }
 }

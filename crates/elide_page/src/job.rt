@@ -1,38 +1,22 @@
 //! A page that is to be written.
 
 use crate::notes::Note;
-use crate::survey::Survey;
-use crate::window::Window;
-use elide_places::Places;
-use elide_setup::{Course, Setup};
-use std::alloc::Global;
-
-/// What a program is written as.
-#[derive(Clone, Copy, PartialEq, Eq, Debug)]
-pub enum Form {
-    /// A source, whose lines are shown.
-    Source,
-    /// An executable, of which a listing is shown.
-    Executable,
-    /// Image text, of which a listing is shown.
-    Image,
-}
+use page_program::{Form, Loaded, Sources};
+use page_run::{Stretch, Survey};
 
 /// A program, and what is said of its page.
 #[derive(Clone, Copy)]
 pub struct Subject<'a> {
-    /// For texts.
-    pub alloc: Global,
-    /// The path of the program.
+    /// The program.
+    pub loaded: Loaded<'a>,
+    /// The path of its file.
     pub path: &'a str,
-    /// What stands in its file.
+    /// What stands in that.
     pub text: &'a [u8],
     /// What that is.
     pub form: Form,
-    /// The program and its machine.
-    pub setup: &'a Setup,
-    /// Where its instructions and labels stand.
-    pub places: &'a Places,
+    /// The sources beside it.
+    pub sources: &'a Sources,
     /// The title of the page.
     pub title: &'a str,
     /// The command that makes it.
@@ -48,12 +32,10 @@ pub struct Subject<'a> {
 pub struct Job<'a> {
     /// The program, and what is said of the page.
     pub subject: Subject<'a>,
-    /// The schedule.
-    pub course: &'a Course,
-    /// What is known of its run.
-    pub survey: &'a Survey,
     /// The steps.
-    pub window: Window,
+    pub stretch: Stretch<'a>,
+    /// What is known of their run.
+    pub survey: &'a Survey,
 }
 
 /// The last part of a path.

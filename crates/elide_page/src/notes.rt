@@ -1,8 +1,8 @@
 //! Notes of the author, each at a step.
 
-use crate::window::Window;
 use elide_setup::{Refusal, number_of};
 use ia_text::{Out, WriteFault};
+use page_run::Window;
 use page_text::{NOTE, write_number, write_string};
 use std::alloc::{AllocError, Global};
 

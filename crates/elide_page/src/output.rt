@@ -6,18 +6,12 @@ use crate::front::put_front;
 use crate::job::Job;
 use crate::reasons::write_reasons;
 use crate::shows::{Shown, shown_of};
-use crate::survey::{LineUse, note_shown};
-use crate::telling::write_steps;
-use elide_setup::{Fault, Gathered, Lent, Paths, Refusal, Text};
+use elide_setup::{Fault, Gathered, Paths, Refusal, Text};
 use ia_text::{Out, ToVec, WriteFault};
+use page_run::{LineUse, note_shown};
+use page_telling::write_steps;
 use page_template::{write_head, write_tail};
 use std::alloc::AllocError;
-
-/// Writes a page.
-pub fn write_page<O: Out>(job: &Job<'_>, out: &mut O) -> Result<(), Refusal> {
-    let _lent = page_on(job, Lent::new(out))?;
-    Ok(())
-}
 
 /// Writes a page to a file, as a whole or not at all. The page is made in memory before.
 pub fn write_page_to<P: Paths>(job: &Job<'_>, path: &str, paths: &mut P) -> Result<(), Refusal> {
@@ -27,13 +21,14 @@ pub fn write_page_to<P: Paths>(job: &Job<'_>, path: &str, paths: &mut P) -> Resu
 
 // The bytes of a page. A device in memory fails for want of it alone.
 fn page_bytes(job: &Job<'_>) -> Result<Vec<u8>, Refusal> {
-    let mut piece = ToVec::new(Vec::new(job.subject.alloc));
-    let made = write_page(job, &mut piece);
-    if piece.failures > 0 {
-        return Err(Refusal::from(AllocError));
+    let piece = ToVec::new(Vec::new(job.subject.loaded.alloc));
+    match write_page(job, piece) {
+        Ok(piece) => Ok(piece.bytes),
+        Err(Refusal::Fault(fault)) if fault.code() == WriteFault::Write.code() => {
+            Err(Refusal::from(AllocError))
+        }
+        Err(refusal) => Err(refusal),
     }
-    made?;
-    Ok(piece.bytes)
 }
 
 // Writes bytes to a file.
@@ -60,22 +55,16 @@ impl Text for PageFile<'_> {
     }
 }
 
-// Writes a page, and gives the device back.
-fn page_on<O: Out + Drop>(job: &Job<'_>, out: O) -> Result<O, Refusal> {
+/// Writes a page to a device, and gives that back.
+pub fn write_page<O: Out + Drop>(job: &Job<'_>, out: O) -> Result<O, Refusal> {
     let subject = &job.subject;
-    let shows = shown_of(
-        subject.alloc,
-        subject.setup,
-        subject.places,
-        subject.sums,
-        job.survey,
-    )?;
+    let shows = shown_of(subject.loaded, subject.sums, job.survey)?;
     let lines = lines_with(job, shows.as_slice())?;
     let mut page = Gathered::new(out);
     write_head(subject.title.as_bytes(), &mut page)?;
     put_front(job, shows.as_slice(), &mut page)?;
     drop(shows);
-    let page = write_steps(job, lines.as_slice(), page)?;
+    let page = write_steps(job.stretch, lines.as_slice(), page)?;
     drop(lines);
     let page = write_reasons(job, page)?;
     finish(page)
@@ -91,7 +80,7 @@ fn finish<O: Out + Drop>(page: Gathered<O>) -> Result<O, Refusal> {
 
 // How a run uses memory, with the lines of the variables.
 fn lines_with(job: &Job<'_>, shows: &[Shown<'_>]) -> Result<Vec<LineUse>, AllocError> {
-    let mut lines = Vec::from_slice(job.subject.alloc, job.survey.lines.as_slice())?;
+    let mut lines = Vec::from_slice(job.subject.loaded.alloc, job.survey.lines.as_slice())?;
     for shown in shows {
         note_shown(&mut lines, shown.address);
     }

@@ -2,13 +2,13 @@
 
 use crate::command::setup_of;
 use crate::commanded::command_of_picks;
-use crate::job::{Form, Job, Subject, name_of};
+use crate::job::{Job, Subject, name_of};
 use crate::output::write_page_to;
-use crate::survey::{Survey, surveyed};
-use crate::window::{Extent, MOST_STEPS};
 use elide_args::MachineOptions;
 use elide_places::Places;
 use elide_setup::{Course, Paged, Pages, Paths, Refusal, Settings, Setup, Silent};
+use page_program::{Form, Loaded, Sources};
+use page_run::{Extent, MOST_STEPS, Stretch, Survey, surveyed};
 use std::alloc::Global;
 use tm_model::Pick;
 
@@ -34,6 +34,16 @@ impl Pages for PageFiles {
     }
 }
 
+// A program that is to run, and its schedule.
+#[derive(Clone, Copy)]
+struct Found<'a> {
+    machine: &'a MachineOptions<'a>,
+    text: &'a [u8],
+    form: Form,
+    setup: &'a Setup,
+    course: &'a Course,
+}
+
 // Writes the page of a schedule to a file, of the program of the options and of this text.
 fn page_of_picks<P: Paths>(
     alloc: Global,
@@ -46,68 +56,80 @@ fn page_of_picks<P: Paths>(
     let settings = Settings::read(machine)?;
     let (setup, form) = setup_of(alloc, &settings, text)?;
     let course = Course::Listed(Vec::from_slice(alloc, picks)?);
-    let written = page_course(alloc, machine, &setup, form, &course, text, path, paths);
+    let found = Found {
+        machine,
+        text,
+        form,
+        setup: &setup,
+        course: &course,
+    };
+    let written = page_found(alloc, found, path, paths);
     drop(course);
     drop(setup);
     written
 }
 
-fn page_course<P: Paths>(
+fn page_found<P: Paths>(
     alloc: Global,
-    machine: &MachineOptions<'_>,
-    setup: &Setup,
-    form: Form,
-    course: &Course,
-    text: &[u8],
+    found: Found<'_>,
     path: &str,
     paths: &mut P,
 ) -> Result<(), Refusal> {
-    let survey = surveyed(alloc, setup, course, Extent::ALL, &mut Silent)?;
-    let places = Places::of_text(alloc, text)?;
-    let command = command_listed(alloc, machine, course)?;
-    let subject = Subject {
+    let survey = surveyed(alloc, found.setup, found.course, Extent::ALL, &mut Silent)?;
+    let places = Places::of_text(alloc, found.text)?;
+    let command = command_listed(alloc, found)?;
+    let loaded = Loaded {
         alloc,
-        path: machine.file,
-        text,
-        form,
-        setup,
+        setup: found.setup,
         places: &places,
-        title: name_of(machine.file),
-        command: command.as_slice(),
-        sums: machine.shows.as_slice(),
-        notes: &[],
     };
-    let written = page_surveyed(subject, course, &survey, path, paths);
+    let written = page_surveyed(loaded, found, &survey, command.as_slice(), path, paths);
     drop(command);
     drop(places);
     drop(survey);
     written
 }
 
-fn command_listed(
-    alloc: Global,
-    machine: &MachineOptions<'_>,
-    course: &Course,
-) -> Result<Vec<u8>, Refusal> {
-    match course {
-        Course::Listed(picks) => Ok(command_of_picks(alloc, machine, picks.as_slice())?),
+fn command_listed(alloc: Global, found: Found<'_>) -> Result<Vec<u8>, Refusal> {
+    match found.course {
+        Course::Listed(picks) => Ok(command_of_picks(alloc, found.machine, picks.as_slice())?),
         Course::Drawn(_) => Ok(Vec::new(alloc)),
     }
 }
 
-fn page_surveyed<P: Paths>(
-    subject: Subject<'_>,
-    course: &Course,
-    survey: &Survey,
+fn page_surveyed<'x, P: Paths>(
+    loaded: Loaded<'x>,
+    found: Found<'x>,
+    survey: &'x Survey,
+    command: &'x [u8],
     path: &str,
     paths: &mut P,
 ) -> Result<(), Refusal> {
     let window = Extent::ALL.window(survey.made)?;
+    let file = found.machine.file;
+    let sources = Sources::beside(loaded, file, survey.ran.as_slice(), paths)?;
     let job = Job {
-        subject,
-        course,
+        subject: Subject {
+            loaded,
+            path: file,
+            text: found.text,
+            form: found.form,
+            sources: &sources,
+            title: name_of(file),
+            command,
+            sums: found.machine.shows.as_slice(),
+            notes: &[],
+        },
+        stretch: Stretch {
+            alloc: loaded.alloc,
+            setup: found.setup,
+            course: found.course,
+            total: survey.made,
+            window,
+        },
         survey,
-        window,
     };
-    write_page_to(&job, path, paths)
+    let written = write_page_to(&job, path, paths);
+    drop(sources);
+    written
 }

@@ -1,53 +1,46 @@
 //! The third pass over a run: why its steps aborted or stopped.
 
 ghost use Rattle.std.specs.Prelude.{OnOk};
-ghost use Rattle.elide_page.specs.Plain.{WrotePlain};
+ghost use Rattle.page_run.specs.Plain.{WrotePlain};
 
 use crate::job::Job;
-use crate::plain::{put_piece, put_plain};
-use crate::window::Window;
-use elide_setup::{Course, Machine, Outcome, Pick, Refusal, Setup, Silent, StepMaker, new_machine};
+use elide_setup::{Machine, Outcome, Pick, Refusal, Silent, StepMaker, new_machine};
 use elide_why::Teller;
 use ia_text::{Out, ToVec};
+use page_run::{Stretch, Window, put_piece, put_plain};
 use page_text::{REASON, write_number, write_string};
 use std::alloc::{AllocError, Global};
 
 /// Writes why steps aborted or stopped, each by its number in the page. Gives the device back.
 pub fn write_reasons<O: Out + Drop>(job: &Job<'_>, out: O) -> Result<O, Refusal> {
     let subject = &job.subject;
-    let teller = Teller::new(&subject.setup.program, subject.path, subject.places, true);
-    reasoned(
-        subject.alloc,
-        teller,
-        subject.setup,
-        job.course,
-        job.window,
-        out,
-    )
+    let loaded = subject.loaded;
+    let teller = Teller::new(&loaded.setup.program, subject.path, loaded.places, true);
+    reasoned(job.stretch, teller, out)
 }
 
 // The same by what tells the reasons.
 fn reasoned<T: Reasoner + Drop, O: Out + Drop>(
-    alloc: Global,
+    stretch: Stretch<'_>,
     teller: T,
-    setup: &Setup,
-    course: &Course,
-    window: Window,
     out: O,
 ) -> Result<O, Refusal> {
-    let machine = new_machine(alloc, setup)?;
+    let alloc = stretch.alloc;
+    let machine = new_machine(alloc, stretch.setup)?;
     let cores = machine.cores();
     let mut reasoning = Reasoning {
         alloc,
         machine,
         teller,
-        window,
+        window: stretch.window,
         made: 0,
         some: false,
         out,
     };
     reasoning.begin()?;
-    course.walk(alloc, cores, false, &mut reasoning, &mut Silent)?;
+    stretch
+        .course
+        .walk(alloc, cores, false, &mut reasoning, &mut Silent)?;
     let Reasoning { out, .. } = reasoning;
     ended(out)
 }

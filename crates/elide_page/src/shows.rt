@@ -1,11 +1,12 @@
 //! The variables that a page shows.
 
-use crate::survey::{LineUse, Survey};
 use elide_places::{Label, Places};
 use elide_setup::Setup;
 use ia_text::{Out, WriteFault};
+use page_program::Loaded;
+use page_run::{LineUse, Survey};
 use page_text::{NAME, write_number, write_string};
-use std::alloc::{AllocError, Global};
+use std::alloc::AllocError;
 
 /// The most variables that are shown where none are asked for.
 const MOST: usize = 6;
@@ -22,16 +23,15 @@ pub struct Shown<'a> {
 /// The variables of `--show`, whose values are the addresses of these sums; where there are none, up to six labels on lines
 /// that transactions stored to, or else loaded from.
 pub fn shown_of<'a>(
-    alloc: Global,
-    setup: &Setup,
-    places: &'a Places,
+    loaded: Loaded<'a>,
     sums: &[&'a str],
     survey: &Survey,
 ) -> Result<Vec<Shown<'a>>, AllocError> {
-    let mut list = Vec::new(alloc);
+    let mut list = Vec::new(loaded.alloc);
+    let setup = loaded.setup;
     if sums.is_empty() {
-        add_labels(&mut list, setup, places, survey, is_written)?;
-        add_labels(&mut list, setup, places, survey, is_read)?;
+        add_labels(&mut list, setup, loaded.places, survey, is_written)?;
+        add_labels(&mut list, setup, loaded.places, survey, is_read)?;
     } else {
         add_sums(&mut list, sums, setup.parts.values.as_slice())?;
     }

@@ -6,8 +6,8 @@ pub const HEAD: &str = "\
 <html lang=\"en\">\n\
 <head>\n\
 <meta charset=\"utf-8\">\n\
-<meta http-equiv=\"Content-Security-Policy\" content=\"default-src 'none'; script-src 'sha256-nQgGuwGh7nezybpg\
-MDR0828MqulDZ8CI+L3IchE8B2s='; style-src 'sha256-sBDCIshEM8wXEiNz/Csi0eMMsrZGoxYx7zK6D9FVJhQ='; base-uri 'none\
+<meta http-equiv=\"Content-Security-Policy\" content=\"default-src 'none'; script-src 'sha256-9cRBOl+Qnv/z9feP\
+J4lepuSGNNyZgG2+Ue1f5ohb4no='; style-src 'sha256-sBDCIshEM8wXEiNz/Csi0eMMsrZGoxYx7zK6D9FVJhQ='; base-uri 'none\
 '; form-action 'none'\">\n\
 <meta name=\"viewport\" content=\"width=device-width, initial-scale=1\">\n\
 <meta name=\"color-scheme\" content=\"light dark\">\n\
@@ -937,6 +937,8 @@ pen.fillRect(stripOf(view.step || 1) - 1, 0, 2.5, height);\n\
 }\n\
 const rows = [];\n\
 const rowAddress = new Map(run.at.map(([address, row]) => [row, address]));\n\
+const lineNumbers = new Map((run.sources || []).flatMap(\n\
+([first, count]) => Array.from({ length: count }, (_, index) => [first + index, index + 1])));\n\
 const sourceParts = /^(\\s*(?:[\\w.]+:|[^\\s;]+:(?=$)))?((?:[^;'\"]|'[^']*'|\"[^\"]*\")*)(;.*)?$/s;\n\
 function sourceText(line) {\n\
 const text = element('span', 'text'), parts = sourceParts.exec(line);\n\
@@ -947,12 +949,18 @@ text.append(space, element('span', 'instruction', instruction));\n\
 if (parts[3]) text.append(element('span', 'comment', parts[3]));\n\
 return text;\n\
 }\n\
+function lineOfSource(line) {\n\
+const [, space, code] = /^(\\s*)(.*)$/s.exec(line);\n\
+return element('span', 'text', space, element('span', 'instruction', code));\n\
+}\n\
 function listedText(line, row) {\n\
+if (lineNumbers.has(row)) return lineOfSource(line);\n\
 if (rowAddress.has(row)) return element('span', 'text', '  ', element('span', 'instruction', line.slice(10)));\n\
 return element('span', 'text', element('span', 'label', line || '\\u22ee'));\n\
 }\n\
 function rowNumber(line, row) {\n\
 if (isSource) return String(row + 1);\n\
+if (lineNumbers.has(row)) return String(lineNumbers.get(row));\n\
 return rowAddress.has(row) ? line.slice(0, 8).replace(/^0+(?=.{3})/, '') : '';\n\
 }\n\
 function buildProgram() {\n\

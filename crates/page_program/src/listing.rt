@@ -1,0 +1,353 @@
+//! A listing: its rows, and which of them are shown.
+
+use crate::code::{Loaded, address_of, length_at, text_at, write_text_at};
+use crate::sources::Sources;
+use elide_places::{Label, SymbolText, push_source_place};
+use ia_text::page::{Page, push, push_eight};
+use ia_text::{Out, WriteFault};
+use page_text::{LINE, write_number, write_string};
+use std::alloc::{AllocError, Global};
+
+/// The most rows of a listing that is shown as a whole.
+const WHOLE: usize = 160;
+
+/// How many rows are shown on each side of one that ran.
+const NEAR: usize = 6;
+
+/// A row of a listing.
+#[derive(Clone, Copy)]
+pub enum Row {
+    /// The label with this index.
+    Label(usize),
+    /// What stands at this distance from the first byte of the code.
+    Code(usize),
+}
+
+// Where a row is seen.
+#[derive(Clone, Copy)]
+enum Sight {
+    // Nowhere.
+    Hidden,
+    // In the listing.
+    Listed,
+    // In this row of the sources.
+    Sourced(u64),
+}
+
+/// A listing.
+#[derive(Drop)]
+pub struct Listing {
+    rows: Vec<Row>,
+    // Where each row is seen.
+    sights: Vec<Sight>,
+    // How many rows the sources take above the listing.
+    above: u64,
+}
+
+impl Listing {
+    /// That of a program, whose instructions at these distances ran: a long one where these are, and near them. What comes from a
+    /// line of a source that is shown stands there.
+    pub fn of(loaded: Loaded<'_>, sources: &Sources, ran: &[bool]) -> Result<Listing, AllocError> {
+        let alloc = loaded.alloc;
+        let rows = rows_of(loaded, ran)?;
+        let mut shown = vec![in alloc; rows.len() <= WHOLE; rows.len()]?;
+        if rows.len() > WHOLE {
+            show_near(rows.as_slice(), ran, &mut shown);
+        }
+        let sights = sights_of(loaded, sources, rows.as_slice(), shown.as_slice())?;
+        drop(shown);
+        Ok(Listing {
+            rows,
+            sights,
+            above: sources.rows(),
+        })
+    }
+}
+
+// Where rows are seen, of which these are shown.
+fn sights_of(
+    loaded: Loaded<'_>,
+    sources: &Sources,
+    rows: &[Row],
+    shown: &[bool],
+) -> Result<Vec<Sight>, AllocError> {
+    let mut sights = Vec::new(loaded.alloc);
+    for index in 0..rows.len().min(shown.len()) {
+        let sight = if shown[index] {
+            sight_of(loaded, sources, rows[index])
+        } else {
+            Sight::Hidden
+        };
+        sights.push(sight)?;
+    }
+    Ok(sights)
+}
+
+// Where a row is seen that is shown: one from a line of a source in that, but for a label there, which is none of its lines.
+fn sight_of(loaded: Loaded<'_>, sources: &Sources, row: Row) -> Sight {
+    match row {
+        Row::Code(offset) => {
+            match sources.row_of(loaded, address_of(loaded.setup, offset)) {
+                Some(place) => Sight::Sourced(place),
+                None => Sight::Listed,
+            }
+        }
+        Row::Label(index) => match loaded.places.labels().get(index) {
+            Some(label) if sources.row_of(loaded, label.address()).is_some() => Sight::Hidden,
+            _ => Sight::Listed,
+        },
+    }
+}
+
+// The rows of a listing: the instructions one behind the other, and what ran within one.
+fn rows_of(loaded: Loaded<'_>, ran: &[bool]) -> Result<Vec<Row>, AllocError> {
+    let setup = loaded.setup;
+    let order = by_address(loaded.alloc, loaded.places.labels())?;
+    let mut rows = Vec::new(loaded.alloc);
+    let mut next = 0;
+    let mut label = 0;
+    for offset in 0..ran.len() {
+        if offset == next || ran[offset] {
+            label = push_labels(
+                &mut rows,
+                order.as_slice(),
+                label,
+                address_of(setup, offset),
+            )?;
+            rows.push(Row::Code(offset))?;
+        }
+        if offset == next {
+            next = offset.saturating_add(length_at(setup, offset));
+        }
+    }
+    Ok(rows)
+}
+
+// The labels' addresses and their places in the list, in the order of the addresses.
+fn by_address(alloc: Global, labels: &[Label]) -> Result<Vec<(u32, usize)>, AllocError> {
+    let mut order = Vec::new(alloc);
+    for (index, label) in labels.iter().enumerate() {
+        order
+            .push((label.address(), index))
+            .map_err(|_| AllocError)?;
+    }
+    order.as_mut_slice().sort_unstable();
+    Ok(order)
+}
+
+// Adds the labels at an address, from this one of the order on, and tells which is the first above it.
+fn push_labels(
+    rows: &mut Vec<Row>,
+    order: &[(u32, usize)],
+    next: usize,
+    at: u32,
+) -> Result<usize, AllocError> {
+    for place in next..order.len() {
+        let (address, index) = order[place];
+        if address > at {
+            return Ok(place);
+        }
+        if address == at {
+            rows.push(Row::Label(index))?;
+        }
+    }
+    Ok(order.len())
+}
+
+// Shows what ran, and the rows near it.
+fn show_near(rows: &[Row], ran: &[bool], shown: &mut Vec<bool>) {
+    for index in 0..rows.len() {
+        if has_run(rows[index], ran) {
+            show_around(shown, index);
+        }
+    }
+}
+
+fn has_run(row: Row, ran: &[bool]) -> bool {
+    match row {
+        Row::Label(_) => false,
+        Row::Code(offset) => match ran.get(offset) {
+            Some(has_run) => *has_run,
+            None => false,
+        },
+    }
+}
+
+// Shows a row, and those on each side.
+fn show_around(shown: &mut Vec<bool>, index: usize) {
+    let first = index.saturating_sub(NEAR);
+    for place in first..index.saturating_add(NEAR + 1) {
+        if let Some(is_shown) = shown.get_mut(place) {
+            *is_shown = true;
+        }
+    }
+}
+
+// Where a listing stands as it is written.
+#[derive(Clone, Copy)]
+struct Cursor {
+    // How many lines were written, with those of sources.
+    lines: u64,
+    // Whether the last was a row.
+    is_row: bool,
+}
+
+impl Cursor {
+    // Before the first row, below so many lines of sources. Without these a gap is shown above the first row that is.
+    fn below(lines: u64) -> Cursor {
+        Cursor {
+            lines,
+            is_row: lines == 0,
+        }
+    }
+
+    // Behind a row, which is listed or not: of several that are not, one gap is written.
+    fn behind(self, sight: Sight) -> Cursor {
+        let is_listed = matches!(sight, Sight::Listed);
+        let writes = is_listed || self.is_row;
+        Cursor {
+            lines: self.lines.saturating_add(u64::from(writes)),
+            is_row: is_listed,
+        }
+    }
+}
+
+/// Writes the lines of a listing below those of sources, each a string; of rows side by side that are not listed an empty one.
+pub fn write_listing<O: Out>(
+    loaded: Loaded<'_>,
+    listing: &Listing,
+    out: &mut O,
+) -> Result<(), WriteFault> {
+    let mut cursor = Cursor::below(listing.above);
+    let mut last = SymbolText::new();
+    for index in 0..listing.rows.len().min(listing.sights.len()) {
+        let after = cursor.behind(listing.sights[index]);
+        if after.lines > cursor.lines {
+            write_separator(cursor.lines, out)?;
+            if let Sight::Listed = listing.sights[index] {
+                write_row(loaded, listing.rows[index], &mut last, out)?;
+            } else {
+                out.put(b"\"\"")?;
+            }
+        }
+        cursor = after;
+    }
+    Ok(())
+}
+
+fn write_separator<O: Out>(lines: u64, out: &mut O) -> Result<(), WriteFault> {
+    if lines > 0 {
+        out.put(b",\n")?;
+    }
+    Ok(())
+}
+
+// Writes a row: a label, or an address and what stands there, with the place of its source where that is another one.
+fn write_row<O: Out>(
+    loaded: Loaded<'_>,
+    row: Row,
+    last: &mut SymbolText,
+    out: &mut O,
+) -> Result<(), WriteFault> {
+    match row {
+        Row::Label(index) => write_label(loaded, index, out),
+        Row::Code(offset) => write_code(loaded, offset, last, out),
+    }
+}
+
+fn write_label<O: Out>(loaded: Loaded<'_>, index: usize, out: &mut O) -> Result<(), WriteFault> {
+    let alloc = loaded.alloc;
+    let Some(label) = loaded.places.labels().get(index) else {
+        return write_string(b"", LINE, out);
+    };
+    let mut line = Vec::new(alloc);
+    if line.extend_from_slice(label.shown()).is_err() || line.extend_from_slice(b":").is_err() {
+        return Err(WriteFault::Write);
+    }
+    write_string(line.as_slice(), LINE, out)
+}
+
+fn write_code<O: Out>(
+    loaded: Loaded<'_>,
+    offset: usize,
+    last: &mut SymbolText,
+    out: &mut O,
+) -> Result<(), WriteFault> {
+    let text = text_at(loaded.alloc, loaded.setup, offset)?;
+    let address = address_of(loaded.setup, offset);
+    let mut place = SymbolText::new();
+    push_source_place(&mut place, loaded.places, address);
+    let is_new = place.as_slice() != last.as_slice() && !place.is_empty();
+    let shown: &[u8] = if is_new { place.as_slice() } else { &[] };
+    let line = line_of(loaded.alloc, address, text.as_slice(), shown);
+    *last = place;
+    match line {
+        Ok(line) => write_string(line.as_slice(), LINE, out),
+        Err(_) => Err(WriteFault::Write),
+    }
+}
+
+// An address, a text, and a place behind it, if any.
+fn line_of(alloc: Global, address: u32, text: &[u8], place: &[u8]) -> Result<Vec<u8>, AllocError> {
+    let mut front = Page::new();
+    push_eight(&mut front, address);
+    push(&mut front, b"  ");
+    let mut line = Vec::from_slice(alloc, front.as_slice())?;
+    line.extend_from_slice(text)?;
+    if !place.is_empty() {
+        line.extend_from_slice(b"  ; ")?;
+        line.extend_from_slice(place)?;
+    }
+    Ok(line)
+}
+
+/// Writes of each instruction that is shown its address, the index of its line, and its text.
+pub fn write_spots<O: Out>(
+    loaded: Loaded<'_>,
+    listing: &Listing,
+    out: &mut O,
+) -> Result<(), WriteFault> {
+    let mut cursor = Cursor::below(listing.above);
+    let mut some = false;
+    for index in 0..listing.rows.len().min(listing.sights.len()) {
+        let line = cursor.lines;
+        cursor = cursor.behind(listing.sights[index]);
+        let row = row_seen(listing.sights[index], line);
+        if let (Row::Code(offset), Some(row)) = (listing.rows[index], row) {
+            write_spot(loaded, some, offset, row, out)?;
+            some = true;
+        }
+    }
+    Ok(())
+}
+
+// The line of a row, which is this one where it is listed.
+fn row_seen(sight: Sight, line: u64) -> Option<u64> {
+    match sight {
+        Sight::Hidden => None,
+        Sight::Listed => Some(line),
+        Sight::Sourced(place) => Some(place),
+    }
+}
+
+/// Writes of the instruction at a distance from the first byte of the code its address, the index of its line, and its text,
+/// behind a comma where there was another.
+pub fn write_spot<O: Out>(
+    loaded: Loaded<'_>,
+    some: bool,
+    offset: usize,
+    line: u64,
+    out: &mut O,
+) -> Result<(), WriteFault> {
+    if some {
+        out.put(b",\n")?;
+    }
+    out.put(b"[")?;
+    write_number(u64::from(address_of(loaded.setup, offset)), out)?;
+    out.put(b",")?;
+    write_number(line, out)?;
+    out.put(b",")?;
+    write_text_at(loaded.alloc, loaded.setup, offset, out)?;
+    out.put(b"]")?;
+    Ok(())
+}

@@ -1,0 +1,262 @@
+//! The machine as it is before the first step of a page.
+
+ghost use Rattle.std.specs.Prelude.{OnOk};
+ghost use Rattle.page_run.specs.Plain.{WrotePlain};
+
+use crate::kept::Kept;
+use elide_setup::{CoreState, Fault, Kind, Machine, Refusal};
+use ia_text::page::{Page, push_hex};
+use ia_text::{Out, ToVec, WriteFault};
+use page_run::{LineUse, put_piece};
+use page_steps::{register_values, write_numbers, write_state, write_stored};
+use page_text::{write_hex, write_number};
+use std::alloc::{AllocError, Global};
+use tm_page::StoredByte;
+use tm_why::{Asked, Watch};
+
+/// How many bytes a line has.
+const LINE: usize = 64;
+
+/// What is known of a machine's open transactions beside what it shows.
+#[derive(Drop)]
+pub struct Behind {
+    /// The addresses at which they keep bytes.
+    pub kept: Kept,
+    /// When they began, and who condemned them.
+    pub watch: Watch,
+}
+
+/// Writes the registers and states of the cores, their transactions, and the lines of memory that were used and are not zero;
+/// and the beginning of the list of steps.
+pub fn put_opening<O: Out>(
+    alloc: Global,
+    machine: &Machine,
+    behind: &Behind,
+    lines: &[LineUse],
+    out: &mut O,
+) -> Result<(), Refusal>
+    ensures { OnOk result (WrotePlain (O.device out.old) (O.device out.new)) }
+{
+    let mut piece = ToVec::new(Vec::new(alloc));
+    let made = write_opening(alloc, machine, behind, lines, &mut piece);
+    put_piece(made, &piece, out)
+}
+
+fn write_opening<O: Out>(
+    alloc: Global,
+    machine: &Machine,
+    behind: &Behind,
+    lines: &[LineUse],
+    out: &mut O,
+) -> Result<(), Refusal> {
+    out.put(b",\n\"opening\":[")?;
+    write_registers(machine, out)?;
+    out.put(b"],\n\"states\":[")?;
+    write_states(machine, out)?;
+    out.put(b"],\n\"open\":{")?;
+    write_transactions(alloc, machine, behind, out)?;
+    out.put(b"},\n\"bytes\":{")?;
+    write_bytes(machine, lines, out)?;
+    out.put(b"},\n\"steps\":[")?;
+    Ok(())
+}
+
+fn write_registers<O: Out>(machine: &Machine, out: &mut O) -> Result<(), WriteFault> {
+    for core in 0..machine.cores() {
+        put_comma(core > 0, out)?;
+        if let Ok(regs) = machine.regs(core) {
+            write_numbers(register_values(&regs).as_slice(), out)?;
+        }
+    }
+    Ok(())
+}
+
+fn write_states<O: Out>(machine: &Machine, out: &mut O) -> Result<(), WriteFault> {
+    for core in 0..machine.cores() {
+        put_comma(core > 0, out)?;
+        if let Ok(state) = machine.state(core) {
+            write_state(state, out)?;
+        }
+    }
+    Ok(())
+}
+
+fn put_comma<O: Out>(some: bool, out: &mut O) -> Result<(), WriteFault> {
+    if some {
+        out.put(b",")?;
+    }
+    Ok(())
+}
+
+// The transactions that are open.
+fn write_transactions<O: Out>(
+    alloc: Global,
+    machine: &Machine,
+    behind: &Behind,
+    out: &mut O,
+) -> Result<(), Refusal> {
+    let mut some = false;
+    for core in 0..machine.cores() {
+        if is_in_transaction(machine, core) {
+            put_comma(some, out)?;
+            some = true;
+            write_transaction(alloc, machine, behind, core, out)?;
+        }
+    }
+    Ok(())
+}
+
+fn is_in_transaction(machine: &Machine, core: u8) -> bool {
+    matches!(
+        machine.state(core),
+        Ok(CoreState::Open(_) | CoreState::Condemned(_))
+    )
+}
+
+fn write_transaction<O: Out>(
+    alloc: Global,
+    machine: &Machine,
+    behind: &Behind,
+    core: u8,
+    out: &mut O,
+) -> Result<(), Refusal> {
+    out.put(b"\"")?;
+    write_number(u64::from(core), out)?;
+    out.put(b"\":{\"b\":")?;
+    if let Ok(regs) = machine.base_regs(core) {
+        write_numbers(register_values(&regs).as_slice(), out)?;
+    }
+    out.put(b",\"r\":")?;
+    write_set(alloc, machine, core, Kind::Read, out)?;
+    out.put(b",\"w\":")?;
+    write_set(alloc, machine, core, Kind::Write, out)?;
+    out.put(b",\"t\":")?;
+    let kept = behind.kept.of(alloc, core)?;
+    write_private(alloc, machine, core, kept.as_slice(), out)?;
+    write_doom(machine, core, &behind.watch, out)?;
+    out.put(b"}")?;
+    Ok(())
+}
+
+fn write_set<O: Out>(
+    alloc: Global,
+    machine: &Machine,
+    core: u8,
+    kind: Kind,
+    out: &mut O,
+) -> Result<(), Refusal> {
+    let lines = match machine.sets(alloc, core, kind) {
+        Ok(lines) => lines,
+        Err(fault) => return Err(Refusal::Fault(Fault::Run(fault))),
+    };
+    write_numbers(lines.as_slice(), out)?;
+    Ok(())
+}
+
+// The bytes that an open transaction keeps at these addresses; a doomed one keeps none.
+fn write_private<O: Out>(
+    alloc: Global,
+    machine: &Machine,
+    core: u8,
+    kept: &[u64],
+    out: &mut O,
+) -> Result<(), Refusal> {
+    let bytes = match machine.state(core) {
+        Ok(CoreState::Open(_)) => private_bytes(alloc, machine, core, kept)?,
+        _ => Vec::new(alloc),
+    };
+    write_stored(bytes.as_slice(), out)?;
+    Ok(())
+}
+
+fn private_bytes(
+    alloc: Global,
+    machine: &Machine,
+    core: u8,
+    kept: &[u64],
+) -> Result<Vec<StoredByte>, AllocError> {
+    let mut bytes = Vec::new(alloc);
+    for address in kept {
+        if let Some(byte) = seen_at(machine, core, *address) {
+            bytes.push(byte)?;
+        }
+    }
+    Ok(bytes)
+}
+
+// The byte that a core sees at an address of memory.
+fn seen_at(machine: &Machine, core: u8, address: u64) -> Option<StoredByte> {
+    let place = u32::try_from(address).ok()?;
+    if address >= machine.view().len() as u64 {
+        return None;
+    }
+    match machine.seen(core, place) {
+        Ok(byte) => Some(StoredByte { address, byte }),
+        Err(_) => None,
+    }
+}
+
+// By which line a doomed transaction was hit, how, and by whom.
+fn write_doom<O: Out>(
+    machine: &Machine,
+    core: u8,
+    watch: &Watch,
+    out: &mut O,
+) -> Result<(), WriteFault> {
+    let Ok(CoreState::Condemned(_)) = machine.state(core) else {
+        return Ok(());
+    };
+    let Ok(asked) = Asked::of(machine, core) else {
+        return Ok(());
+    };
+    let Some(reason) = watch.reason(&asked) else {
+        return Ok(());
+    };
+    let Some(standing) = reason.transaction.hit else {
+        return Ok(());
+    };
+    out.put(b",\"d\":")?;
+    write_numbers(
+        &[
+            standing.hit.line,
+            u32::from(standing.hit.kind == Kind::Write),
+            u32::from(standing.core),
+        ],
+        out,
+    )
+}
+
+// The lines of memory that were used and are not zero.
+fn write_bytes<O: Out>(
+    machine: &Machine,
+    lines: &[LineUse],
+    out: &mut O,
+) -> Result<(), WriteFault> {
+    let memory = machine.view();
+    let mut some = false;
+    for index in 0..lines.len() {
+        let bytes = line_at(memory, index);
+        if lines[index].touched && bytes.iter().any(|byte| *byte != 0) {
+            put_comma(some, out)?;
+            some = true;
+            write_line(index, bytes, out)?;
+        }
+    }
+    Ok(())
+}
+
+// The bytes of a line, those that memory has.
+fn line_at(memory: &[u8], index: usize) -> &[u8] {
+    let start = index.saturating_mul(LINE).min(memory.len());
+    let end = start.saturating_add(LINE).min(memory.len());
+    &memory[start..end]
+}
+
+fn write_line<O: Out>(index: usize, bytes: &[u8], out: &mut O) -> Result<(), WriteFault> {
+    let mut number = Page::new();
+    push_hex(&mut number, u32::try_from(index).unwrap_or(0));
+    out.put(b"\n\"")?;
+    out.put(number.as_slice())?;
+    out.put(b"\":")?;
+    write_hex(bytes, out)
+}

@@ -1,0 +1,302 @@
+//! The second pass over a run: its steps, written as they are made.
+
+ghost use Rattle.std.specs.Prelude.{◌≡◌, ◌+◌, ◌≤◌, ℕ, IfOk, List, OnOk, codes};
+ghost use Rattle.ia_text.specs.Writing.{Wrote};
+ghost use Rattle.tm_page.specs.Applied.{is_listed};
+ghost use Rattle.tm_page.specs.Before.{IsBefore};
+ghost use Rattle.tm_page.specs.Difference.{IsDifference};
+ghost use Rattle.page_run.specs.Plain.{ArePlain, WrotePlain};
+ghost use Rattle.tm_model.specs.declared.outcome.Pick.{Pick};
+ghost use Rattle.page_steps.specs.Steps.{step_text};
+ghost use Rattle.elide_setup.specs.TmCore.Theorem.{ShownMachine, view_at};
+ghost use Rattle.page_telling.specs.Kept.{is_kept};
+ghost use Rattle.page_telling.specs.Telling.{IsMade, IsPiece, Tells};
+ghost use Rattle.page_telling.specs.Told.{AreLinesWritten, line_front, line_text};
+
+use crate::kept::Kept;
+use crate::opening::{Behind, put_opening};
+use elide_setup::{
+    CoreState, Fault, Machine, Outcome, Pick, Refusal, RunFault, Silent, StepMaker, new_machine,
+};
+use ia_text::{Out, ToVec, WriteFault};
+use page_run::{LineUse, Stretch, Window, put_plain};
+use page_steps::write_step;
+use std::alloc::{AllocError, Global};
+use tm_page::{Before, PageDelta, delta_of};
+use tm_why::Watch;
+
+/// Writes the machine before the first step, with the lines of memory that were used, and the steps. Gives the device back.
+pub fn write_steps<O: Out + Drop>(
+    stretch: Stretch<'_>,
+    lines: &[LineUse],
+    out: O,
+) -> Result<O, Refusal>
+    ensures { IfOk result (λ last. AreLinesWritten stretch.entry (O.device out) (O.device last)) }
+{
+    let alloc = stretch.alloc;
+    let machine = new_machine(alloc, stretch.setup)?;
+    let cores = machine.cores();
+    let lines = Vec::from_slice(alloc, lines)?;
+    let mut telling = Telling {
+        alloc,
+        machine,
+        behind: Behind {
+            kept: Kept::new(alloc),
+            watch: Watch::new(),
+        },
+        window: stretch.window,
+        total: stretch.total,
+        made: 0,
+        lines,
+        out,
+    };
+    telling.open_first()?;
+    stretch
+        .course
+        .walk(alloc, cores, false, &mut telling, &mut Silent)?;
+    let Telling { out, made, .. } = telling;
+    check_made(made, stretch.total, stretch.window)?;
+    ended(out)
+}
+
+// That so many steps were made as the run has, those of the window among them. A schedule makes the steps again that it made as it
+// was surveyed.
+fn check_made(made: u64, total: u64, window: Window) -> Result<(), Refusal>
+    ensures all { OnOk result (made ≡ total) }
+    ensures reached { OnOk result (window.to ≤ made) }
+{
+    if made != total || made < window.to {
+        return Err(Refusal::from(WriteFault::Write));
+    }
+    Ok(())
+}
+
+// The end of the list.
+fn ended<O: Out + Drop>(out: O) -> Result<O, Refusal>
+    ensures { IfOk result (λ last. Wrote (O.device out) (O.device last) (codes "]")) }
+{
+    let mut out = out;
+    put_plain(b"]", &mut out)?;
+    Ok(out)
+}
+
+// A machine whose steps are written.
+#[derive(Drop)]
+struct Telling<O> {
+    alloc: Global,
+    machine: Machine,
+    behind: Behind,
+    window: Window,
+    // How many steps its run has.
+    total: u64,
+    // How many were made.
+    made: u64,
+    // How the run uses memory.
+    lines: Vec<LineUse>,
+    out: O,
+}
+
+impl<O: Out> StepMaker for Telling<O> {
+    ghost takes = { λ before steps after. Tells
+        (record {
+          machine = before.machine;
+          kept = before.behind.kept.bytes.items;
+          window = before.window;
+          made = before.made;
+          device = O.device before.out;
+        })
+        steps
+        (record {
+          machine = after.machine;
+          kept = after.behind.kept.bytes.items;
+          window = after.window;
+          made = after.made;
+          device = O.device after.out;
+        }) };
+
+    fn make_step(&mut self, pick: Pick) -> Result<Outcome, Refusal> {
+        let made = one_more(self.made, self.total)?;
+        if self.made >= self.window.to {
+            let outcome = self.machine.make_step(pick)?;
+            self.made = made;
+            return Ok(outcome);
+        }
+        let told = step_told(self.alloc, &mut self.machine, &mut self.behind, pick)?;
+        put_told(
+            self.alloc,
+            self.window,
+            self.made,
+            &told,
+            &self.machine,
+            &self.behind,
+            self.lines.as_slice(),
+            &mut self.out,
+        )?;
+        self.made = made;
+        Ok(told.outcome)
+    }
+}
+
+// The number of steps behind one more, of so many in all.
+fn one_more(made: u64, total: u64) -> Result<u64, Refusal>
+    ensures { IfOk result (λ next. next ≡ made + 1) }
+{
+    if made >= total {
+        // A schedule makes no step that it did not make as it was surveyed.
+        return Err(Refusal::from(WriteFault::Write));
+    }
+    Ok(made + 1)
+}
+
+impl<O: Out> Telling<O> {
+    // Opens the page of a run whose first steps stand in it.
+    fn open_first(&mut self) -> Result<(), Refusal>
+        ensures machine { self.new.machine ≡ self.old.machine }
+        ensures kept { self.new.behind.kept.bytes.items ≡ self.old.behind.kept.bytes.items }
+        ensures window { self.new.window ≡ self.old.window }
+        ensures made { self.new.made ≡ self.old.made }
+        ensures text { OnOk result (WrotePlain (O.device self.old.out) (O.device self.new.out)) }
+    {
+        if self.window.from > 0 {
+            return Ok(());
+        }
+        put_opening(
+            self.alloc,
+            &self.machine,
+            &self.behind,
+            self.lines.as_slice(),
+            &mut self.out,
+        )
+    }
+}
+
+// A step that was made.
+#[derive(Drop)]
+struct Told {
+    outcome: Outcome,
+    // What its core did before it.
+    before: CoreState,
+    delta: PageDelta,
+}
+
+// Makes a step, with what it changes.
+fn step_told(
+    alloc: Global,
+    machine: &mut Machine,
+    behind: &mut Behind,
+    pick: Pick,
+) -> Result<Told, Refusal>
+    ensures { IfOk result (λ told. IsMade machine.old behind.old.kept.bytes.items
+        (record { pick = pick; outcome = told.outcome; before = told.before; delta = told.delta })
+        machine.new behind.new.kept.bytes.items) }
+{
+    let state = state_of(machine, pick.core)?;
+    let before = before_of(alloc, machine, pick.core)?;
+    let outcome = machine.make_step(pick)?;
+    let delta = difference(alloc, &behind.kept, &before, outcome, machine)?;
+    behind.watch.told(&before.asked, outcome);
+    behind
+        .kept
+        .take(alloc, pick.core, outcome, delta.stored.as_slice())?;
+    Ok(Told {
+        outcome,
+        before: state,
+        delta,
+    })
+}
+
+// What the machine shows of a core before its step.
+fn before_of(alloc: Global, machine: &Machine, core: u8) -> Result<Before, Refusal>
+    ensures { IfOk result (IsBefore machine.now core) }
+{
+    match Before::of(alloc, machine, core) {
+        Ok(before) => Ok(before),
+        Err(fault) => Err(Refusal::Fault(Fault::Run(fault))),
+    }
+}
+
+// What a step changed, of which core these bytes were kept.
+fn difference(
+    alloc: Global,
+    kept: &Kept,
+    before: &Before,
+    outcome: Outcome,
+    machine: &Machine,
+) -> Result<PageDelta, Refusal>
+    ensures { IfOk result (λ delta. (row : List ℕ)
+        × ((address : ℕ) → is_listed row address ≡ is_kept kept.now.bytes.items before.now.asked.core address)
+        × ((start : ShownMachine) → IsBefore start before.now.asked.core before.now →
+        IsDifference start machine.now before.now.asked.core outcome before.now.reach row delta)) }
+{
+    let row = kept.of(alloc, before.asked.core)?;
+    match delta_of(alloc, before, outcome, row.as_slice(), machine) {
+        Ok(delta) => Ok(delta),
+        Err(fault) => Err(Refusal::Fault(Fault::Run(fault))),
+    }
+}
+
+fn state_of(machine: &Machine, core: u8) -> Result<CoreState, Refusal>
+    ensures { IfOk result (λ state. state ≡ (view_at machine.now core).mode) }
+{
+    match machine.state(core) {
+        Ok(state) => Ok(state),
+        Err(_) => Err(Refusal::Fault(Fault::Run(RunFault::NoSuchCore))),
+    }
+}
+
+// Writes what stands in a page of a step behind so many others: its line, or what opens the page behind it, or nothing.
+fn put_told<O: Out>(
+    alloc: Global,
+    window: Window,
+    made: u64,
+    told: &Told,
+    machine: &Machine,
+    behind: &Behind,
+    lines: &[LineUse],
+    out: &mut O,
+) -> Result<(), Refusal>
+    ensures { OnOk result ((pick : Pick) → IsPiece window made
+        (record { pick = pick; outcome = told.now.outcome; before = told.now.before; delta = told.now.delta })
+        (O.device out.old) (O.device out.new)) }
+{
+    if window.holds(made) {
+        return put_line(alloc, made == window.from, &told.delta, told.before, out);
+    }
+    if window.opens(made) {
+        return put_opening(alloc, machine, behind, lines, out);
+    }
+    Ok(())
+}
+
+// Writes the line of a step, the first or one behind another.
+fn put_line<O: Out>(
+    alloc: Global,
+    is_first: bool,
+    delta: &PageDelta,
+    before: CoreState,
+    out: &mut O,
+) -> Result<(), Refusal>
+    ensures text { OnOk result (Wrote (O.device out.old) (O.device out.new) (line_text is_first delta.now before)) }
+    ensures plain { OnOk result (ArePlain (line_text is_first delta.now before)) }
+{
+    let line = line_of(alloc, delta, before)?;
+    put_plain(before_line(is_first), out)?;
+    put_plain(line.as_slice(), out)
+}
+
+// What stands before a line.
+fn before_line(is_first: bool) -> &'static [u8]
+    ensures { result.now ≡ line_front is_first }
+{
+    if is_first { b"\n" } else { b",\n" }
+}
+
+fn line_of(alloc: Global, delta: &PageDelta, before: CoreState) -> Result<Vec<u8>, AllocError>
+    ensures { IfOk result (λ line. line.items ≡ step_text delta.now before) }
+{
+    let mut line = ToVec::new(Vec::new(alloc));
+    match write_step(delta, before, &mut line) {
+        Ok(()) => Ok(line.bytes),
+        Err(_) => Err(AllocError),
+    }
+}
