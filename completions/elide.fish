@@ -11,7 +11,7 @@ complete -c elide -n '__fish_seen_subcommand_from asm' -l color -x -a 'auto alwa
 
 complete -c elide -n __fish_use_subcommand -f -a dis -d 'Prints the instructions of a program\'s code'
 complete -c elide -n '__fish_seen_subcommand_from dis' -l help -d 'Print help'
-complete -c elide -n '__fish_seen_subcommand_from dis' -l labels -d 'Prints each label above the instruction that it stands before'
+complete -c elide -n '__fish_seen_subcommand_from dis' -l labels -d 'Prints each label above the instruction that it stands before, and other instructions whole with what they are'
 complete -c elide -n '__fish_seen_subcommand_from dis' -l words -x -a 'auto always never' -d 'Tells beside a fault where it stands and what is meant: auto, at a terminal or where ELIDE_WORDS is `always`, always or never [default: auto]'
 complete -c elide -n '__fish_seen_subcommand_from dis' -l color -x -a 'auto always never' -d 'Paints messages and listings: auto, where it is a terminal\'s and NO_COLOR is not set, always or never [default: auto]'
 

@@ -79,7 +79,7 @@ pub const LIST: OptionText = OptionText {
 pub const LABELS: OptionText = OptionText {
     name: "labels",
     form: Form::Flag,
-    help: "Prints each label above the instruction that it stands before",
+    help: "Prints each label above the instruction that it stands before, and other instructions whole with what they are",
 };
 
 pub const CORES: OptionText = OptionText {
