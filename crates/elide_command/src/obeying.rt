@@ -54,7 +54,7 @@ pub fn obey<R: Threads + Wait + Sync + AllocGlobal, P: Paths, I: In, O: Out, G: 
         Subcommand::Stats(options) => obey_stats(alloc, options, paths, out, progress),
         Subcommand::Run(options) => obey_run(alloc, options, paths, out, look, progress),
         Subcommand::Hunt(options) => obey_hunt(rt, options, paths, out, progress),
-        Subcommand::Outcomes(options) => obey_outcomes(alloc, options, paths, out),
+        Subcommand::Outcomes(options) => obey_outcomes(alloc, options, paths, out, progress),
         Subcommand::Replay(options) => obey_replay(alloc, options, paths, out, look, progress),
     }
 }
@@ -149,7 +149,7 @@ fn obey_page<P: Paths, O: Out, G: Progress>(
     out: &mut O,
     progress: &mut G,
 ) -> Result<Answer, Refusal> {
-    done(page(alloc, options, paths, out, progress))
+    done(page(alloc, options, paths, Lent::new(out), progress))
 }
 
 #[inline(never)]
@@ -194,13 +194,14 @@ fn obey_hunt<R: Threads + Wait + Sync + AllocGlobal, P: Paths, O: Out, G: Progre
 }
 
 #[inline(never)]
-fn obey_outcomes<P: Paths, O: Out>(
+fn obey_outcomes<P: Paths, O: Out, G: Progress>(
     alloc: Global,
     options: &OutcomesOptions<'_>,
     paths: &mut P,
     out: &mut O,
+    progress: &mut G,
 ) -> Result<Answer, Refusal> {
-    searched(outcomes(alloc, options, paths, &PageFiles, Lent::new(out)))
+    searched(outcomes(alloc, options, paths, &PageFiles, Lent::new(out), progress))
 }
 
 #[inline(never)]
