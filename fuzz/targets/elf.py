@@ -1,4 +1,4 @@
-"""Executables: `dis FILE`, `run FILE`. The file is written here, and read by a reader of its own."""
+"""Executables: `dis FILE`, `run FILE`, `--why` by their symbols and lines. The file is written and read by code of its own."""
 
 import re
 import struct
@@ -22,8 +22,8 @@ def segment(address, content, size=None, flags=R | X, kind=LOAD):
     return kind, address, content, len(content) if size is None else size, flags
 
 
-def elf(segments, symbols=(), entry=None, ident=IDENT, **changes):
-    """The file of segments and symbols: the header, the table of segments, their bytes, the symbols, and sections."""
+def elf(segments, symbols=(), entry=None, ident=IDENT, lines=None, **changes):
+    """The file of segments, symbols and line numbers: header, table of segments, their bytes, symbols, lines, and sections."""
     head = {**HEADER, **changes}
     at, table, content = 52 + 32 * len(segments), b"", b""
     for kind, address, text, size, flags in segments:
@@ -39,11 +39,18 @@ def elf(segments, symbols=(), entry=None, ident=IDENT, **changes):
         rows = [(0, 0, 0, 0, 0), (2, symbols_at, len(entries), 2, 16), (3, strings_at, len(strings), 0, 0)]
         content += entries + strings
         sections = b"".join(struct.pack("<10I", 0, k, 0, 0, o, s, n, 0, 1, e) for k, o, s, n, e in rows)
+    names_of = 0
+    if lines is not None:
+        # The names of these sections, and which of the sections has them.
+        names, names_of = b"\0.debug_line\0.shstrtab\0", len(sections) // 40 + 1
+        rows = [(1, 1, at + len(content), len(lines)), (13, 3, at + len(content) + len(lines), len(names))]
+        content += lines + names
+        sections += b"".join(struct.pack("<10I", w, k, 0, 0, o, s, 0, 0, 1, 0) for w, k, o, s in rows)
     entry = (segments[0][1] if segments else 0) if entry is None else entry
     header = struct.pack(
         "<HHIIIIIHHHHHH", head["type"], head["machine"], head["version"], entry, 52,
         at + len(content) if sections else 0, 0, 52,
-        head["phentsize"], len(segments), head["shentsize"], len(sections) // 40, 0,
+        head["phentsize"], len(segments), head["shentsize"], len(sections) // 40, names_of,
     )
     return ident + header + table + content + sections
 
@@ -88,6 +95,35 @@ NAMES = [
 CONFLICT, WORD = readers.read_image(examples("conflict.img")[0]).content, 0x1000
 
 
+def number(value):
+    """A number in parts of seven bits, the lowest first (DWARF, "Variable Length Data")."""
+    parts = [value & 0x7F]
+    while value := value >> 7:
+        parts[-1] |= 0x80
+        parts.append(value & 0x7F)
+    return bytes(parts)
+
+
+def line_numbers(draw):
+    """A table of line numbers in the form of DWARF 4, mostly one that can be read: opcodes that are drawn between its ends."""
+    odd = draw.randrange(3) == 0
+    address = b"\0\5\2" + struct.pack("<I", draw.choice([0x106, 0, 0xFFFFFFFF, draw.getrandbits(32)]) if odd else 0x100)
+    opcodes = [bytes([draw.randrange(13, 256)]), b"\1", b"\2" + number(draw.randrange(9)), b"\3" + number(draw.randrange(40))]
+    if odd:
+        opcodes += [
+            bytes([draw.randrange(13)]), b"\2" + number(draw.getrandbits(draw.randrange(70))), b"\4" + number(draw.randrange(4)),
+            b"\3" + number(draw.getrandbits(draw.randrange(70))), address, b"\10", b"\t" + draw.randbytes(2), b"\0\1\1",
+            b"\0" + number(draw.randrange(300)) + b"\3b.c\0\0\0\0",
+        ]
+    program = address + b"".join(draw.choice(opcodes) for _ in range(draw.randrange(30))) + b"\2\30\0\1\1"
+    names = draw.choices([b"a.c", b"a.c", b"b" * 300, b"\x1b", b"../c.c"], k=1 + draw.randrange(3) - odd)
+    head = bytes([1, 1, 1, 251, 14, 13]) + b"\0\1\1\1\1\0\0\0\1\0\0\1"
+    head = mutations.flip(draw, head, [], []) if odd else head
+    head += b"dir\0\0" + b"".join(name + b"\0\0\0\0" for name in names) + b"\0"
+    rest = struct.pack("<HI", 4, draw.choice([len(head), draw.getrandbits(32)]) if odd else len(head)) + head + program
+    return struct.pack("<I", draw.choice([len(rest), len(rest) - 1, draw.getrandbits(32)]) if odd else len(rest)) + rest
+
+
 def drawn(draw):
     """A file that is mostly taken: code, data, and symbols with names that are hard to show."""
     code = draw.choice([CONFLICT, CONFLICT, draw.choice(codes()), draw.randbytes(draw.randrange(1, 60))])
@@ -97,7 +133,8 @@ def drawn(draw):
     data = draw.randbytes(draw.randrange(9))
     segments.append(segment(draw.choice([WORD, WORD, 0x800, 0x2000]), data, draw.randrange(9, 200), R | W))
     symbols = [drawn_symbol(draw) for _ in range(draw.randrange(9))]
-    return elf(segments, symbols, draw.choice([None, None, 0x106, 0x100 + draw.randrange(len(code))]))
+    lines = line_numbers(draw) if draw.randrange(2) else None
+    return elf(segments, symbols, draw.choice([None, None, 0x106, 0x100 + draw.randrange(len(code))]), lines=lines)
 
 
 def drawn_symbol(draw):
