@@ -8,3 +8,4 @@ pub mod Holding
 pub mod Drain
 pub mod Bits
 pub mod Alike
+pub mod TakenOver

@@ -100,3 +100,9 @@ abbrev pub slots_for : ℕ → Width → List (Option ℕ) → List ℕ
 slots_for address width given =
     unwrap_or (first_slot given) 0
     ∷ (if last_line address width == line address then [] else unwrap_or (last_slot given) 0 ∷ [])
+
+-- of another's bytes a buffer has those on its own lines, and no others
+abbrev pub IsPartOf : BufferValue → BufferValue → Type 0
+IsPartOf part whole =
+    (address : ℕ) → bytes_map.get part.bytes address
+    ≡ (if holds part.order (line address) then bytes_map.get whole.bytes address else None)

@@ -11,6 +11,7 @@
 //! made.
 #![tactic(auto)]
 
+mod copying;
 mod fault;
 mod same;
 mod slots;

@@ -2,7 +2,7 @@
 
 ghost use Rattle.std.specs.Prelude.{◌≡◌, ◌+◌, ◌/◌, ◌^◌, ◌<◌, ◌≤◌, ◌==◌, [], ◌∷◌, ◌++◌, length, slice_index, nat_lt};
 ghost use Rattle.std.specs.Prelude.{is_err, if◌then◌else◌, IfOk, IfSome, OnOk, OnErr, IsSome, IsNone, IsTrue, unwrap_or};
-ghost use Rattle.std.specs.Prelude.{Option, Some, None, not};
+ghost use Rattle.std.specs.Prelude.{ℕ, Option, Some, None, false, not};
 ghost use Rattle.std.specs.FinMap as bytes_map;
 ghost use Rattle.std.specs.FinSet as set;
 ghost use Rattle.ia_word.specs.Width.{bits_of, bytes_of};
@@ -91,11 +91,13 @@ impl Buffer {
         })
     }
 
-    /// How many lines have a byte.
+    /// How many lines have a byte. No byte lies on another line.
     pub fn lines(&self) -> u32
         ensures count { result ≡ length self.now.order }
         ensures distinct { result ≡ set.len (lines_of self.now.order) }
         ensures within { result ≤ self.now.room }
+        ensures nowhere_else { (address : ℕ) → holds self.now.order (line address) ≡ false →
+            bytes_map.get self.now.bytes address ≡ None }
     {
         self.lines.len() as u32
     }
@@ -524,7 +526,7 @@ impl Buffer {
     }
 
     /// Gives a new line the next place, and a slot that is free.
-    fn add(&mut self, line: u32, slot: u32) -> usize
+    pub(crate) fn add(&mut self, line: u32, slot: u32) -> usize
         requires new { place_of self.old.order line ≡ None }
         requires low { slot < self.old.room }
         requires free { place_of self.old.slots slot ≡ None }

@@ -15,9 +15,11 @@ pub mod Adding
 pub mod Clearing
 pub mod Making
 pub mod Triples
-pub mod Gathering
 pub mod Placing
 pub mod Slotting
 pub mod Same
 pub mod CoreWalks
 pub mod Within
+pub mod Copying
+pub mod Telling
+pub mod Likes

@@ -1,5 +1,5 @@
 -- Sets of lines that are the same: one is within the other, and has as many lines.
-use Rattle.std.proofs.Common.{◌≡◌, ℕ, suc, ◌+◌, ◌-◌, Bool, true, false, cond, eqb, not, ◌&&◌, ◌||◌, List, [], ◌∷◌, length, get_or, ◌<◌, refl, sym, ap, ◌∙◌, ⊎_elim, arith}
+use Rattle.std.proofs.Common.{◌≡◌, ℕ, suc, ◌+◌, ◌-◌, Bool, true, false, cond, eqb, not, ◌&&◌, ◌||◌, List, [], ◌∷◌, length, get_or, ◌<◌, ◌≤◌, refl, sym, ap, ◌∙◌, ⊎_elim, arith}
 use Rattle.std.proofs.lemmas.Bool.{cases_eq, eq-eqb, ne_eqb}
 use Rattle.std.specs.Ordering.{nat_cmp}
 use Rattle.std.specs.Cmp.{nat_cmp_total, unsigned_tied}
@@ -19,16 +19,16 @@ pub itself : (s t : Lines) → s ≡ t → set.is_subset s t ≡ true
 itself s t e = set.contains-is_subset nat_cmp_total s t (λ q i. sym (ap (λ u. set.contains u q) e) ∙ i)
 
 -- a line that was put into a set is the new one or was there before
-inserted : (s : Lines) (x q : ℕ) → set.contains (set.insert s x) q ≡ (eqb q x || set.contains s q)
+pub inserted : (s : Lines) (x q : ℕ) → set.contains (set.insert s x) q ≡ (eqb q x || set.contains s q)
 inserted s x q = set.contains-insert nat_cmp_total s x q ∙ ap (λ t. t || set.contains s q) (unsigned_tied q x)
 
 removed : (s : Lines) (x q : ℕ) → set.contains (set.remove s x) q ≡ (not (eqb q x) && set.contains s q)
 removed s x q = set.contains-remove nat_cmp_total s x q ∙ ap (λ t. not t && set.contains s q) (unsigned_tied q x)
 
-newest : (s : Lines) (x : ℕ) → set.contains (set.insert s x) x ≡ true
+pub newest : (s : Lines) (x : ℕ) → set.contains (set.insert s x) x ≡ true
 newest s x = inserted s x x ∙ ap (λ t. t || set.contains s x) (eq-eqb x x refl)
 
-older : (s : Lines) (x q : ℕ) → set.contains s q ≡ true → set.contains (set.insert s x) q ≡ true
+pub older : (s : Lines) (x q : ℕ) → set.contains s q ≡ true → set.contains (set.insert s x) q ≡ true
 older s x q i = inserted s x q ∙ or_right (eqb q x) (set.contains s q) i
   where
     or_right : (a b : Bool) → b ≡ true → (a || b) ≡ true
@@ -87,3 +87,30 @@ not_subset xs t i l b e f = fails (set.is_subset (lines_of xs) t) (λ s. never (
 
 pub same_of_subset : (xs : List ℕ) (t : Lines) → set.len (lines_of xs) ≡ set.len t → set.is_subset (lines_of xs) t ≡ true → lines_of xs ≡ t
 same_of_subset xs t len s = same_of_len xs t (set.is_subset-contains nat_cmp_total (lines_of xs) t s) len
+
+-- a set of lines within another has no more
+len_within : (xs : List ℕ) (t : Lines) → Within (lines_of xs) t → set.len (lines_of xs) ≤ set.len t
+len_within [] t to = let none : set.len (lines_of []) ≡ 0 = set.len-empty nat_cmp in omega arith
+len_within (x ∷ xs) t to = ⊎_elim
+    (λ (there : set.contains (lines_of xs) x ≡ true).
+    let same = ap set.len (kept (lines_of xs) x there) in
+    omega (arith, same, len_within xs t (λ q i. to q (older (lines_of xs) x q i))))
+    (λ (new : set.contains (lines_of xs) x ≡ false).
+    let here : set.contains t x ≡ true = to x (newest (lines_of xs) x) in
+    let more : set.len (lines_of (x ∷ xs)) ≡ set.len (lines_of xs) + 1 = len_push (lines_of xs) x new in
+    let back : set.len t ≡ set.len (set.remove t x) + 1 = ap set.len (sym (put_back t x here)) ∙ len_push (set.remove t x) x (gone t x) in
+    let rest = len_within xs (set.remove t x)
+    (λ q i. apart t x q (λ e. never (set.contains (lines_of xs) x) (sym (ap (set.contains (lines_of xs)) e) ∙ i) new) ∙ to q (older (lines_of xs) x q i)) in
+    omega (arith, more, back, rest))
+    (tested (set.contains (lines_of xs) x))
+
+-- and fewer, where it lacks one of the other's
+pub fewer_within : (xs : List ℕ) (t : Lines) (x : ℕ) → Within (lines_of xs) t → set.contains (lines_of xs) x ≡ false → set.contains t x ≡ true
+    → set.len (lines_of xs) < set.len t
+fewer_within xs t x to new here =
+    let more : set.len (lines_of (x ∷ xs)) ≡ set.len (lines_of xs) + 1 = len_push (lines_of xs) x new in
+    let all = len_within (x ∷ xs) t (λ q i. ⊎_elim
+    (λ (e : q ≡ x). ap (set.contains t) e ∙ here)
+    (λ (d : q ≡ x → ⊥). to q (sym (inserted (lines_of xs) x q ∙ ap (λ b. b || set.contains (lines_of xs) q) (ne_eqb q x d)) ∙ i))
+    (cases_eq q x)) in
+    omega (arith, more, all)

@@ -97,6 +97,26 @@ pub trait Sets {
         ensures all { ((kind : Kind) → (content self.now).lines core kind ≡ (content other.now).lines core kind)
             → IsTrue result };
 
+    /// Whether other sets of this representation were made for the same numbers of cores and lines, and with the same
+    /// room.
+    fn is_like(&self, other: &Self) -> bool
+        ensures fixed { IsTrue result → (content self.now).fixed ≡ (content other.now).fixed }
+        ensures all { (content self.now).fixed ≡ (content other.now).fixed → IsTrue result };
+
+    /// Gives a core the lines that the core of this number has in other sets of this representation, which were made
+    /// alike, in place of its own: of both kinds. Slots of the core's lines are new ones. It takes no memory; the time
+    /// is that of the core's lines in both.
+    fn copy_core(&mut self, other: &Self, core: u8)
+        requires here { core < (content self.old).fixed.cores }
+        requires alike { (content other.now).fixed ≡ (content self.old).fixed }
+        ensures lines { (kind : Kind) → (content self.new).lines core kind ≡ (content other.now).lines core kind }
+        ensures elsewhere { (c : ℕ) → (nat_eq c core ≡ true → ⊥)
+            → (kind : Kind) → (content self.new).lines c kind ≡ (content self.old).lines c kind }
+        ensures slots { (c : ℕ) → (nat_eq c core ≡ true → ⊥)
+            → (content self.new).slots c ≡ (content self.old).slots c }
+        ensures fixed { (content self.new).fixed ≡ (content self.old).fixed }
+        ensures visits { visited self.new ≡ visited self.old };
+
     /// The slot of a line that the core has written, and nothing for any other line: a number below the core's room for
     /// written lines, and for each of them another one. It stays the line's slot until `clear` of the core.
     fn slot(&self, core: u8, line: u32) -> Option<u32>

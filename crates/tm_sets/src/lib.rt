@@ -9,7 +9,8 @@
 //! Promised: `add` refuses a line exactly where its set has no room; `has`, `holds`, `others_on`, `writers_on`,
 //! `count`, `room_for` and `listing` tell what the set of triples has, and `slot` the number of a line that a core has
 //! written, which stays until that core is cleared; `is_same` tells whether a core has the same lines in two sets of
-//! one representation; none of these changes the set. `clear` takes away one core's triples alone.
+//! one representation, and `is_like` whether two were made alike; none of these changes the set. `clear` takes away one
+//! core's triples alone, and `copy_core` puts those in their place that the core has in other sets made alike.
 //!
 //! It stands on no other crate of the machine.
 #![tactic(auto)]

@@ -101,6 +101,16 @@ impl LineSet {
         self.lines.clear();
     }
 
+    /// Has the lines of another with as much room, in their order, in place of its own.
+    pub fn copy_from(&mut self, other: &LineSet)
+        requires { other.now.room ≡ self.old.room }
+        ensures lines { self.new.order ≡ other.now.order }
+        ensures room { self.new.room ≡ self.old.room }
+    {
+        self.lines.clear();
+        self.lines.extend_from_slice(&other.lines).unwrap();
+    }
+
     /// The lines, ascending.
     pub fn listing(&self, alloc: Global) -> Result<Vec<u32>, NoMemory>
         ensures ascending { IfOk result (λ lines. IsStrictlyIncreasing lines.items) }

@@ -211,6 +211,18 @@ impl Sets for PlainSets {
             && self.writes[usize::from(core)].is_same(&other.writes[usize::from(core)])
     }
 
+    fn is_like(&self, other: &PlainSets) -> bool {
+        self.reads.as_slice().len() == other.reads.as_slice().len()
+            && self.line_count == other.line_count
+            && self.read_lines == other.read_lines
+            && self.write_lines == other.write_lines
+    }
+
+    fn copy_core(&mut self, other: &PlainSets, core: u8) {
+        self.reads[usize::from(core)].copy_from(&other.reads[usize::from(core)]);
+        self.writes[usize::from(core)].copy_from(&other.writes[usize::from(core)]);
+    }
+
     fn slot(&self, core: u8, line: u32) -> Option<u32> {
         match self.writes[usize::from(core)].place(line) {
             Some(place) => Some(place as u32),

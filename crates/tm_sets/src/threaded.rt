@@ -300,11 +300,11 @@ fn is_use(entry: &Entry, core: u8, kind: Kind) -> bool
     entry.core == core && entry.kind == kind
 }
 
-/// Whether an entry stands for a line of this core and kind.
-fn is_held(entry: &Entry, core: u8, kind: Kind) -> bool
-    ensures { result ≡ is_of entry.now core kind }
+/// Whether an entry is of this kind.
+fn is_of_kind(entry: &Entry, kind: Kind) -> bool
+    ensures { result ≡ same_kind entry.now.kind kind }
 {
-    entry.held && is_use(entry, core, kind)
+    entry.kind == kind
 }
 
 /// Whether an entry's core is another than `core`, and wrote the line where only those that wrote are asked for.
@@ -448,6 +448,27 @@ impl Sets for Directory {
             && self.is_within(other, core)
     }
 
+    fn is_like(&self, other: &Directory) -> bool {
+        self.core_heads.as_slice().len() == other.core_heads.as_slice().len()
+            && self.line_count == other.line_count
+            && self.read_lines == other.read_lines
+            && self.write_lines == other.write_lines
+    }
+
+    /// The core's list here is emptied, and that of the other walked.
+    fn copy_core(&mut self, other: &Directory, core: u8) {
+        self.clear(core);
+        let mut at = other.core_heads[usize::from(core)];
+        let mut visited = 0;
+        while at != 0 {
+            let entry = other.visit(at, &mut visited);
+            let Ok(()) = self.add(core, entry.line, entry.kind) else {
+                unreachable!()
+            };
+            at = entry.after_on_core;
+        }
+    }
+
     fn slot(&self, core: u8, line: u32) -> Option<u32> {
         let (place, _) = self.find(core, line, Kind::Write);
         match place {
@@ -462,12 +483,17 @@ impl Sets for Directory {
         }
     }
 
+    /// The time is that of the core's own list, and of the sorting.
     fn listing(&self, alloc: Global, core: u8, kind: Kind) -> Result<Vec<u32>, NoMemory> {
         let mut lines = Vec::with_capacity(alloc, self.held_lines(core, kind) as usize)?;
-        for entry in &self.entries {
-            if is_held(entry, core, kind) {
+        let mut at = self.core_heads[usize::from(core)];
+        let mut visited = 0;
+        while at != 0 {
+            let entry = self.visit(at, &mut visited);
+            if is_of_kind(&entry, kind) {
                 lines.push(entry.line)?;
             }
+            at = entry.after_on_core;
         }
         lines.sort_unstable();
         Ok(lines)
