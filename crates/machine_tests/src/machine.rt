@@ -3,6 +3,8 @@
 
 mod alike;
 mod both;
+mod drawn;
+mod in_place;
 mod quick;
 mod refusals;
 mod whole;

@@ -36,8 +36,8 @@ fn reopen_line(memory: &mut [u8], opening: &[u8], line: u32)
     }
 }
 
-// Writes these lines as they were.
-fn reopen_each(memory: &mut [u8], opening: &[u8], lines: &[u32])
+/// Writes these lines as they were.
+pub fn reopen_each(memory: &mut [u8], opening: &[u8], lines: &[u32])
     requires { IsSameElsewhere lines.now memory.old opening.now }
     ensures { memory.new ≡ opening.now }
 {

@@ -2,36 +2,52 @@
 
 ghost use Rattle.std.specs.Prelude.{◌<◌, length};
 
-use super::both::{Run, run_of};
+use super::both::run_of;
 use super::program;
+use ia_image::Program;
 use std::alloc::Global;
 use std::process::Abort;
-use tm_core::{Kind, Machine, Outcome};
+use tm_core::{Kind, Limits, Machine, Outcome};
 
-/// Runs in the form of those of `both`, each of which has one transaction that is made at once.
+/// Runs in the form of those of `both`, each of which has one transaction that is made at once: beside a core that is
+/// open, and in place, where there may be limits just above four lines an instruction, a part of a store that is loaded,
+/// nine loads, and 32 stores.
 const WHOLE: &str = "\
 c7f80f000000a10010000040a3001000000f01d5f4f4; 100 100; 512 512; 0 0 0 0 0 1 1\n\
 c7f80f000000a10010000040a3001000000f01d5f4f4; 100 100; 512 512; 1 1 0 0 0 0 0 1\n\
 c7f80f000000a10010000040a3001000000f01d5f4f4; 100 100; 512 512; 1 1 1 1 0 0 0 0 0 1\n\
-c7f80f000000a10010000040a3001000000f01d5f4f4; 100 100; 32 32; 0 0 0 0 0\n\
+c7f80f000000a10010000040a3001000000f01d5f4f4; 100 100; 32 32; 1 0 0 0 0 0\n\
+c7f80f000000a10010000040a3001000000f01d5f4f4; 100 100; 16 16; 0 0 0 0 0\n\
 c7f800000000c7050010000044332211a1001000000f01d5; 100; 512 512; 0 0 0 0 0\n\
+c7f800000000c7050010000044332211a1001000000f01d5; 100 100; 512 512; 1 0 0 0 0 0\n\
+c7f800000000c7050010000044332211a1021000000f01d5; 100; 512 512; 0 0 0 0 0\n\
 c7f800000000a13e100000a33e1000000f01d5; 100; 512 512; 0 0 0 0 0\n\
 c7f800000000ff0500100000ff0500100000ff05041000000f01d5; 100; 512 512; 0 0 0 0 0\n\
+c7f800000000a100100000a100100000a100100000a100100000a100100000a100100000a100100000a100100000a1001000000f01d5; \
+100; 512 512; 0 0 0 0 0 0 0 0 0 0 0\n\
+c7f80000000050505050505050505050505050505050505050505050505050505050505050500f01d5; \
+100; 512 512; 0 0 0 0 0 0 0 0 0 0 0 0 0 0 0 0 0 0 0 0 0 0 0 0 0 0 0 0 0 0 0 0 0 0\n\
 c7f80000000050580f01d5; 100; 512 512; 0 0 0 0 0\n\
 c7f8000000000f01d5f4; 100; 512 512; 0 0 0 0 0\n";
 
-/// Runs in which none is: a limit below 32 lines, a step missing, fewer than five left, a part of a store loaded, nine loads, a
-/// nested one, and one that aborts.
+/// Runs in which none is: a limit below sixteen lines, and below 32 beside an open core; a step missing, and fewer than
+/// five left; beside an open core a part of a store loaded, and nine loads; 33 stores, a store into code, a nested one, and
+/// one that stores and aborts.
 const PIECEMEAL: &str = "\
-c7f80f000000a10010000040a3001000000f01d5f4f4; 100; 512 31; 0 0 0 0 0\n\
-c7f80f000000a10010000040a3001000000f01d5f4f4; 100; 31 512; 0 0 0 0 0\n\
+c7f80f000000a10010000040a3001000000f01d5f4f4; 100; 512 15; 0 0 0 0 0\n\
+c7f80f000000a10010000040a3001000000f01d5f4f4; 100; 15 512; 0 0 0 0 0\n\
+c7f80f000000a10010000040a3001000000f01d5f4f4; 100 100; 512 31; 1 0 0 0 0 0\n\
+c7f80f000000a10010000040a3001000000f01d5f4f4; 100 100; 31 512; 1 0 0 0 0 0\n\
 c7f80f000000a10010000040a3001000000f01d5f4f4; 100 100; 512 512; 0 0 0 0 1 0\n\
 c7f8000000000f01d5f4; 100; 512 512; 0 0 0\n\
-c7f800000000c7050010000044332211a1021000000f01d5; 100; 512 512; 0 0 0 0 0\n\
+c7f800000000c7050010000044332211a1021000000f01d5; 100 100; 512 512; 1 0 0 0 0 0\n\
 c7f800000000a100100000a100100000a100100000a100100000a100100000a100100000a100100000a100100000a1001000000f01d5; \
-100; 512 512; 0 0 0 0 0 0 0 0 0 0 0\n\
+100 100; 512 512; 1 0 0 0 0 0 0 0 0 0 0 0\n\
+c7f8000000005050505050505050505050505050505050505050505050505050505050505050500f01d5; \
+100; 512 512; 0 0 0 0 0 0 0 0 0 0 0 0 0 0 0 0 0 0 0 0 0 0 0 0 0 0 0 0 0 0 0 0 0 0 0\n\
+c7f800000000c7050010000044332211a3000100000f01d5; 100; 512 512; 0 0 0 0 0\n\
 c7f800000000c7f8000000000f01d50f01d5; 100; 512 512; 0 0 0 0 0\n\
-c7f800000000c6f8ab; 100; 512 512; 0 0 0 0 0\n";
+c7f800000000c7050010000044332211c6f8ab; 100; 512 512; 0 0 0 0 0\n";
 
 /// Runs in which three instructions are made at once on registers: to the HLT, while another core is open, as far as the core's
 /// steps go, and up to a load.
@@ -73,9 +89,9 @@ fn alike(rt: &impl Abort, alloc: Global, one: &Machine, other: &Machine) {
 
 /// How much of a run was made at once.
 #[derive(Clone, Copy, PartialEq, Eq, Debug)]
-struct AtOnce {
-    transactions: u32,
-    on_registers: u32,
+pub struct AtOnce {
+    pub transactions: u32,
+    pub on_registers: u32,
 }
 
 /// Makes as many steps of a core at once as can be, or else one: how many, and the first's outcome where it was one.
@@ -96,11 +112,15 @@ fn go_on(machine: &mut Machine, core: u8, most: u32, made: &mut AtOnce) -> (u32,
 }
 
 /// Makes the steps of a run one by one, and on another machine at once where that can be: how much that was.
-fn made_at_once(rt: &impl Abort, alloc: Global, run: &Run) -> AtOnce {
-    let program = program(rt, alloc, run.code.as_slice(), run.entries.as_slice());
-    let mut single: Machine = Machine::new(alloc, &program, run.limits).expect(rt, "makes");
-    let mut whole: Machine = Machine::new(alloc, &program, run.limits).expect(rt, "makes");
-    let steps = run.steps.as_slice();
+pub fn made_at_once(
+    rt: &impl Abort,
+    alloc: Global,
+    program: &Program,
+    limits: Limits,
+    steps: &[u8],
+) -> AtOnce {
+    let mut single: Machine = Machine::new(alloc, program, limits).expect(rt, "makes");
+    let mut whole: Machine = Machine::new(alloc, program, limits).expect(rt, "makes");
     let mut made = AtOnce {
         transactions: 0,
         on_registers: 0,
@@ -139,7 +159,19 @@ fn steps_at_once_are_the_steps(rt: HostRuntime) {
         for row in table.lines() {
             match run_of(rt.alloc(), row) {
                 Some(run) => {
-                    let made = made_at_once(&rt, rt.alloc(), &run);
+                    let program = program(
+                        &rt,
+                        rt.alloc(),
+                        run.code.as_slice(),
+                        run.entries.as_slice(),
+                    );
+                    let made = made_at_once(
+                        &rt,
+                        rt.alloc(),
+                        &program,
+                        run.limits,
+                        run.steps.as_slice(),
+                    );
                     assert_eq!(&rt; made, want, "{row}");
                 }
                 None => assert!(&rt; false, "no run: {row}"),

@@ -1,0 +1,27 @@
+use Rattle.std.proofs.Common.{ℕ, length, sym, ◌∙◌, subst}
+use Rattle.tm_rule.proofs.Facts.{LoadIn, StoreIn, load_within, store_within}
+use Rattle.tm_core.specs.ExplainedViews.{AreWithin}
+use Rattle.tm_core.proofs.Table.{store_place}
+use Rattle.tm_core.proofs.foretell.foretell_running.Goals as goal
+
+pub returns-then-takes_two_steps-clause-within : goal.returns-then-takes_two_steps-clause-within
+returns-then-takes_two_steps-clause-within c =
+    let size : ℕ = length c.args.memory.now in
+    let loads : LoadIn size c.load_at-access.result =
+    subst (LoadIn size)
+    (sym (c.load_at-access.ensures.value c.args.code.now.bytes.now c.args.code.now.base c.standing-row.ensures))
+    (load_within c.args.code.now.bytes.now c.args.code.now.base size c.args.cpu.now.base) in
+    subst (AreWithin size) (sym c.accessing.ensures.touched) (loads, tt)
+
+pub returns-else-takes_two_steps-clause-within : goal.returns-else-takes_two_steps-clause-within
+returns-else-takes_two_steps-clause-within c =
+    let size : ℕ = length c.args.memory.now in
+    let loads : LoadIn size c.load_at-access.result =
+    subst (LoadIn size)
+    (sym (c.load_at-access.ensures.value c.args.code.now.bytes.now c.args.code.now.base c.standing-row.ensures))
+    (load_within c.args.code.now.bytes.now c.args.code.now.base size c.args.cpu.now.base) in
+    let stores : StoreIn size c.in-Goes.store =
+    store_within c.args.code.now.bytes.now c.args.code.now.base size c.args.cpu.now.base c.load-loaded.result
+    c.in-Goes.field-0 c.in-Goes.store (sym c.outside.ensures ∙ c.in-Goes.is) in
+    subst (AreWithin size) (sym c.accessing-else-takes_two_steps.ensures.touched)
+    (loads, store_place size c.in-Goes.store stores)
