@@ -1,5 +1,5 @@
 -- Machines whose memory is what it was but on the lines that were noted.
-use Rattle.std.proofs.Common.{◌≡◌, inl, inr, ℕ, ◌+◌, ◌<◌, List, [], ◌∷◌, ◌++◌, Some, length, refl, sym, ap, ◌∙◌, subst, arith, length-append}
+use Rattle.std.proofs.Common.{◌≡◌, inl, inr, ℕ, zero, suc, ◌+◌, ◌<◌, List, [], ◌∷◌, ◌++◌, Option, Some, None, length, refl, sym, ap, ◌∙◌, subst, arith, length-append}
 use Rattle.std.specs.Prelude.{All, Contains, option_and_then}
 use Rattle.std.proofs.lemmas.Bool.{cases_lt}
 use Rattle.tm_core.specs.IaImage.Program.{opening_memory}
@@ -7,12 +7,13 @@ use Rattle.tm_core.specs.Reopening.{IsSameElsewhere}
 use Rattle.tm_core.specs.Theorem.{StandsFor, machine_setting}
 use Rattle.tm_model.specs.Setting.{Setting}
 use Rattle.tm_model.specs.declared.outcome.Pick.{Pick}
-use Rattle.tm_outcomes.specs.Nodes.{HasRun, IsPickOf, IsTree, schedule_at}
+use Rattle.tm_outcomes.specs.Nodes.{HasRun, IsPickOf, IsTree, parent_at, schedule_at, steps_at}
 use Rattle.tm_outcomes.specs.Outcomes.{IsAllowed, trial_opening, trial_setting}
 use Rattle.tm_outcomes.specs.Places.{IsAt, IsPlaceOf}
 use Rattle.tm_outcomes.specs.Resting.{Advances}
 use Rattle.tm_outcomes.specs.Schedules.{Situation, after_schedule}
-use Rattle.tm_outcomes.specs.Written.{IsPlaceIn, IsWithin, IsWrittenOf, StoresOn}
+use Rattle.tm_outcomes.specs.Written.{IsAtNode, IsBenchOf, IsPlaceIn, IsWithin, IsWrittenOf, StoresOn}
+use Rattle.tm_outcomes.specs.declared.bench.Bench.{Bench}
 use Rattle.tm_outcomes.specs.declared.nodes.Node.{Node}
 use Rattle.tm_outcomes.specs.declared.place.Place.{Place}
 use Rattle.tm_outcomes.specs.declared.trial.Trial.{Trial}
@@ -115,17 +116,71 @@ written_new trial nodes after node written old added parent are_picks has_run wi
       ];
     }
 
--- the same with more lines
-pub written_after : (trial : Trial) (before after : Written) → after.opening ≡ before.opening →
-    ((line : ℕ) → Contains before.lines.items line → Contains after.lines.items line) → (nodes nodes_now : List Node) (node : Node)
-    (old : IsWrittenOf trial nodes before) → nodes_now ≡ nodes ++ node ∷ [] → node.parent < length nodes → All (IsPickOf trial) node.steps.items →
-    HasRun trial (schedule_at old.schedules node.parent ++ node.steps.items) →
-    IsWithin trial after.lines.items (schedule_at old.schedules node.parent ++ node.steps.items) →
-    IsWrittenOf trial nodes_now after
-unfolding written_more
-written_after trial before after same among nodes nodes_now node old added parent are_picks has_run within =
-    written_new trial nodes nodes_now node after (written_more trial before after same among nodes old) added parent are_picks
-    has_run within
+-- ---- the machine that stands at a node
+
+-- a node has one schedule
+pub one_schedule : (trial : Trial) (nodes : List Node) (one other : List (List Pick)) → IsTree trial nodes one → IsTree trial nodes other →
+    (most index : ℕ) → index < most → index < length nodes → schedule_at one index ≡ schedule_at other index
+one_schedule trial nodes one other a b zero index below within = absurd (omega arith)
+one_schedule trial nodes one other a b (suc most) index below within = elim (cases_lt 0 index) [
+  | inl positive ↦
+      let lower = a.lower index positive within in
+      let before : schedule_at one (parent_at nodes index) ≡ schedule_at other (parent_at nodes index) =
+      one_schedule trial nodes one other a b most (parent_at nodes index) (omega arith) (omega arith) in
+      a.longer index positive within ∙ (ap (λ (s : List Pick). s ++ steps_at nodes index) before ∙ sym (b.longer index positive within))
+  | inr none ↦
+      let first : index ≡ 0 = omega arith in
+      ap (schedule_at one) first ∙ (a.root ∙ (sym b.root ∙ ap (schedule_at other) (sym first)))
+]
+
+-- it stands there in a tree with a node more
+at_grown : (trial : Trial) (nodes after : List Node) (node : Node) (schedules : List (List Pick)) (place : Place) (at : Option ℕ) →
+    IsTree trial nodes schedules → after ≡ nodes ++ node ∷ [] → node.parent < length nodes → All (IsPickOf trial) node.steps.items →
+    HasRun trial (schedule_at schedules node.parent ++ node.steps.items) → IsAtNode trial nodes place at → IsAtNode trial after place at
+at_grown trial nodes after node schedules place None tree added parent are_picks has_run is = tt
+at_grown trial nodes after node schedules place (Some index) tree added parent are_picks has_run is =
+    let last : List Pick = schedule_at schedules node.parent ++ node.steps.items in
+    let grown : List (List Pick) = schedules ++ last ∷ [] in
+    let more : IsTree trial after grown =
+    subst (λ (ns : List Node). IsTree trial ns grown) (sym added) (grows trial nodes schedules node tree parent are_picks has_run) in
+    let long : length after ≡ length nodes + 1 = ap (λ (ns : List Node). length ns) added ∙ length-append nodes (node ∷ []) in
+    let counted : length schedules ≡ length nodes = tree.counted in
+    let within = is.0 in
+    let below : index < length after = omega arith in (
+      below,
+      λ others tree_now.
+          subst (λ (s : List Pick). IsAt trial place s)
+          (sym (schedule_old schedules (last ∷ []) index (omega arith))
+          ∙ one_schedule trial after grown others more tree_now (length after) index below below)
+          (is.1 schedules tree),
+    )
+
+-- a bench behind a step of the state that goes on, with more lines
+pub bench_advanced : (trial : Trial) (nodes : List Node) (bench : Bench) (here : Place) (noted : Written) →
+    noted.opening ≡ bench.noted.opening →
+    ((line : ℕ) → Contains bench.noted.lines.items line → Contains noted.lines.items line) →
+    IsPlaceIn trial noted here → IsBenchOf trial nodes bench → IsBenchOf trial nodes (record bench { here = here; noted = noted })
+bench_advanced trial nodes bench here noted same among is_in is = record {
+  start = place_more trial bench.noted noted same among bench.start is.start;
+  at = is.at;
+  here = is_in;
+  other = place_more trial bench.noted noted same among bench.other is.other;
+  written = written_more trial bench.noted noted same among nodes is.written;
+}
+
+-- and for a node more
+pub bench_grown : (trial : Trial) (nodes after : List Node) (node : Node) (bench : Bench) (is : IsBenchOf trial nodes bench) →
+    after ≡ nodes ++ node ∷ [] → node.parent < length nodes → All (IsPickOf trial) node.steps.items →
+    HasRun trial (schedule_at is.written.schedules node.parent ++ node.steps.items) →
+    IsWithin trial bench.noted.lines.items (schedule_at is.written.schedules node.parent ++ node.steps.items) →
+    IsBenchOf trial after bench
+bench_grown trial nodes after node bench is added parent are_picks has_run within = record {
+  start = is.start;
+  at = at_grown trial nodes after node is.written.schedules bench.start bench.at is.written.tree added parent are_picks has_run is.at;
+  here = is.here;
+  other = is.other;
+  written = written_new trial nodes after node bench.noted is.written added parent are_picks has_run within;
+}
 
 -- ---- before the first step
 

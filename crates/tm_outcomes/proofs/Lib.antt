@@ -10,6 +10,7 @@ pub mod Leads
 pub mod Idling
 pub mod Tables
 pub mod Trees
+pub mod Along
 pub mod Stored
 pub mod Noted
 pub mod Benches

@@ -73,6 +73,15 @@ on_more lines more memory other among same = record {
   ];
 }
 
+pub turned : (lines a b : List ℕ) → IsSameElsewhere lines a b → IsSameElsewhere lines b a
+turned lines a b one = record {
+  count = sym one.count;
+  same = λ address. elim (one.same address) [
+    | inl here ↦ inl here
+    | inr e ↦ inr (sym e)
+  ];
+}
+
 pub then_same : (lines a b c : List ℕ) → IsSameElsewhere lines a b → IsSameElsewhere lines b c → IsSameElsewhere lines a c
 then_same lines a b c one other = record {
   count = one.count ∙ other.count;

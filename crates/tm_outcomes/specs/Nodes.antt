@@ -1,5 +1,5 @@
 -- The states that a search has met, each as the last step of a schedule that leads there, and the node of the rest.
-use Rattle.std.specs.Prelude.{◌≡◌, ℕ, ◌<◌, List, [], ◌++◌, All, Contains, Some, None, length, map}
+use Rattle.std.specs.Prelude.{◌≡◌, ℕ, ◌<◌, List, [], ◌∷◌, ◌++◌, All, Contains, Some, None, length, map}
 use Rattle.std.specs.Prelude.{slice_get, slice_index_or}
 use Rattle.tm_condition.specs.Conditions.{Violates}
 use Rattle.tm_condition.specs.declared.check.Check.{Check}
@@ -52,6 +52,15 @@ pub record IsTree (trial : Trial) (nodes : List Node) (schedules : List (List Pi
 
 abbrev pub HaveSchedules : Trial → List Node → Type 0
 HaveSchedules trial nodes = (schedules : List (List Pick)) × IsTree trial nodes schedules
+
+-- the steps of the nodes on a way, of which the last one comes first
+unfoldable pub steps_along : List Node → List ℕ → List Pick
+steps_along nodes [] = []
+steps_along nodes (index ∷ way) = steps_along nodes way ++ steps_at nodes index
+
+-- a node that is not the opening one
+abbrev pub IsOnWay : ℕ → ℕ → Type 0
+IsOnWay count index = (0 < index) × (index < count)
 
 -- ---- states that go on alike
 

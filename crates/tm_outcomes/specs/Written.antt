@@ -45,11 +45,13 @@ pub record IsPlaceIn (trial : Trial) (written : Written) (here : Place) : Type 0
 abbrev pub IsAtNode : Trial → List Node → Place → Option ℕ → Type 0
 IsAtNode trial nodes place None = ⊤
 IsAtNode trial nodes place (Some index) =
-    (schedules : List (List Pick)) → IsTree trial nodes schedules → IsAt trial place (schedule_at schedules index)
+    (index < length nodes)
+    × ((schedules : List (List Pick)) → IsTree trial nodes schedules → IsAt trial place (schedule_at schedules index))
 
--- both machines of a bench are such, for these nodes
+-- the machines of a bench are such, for these nodes
 pub record IsBenchOf (trial : Trial) (nodes : List Node) (bench : Bench) : Type 0 where
+  pub start : IsPlaceIn trial bench.noted bench.start
+  pub at : IsAtNode trial nodes bench.start bench.at
   pub here : IsPlaceIn trial bench.noted bench.here
-  pub at : IsAtNode trial nodes bench.here bench.at
   pub other : IsPlaceIn trial bench.noted bench.other
   pub written : IsWrittenOf trial nodes bench.noted

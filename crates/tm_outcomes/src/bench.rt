@@ -1,8 +1,8 @@
 //! The machines that a search works with.
 
-ghost use Rattle.std.specs.Prelude.{◌≡◌, ◌<◌, ◌^◌, IfErr, IfOk, List, None, OnOk, length};
+ghost use Rattle.std.specs.Prelude.{◌≡◌, ◌<◌, ◌^◌, IfErr, IfOk, IfSome, IsTrue, List, None, OnOk, length};
 ghost use Rattle.tm_model.specs.declared.outcome.Pick.{Pick};
-ghost use Rattle.tm_outcomes.specs.Nodes.{HaveSchedules, IsTree, schedule_at};
+ghost use Rattle.tm_outcomes.specs.Nodes.{HaveSchedules, IsFound, IsTree, schedule_at};
 ghost use Rattle.tm_outcomes.specs.Outcomes.{IsRefusal};
 ghost use Rattle.tm_outcomes.specs.Places.{IsAt};
 ghost use Rattle.tm_outcomes.specs.Written.{IsBenchOf, IsPlaceIn};
@@ -14,13 +14,15 @@ use crate::trial::Trial;
 use crate::written::Written;
 use std::alloc::Global;
 
-/// Two places, which are taken back before the first step in place of a new one for each state that is looked at.
+/// Three places, which are taken back before the first step in place of a new one for each state that is looked at.
 #[derive(Drop)]
 pub struct Bench {
-    /// The state that is looked at.
-    pub here: Place,
+    /// The state of a node.
+    pub start: Place,
     /// The node at which it stands, where that is known.
     pub at: Option<usize>,
+    /// The state that goes on from there.
+    pub here: Place,
     /// A state that may be the same.
     pub other: Place,
     /// The lines that steps store to.
@@ -28,25 +30,27 @@ pub struct Bench {
 }
 
 impl Bench {
-    /// Two places of a trial before its first step.
+    /// Three places of a trial before its first step.
     pub fn new(alloc: Global, trial: &Trial<'_>) -> Result<Bench, SearchFault>
-        ensures ok { IfOk result (λ bench. IsPlaceIn trial.now bench.noted bench.here
-            × IsPlaceIn trial.now bench.noted bench.other) }
+        ensures ok { IfOk result (λ bench. IsPlaceIn trial.now bench.noted bench.start
+            × IsPlaceIn trial.now bench.noted bench.here × IsPlaceIn trial.now bench.noted bench.other) }
         ensures at { IfOk result (λ bench. bench.at ≡ None) }
         ensures err { IfErr result (IsRefusal trial.now) }
     {
+        let start = Place::opening(alloc, trial)?;
         let here = Place::opening(alloc, trial)?;
         let other = Place::opening(alloc, trial)?;
         let noted = Written::new(alloc, trial)?;
         Ok(Bench {
-            here,
+            start,
             at: None,
+            here,
             other,
             noted,
         })
     }
 
-    /// Brings the state that is looked at to a node, where it is not there.
+    /// Brings the state of a node to this one, where it is not there.
     pub fn come_to(
         &mut self,
         alloc: Global,
@@ -59,15 +63,104 @@ impl Bench {
         requires few { length nodes.now < 2 ^ 32 }
         requires tree { HaveSchedules trial.now nodes.now }
         ensures bench { OnOk result (IsBenchOf trial.now nodes.now self.new) }
-        ensures here { OnOk result ((schedules : List (List Pick)) → IsTree trial.now nodes.now schedules →
-            IsAt trial.now self.new.here (schedule_at schedules index)) }
+        ensures start { OnOk result ((schedules : List (List Pick)) → IsTree trial.now nodes.now schedules →
+            IsAt trial.now self.new.start (schedule_at schedules index)) }
         ensures err { IfErr result (IsRefusal trial.now) }
     {
         if self.at == Some(index) {
             return Ok(());
         }
-        place_of(alloc, trial, nodes, index, &self.noted, &mut self.here)?;
+        place_of(alloc, trial, nodes, index, &self.noted, &mut self.start)?;
         self.at = Some(index);
         Ok(())
+    }
+
+    /// Brings the state that goes on to the node at which that of a node stands: by a copy, which costs a small part of what
+    /// a run of the node's schedule does.
+    pub fn set_out(
+        &mut self,
+        alloc: Global,
+        trial: &Trial<'_>,
+        nodes: &[Node],
+        index: usize,
+    ) -> Result<(), SearchFault>
+        requires bench { IsBenchOf trial.now nodes.now self.old }
+        requires start { (schedules : List (List Pick)) → IsTree trial.now nodes.now schedules →
+            IsAt trial.now self.old.start (schedule_at schedules index) }
+        requires within { index < length nodes.now }
+        requires few { length nodes.now < 2 ^ 32 }
+        requires tree { HaveSchedules trial.now nodes.now }
+        ensures bench { OnOk result (IsBenchOf trial.now nodes.now self.new) }
+        ensures here { OnOk result ((schedules : List (List Pick)) → IsTree trial.now nodes.now schedules →
+            IsAt trial.now self.new.here (schedule_at schedules index)) }
+        ensures err { IfErr result (IsRefusal trial.now) }
+    {
+        if self.here.copy(&self.start, &self.noted) {
+            return Ok(());
+        }
+        place_of(alloc, trial, nodes, index, &self.noted, &mut self.here)?;
+        Ok(())
+    }
+}
+
+impl Bench {
+    // Whether a node goes on as the state does that went on.
+    fn is_there(
+        &mut self,
+        alloc: Global,
+        trial: &Trial<'_>,
+        nodes: &[Node],
+        index: usize,
+    ) -> Result<bool, SearchFault>
+        requires bench { IsBenchOf trial.now nodes.now self.old }
+        requires within { index < length nodes.now }
+        requires few { length nodes.now < 2 ^ 32 }
+        requires tree { HaveSchedules trial.now nodes.now }
+        ensures bench { IsBenchOf trial.now nodes.now self.new }
+        ensures here { self.new.here ≡ self.old.here }
+        ensures noted { self.new.noted ≡ self.old.noted }
+        ensures ok { IfOk result (λ is_there. IsTrue is_there → IsFound trial.now nodes.now self.old.here index) }
+        ensures err { IfErr result (IsRefusal trial.now) }
+    {
+        if self.at == Some(index) {
+            return Ok(self.here.is_alike(&self.start, &self.noted));
+        }
+        place_of(alloc, trial, nodes, index, &self.noted, &mut self.other)?;
+        Ok(self.here.is_alike(&self.other, &self.noted))
+    }
+
+    /// A node that goes on as the state does that went on, of those with this digest that are reached from the newest of
+    /// them.
+    pub fn find(
+        &mut self,
+        alloc: Global,
+        trial: &Trial<'_>,
+        nodes: &[Node],
+        newest: Option<u32>,
+    ) -> Result<Option<usize>, SearchFault>
+        requires bench { IsBenchOf trial.now nodes.now self.old }
+        requires few { length nodes.now < 2 ^ 32 }
+        requires tree { HaveSchedules trial.now nodes.now }
+        ensures bench { IsBenchOf trial.now nodes.now self.new }
+        ensures here { self.new.here ≡ self.old.here }
+        ensures noted { self.new.noted ≡ self.old.noted }
+        ensures ok { IfOk result (λ found. IfSome found (IsFound trial.now nodes.now self.old.here)) }
+        ensures err { IfErr result (IsRefusal trial.now) }
+    {
+        let mut candidate = newest;
+        'nodes: for _ in 0..nodes.len() {
+            let Some(index) = candidate else {
+                return Ok(None);
+            };
+            let index = index as usize;
+            if index >= nodes.len() {
+                return Ok(None);
+            }
+            if self.is_there(alloc, trial, nodes, index)? {
+                return Ok(Some(index));
+            }
+            candidate = nodes[index].older;
+        }
+        Ok(None)
     }
 }

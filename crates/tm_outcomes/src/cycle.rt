@@ -194,11 +194,10 @@ fn round_of(
 {
     let Bench {
         here,
-        at,
         other,
         noted,
+        ..
     } = bench;
-    *at = None;
     place_of(alloc, trial, nodes, first as usize, noted, other)?;
     let Some(picks) = picks_of(alloc, trial, graph, components, first, other)? else {
         return Ok(None);

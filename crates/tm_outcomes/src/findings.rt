@@ -67,8 +67,8 @@ impl Findings {
         ensures err { IfErr result (IsRefusal trial.now) }
     {
         bench.come_to(alloc, trial, nodes, index)?;
-        take_up_stops(alloc, trial, nodes, index, &bench.here, &mut self.stops)?;
-        if !bench.here.has_ended() {
+        take_up_stops(alloc, trial, nodes, index, &bench.start, &mut self.stops)?;
+        if !bench.start.has_ended() {
             return Ok(());
         }
         take_up_checks(
@@ -76,11 +76,11 @@ impl Findings {
             trial,
             nodes,
             index,
-            &bench.here,
+            &bench.start,
             &mut self.violations,
         )?;
         add_end(&mut self.ends, index as u32)?;
-        let values = bench.here.values(alloc, trial)?;
+        let values = bench.start.values(alloc, trial)?;
         let schedule = schedule_of(alloc, nodes, index)?;
         take_up(trial, &mut self.outcomes, values, schedule)?;
         Ok(())

@@ -1,8 +1,8 @@
 //! The states that were met.
 
-ghost use Rattle.std.specs.Prelude.{◌≡◌, ◌<◌, ◌≤◌, ◌^◌, ◌++◌, List, IfErr, IfOk, IfSome, length, reverse};
+ghost use Rattle.std.specs.Prelude.{◌≡◌, ◌<◌, ◌≤◌, ◌^◌, ◌++◌, All, List, IfErr, IfOk, length, reverse};
 ghost use Rattle.tm_model.specs.declared.outcome.Pick.{Pick};
-ghost use Rattle.tm_outcomes.specs.Nodes.{HaveSchedules, IsFound, IsTree, schedule_at};
+ghost use Rattle.tm_outcomes.specs.Nodes.{HaveSchedules, IsOnWay, IsTree, schedule_at, steps_along};
 ghost use Rattle.tm_outcomes.specs.Outcomes.{IsRefusal};
 ghost use Rattle.tm_outcomes.specs.Places.{IsAt};
 ghost use Rattle.tm_outcomes.specs.Written.{IsPlaceIn, IsWrittenOf};
@@ -58,6 +58,25 @@ fn push_reversed(picks: &mut Vec<Pick>, steps: &[Pick]) -> Result<(), AllocError
     Ok(())
 }
 
+/// The nodes on the way to a node, the last one first, and without the opening one.
+fn way_of(alloc: Global, nodes: &[Node], index: usize) -> Result<Vec<u32>, AllocError>
+    requires within { index < length nodes.now }
+    requires few { length nodes.now < 2 ^ 32 }
+    requires tree { (trial : Trial) × HaveSchedules trial nodes.now }
+    ensures steps { IfOk result (λ way. (trial : Trial) (schedules : List (List Pick)) → IsTree trial nodes.now schedules →
+        steps_along nodes.now way.items ≡ schedule_at schedules index) }
+    ensures nodes { IfOk result (λ way. All (IsOnWay (length nodes.now)) way.items) }
+{
+    let mut way = Vec::new(alloc);
+    let mut at = index;
+    'steps: while at > 0 {
+        let node = &nodes[at];
+        way.push(at as u32)?;
+        at = node.parent as usize;
+    }
+    Ok(way)
+}
+
 /// Brings a place to the node.
 pub fn place_of(
     alloc: Global,
@@ -77,46 +96,7 @@ pub fn place_of(
         IsAt trial.now place.new (schedule_at schedules index)) }
     ensures err { IfErr result (IsRefusal trial.now) }
 {
-    let schedule = schedule_of(alloc, nodes, index)?;
-    place.replay(trial, written, schedule.as_slice());
+    let way = way_of(alloc, nodes, index)?;
+    place.replay(trial, written, nodes, way.as_slice());
     Ok(())
-}
-
-/// A node that goes on as this place does, of those with this digest that are reached from the newest of them. Each is
-/// looked at by the other place.
-pub fn find(
-    alloc: Global,
-    trial: &Trial<'_>,
-    nodes: &[Node],
-    newest: Option<u32>,
-    written: &Written,
-    place: &Place,
-    other: &mut Place,
-) -> Result<Option<usize>, SearchFault>
-    requires few { length nodes.now < 2 ^ 32 }
-    requires tree { HaveSchedules trial.now nodes.now }
-    requires at { (schedule : List Pick) × IsAt trial.now place.now schedule }
-    requires written { IsWrittenOf trial.now nodes.now written.now }
-    requires place { IsPlaceIn trial.now written.now place.now }
-    requires other { IsPlaceIn trial.now written.now other.old }
-    ensures other { IsPlaceIn trial.now written.now other.new }
-    ensures ok { IfOk result (λ found. IfSome found (IsFound trial.now nodes.now place.now)) }
-    ensures err { IfErr result (IsRefusal trial.now) }
-{
-    let mut candidate = newest;
-    'nodes: for _ in 0..nodes.len() {
-        let Some(index) = candidate else {
-            return Ok(None);
-        };
-        let index = index as usize;
-        if index >= nodes.len() {
-            return Ok(None);
-        }
-        place_of(alloc, trial, nodes, index, written, other)?;
-        if place.is_alike(other, written) {
-            return Ok(Some(index));
-        }
-        candidate = nodes[index].older;
-    }
-    Ok(None)
 }

@@ -12,6 +12,7 @@ ghost use Rattle.tm_outcomes.specs.Schedules.{HasEnded, Situation};
 ghost use Rattle.tm_condition.specs.Conditions.{Violates};
 ghost use Rattle.tm_outcomes.specs.Verdicts.{StopsBy, seen_at};
 ghost use Rattle.tm_outcomes.specs.Written.{IsPlaceIn};
+ghost use Rattle.tm_outcomes.specs.declared.trial.Trial.{Trial};
 
 use crate::digest::{Digest, are_same};
 use crate::fault::SearchFault;
@@ -85,6 +86,23 @@ impl Place {
             written.opening.as_slice(),
             written.lines.as_slice(),
         );
+    }
+}
+
+impl Place {
+    /// Becomes as another place is, where both machines are of one size; else it stays, and the answer is false. Both have
+    /// memory as it was before the first step but on the lines that were noted.
+    pub fn copy(&mut self, other: &Place, written: &Written) -> bool
+        requires same { SameMachine self.old.machine other.now.machine }
+        requires memory { IsSameElsewhere written.now.lines.items self.old.machine.memory written.now.opening.items }
+        requires others { IsSameElsewhere written.now.lines.items other.now.machine.memory written.now.opening.items }
+        ensures at { IsTrue result → (trial : Trial) (schedule : List Pick) → IsAt trial other.now schedule →
+            IsAt trial self.new schedule }
+        ensures place { (trial : Trial) → IsPlaceIn trial written.now self.old → IsPlaceIn trial written.now other.now →
+            IsPlaceIn trial written.now self.new }
+    {
+        self.machine
+            .copy_lines(&other.machine, written.lines.as_slice())
     }
 }
 

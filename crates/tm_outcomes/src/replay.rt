@@ -5,9 +5,11 @@
 
 ghost use Rattle.std.specs.Prelude.{◌≡◌, ◌<◌, ◌≤◌, ◌-◌, ◌^◌, ◌++◌, ◌∷◌, [], All, List, length, replicate, true};
 ghost use Rattle.tm_model.specs.declared.outcome.Pick.{Pick};
+ghost use Rattle.tm_outcomes.specs.Nodes.{HaveSchedules, IsOnWay, IsPickOf, steps_along};
 ghost use Rattle.tm_outcomes.specs.Places.{IsAhead, IsAt, IsPlaceOf, alone};
 ghost use Rattle.tm_outcomes.specs.Written.{IsPlaceIn, IsWithin};
 
+use crate::nodes::Node;
 use crate::place::Place;
 use crate::trial::Trial;
 use crate::written::Written;
@@ -99,18 +101,39 @@ impl Place {
         Ahead { core, count: 0 }
     }
 
-    /// The end of a schedule, from before the first step on.
-    pub fn replay(&mut self, trial: &Trial<'_>, written: &Written, schedule: &[Pick])
-        requires cores { All (λ (pick : Pick). pick.core < length trial.now.program.now.entries) schedule.now }
+    // Takes up these steps one behind the other.
+    fn take_up_all(&mut self, trial: &Trial<'_>, ahead: Ahead, steps: &[Pick]) -> Ahead
+        requires place { IsPlaceOf trial.now self.old }
+        requires core { 0 < ahead.count → ahead.core < length trial.now.program.now.entries }
+        requires picks { All (IsPickOf trial.now) steps.now }
+        ensures ahead { (schedule : List Pick) → IsAhead trial.now self.old ahead schedule →
+            IsAhead trial.now self.new result (schedule ++ steps.now) }
+        ensures core { 0 < result.count → result.core < length trial.now.program.now.entries }
+        ensures place { IsPlaceOf trial.now self.new }
+    {
+        let mut ahead = ahead;
+        for pick in steps {
+            ahead = self.take_up(trial, ahead, *pick);
+        }
+        ahead
+    }
+
+    /// The end of the schedule of a node, from before the first step on: by the nodes on the way there, the last one first.
+    pub fn replay(&mut self, trial: &Trial<'_>, written: &Written, nodes: &[Node], way: &[u32])
+        requires tree { HaveSchedules trial.now nodes.now }
+        requires way { All (IsOnWay (length nodes.now)) way.now }
         requires place { IsPlaceIn trial.now written.now self.old }
-        requires within { IsWithin trial.now written.now.lines.items schedule.now }
-        ensures at { IsAt trial.now self.new schedule.now }
+        requires within { IsWithin trial.now written.now.lines.items (steps_along nodes.now way.now) }
+        ensures at { IsAt trial.now self.new (steps_along nodes.now way.now) }
         ensures place { IsPlaceIn trial.now written.now self.new }
     {
         self.reopen(trial, written);
         let mut ahead = Ahead { core: 0, count: 0 };
-        for pick in schedule {
-            ahead = self.take_up(trial, ahead, *pick);
+        let mut left = way;
+        'nodes: while let Some((index, before)) = left.split_last() {
+            let node = &nodes[*index as usize];
+            ahead = self.take_up_all(trial, ahead, node.steps.as_slice());
+            left = before;
         }
         self.steps_alone(trial, ahead.core, ahead.count);
     }

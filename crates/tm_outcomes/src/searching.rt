@@ -19,7 +19,7 @@ use crate::cycle::Cycle;
 use crate::fault::SearchFault;
 use crate::findings::Findings;
 use crate::links::Link;
-use crate::nodes::{Node, find};
+use crate::nodes::Node;
 use crate::stops::ReachedStop;
 use crate::stuck::Stuck;
 use crate::table::Told;
@@ -161,7 +161,7 @@ impl Searching {
         ensures err { IfErr result (IsRefusal trial.now) }
     {
         bench.come_to(alloc, trial, self.nodes.as_slice(), index)?;
-        if bench.here.has_stopped(pick.core) {
+        if bench.start.has_stopped(pick.core) {
             // It stays where it is.
             self.join(index, index, pick.core)?;
             return Ok(Followed {
@@ -169,10 +169,11 @@ impl Searching {
                 was_open: false,
             });
         }
+        bench.set_out(alloc, trial, self.nodes.as_slice(), index)?;
         self.follow_here(alloc, trial, bench, index, pick, most)
     }
 
-    // The same where the machine stands at the node.
+    // The same where the state that goes on stands at the node.
     fn follow_here(
         &mut self,
         alloc: Global,
@@ -198,19 +199,12 @@ impl Searching {
         ensures bench { OnOk result (IsBenchOf trial.now self.new.nodes.items bench.new) }
         ensures err { IfErr result (IsRefusal trial.now) }
     {
-        let Bench {
-            here,
-            at,
-            other,
-            noted,
-        } = bench;
-        *at = None;
-        let was_open = here.is_open(pick.core);
-        noted.note(alloc, &here.machine, pick.core)?;
-        let steps = here.advance(alloc, trial, pick)?;
-        let digest = here.digest(noted);
+        let was_open = bench.here.is_open(pick.core);
+        bench.noted.note(alloc, &bench.here.machine, pick.core)?;
+        let steps = bench.here.advance(alloc, trial, pick)?;
+        let digest = bench.here.digest(&bench.noted);
         let old = self.newest.get(&digest).copied();
-        if let Some(known) = find(alloc, trial, self.nodes.as_slice(), old, noted, here, other)? {
+        if let Some(known) = bench.find(alloc, trial, self.nodes.as_slice(), old)? {
             self.join(index, known, pick.core)?;
             return Ok(Followed {
                 progress: Progress::GoesOn,
@@ -488,6 +482,7 @@ fn explore<W: Watching>(
     most: u32,
     watching: &mut W,
 ) -> Result<Explored, SearchFault>
+    requires start { IsPlaceIn trial.now bench.old.noted bench.old.start }
     requires here { IsPlaceIn trial.now bench.old.noted bench.old.here }
     requires other { IsPlaceIn trial.now bench.old.noted bench.old.other }
     requires at { bench.old.at ≡ None }

@@ -22,8 +22,9 @@ loop-index-init g c =
           let one : length c.in_ok-search.search.nodes.items ≡ 1 =
           (let some = opened.1.tree.some in let few = opened.1.few in omega arith) in
           record {
+            start = c.requires.start;
             here = c.requires.here;
-            at = subst (λ (at : Option ℕ). IsAtNode c.args.trial.now c.in_ok-search.search.nodes.items c.args.bench.now.here at) (sym c.requires.at) tt;
+            at = subst (λ (at : Option ℕ). IsAtNode c.args.trial.now c.in_ok-search.search.nodes.items c.args.bench.now.start at) (sym c.requires.at) tt;
             other = c.requires.other;
             written = written_first c.args.trial.now c.in_ok-search.search.nodes.items c.args.bench.now.noted opened.0
                 c.requires.here.opening opened.1.tree one;

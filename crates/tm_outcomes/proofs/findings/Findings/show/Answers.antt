@@ -13,10 +13,10 @@ use Rattle.tm_outcomes.proofs.findings.Findings.show.Goals as goal
 pub take_up-requires-clause-outcome : goal.take_up-requires-clause-outcome
 take_up-requires-clause-outcome c =
     let trial = c.args.trial.now in
-    let place = c.come_to.new.self.here in
+    let place = c.come_to.new.self.start in
     let schedules = c.requires.tree.0 in
     let tree = c.requires.tree.1 in
-    let at : IsAt trial place (schedule_at schedules c.args.index) = c.in_ok-come_to.ensures.here schedules tree in
+    let at : IsAt trial place (schedule_at schedules c.args.index) = c.in_ok-come_to.ensures.start schedules tree in
     let same : c.in_ok-schedule.schedule.items ≡ schedule_at schedules c.args.index = c.in_ok-schedule.ensures trial schedules tree in
     record {
       allowed = subst (λ (s : List Pick). AreAllowed trial s) (sym same)
@@ -31,8 +31,8 @@ take_up-requires-clause-outcome c =
 pub returns-then-not-has_ended-clause-shows : goal.returns-then-not-has_ended-clause-shows
 returns-then-not-has_ended-clause-shows c = λ schedules tree.
     let trial = c.args.trial.now in
-    let place = c.come_to.new.self.here in
-    let at : IsAt trial place (schedule_at schedules c.args.index) = c.in_ok-come_to.ensures.here schedules tree in
+    let place = c.come_to.new.self.start in
+    let at : IsAt trial place (schedule_at schedules c.args.index) = c.in_ok-come_to.ensures.start schedules tree in
     record {
       shown = record {
         outcome = λ now leads ended. absurd (false≢true (sym c.if-not-has_ended.true
@@ -60,9 +60,9 @@ pub returns-clause-shows : goal.returns-clause-shows
 returns-clause-shows c = λ schedules tree.
     let trial = c.args.trial.now in
     let index = c.args.index in
-    let place = c.come_to.new.self.here in
+    let place = c.come_to.new.self.start in
     let before = c.args.self.now.ends.items in
-    let at : IsAt trial place (schedule_at schedules index) = c.in_ok-come_to.ensures.here schedules tree in
+    let at : IsAt trial place (schedule_at schedules index) = c.in_ok-come_to.ensures.start schedules tree in
     let here : IsEnd trial schedules index = record {
       within = (let t = tree.counted in let w = c.requires.within in omega arith);
       ended = λ now leads. (c.has_ended.ensures now (leads_stands trial schedules index place now at leads)).0 c.if-not-has_ended.false;

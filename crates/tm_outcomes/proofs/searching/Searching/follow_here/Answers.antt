@@ -1,11 +1,14 @@
 use Rattle.std.proofs.Common.{◌≡◌, ◌<◌, ◌+◌, ℕ, List, Option, [], ◌∷◌, ◌++◌, length, refl, sym, ap, ◌∙◌, subst, arith, length-append}
 use Rattle.std.specs.Prelude.{IfSome}
+use Rattle.tm_core.specs.Theorem.{machine_setting}
 use Rattle.tm_model.specs.declared.outcome.Pick.{Pick}
 use Rattle.tm_outcomes.specs.Nodes.{IsFound, IsTree, schedule_at}
 use Rattle.tm_outcomes.specs.Places.{IsAt}
-use Rattle.tm_outcomes.specs.Written.{IsPlaceIn, IsWithin, IsWrittenOf}
+use Rattle.tm_outcomes.specs.Written.{IsBenchOf, IsPlaceIn, IsWithin, StoresOn}
+use Rattle.tm_outcomes.specs.declared.bench.Bench.{Bench}
 use Rattle.tm_outcomes.specs.declared.nodes.Node.{Node}
-use Rattle.tm_outcomes.proofs.Benches.{place_at, place_more, within_more, within_advanced, written_after, written_more}
+use Rattle.tm_outcomes.specs.declared.written.Written.{Written}
+use Rattle.tm_outcomes.proofs.Benches.{bench_advanced, bench_grown, place_at, within_more, within_advanced}
 use Rattle.tm_outcomes.proofs.Follows.{follows}
 use Rattle.tm_outcomes.proofs.Joined.{to_known, to_new}
 use Rattle.tm_outcomes.proofs.Leads.{alike_stands, untouched_at}
@@ -114,121 +117,56 @@ note-requires c =
     let is_core = c.requires.is_pick.is_core in
     omega arith
 
-pub find-requires-clause-written : goal.find-requires-clause-written
-find-requires-clause-written c =
-    subst (λ (ns : List Node). IsWrittenOf c.args.trial.now ns c.note.new.self) (sym c.as_slice.ensures.value)
-    (written_more c.args.trial.now c.args.bench.now.noted c.note.new.self c.in_ok-note.ensures.opening
-    c.in_ok-note.ensures.kept c.args.self.now.nodes.items c.requires.bench.written)
-
-pub find-requires-clause-at : goal.find-requires-clause-at
-find-requires-clause-at c =
+pub find-requires-clause-bench : goal.find-requires-clause-bench
+find-requires-clause-bench c =
     let trial = c.args.trial.now in
+    let bench : Bench = c.args.bench.now in
+    let noted = c.note.new.self in
     let written = c.requires.bench.written in
     let schedule : List Pick = schedule_at written.schedules c.args.index in
-    let at : IsAt trial c.args.bench.now.here schedule =
-    c.requires.here written.schedules written.tree in
-    (schedule ++ c.in_ok-steps.steps.items, c.in_ok-steps.ensures.at schedule at)
-
-pub find-requires-clause-place : goal.find-requires-clause-place
-find-requires-clause-place c =
-    let trial = c.args.trial.now in
-    let old = c.args.bench.now.noted in
-    let new = c.note.new.self in
-    let written = c.requires.bench.written in
-    let schedule : List Pick = schedule_at written.schedules c.args.index in
-    let at : IsAt trial c.args.bench.now.here schedule =
-    c.requires.here written.schedules written.tree in
-    let within : IsWithin trial new.lines.items (schedule ++ c.in_ok-steps.steps.items) =
-    within_advanced trial new.lines.items schedule c.args.bench.now.here c.advance.new.self c.args.pick c.in_ok-steps.steps.items at c.in_ok-steps.ensures
-    (within_more trial old.lines.items new.lines.items schedule c.in_ok-note.ensures.kept
+    let at : IsAt trial bench.here schedule = c.requires.here written.schedules written.tree in
+    let within : IsWithin trial noted.lines.items (schedule ++ c.in_ok-steps.steps.items) =
+    within_advanced trial noted.lines.items schedule bench.here c.advance.new.self c.args.pick c.in_ok-steps.steps.items at c.in_ok-steps.ensures
+    (within_more trial bench.noted.lines.items noted.lines.items schedule c.in_ok-note.ensures.kept
     (written.within c.args.index c.requires.within)) c.in_ok-note.ensures.noted in
-    let here : IsPlaceIn trial new c.advance.new.self =
-    place_at trial new c.advance.new.self (schedule ++ c.in_ok-steps.steps.items)
+    let here : IsPlaceIn trial noted c.advance.new.self =
+    place_at trial noted c.advance.new.self (schedule ++ c.in_ok-steps.steps.items)
     (ap (λ v. v.items) c.in_ok-note.ensures.opening ∙ written.opening) c.in_ok-steps.ensures.is_place (c.in_ok-steps.ensures.at schedule at) within in
-    here
-
-pub find-requires-clause-other : goal.find-requires-clause-other
-find-requires-clause-other c =
-    place_more c.args.trial.now c.args.bench.now.noted c.note.new.self c.in_ok-note.ensures.opening
-    c.in_ok-note.ensures.kept c.args.bench.now.other c.requires.bench.other
+    subst (λ (ns : List Node). IsBenchOf trial ns (record bench { here = c.advance.new.self; noted = noted })) (sym c.as_slice.ensures.value)
+    (bench_advanced trial c.args.self.now.nodes.items bench c.advance.new.self noted c.in_ok-note.ensures.opening c.in_ok-note.ensures.kept
+    here c.requires.bench)
 
 pub returns-in-Some-clause-bench : goal.returns-in-Some-clause-bench
 returns-in-Some-clause-bench c =
-    let trial = c.args.trial.now in
-    let old = c.args.bench.now.noted in
-    let new = c.note.new.self in
-    let written = c.requires.bench.written in
-    let schedule : List Pick = schedule_at written.schedules c.args.index in
-    let at : IsAt trial c.args.bench.now.here schedule =
-    c.requires.here written.schedules written.tree in
-    let within : IsWithin trial new.lines.items (schedule ++ c.in_ok-steps.steps.items) =
-    within_advanced trial new.lines.items schedule c.args.bench.now.here c.advance.new.self c.args.pick c.in_ok-steps.steps.items at c.in_ok-steps.ensures
-    (within_more trial old.lines.items new.lines.items schedule c.in_ok-note.ensures.kept
-    (written.within c.args.index c.requires.within)) c.in_ok-note.ensures.noted in
-    let here : IsPlaceIn trial new c.advance.new.self =
-    place_at trial new c.advance.new.self (schedule ++ c.in_ok-steps.steps.items)
-    (ap (λ v. v.items) c.in_ok-note.ensures.opening ∙ written.opening) c.in_ok-steps.ensures.is_place (c.in_ok-steps.ensures.at schedule at) within in
-    record {
-      here = here;
-      at = tt;
-      other = c.in_ok-known.ensures.other;
-      written = subst (λ (ns : List Node). IsWrittenOf trial ns new) (ap (λ v. v.items) (sym c.in_ok-join.ensures.nodes))
-          (written_more trial old new c.in_ok-note.ensures.opening c.in_ok-note.ensures.kept c.args.self.now.nodes.items written);
-    }
+    subst (λ (ns : List Node). IsBenchOf c.args.trial.now ns c.find.new.self)
+    (c.as_slice.ensures.value ∙ ap (λ v. v.items) (sym c.in_ok-join.ensures.nodes)) c.in_ok-known.ensures.bench
 
 pub returns-then-len-most-clause-bench : goal.returns-then-len-most-clause-bench
 returns-then-len-most-clause-bench c =
-    let trial = c.args.trial.now in
-    let old = c.args.bench.now.noted in
-    let new = c.note.new.self in
-    let written = c.requires.bench.written in
-    let schedule : List Pick = schedule_at written.schedules c.args.index in
-    let at : IsAt trial c.args.bench.now.here schedule =
-    c.requires.here written.schedules written.tree in
-    let within : IsWithin trial new.lines.items (schedule ++ c.in_ok-steps.steps.items) =
-    within_advanced trial new.lines.items schedule c.args.bench.now.here c.advance.new.self c.args.pick c.in_ok-steps.steps.items at c.in_ok-steps.ensures
-    (within_more trial old.lines.items new.lines.items schedule c.in_ok-note.ensures.kept
-    (written.within c.args.index c.requires.within)) c.in_ok-note.ensures.noted in
-    let here : IsPlaceIn trial new c.advance.new.self =
-    place_at trial new c.advance.new.self (schedule ++ c.in_ok-steps.steps.items)
-    (ap (λ v. v.items) c.in_ok-note.ensures.opening ∙ written.opening) c.in_ok-steps.ensures.is_place (c.in_ok-steps.ensures.at schedule at) within in
-    record {
-      here = here;
-      at = tt;
-      other = c.in_ok-known.ensures.other;
-      written = written_more trial old new c.in_ok-note.ensures.opening c.in_ok-note.ensures.kept c.args.self.now.nodes.items written;
-    }
+    subst (λ (ns : List Node). IsBenchOf c.args.trial.now ns c.find.new.self) c.as_slice.ensures.value c.in_ok-known.ensures.bench
 
 pub returns-clause-bench : goal.returns-clause-bench
 returns-clause-bench c =
     let trial = c.args.trial.now in
-    let old = c.args.bench.now.noted in
-    let new = c.note.new.self in
-    let written = c.requires.bench.written in
-    let schedule : List Pick = schedule_at written.schedules c.args.index in
-    let at : IsAt trial c.args.bench.now.here schedule =
-    c.requires.here written.schedules written.tree in
-    let within : IsWithin trial new.lines.items (schedule ++ c.in_ok-steps.steps.items) =
-    within_advanced trial new.lines.items schedule c.args.bench.now.here c.advance.new.self c.args.pick c.in_ok-steps.steps.items at c.in_ok-steps.ensures
-    (within_more trial old.lines.items new.lines.items schedule c.in_ok-note.ensures.kept
-    (written.within c.args.index c.requires.within)) c.in_ok-note.ensures.noted in
-    let here : IsPlaceIn trial new c.advance.new.self =
-    place_at trial new c.advance.new.self (schedule ++ c.in_ok-steps.steps.items)
-    (ap (λ v. v.items) c.in_ok-note.ensures.opening ∙ written.opening) c.in_ok-steps.ensures.is_place (c.in_ok-steps.ensures.at schedule at) within in
-    let nodes = c.args.self.now.nodes.items in
+    let before = c.args.bench.now.here in
+    let bench : Bench = c.find.new.self in
+    let nodes : List Node = c.args.self.now.nodes.items in
     let node : Node = record {
       parent = c.args.index;
       steps = c.in_ok-steps.steps;
       digest = c.digest-digest.result;
       older = c.copied-old.result;
     } in
+    let is : IsBenchOf trial nodes bench =
+    subst (λ (ns : List Node). IsBenchOf trial ns bench) c.as_slice.ensures.value c.in_ok-known.ensures.bench in
+    let schedule : List Pick = schedule_at is.written.schedules c.args.index in
+    let at : IsAt trial before schedule = c.requires.here is.written.schedules is.written.tree in
     let after = c.in_ok-steps.ensures.at schedule at in
-    record {
-      here = here;
-      at = tt;
-      other = c.in_ok-known.ensures.other;
-      written = written_after trial old new c.in_ok-note.ensures.opening c.in_ok-note.ensures.kept nodes
-          c.add.new.self.nodes.items node written
-          (c.in_ok-add.ensures.nodes ∙ ap (λ v. v.items ++ node ∷ []) c.in_ok-join-2.ensures.nodes) c.requires.within
-          c.in_ok-steps.ensures.are_picks (after.now, after.is_run, sym after.stands.same_count ∙ after.count) within;
-    }
+    let noted : bench.noted ≡ c.note.new.self = c.in_ok-known.ensures.noted in
+    bench_grown trial nodes c.add.new.self.nodes.items node bench is
+    (c.in_ok-add.ensures.nodes ∙ ap (λ v. v.items ++ node ∷ []) c.in_ok-join-2.ensures.nodes) c.requires.within
+    c.in_ok-steps.ensures.are_picks (after.now, after.is_run, sym after.stands.same_count ∙ after.count)
+    (within_advanced trial bench.noted.lines.items schedule before c.advance.new.self c.args.pick c.in_ok-steps.steps.items at c.in_ok-steps.ensures
+    (is.written.within c.args.index c.requires.within)
+    (λ now stands. subst (λ (w : Written). StoresOn (machine_setting before.machine) w.lines.items now c.args.pick.core) (sym noted)
+    (c.in_ok-note.ensures.noted now stands)))
