@@ -59,7 +59,7 @@ fn advise_form<O: Out>(
     let form = match (name, subcommand) {
         ("--stop", _) => "#BP, #DE, #UD, #GP, HLT, range, code-store, fetch or not-in-subset",
         ("--runs", _) => "a count K, or A..B with A below B",
-        ("--method", _) => "uniform, bursts, pct or mix",
+        ("--method", _) => "seen, uniform, bursts, pct or mix",
         ("--core", _) => "numbers of cores, each once, as 0,2",
         ("--dump", _) => {
             "AT:BYTES, as 0x1000:4 or 'count:4'; AT is a sum of numbers and of the program's symbols"

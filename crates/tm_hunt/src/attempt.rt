@@ -66,7 +66,7 @@ pub fn try_run(
 ) -> Result<Attempt, HuntFault>
     requires of_trial { IsTrialOf trial.now board.old }
     ensures of_trial { IsTrialOf trial.now board.new }
-    ensures ok { IfOk result (IsAttempt trial.now picker.old) }
+    ensures ok { IfOk result (IsAttempt trial.now picker.old.kinds) }
     ensures err { IfErr result (IsRefusal trial.now) }
 {
     run(trial, board, picker);

@@ -32,7 +32,7 @@ pub fn run(trial: &Trial<'_>, board: &mut Board, picker: &mut Picker<'_>)
     requires of_trial { IsTrialOf trial.now board.old }
     ensures of_trial { IsTrialOf trial.now board.new }
     ensures over { IsOver trial.now board.new }
-    ensures kinds { AreOfKinds picker.old (picks_of board.new.history) }
+    ensures kinds { AreOfKinds picker.old.kinds (picks_of board.new.history) }
 {
     board.restart();
     step_all(trial, picker, board);
@@ -44,7 +44,7 @@ fn step_all(trial: &Trial<'_>, picker: &mut Picker<'_>, board: &mut Board)
     requires new { board.old.history ≡ [] }
     ensures same { SameBoard board.old board.new }
     ensures over { IsOver trial.now board.new }
-    ensures kinds { AreOfKinds picker.old (picks_of board.new.history) }
+    ensures kinds { AreOfKinds picker.old.kinds (picks_of board.new.history) }
 {
     let mut going = all_cores(board);
     let mut last = 0;

@@ -73,7 +73,7 @@ fn shorten_front(
 // What makes the run of a front, where that of the failure to be made shorter has so many steps: where it reached the
 // limit each core steps in turn behind the front, and else one after another goes to its end.
 fn picker_of<'a>(trial: &Trial<'_>, front: &'a [Pick], length: usize) -> Picker<'a>
-    ensures { (kinds : Kinds) → AreOfKinds kinds front.now → AreAmong result kinds }
+    ensures { (kinds : Kinds) → AreOfKinds kinds front.now → AreAmong result.kinds kinds }
 {
     match u32::try_from(length) {
         Ok(length) if length < trial.most => Picker::front(front, length),

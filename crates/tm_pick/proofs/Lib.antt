@@ -1,1 +1,2 @@
 pub mod OfKinds
+pub mod TakenOut

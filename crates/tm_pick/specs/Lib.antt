@@ -4,3 +4,5 @@ pub mod Listed
 pub mod Lots
 pub mod Sources
 pub mod Rows
+pub mod Turns
+pub mod Shown

@@ -4,6 +4,7 @@ ghost use Rattle.std.specs.Prelude.{◌≡◌, ◌<◌, Contains, IfSome, length
 
 use crate::going::Going;
 use crate::tail::Tail;
+use crate::turn::Turn;
 use std::marker::Model;
 use tm_model::Pick;
 
@@ -24,8 +25,8 @@ pub struct Front<'a> {
 pub enum Behind {
     /// One core after another to its end.
     EachToItsEnd(Tail),
-    /// Round by round, from this core on.
-    InTurn(u8),
+    /// Round by round.
+    InTurn(Turn),
 }
 
 impl Behind {
@@ -36,11 +37,7 @@ impl Behind {
     {
         match self {
             Behind::EachToItsEnd(tail) => tail.next(going, waits),
-            Behind::InTurn(next) => {
-                let core = going.from(*next);
-                *next = core.saturating_add(1);
-                core
-            }
+            Behind::InTurn(turn) => turn.next(going),
         }
     }
 }
@@ -79,15 +76,15 @@ impl<'a> Front<'a> {
     pub fn in_turn(steps: &'a [Pick]) -> Front<'a>
         ensures { result ≡ kinds_in steps.now }
     {
-        let next = match steps.last() {
-            Some(pick) => pick.core.saturating_add(1),
-            None => 0,
+        let last = match steps.last() {
+            Some(pick) => Some(pick.core),
+            None => None,
         };
         Front {
             steps,
             read: 0,
             made: 0,
-            behind: Behind::InTurn(next),
+            behind: Behind::InTurn(Turn::behind(last)),
         }
     }
 

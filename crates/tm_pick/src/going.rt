@@ -1,6 +1,8 @@
 //! The cores that have not stopped.
 
-ghost use Rattle.std.specs.Prelude.{◌≡◌, ◌↔◌, ◌<◌, ◌≤◌, All, Contains, IsTrue, ℕ, List, length};
+ghost use Rattle.std.specs.Prelude.{◌≡◌, ◌≢◌, ◌↔◌, ◌<◌, ◌≤◌, All, AllPairs, Contains, IfNone, IfSome, IsTrue, ℕ, List};
+ghost use Rattle.std.specs.Prelude.{length, slice_index};
+ghost use Rattle.tm_pick.specs.Turns.{IsInTurn, IsNextFrom};
 
 use arrayvec::ArrayVec;
 use std::marker::Model;
@@ -8,13 +10,18 @@ use std::marker::Model;
 /// The numbers of the cores that have not stopped, at most 64.
 #[derive(Drop)]
 pub struct Going {
+    // In their order.
     cores: ArrayVec<u8, 64>,
 }
 
 impl Model for Going {
+    ghost use Rattle.std.specs.Prelude.{◌<◌, AllPairs, ℕ, List};
+
     ghost Value = { List ℕ };
 
     ghost view = { λ going. going.cores.items };
+
+    ghost invariant = { λ going. AllPairs (λ core other. core < other) going.cores.items };
 }
 
 impl Going {
@@ -23,6 +30,7 @@ impl Going {
         requires { count ≤ 64 }
         ensures count { length result ≡ count }
         ensures below { All (λ core. core < count) result }
+        ensures each { (core : ℕ) → core < count → Contains result core }
     {
         let mut cores = ArrayVec::new();
         for core in 0..count {
@@ -47,7 +55,9 @@ impl Going {
     }
 
     /// Whether a core has not stopped.
-    pub fn contains(&self, core: u8) -> bool {
+    pub fn contains(&self, core: u8) -> bool
+        ensures { IsTrue result ↔ Contains self.now core }
+    {
         self.cores.as_slice().contains(&core)
     }
 
@@ -62,20 +72,40 @@ impl Going {
     /// This core, or the next one behind it round by round that has not stopped.
     pub fn from(&self, core: u8) -> u8
         requires { 0 < length self.now }
-        ensures { Contains self.now result }
+        ensures among { Contains self.now result }
+        ensures next { IsNextFrom core self.now result }
     {
-        for index in 0..self.len() {
-            let there = self.at(index);
-            if there >= core {
-                return there;
-            }
+        self.next_from(u32::from(core))
+    }
+
+    /// The core whose turn it is behind the one that stepped last, round by round, or at first where none has stepped.
+    pub fn in_turn(&self, last: Option<u8>) -> u8
+        requires { 0 < length self.now }
+        ensures { IsInTurn last self.now result }
+    {
+        match last {
+            Some(core) => self.next_from(u32::from(core) + 1),
+            None => self.next_from(0),
         }
-        self.at(0)
+    }
+
+    // The first core from a number on, and the first of all where there is none.
+    fn next_from(&self, number: u32) -> u8
+        requires { 0 < length self.now }
+        ensures among { Contains self.now result }
+        ensures next { IsNextFrom number self.now result }
+    {
+        let cores = self.cores.as_slice();
+        match index_from(cores, number) {
+            Some(index) => cores[index],
+            None => cores[0],
+        }
     }
 
     /// Takes out a core that has stopped.
     pub fn remove(&mut self, core: u8)
-        ensures { (count : ℕ) → All (λ core. core < count) self.old → All (λ core. core < count) self.new }
+        ensures below { (count : ℕ) → All (λ core. core < count) self.old → All (λ core. core < count) self.new }
+        ensures others { (other : ℕ) → Contains self.new other ↔ (Contains self.old other × (other ≢ core)) }
     {
         if let Some(index) = index_of(self.cores.as_slice(), core) {
             let _ = self.cores.remove(index);
@@ -83,9 +113,26 @@ impl Going {
     }
 }
 
+// Where the first core from a number on stands in a list.
+fn index_from(cores: &[u8], number: u32) -> Option<usize>
+    ensures within { IfSome result (λ index. index < length cores.now) }
+    ensures found { IfSome result (λ index. number ≤ slice_index cores.now index) }
+    ensures before { IfSome result (λ index. (k : ℕ) → k < index → slice_index cores.now k < number) }
+    ensures none { IfNone result ((k : ℕ) → k < length cores.now → slice_index cores.now k < number) }
+{
+    for index in 0..cores.len() {
+        if u32::from(cores[index]) >= number {
+            return Some(index);
+        }
+    }
+    None
+}
+
 /// Where a core stands in a list.
 pub fn index_of(cores: &[u8], core: u8) -> Option<usize>
-    ensures { Rattle.std.specs.Prelude.IfSome result (λ index. index < length cores.now) }
+    ensures within { IfSome result (λ index. index < length cores.now) }
+    ensures there { IfSome result (λ index. slice_index cores.now index ≡ core) }
+    ensures none { IfNone result ((k : ℕ) → k < length cores.now → slice_index cores.now k ≢ core) }
 {
     for index in 0..cores.len() {
         if cores[index] == core {

@@ -6,10 +6,11 @@
 //! xoshiro256++ of the crate `rand_xoshiro`, seeded by SplitMix64; an [`Interferer`] draws the events from a generator
 //! of their own. Takes no memory.
 //!
-//! Promised: a pick's core is one that has not stopped; its event is of the kinds that were asked for, and it has none
-//! where none were; and priorities fall at a PAUSE, where they were drawn to fall, and behind rows of steps alone that are
-//! longer than twice the length of a run. Which steps no other core sees ([`is_unseen`]) is promised nothing. Stands on
-//! `ia_image`, `tm_rule` and `tm_core` for the instruction that a core is at.
+//! Promised: a pick's core is one that has not stopped; where the cores go round by round it is the one whose turn it is;
+//! its event is of the kinds that were asked for, and it has none where none were; and priorities fall at a PAUSE, where
+//! they were drawn to fall, and behind rows of steps alone that are longer than twice the length of a run. Which steps no
+//! other core sees ([`is_unseen`]) is promised nothing. Stands on `ia_image`, `tm_rule` and `tm_core` for the instruction
+//! that a core is at.
 #![tactic(auto)]
 
 mod bursts;
@@ -24,8 +25,10 @@ mod manner;
 mod method;
 mod picker;
 mod priorities;
+mod rounds;
 mod seen;
 mod tail;
+mod turn;
 mod unseen;
 mod waiting;
 

@@ -1,6 +1,6 @@
 //! The ways to pick.
 
-ghost use Rattle.std.specs.Prelude.{◌≡◌, ◌<◌, Contains, length};
+ghost use Rattle.std.specs.Prelude.{◌≡◌, ◌<◌, Contains, IfNone, IfSome, None, Some, length};
 
 use crate::bursts::{Bursts, any};
 use crate::chance::Chance;
@@ -8,6 +8,7 @@ use crate::front::Front;
 use crate::going::Going;
 use crate::priorities::Priorities;
 use crate::seen::Seen;
+use crate::turn::Turn;
 use crate::unseen::is_unseen;
 use crate::waiting::is_waiting;
 use tm_core::{Machine, Program};
@@ -16,15 +17,15 @@ use tm_model::Pick;
 /// How steps are picked.
 #[derive(Drop)]
 pub enum Manner<'a> {
-    /// Round by round, from this core on.
-    InTurn(u8),
+    /// Round by round.
+    InTurn(Turn),
     /// Each core as likely as another.
     Uniform(Chance),
     /// Bursts of random length.
     Bursts(Bursts),
     /// By random priorities.
     Priorities(Priorities),
-    /// Each core as likely as another, drawn where other cores see it.
+    /// Drawn where other cores see it.
     Seen(Seen),
     /// A list, and what comes behind it.
     Front(Front<'a>),
@@ -32,7 +33,8 @@ pub enum Manner<'a> {
 
 impl<'a> Manner<'a> {
     ghost use Rattle.tm_pick.specs.Kinds.{IsOfKinds};
-    ghost use Rattle.tm_pick.specs.Sources.{kinds_listed};
+    ghost use Rattle.tm_pick.specs.Sources.{kinds_listed, turn_of};
+    ghost use Rattle.tm_pick.specs.Turns.{IsInTurn};
 
     /// What it heeds of the core of the step before: whether it is at a PAUSE, or whether no other core sees its next
     /// step. The machine is one of the program.
@@ -50,13 +52,12 @@ impl<'a> Manner<'a> {
         ensures core { Contains going.now result.core }
         ensures event { IsOfKinds (kinds_listed self.old) result.event }
         ensures same { kinds_listed self.new ≡ kinds_listed self.old }
+        ensures turn { IfSome (turn_of self.old) (λ last. IsInTurn last going.now result.core) }
+        ensures goes_on { IfSome (turn_of self.old) (λ last. turn_of self.new ≡ Some (Some result.core)) }
+        ensures other { IfNone (turn_of self.old) (turn_of self.new ≡ None) }
     {
         let core = match self {
-            Manner::InTurn(next) => {
-                let core = going.from(*next);
-                *next = core.saturating_add(1);
-                core
-            }
+            Manner::InTurn(turn) => turn.next(going),
             Manner::Uniform(chance) => any(chance, going),
             Manner::Bursts(bursts) => bursts.next(going),
             Manner::Priorities(priorities) => priorities.next(going, told),

@@ -7,6 +7,8 @@ ghost use Rattle.tm_pick.specs.Kinds.{no_kinds};
 use crate::chance::Chance;
 use crate::events::Events;
 use crate::picker::Picker;
+use crate::rounds::Rounds;
+use crate::seen::Draws;
 
 /// How the core of each step is drawn.
 #[derive(Clone, Copy, PartialEq, Eq)]
@@ -20,7 +22,9 @@ pub enum Method {
     Bursts,
     /// By random priorities, of which the highest falls 1 to 3 times.
     Priorities,
-    /// Each core as likely as another, but a core whose next step no other core sees goes on without a draw.
+    /// A core whose next step no other core sees goes on without a draw. Of the steps that others may see each core is
+    /// drawn as likely as another in the runs of the numbers 0 and 1 of each four, and in rounds in the other two: each
+    /// core makes one of them a round, in an order by chance.
     Seen,
 }
 
@@ -42,7 +46,7 @@ impl Plan {
     /// two. Its cores are drawn from the same numbers whatever its events are.
     pub fn run(self, run: u32, cores: u8) -> Picker<'static>
         requires { cores ≤ 64 }
-        ensures { AreDrawn self.events result }
+        ensures { AreDrawn self.events result.kinds }
     {
         self.cores_of_run(run, cores)
             .under(self.events.of_run(self.seed, run))
@@ -51,15 +55,24 @@ impl Plan {
     // What picks the cores of the run of this number.
     fn cores_of_run(self, run: u32, cores: u8) -> Picker<'static>
         requires { cores ≤ 64 }
-        ensures { result ≡ no_kinds }
+        ensures { result.kinds ≡ no_kinds }
     {
         let chance = Chance::of_run(self.seed, run);
         match self.method.of_run(run) {
             Method::Bursts => Picker::bursts(chance),
             Method::Priorities => Picker::priorities(chance, cores, self.length),
-            Method::Seen => Picker::seen(chance, self.length),
+            Method::Seen => Picker::seen(draws_of(run), chance, self.length),
             Method::Mix | Method::Uniform => Picker::uniform(chance),
         }
+    }
+}
+
+// How the core of a step that others may see is drawn in the run of this number, by the method that draws no other.
+fn draws_of(run: u32) -> Draws {
+    if run / 2 % 2 == 0 {
+        Draws::Each
+    } else {
+        Draws::InRounds(Rounds::new())
     }
 }
 

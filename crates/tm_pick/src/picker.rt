@@ -1,8 +1,9 @@
 //! What picks each step.
 
-ghost use Rattle.std.specs.Prelude.{◌≡◌, ◌<◌, ◌≤◌, Contains, None, length};
+ghost use Rattle.std.specs.Prelude.{◌≡◌, ◌<◌, ◌≤◌, Contains, IfNone, IfSome, None, Some, length};
 ghost use Rattle.tm_pick.specs.Kinds.{AreAmong, AreOfKinds, IsOfKinds, no_kinds};
-ghost use Rattle.tm_pick.specs.Sources.{both_kinds, kinds_listed};
+ghost use Rattle.tm_pick.specs.Sources.{both_kinds, kinds_listed, turn_of};
+ghost use Rattle.tm_pick.specs.Turns.{IsInTurn};
 ghost use Rattle.tm_pick.specs.declared.kinds.Kinds.{Kinds};
 
 use crate::bursts::Bursts;
@@ -13,14 +14,15 @@ use crate::interferer::Interferer;
 use crate::kinds::Kinds;
 use crate::manner::Manner;
 use crate::priorities::Priorities;
-use crate::seen::Seen;
+use crate::seen::{Draws, Seen};
 use crate::tail::most_in_a_row;
+use crate::turn::Turn;
 use std::marker::Model;
 use tm_core::{Machine, Program};
 use tm_model::{Event, Pick};
 
 /// What picks one step after another: its core, and the event that it comes under, if any. Contracts see the kinds of
-/// the events that may come.
+/// the events that may come, and whose turn it is, where it goes round by round.
 #[derive(Drop)]
 pub struct Picker<'a> {
     manner: Manner<'a>,
@@ -28,25 +30,29 @@ pub struct Picker<'a> {
 }
 
 impl<'a> Model for Picker<'a> {
-    ghost use Rattle.tm_pick.specs.Sources.{both_kinds, kinds_listed};
-    ghost use Rattle.tm_pick.specs.declared.kinds.Kinds.{Kinds};
+    ghost use Rattle.tm_pick.specs.Shown.{Picks};
+    ghost use Rattle.tm_pick.specs.Sources.{both_kinds, kinds_listed, turn_of};
 
-    ghost Value = { Kinds };
+    ghost Value = { Picks };
 
-    ghost view = { λ picker. both_kinds (kinds_listed picker.manner) picker.interferer };
+    ghost view = { λ picker. record {
+      kinds = both_kinds (kinds_listed picker.manner) picker.interferer;
+      turn = turn_of picker.manner;
+    } };
 }
 
 impl<'a> Picker<'a> {
     /// Round by round, from core 0 on.
     pub fn in_turn() -> Picker<'a>
-        ensures { result ≡ no_kinds }
+        ensures kinds { result.kinds ≡ no_kinds }
+        ensures turn { result.turn ≡ Some None }
     {
-        Picker::of_manner(Manner::InTurn(0))
+        Picker::of_manner(Manner::InTurn(Turn::behind(None)))
     }
 
     /// Each core as likely as another, by this seed.
     pub fn random(seed: u32) -> Picker<'a>
-        ensures { result ≡ no_kinds }
+        ensures { result.kinds ≡ no_kinds }
     {
         Picker::uniform(Chance::of_run(seed, 0))
     }
@@ -56,7 +62,7 @@ impl<'a> Picker<'a> {
     /// after twice so many steps in a row as the run takes, about, and 400 at least.
     #[tactic(auto, using(crate::proofs::OfKinds::listed_among))]
     pub fn front(steps: &'a [Pick], length: u32) -> Picker<'a>
-        ensures { (kinds : Kinds) → AreOfKinds kinds steps.now → AreAmong result kinds }
+        ensures { (kinds : Kinds) → AreOfKinds kinds steps.now → AreAmong result.kinds kinds }
     {
         Picker::of_manner(Manner::Front(Front::to_the_ends(steps, length)))
     }
@@ -65,36 +71,36 @@ impl<'a> Picker<'a> {
     /// one behind the core of the last step first, under no events.
     #[tactic(auto, using(crate::proofs::OfKinds::listed_among))]
     pub fn front_in_turn(steps: &'a [Pick]) -> Picker<'a>
-        ensures { (kinds : Kinds) → AreOfKinds kinds steps.now → AreAmong result kinds }
+        ensures { (kinds : Kinds) → AreOfKinds kinds steps.now → AreAmong result.kinds kinds }
     {
         Picker::of_manner(Manner::Front(Front::in_turn(steps)))
     }
 
     // Each core as likely as another.
     pub(crate) fn uniform(chance: Chance) -> Picker<'a>
-        ensures { result ≡ no_kinds }
+        ensures { result.kinds ≡ no_kinds }
     {
         Picker::of_manner(Manner::Uniform(chance))
     }
 
     // Bursts of random length.
     pub(crate) fn bursts(chance: Chance) -> Picker<'a>
-        ensures { result ≡ no_kinds }
+        ensures { result.kinds ≡ no_kinds }
     {
         Picker::of_manner(Manner::Bursts(Bursts::new(chance)))
     }
 
-    // Drawn where other cores see it, in a run that takes about so many steps.
-    pub(crate) fn seen(chance: Chance, length: u32) -> Picker<'a>
-        ensures { result ≡ no_kinds }
+    // Drawn so where other cores see it, in a run that takes about so many steps.
+    pub(crate) fn seen(draws: Draws, chance: Chance, length: u32) -> Picker<'a>
+        ensures { result.kinds ≡ no_kinds }
     {
-        Picker::of_manner(Manner::Seen(Seen::new(chance, most_in_a_row(length))))
+        Picker::of_manner(Manner::Seen(Seen::new(draws, chance, most_in_a_row(length))))
     }
 
     // By random priorities of so many cores, in a run that takes about so many steps.
     pub(crate) fn priorities(chance: Chance, cores: u8, length: u32) -> Picker<'a>
         requires { cores ≤ 64 }
-        ensures { result ≡ no_kinds }
+        ensures { result.kinds ≡ no_kinds }
     {
         let going = Going::all(cores);
         Picker::of_manner(Manner::Priorities(Priorities::new(chance, &going, length)))
@@ -118,7 +124,8 @@ impl<'a> Picker<'a> {
     // Picks in this manner, under no events but those of its list.
     #[tactic(auto, using(crate::proofs::OfKinds::list_alone))]
     fn of_manner(manner: Manner<'a>) -> Picker<'a>
-        ensures { result ≡ kinds_listed manner.entry }
+        ensures kinds { result.kinds ≡ kinds_listed manner.entry }
+        ensures turn { result.turn ≡ turn_of manner.entry }
     {
         Picker {
             manner,
@@ -129,7 +136,8 @@ impl<'a> Picker<'a> {
     /// The same picks, under these events besides those of its list.
     #[tactic(auto, using(crate::proofs::OfKinds::draw_alone))]
     pub fn under(self, interferer: Interferer) -> Picker<'a>
-        ensures { self.entry ≡ no_kinds → result ≡ interferer }
+        ensures kinds { self.entry.kinds ≡ no_kinds → result.kinds ≡ interferer }
+        ensures turn { result.turn ≡ self.entry.turn }
     {
         Picker {
             manner: self.manner,
@@ -142,9 +150,12 @@ impl<'a> Picker<'a> {
     pub fn next(&mut self, going: &Going, told: bool) -> Pick
         requires { 0 < length going.now }
         ensures core { Contains going.now result.core }
-        ensures event { IsOfKinds self.old result.event }
-        ensures never { self.old ≡ no_kinds → result.event ≡ None }
-        ensures same { self.new ≡ self.old }
+        ensures event { IsOfKinds self.old.kinds result.event }
+        ensures never { self.old.kinds ≡ no_kinds → result.event ≡ None }
+        ensures same { self.new.kinds ≡ self.old.kinds }
+        ensures turn { IfSome self.old.turn (λ last. IsInTurn last going.now result.core) }
+        ensures goes_on { IfSome self.old.turn (λ last. self.new.turn ≡ Some (Some result.core)) }
+        ensures other { IfNone self.old.turn (self.new.turn ≡ None) }
     {
         let drawn = self.interferer.next();
         let pick = self.manner.next(going, told);

@@ -92,8 +92,8 @@ impl Priorities {
     }
 }
 
-// The cores in an order by chance.
-fn shuffled(chance: &mut Chance, going: &Going) -> ArrayVec<u8, 64> {
+/// The cores in an order by chance.
+pub fn shuffled(chance: &mut Chance, going: &Going) -> ArrayVec<u8, 64> {
     let mut order = ArrayVec::new();
     for index in 0..going.len() {
         // There is room for all.

@@ -5,21 +5,33 @@ ghost use Rattle.std.specs.Prelude.{◌<◌, Contains, length};
 use crate::bursts::any;
 use crate::chance::Chance;
 use crate::going::Going;
+use crate::rounds::Rounds;
 
-/// Each core as likely as another, drawn only where other cores may see it: a core whose next step no other core sees
-/// goes on without a draw, for at most so many steps in a row.
+/// Draws only where other cores may see a step: a core whose next step no other core sees goes on without a draw, for at
+/// most so many steps in a row.
 #[derive(Drop)]
 pub struct Seen {
+    draws: Draws,
     chance: Chance,
     most: u32,
     last: u8,
     in_a_row: u32,
 }
 
+/// How the core of a step that others may see is drawn.
+#[derive(Drop)]
+pub enum Draws {
+    /// Each core as likely as another.
+    Each,
+    /// Each core once a round.
+    InRounds(Rounds),
+}
+
 impl Seen {
-    /// Draws by this chance, and after so many unseen steps of a core in a row.
-    pub fn new(chance: Chance, most: u32) -> Seen {
+    /// Draws so and by this chance, and after so many unseen steps of a core in a row.
+    pub fn new(draws: Draws, chance: Chance, most: u32) -> Seen {
         Seen {
+            draws,
             chance,
             most,
             last: u8::MAX,
@@ -37,8 +49,21 @@ impl Seen {
             return going.from(self.last);
         }
         self.in_a_row = 0;
-        let core = any(&mut self.chance, going);
+        let core = self.draws.next(&mut self.chance, going);
         self.last = core;
         core
+    }
+}
+
+impl Draws {
+    // The core of the next step that others may see.
+    fn next(&mut self, chance: &mut Chance, going: &Going) -> u8
+        requires { 0 < length going.now }
+        ensures { Contains going.now result }
+    {
+        match self {
+            Draws::Each => any(chance, going),
+            Draws::InRounds(rounds) => rounds.next(chance, going),
+        }
     }
 }

@@ -7,7 +7,7 @@ use Rattle.tm_hunt.proofs.one_run.step_all.Goals as goal
 
 pub returns-then-step_one-clause-kinds : goal.returns-then-step_one-clause-kinds
 returns-then-step_one-clause-kinds c =
-    c.step_one.ensures.kinds c.args.picker.now
+    c.step_one.ensures.kinds c.args.picker.now.kinds
     (subst (λ (kinds : Kinds). IsOfKinds kinds c.next-pick.result.event) c.steps.invariant.picker
     c.next-pick.ensures.event)
     c.steps.invariant.kinds
@@ -27,7 +27,7 @@ steps-preserved c =
           (sym one.same.program) one.below;
       picker = c.next-pick.ensures.same ∙ before.picker;
       kinds =
-          one.kinds c.args.picker.now
+          one.kinds c.args.picker.now.kinds
           (subst (λ (kinds : Kinds). IsOfKinds kinds c.next-pick.result.event) before.picker
           c.next-pick.ensures.event)
           before.kinds;

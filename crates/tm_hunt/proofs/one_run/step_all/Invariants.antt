@@ -9,8 +9,8 @@ abbrev pub invariant-steps : goal.invariant-steps
 invariant-steps l = record {
   same : SameBoard l.fn.board l.board;
   below : All (λ core. core < length l.board.program.entries) l.going;
-  picker : l.picker ≡ l.fn.picker;
-  kinds : AreOfKinds l.fn.picker (picks_of l.board.history);
+  picker : l.picker.kinds ≡ l.fn.picker.kinds;
+  kinds : AreOfKinds l.fn.picker.kinds (picks_of l.board.history);
 }
 
 abbrev pub decreases-steps : goal.decreases-steps

@@ -24,8 +24,8 @@ runs-preserved c =
           let cut = w.cut-is in
           record {
             passed =
-                one_more trial events c.run.result passed next (omega arith) c.run.ensures before.passed
-                (subst (IsAttempt trial c.run.result) w.in-Ended.is c.in_ok-try_run.ensures.ok);
+                one_more trial events c.run.result.kinds passed next (omega arith) c.run.ensures before.passed
+                (subst (IsAttempt trial c.run.result.kinds) w.in-Ended.is c.in_ok-try_run.ensures.ok);
             counted = omega arith;
             board = c.in_ok-try_run.ensures.of_trial;
           }
@@ -34,8 +34,8 @@ runs-preserved c =
           let cut = w.cut-is in
           record {
             passed =
-                one_more trial events c.run.result passed next (omega arith) c.run.ensures before.passed
-                (subst (IsAttempt trial c.run.result) w.in-Cut.is c.in_ok-try_run.ensures.ok);
+                one_more trial events c.run.result.kinds passed next (omega arith) c.run.ensures before.passed
+                (subst (IsAttempt trial c.run.result.kinds) w.in-Cut.is c.in_ok-try_run.ensures.ok);
             counted = omega arith;
             board = c.in_ok-try_run.ensures.of_trial;
           }
