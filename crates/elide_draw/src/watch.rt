@@ -65,7 +65,7 @@ fn watch_step<S: Scene>(
         None
     };
     let uses = if timeline.shows_lines() {
-        Some(uses_of(machine, core))
+        uses_of(machine, core)
     } else {
         None
     };
@@ -161,22 +161,22 @@ fn use_on(uses: &Option<Uses>, victim: u8) -> Option<LineUse> {
     }
 }
 
-// How the next step of a core uses the lines on which it hits the others.
-fn uses_of(machine: &Machine, core: u8) -> Uses {
+// How the next step of a core uses the lines on which it hits the others. None where it hits nobody.
+fn uses_of(machine: &Machine, core: u8) -> Option<Uses> {
+    let Ok(preview) = machine.preview(core) else {
+        return None;
+    };
+    if !machine.may_hit(&preview) {
+        return None;
+    }
     let mut uses = [None; 64];
     for victim in 0..machine.cores() {
-        uses[usize::from(victim)] = use_of(machine, core, victim);
+        if let Ok(Some(hit)) = machine.hit_by(&preview, victim) {
+            uses[usize::from(victim)] = Some(LineUse {
+                line: hit.line,
+                is_write: hit.kind == Kind::Write,
+            });
+        }
     }
-    uses
-}
-
-// How the next step of a core uses the line on which it hits another: the lowest, where there are several.
-fn use_of(machine: &Machine, core: u8, victim: u8) -> Option<LineUse> {
-    match machine.hit(core, victim) {
-        Ok(Some(hit)) => Some(LineUse {
-            line: hit.line,
-            is_write: hit.kind == Kind::Write,
-        }),
-        _ => None,
-    }
+    Some(uses)
 }

@@ -1,10 +1,10 @@
 //! What a command that tells of the places of its source begins with.
 
-ghost use Rattle.std.specs.Prelude.{IfOk, List};
+ghost use Rattle.std.specs.Prelude.{◌≡◌, IfOk, List};
 ghost use Rattle.tm_model.specs.declared.outcome.Pick.{Pick};
 ghost use Rattle.elide_setup.specs.ElideProgram.ProgramFile.{IsFile};
 ghost use Rattle.elide_setup.specs.ElideProgram.ProgramFileType.{ProgramFile};
-ghost use Rattle.elide_setup.specs.Schedules.{AreAsked, AreOf, ArePlanned};
+ghost use Rattle.elide_setup.specs.Schedules.{AreAsked, AreOf, ArePlanned, are_listed, is_list, plan_is_list};
 ghost use Rattle.elide_setup.specs.Setup.{IsAsked, IsSetup};
 
 use elide_args::{MachineOptions, ScheduleOptions};
@@ -33,6 +33,7 @@ pub fn scheduled_places<P: Paths>(
     ensures setup { IfOk result (λ r. IsAsked (P.content paths.old machine.now.file.now) machine.now r.0) }
     ensures course { IfOk result (λ r. (picks : List Pick) → AreOf r.1 picks →
         AreAsked (P.content paths.old) schedule.now picks) }
+    ensures listed { IfOk result (λ r. is_list r.1 ≡ are_listed schedule.now) }
 {
     let settings = Settings::read(machine)?;
     let plan = Plan::read(alloc, schedule)?;
@@ -53,6 +54,7 @@ fn places_of_text<P: Paths>(
     ensures setup { IfOk result (λ r. (file : ProgramFile) × IsFile text.now file × IsSetup file settings.now r.0) }
     ensures course { IfOk result (λ r. (picks : List Pick) → AreOf r.1 picks →
         ArePlanned (P.content paths.old) plan.entry picks) }
+    ensures listed { IfOk result (λ r. is_list r.1 ≡ plan_is_list plan.entry) }
 {
     let file = ProgramFile::read(alloc, text)?;
     let (setup, course) = planned(alloc, settings, plan, &file, paths)?;

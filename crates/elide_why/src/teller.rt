@@ -11,7 +11,8 @@ use crate::subset::write_stop;
 use crate::words::Words;
 use elide_places::Places;
 use elide_setup::{
-    Fault, Machine, Outcome, Pick, Program, Refusal, RunFault, StepMaker, Stop, write_outcome,
+    Fault, Interference, Machine, Outcome, Pick, Program, Refusal, RunFault, StepMaker, Stop,
+    write_outcome,
 };
 use ia_text::Out;
 use tm_why::{Asked, Reason, Watch};
@@ -26,6 +27,8 @@ pub struct Teller<'a> {
     traces: bool,
     names: bool,
     watch: Watch,
+    // What the machine said of the last step: asked anew of each, in place.
+    asked: Asked,
 }
 
 impl<'a> Teller<'a> {
@@ -44,6 +47,7 @@ impl<'a> Teller<'a> {
             traces,
             names: false,
             watch: Watch::new(),
+            asked: Asked::nothing(),
         }
     }
 
@@ -75,32 +79,81 @@ impl<'a> Teller<'a> {
         ensures step { IfOk result (λ outcome. IsMachineStep machine.old pick outcome machine.new) }
         ensures told { IfOk result (λ _. (text : List ℕ) × Wrote (O.device out.old) (O.device out.new) text) }
     {
-        let core = pick.core;
-        let Ok(asked) = Asked::of(machine, core) else {
+        if self.asked.anew(machine, pick.core).is_err() {
             return Err(Refusal::Fault(Fault::Run(RunFault::NoSuchCore)));
-        };
-        let reason = self.watch.reason(&asked);
-        let begun = self.watch.begun(&asked);
+        }
+        let reason = self.watch.reason(&self.asked);
+        let begun = self.watch.begun(&self.asked);
         let outcome = machine.make_step(pick)?;
-        self.watch.told(&asked, outcome);
-        // Told is what came of the step: an abort from outside comes in its place, whatever reason it had to be one.
+        self.watch.told(&self.asked, outcome);
+        self.tell(outcome, reason, begun, out)?;
+        Ok(outcome)
+    }
+
+    // Prints the line of a step, where it is told. Told is what came of it: an abort from outside comes in its place,
+    // whatever reason it had to be one. The lines are calls of their own, so that a step that is not told clears none of
+    // their texts.
+    fn tell<O: Out>(
+        &self,
+        outcome: Outcome,
+        reason: Option<Reason>,
+        begun: Option<u64>,
+        out: &mut O,
+    ) -> Result<(), Refusal>
+        ensures { IfOk result (λ _. (text : List ℕ) × Wrote (O.device out.old) (O.device out.new) text) }
+    {
+        let core = self.asked.core;
         match (outcome, reason) {
             (Outcome::AbortedBy(interference, status), _) => {
-                let words = Words::at(self.program, self.path, self.places, asked.eip);
-                write_interference(core, interference, status, begun, &words, out)?;
+                self.tell_interference(interference, status, begun, out)?;
             }
             (Outcome::Aborted(status), Some(reason)) => {
-                let words = self.words_of(&reason);
-                write_abort(core, status, &reason, &words, out)?;
+                self.tell_abort(core, status, &reason, out)?;
             }
-            (Outcome::Stopped(Stop::NotInSubset), _) => {
-                let outside = self.outside_at(asked.eip);
-                write_stop(core, &outside, out)?;
-            }
+            (Outcome::Stopped(Stop::NotInSubset), _) => self.tell_stop(out)?,
             _ if self.traces => write_outcome(core, &outcome, out)?,
             _ => {}
         }
-        Ok(outcome)
+        Ok(())
+    }
+
+    #[inline(never)]
+    fn tell_interference<O: Out>(
+        &self,
+        interference: Interference,
+        status: u32,
+        begun: Option<u64>,
+        out: &mut O,
+    ) -> Result<(), Refusal>
+        ensures { IfOk result (λ _. (text : List ℕ) × Wrote (O.device out.old) (O.device out.new) text) }
+    {
+        let words = Words::at(self.program, self.path, self.places, self.asked.eip);
+        write_interference(self.asked.core, interference, status, begun, &words, out)?;
+        Ok(())
+    }
+
+    #[inline(never)]
+    fn tell_abort<O: Out>(
+        &self,
+        core: u8,
+        status: u32,
+        reason: &Reason,
+        out: &mut O,
+    ) -> Result<(), Refusal>
+        ensures { IfOk result (λ _. (text : List ℕ) × Wrote (O.device out.old) (O.device out.new) text) }
+    {
+        let words = self.words_of(reason);
+        write_abort(core, status, reason, &words, out)?;
+        Ok(())
+    }
+
+    #[inline(never)]
+    fn tell_stop<O: Out>(&self, out: &mut O) -> Result<(), Refusal>
+        ensures { IfOk result (λ _. (text : List ℕ) × Wrote (O.device out.old) (O.device out.new) text) }
+    {
+        let outside = self.outside_at(self.asked.eip);
+        write_stop(self.asked.core, &outside, out)?;
+        Ok(())
     }
 
     /// The same of each pick of a list, in its order.

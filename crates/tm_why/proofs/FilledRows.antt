@@ -1,8 +1,6 @@
 -- A row that is filled one by one.
-use Rattle.std.proofs.Common.{◌≡◌, ℕ, zero, suc, ◌<◌, ◌≤◌, ◌+◌, List, length, get_or, set, replicate, Option, None, refl, sym, ◌∙◌, subst, ⊎_elim, arith}
-use Rattle.std.proofs.lemmas.Bool.{cases_eq}
+use Rattle.std.proofs.Common.{◌≡◌, ℕ, zero, suc, ◌<◌, ◌≤◌, ◌+◌, List, length, get_or, set, replicate, refl, ◌∙◌, arith}
 use Rattle.std.proofs.lemmas.List.{get_or-set_same, get_or-set_other}
-use Rattle.tm_core.specs.TmModel.Hit.{Hit}
 use Rattle.tm_why.specs.Types.{Watched}
 use Rattle.tm_why.specs.Watched.{outside}
 use borrow.Author.Count.{below_more}
@@ -20,38 +18,6 @@ rest_next rows first place row default rest k behind =
     let other : k ≡ place → ⊥ = λ same. omega arith in
     let after : place ≤ k = omega arith in
     get_or-set_other rows place k row default other ∙ rest k after
-
--- ---- hits
-
-pub empty_next : (hits : List (Option Hit)) (victim : ℕ) (told : Option Hit) →
-    ((k : ℕ) → victim ≤ k → get_or hits k None ≡ None) →
-    (k : ℕ) → victim + 1 ≤ k → get_or (set hits victim told) k None ≡ None
-empty_next hits victim told rest k behind =
-    let other : k ≡ victim → ⊥ = λ same. omega arith in
-    let after : victim ≤ k = omega arith in
-    get_or-set_other hits victim k told None other ∙ rest k after
-
-pub said_next : (P : ℕ → Option Hit → Type 0) (hits : List (Option Hit)) (victim core : ℕ) (told : Option Hit) →
-    victim < length hits →
-    ((k : ℕ) → k < victim → (k ≡ core → ⊥) → P k (get_or hits k None)) →
-    ((victim ≡ core → ⊥) → P victim told) →
-    (k : ℕ) → k < victim + 1 → (k ≡ core → ⊥) → P k (get_or (set hits victim told) k None)
-said_next P hits victim core told h below here =
-    below_more (λ (k : ℕ). (k ≡ core → ⊥) → P k (get_or (set hits victim told) k None)) victim
-    (λ k less differs.
-    let other : k ≡ victim → ⊥ = λ same. omega arith in
-    subst (P k) (sym (get_or-set_other hits victim k told None other)) (below k less differs))
-    (λ differs. subst (P victim) (sym (get_or-set_same hits victim told None h)) (here differs))
-
-pub own_next : (hits : List (Option Hit)) (victim core : ℕ) (told : Option Hit) → victim < length hits →
-    get_or hits core None ≡ None → (victim ≡ core → told ≡ None) → get_or (set hits victim told) core None ≡ None
-own_next hits victim core told h own none =
-    ⊎_elim
-    (λ (same : core ≡ victim).
-    subst (λ (k : ℕ). get_or (set hits victim told) k None ≡ None) (sym same)
-    (get_or-set_same hits victim told None h ∙ none (sym same)))
-    (λ (other : core ≡ victim → ⊥). get_or-set_other hits victim core told None other ∙ own)
-    (cases_eq core victim)
 
 -- ---- rows
 

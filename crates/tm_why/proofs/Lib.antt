@@ -1,3 +1,4 @@
 mod OneStep
 mod FilledRows
+mod ChangedRows
 mod StandingHits

@@ -22,3 +22,8 @@ row_after core asked outcome number row =
     if core == asked.core
     then row_after_own row outcome number
     else row_after_other row (hit_made (asked, outcome) core) asked number
+
+-- but for the core's own row
+abbrev pub row_if_other : ℕ → Asked → Outcome → ℕ → Watched → Watched
+row_if_other core asked outcome number row =
+    if core == asked.core then row else row_after_other row (hit_made (asked, outcome) core) asked number

@@ -1,12 +1,11 @@
 //! What a machine says of a step before it is made.
 
-ghost use Rattle.std.specs.Prelude.{◌≡◌, ℕ, ◌↔◌, ◌<◌, ◌≤◌, IfOk, IsOk, None, Option, length, slice_index_or};
-ghost use Rattle.tm_core.specs.TmModel.Explained.{abort_reason};
-ghost use Rattle.tm_core.specs.TmModel.State.{State};
-ghost use Rattle.tm_core.specs.Theorem.{StandsFor, machine_setting, view_at};
+ghost use Rattle.std.specs.Prelude.{◌≡◌, ℕ, ◌↔◌, ◌<◌, ◌≤◌, IfOk, IsOk, None, OnErr, OnOk, length, slice_index_or};
+ghost use Rattle.tm_core.specs.Previewed.{IsPreview};
+ghost use Rattle.tm_core.specs.Theorem.{view_at};
 ghost use Rattle.tm_why.specs.Said.{IsSaidOf};
 
-use tm_core::{AbortReason, Hit, Machine, NoSuchCore};
+use tm_core::{AbortReason, Hit, Machine, NoSuchCore, Preview};
 
 /// The most cores of a machine.
 pub const MOST_CORES: usize = 64;
@@ -20,13 +19,29 @@ pub struct Asked {
     pub eip: u32,
     /// For each core, the hit by which the step condemns the core's open transaction.
     pub hits: [Option<Hit>; MOST_CORES],
+    /// Each core that the step hits has a number below this, at most 64.
+    pub below: u8,
     /// Why the step is an abort, where it is one.
     pub reason: Option<AbortReason>,
     pub ghost few: { core < 64 },
+    pub ghost most: { below ≤ 64 },
+    pub ghost none: { (k : ℕ) → below ≤ k → slice_index_or hits k None ≡ None },
 }
 
 impl Asked {
     ghost use Rattle.tm_why.specs.Asked.{IsAsked};
+
+    /// Of no machine yet: core 0 at address 0, which hits nobody and is no abort. It is there to be asked anew:
+    /// [`Asked::anew`].
+    pub fn nothing() -> Asked {
+        Asked {
+            core: 0,
+            eip: 0,
+            hits: [None; MOST_CORES],
+            below: 0,
+            reason: None,
+        }
+    }
 
     /// What the machine says of this core's next step. `NoSuchCore` (42). Takes no memory.
     pub fn of(machine: &Machine, core: u8) -> Result<Asked, NoSuchCore>
@@ -36,53 +51,87 @@ impl Asked {
         if core >= machine.cores() {
             return Err(NoSuchCore);
         }
+        let preview = machine.preview(core)?;
+        let mut hits = [None; MOST_CORES];
+        let below = hits_of(machine, &preview, &mut hits);
         Ok(Asked {
             core,
-            eip: eip_of(machine, core),
-            hits: hits_of(machine, core),
-            reason: reason_of(machine, core),
+            eip: preview.eip,
+            hits,
+            below,
+            reason: preview.reason,
         })
     }
 }
 
-fn eip_of(machine: &Machine, core: u8) -> u32
-    requires { core < length machine.now.views }
-    ensures { result ≡ (view_at machine.now core).regs.eip }
-{
-    machine.regs(core).unwrap().eip
-}
+impl Asked {
+    ghost use Rattle.tm_why.specs.Asked.{IsAsked};
 
-fn reason_of(machine: &Machine, core: u8) -> Option<AbortReason>
-    requires { core < length machine.now.views }
-    ensures { (a : State) (d : ℕ → Option ℕ) → StandsFor machine.now a d →
-        result ≡ abort_reason (machine_setting machine.now) a.memory (a.cores core) (d core) }
-{
-    machine.abort_reason(core).unwrap()
-}
-
-// The step's hits, by the numbers of the cores.
-fn hits_of(machine: &Machine, core: u8) -> [Option<Hit>; MOST_CORES]
-    requires { core < length machine.now.views }
-    ensures hits { (other : ℕ) → other < length machine.now.views → (other ≡ core → ⊥) →
-        IsSaidOf machine.now core other (slice_index_or result other None) }
-    ensures own { slice_index_or result core None ≡ None }
-    ensures absent { (other : ℕ) → length machine.now.views ≤ other → slice_index_or result other None ≡ None }
-{
-    let mut hits = [None; MOST_CORES];
-    put_hits(machine, core, &mut hits);
-    hits
-}
-
-// Puts the step's hits into a row that has none.
-fn put_hits(machine: &Machine, core: u8, hits: &mut [Option<Hit>; MOST_CORES])
-    requires core { core < length machine.now.views }
-    requires empty { (k : ℕ) → slice_index_or hits.old k None ≡ None }
-    ensures hits { (other : ℕ) → other < length machine.now.views → (other ≡ core → ⊥) →
-        IsSaidOf machine.now core other (slice_index_or hits.new other None) }
-    ensures own { slice_index_or hits.new core None ≡ None }
-    ensures absent { (other : ℕ) → length machine.now.views ≤ other → slice_index_or hits.new other None ≡ None }
-{
-    for victim in 0..machine.cores() {
-        hits[victim as usize] = machine.hit(core, victim).unwrap();
+    /// Becomes what the machine says of this core's next step: [`Asked::of`] in place, which for a step that hits nobody,
+    /// behind one that hits nobody, goes over no hits. `NoSuchCore` (42), and nothing is changed. Takes no memory.
+    pub fn anew(&mut self, machine: &Machine, core: u8) -> Result<(), NoSuchCore>
+        ensures exists { IsOk result ↔ (core < length machine.now.views) }
+        ensures asked { OnOk result (IsAsked machine.now core self.new) }
+        ensures err { OnErr result (self.new ≡ self.old) }
+    {
+        if core >= machine.cores() {
+            return Err(NoSuchCore);
+        }
+        let preview = machine.preview(core)?;
+        clear(&mut self.hits, self.below);
+        self.below = hits_of(machine, &preview, &mut self.hits);
+        self.core = core;
+        self.eip = preview.eip;
+        self.reason = preview.reason;
+        Ok(())
     }
+}
+
+// Takes the hits out of a row that has them below this number alone.
+fn clear(hits: &mut [Option<Hit>; MOST_CORES], below: u8)
+    requires most { below ≤ 64 }
+    requires none { (k : ℕ) → below ≤ k → slice_index_or hits.old k None ≡ None }
+    ensures { (k : ℕ) → slice_index_or hits.new k None ≡ None }
+{
+    for core in 0..below as usize {
+        hits[core] = None;
+    }
+}
+
+// Puts the step's hits, by the numbers of the cores, into a row that has none, and says below which number they are.
+fn hits_of(machine: &Machine, preview: &Preview, hits: &mut [Option<Hit>; MOST_CORES]) -> u8
+    requires preview { IsPreview machine.now preview.now }
+    requires empty { (k : ℕ) → slice_index_or hits.old k None ≡ None }
+    ensures hits { (other : ℕ) → other < length machine.now.views → (other ≡ preview.now.core → ⊥) →
+        IsSaidOf machine.now preview.now.core other (slice_index_or hits.new other None) }
+    ensures own { slice_index_or hits.new preview.now.core None ≡ None }
+    ensures most { result ≤ length machine.now.views }
+    ensures none { (k : ℕ) → result ≤ k → slice_index_or hits.new k None ≡ None }
+{
+    if machine.may_hit(preview) {
+        put_hits(machine, preview, hits)
+    } else {
+        0
+    }
+}
+
+// The same of a step that may hit a core.
+fn put_hits(machine: &Machine, preview: &Preview, hits: &mut [Option<Hit>; MOST_CORES]) -> u8
+    requires preview { IsPreview machine.now preview.now }
+    requires empty { (k : ℕ) → slice_index_or hits.old k None ≡ None }
+    ensures hits { (other : ℕ) → other < length machine.now.views → (other ≡ preview.now.core → ⊥) →
+        IsSaidOf machine.now preview.now.core other (slice_index_or hits.new other None) }
+    ensures own { slice_index_or hits.new preview.now.core None ≡ None }
+    ensures most { result ≤ length machine.now.views }
+    ensures none { (k : ℕ) → result ≤ k → slice_index_or hits.new k None ≡ None }
+{
+    let mut below = 0;
+    for victim in 0..machine.cores() {
+        let hit = machine.hit_by(preview, victim).unwrap();
+        hits[victim as usize] = hit;
+        if hit.is_some() {
+            below = victim + 1;
+        }
+    }
+    below
 }

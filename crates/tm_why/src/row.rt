@@ -46,6 +46,18 @@ fn after_own(row: Watched, outcome: Outcome, number: u64) -> Watched
     }
 }
 
+/// The row of a core behind its own step of this number, in place.
+pub fn take_own(row: &mut Watched, outcome: Outcome, number: u64)
+    ensures { row.new ≡ row_after_own row.old outcome number }
+{
+    match outcome {
+        Outcome::Begun | Outcome::Committed | Outcome::Aborted(_) | Outcome::AbortedBy(_, _) =>
+            *row = after_own(*row, outcome, number),
+        Outcome::Plain | Outcome::Loaded | Outcome::Stopped(_) | Outcome::Idle | Outcome::Inside =>
+            {}
+    }
+}
+
 // The hit of a step on another core. A step in whose place an abort from outside came was not made, and hits nobody.
 fn hit_made(asked: &Asked, outcome: Outcome, core: usize) -> Option<Hit>
     requires { core < 64 }

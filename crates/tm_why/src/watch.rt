@@ -2,11 +2,11 @@
 
 ghost use Rattle.std.specs.Prelude.{◌≡◌, ℕ, ◌<◌, ◌^◌, ◌-◌, ◌∷◌, [], List, length, slice_index_or};
 ghost use Rattle.tm_why.specs.Watched.{outside};
-ghost use Rattle.tm_why.specs.Rows.{row_after};
+ghost use Rattle.tm_why.specs.Rows.{row_after, row_if_other};
 
 use crate::asked::{Asked, MOST_CORES};
 use crate::reason::Reason;
-use crate::row::{Watched, row_after};
+use crate::row::{Watched, row_after, take_own};
 use tm_core::Outcome;
 
 /// Of each core the step at which its open transaction began, and the hit that condemned it: a row of fixed length. It
@@ -67,12 +67,25 @@ impl Watch {
     }
 }
 
-// Each row behind the step of this number.
+// Each row behind the step of this number: only the core's own and those of the cores that are hit change.
 fn take_in(rows: &mut [Watched; MOST_CORES], asked: &Asked, outcome: Outcome, number: u64)
     ensures { (core : ℕ) → core < 64 → slice_index_or rows.new core outside
         ≡ row_after core asked.now outcome number (slice_index_or rows.old core outside) }
 {
-    for core in 0..MOST_CORES {
-        rows[core] = row_after(rows[core], core, asked, outcome, number);
+    let own = asked.core as usize;
+    take_hits(rows, asked, outcome, number);
+    take_own(&mut rows[own], outcome, number);
+}
+
+// The rows of the cores that are hit.
+fn take_hits(rows: &mut [Watched; MOST_CORES], asked: &Asked, outcome: Outcome, number: u64)
+    ensures { (core : ℕ) → core < 64 → slice_index_or rows.new core outside
+        ≡ row_if_other core asked.now outcome number (slice_index_or rows.old core outside) }
+{
+    let own = asked.core as usize;
+    for core in 0..asked.below as usize {
+        if core != own && asked.hits[core].is_some() {
+            rows[core] = row_after(rows[core], core, asked, outcome, number);
+        }
     }
 }

@@ -5,7 +5,10 @@ use Rattle.tm_why.proofs.asked.put_hits.Given as goal
 abbrev pub invariant-loop-victim : goal.invariant-loop-victim
 invariant-loop-victim l = record {
   len : length l.hits ≡ 64;
-  said : (k : ℕ) → k < l.victim → (k ≡ l.core → ⊥) → IsSaidOf l.machine l.core k (get_or l.hits k None);
-  own : get_or l.hits l.core None ≡ None;
+  said : (k : ℕ) → k < l.victim → (k ≡ l.preview.core → ⊥) →
+      IsSaidOf l.machine l.preview.core k (get_or l.hits k None);
+  own : get_or l.hits l.preview.core None ≡ None;
   rest : (k : ℕ) → l.victim ≤ k → get_or l.hits k None ≡ None;
+  most : l.below ≤ l.victim;
+  none : (k : ℕ) → l.below ≤ k → get_or l.hits k None ≡ None;
 }
