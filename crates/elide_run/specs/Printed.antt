@@ -35,7 +35,7 @@ pub record IsRunAsAsked (content left : List ℕ → Option (List ℕ)) (options
   pub made : List (Pick × Outcome)
   pub steps : AreAsked content options.schedule (picks_made made)
   pub ran : IsRunOf setup.program setup.limits made machine
-  pub recorded : options.explains ≡ false → IsRecorded left options.record (schedule_asked options.schedule made)
+  pub recorded : IsRecorded left options.record (schedule_asked options.schedule made)
   pub lines : List ℕ
   pub traced : options.explains ≡ false → options.shows_code ≡ false → lines ≡ trace_text options.traces made
   pub wrote : Appends before after lines

@@ -1,5 +1,11 @@
 //! What is asked of a machine before a step.
 
+ghost use Rattle.std.specs.Prelude.{◌≡◌};
+ghost use Rattle.std.specs.FinSet as set;
+ghost use Rattle.elide_setup.specs.TmCore.Theorem.{ShownMachine, view_at};
+ghost use Rattle.elide_stats.specs.Causes.{cause_for, cause_for_stop};
+ghost use Rattle.elide_stats.specs.Counted.{IsAskedOf, IsCause, IsStep, is_inside};
+
 use elide_setup::{AbortReason, CoreState, Counts, Kind, Machine, Outcome, Stop};
 use tm_stats::{AbortCause, Conflict, Step};
 
@@ -16,19 +22,20 @@ pub struct Asked {
 
 impl Asked {
     /// Asks a machine before a step of a core.
-    pub fn before(machine: &Machine, core: u8) -> Asked {
+    pub fn before(machine: &Machine, core: u8) -> Asked
+        ensures { IsAskedOf machine.now core result }
+    {
         Asked {
             place: place_of(machine, core),
             cause: cause_of(machine, core),
-            lines: machine.counts(core).unwrap_or(Counts {
-                reads: 0,
-                writes: 0,
-            }),
+            lines: lines_of(machine, core),
         }
     }
 
     /// The step, once its outcome is known.
-    pub fn step(self, core: u8, outcome: Outcome) -> Step {
+    pub fn step(self, core: u8, outcome: Outcome) -> Step
+        ensures { (machine : ShownMachine) → IsAskedOf machine core self → IsStep machine core outcome result }
+    {
         Step {
             core,
             place: self.place,
@@ -41,15 +48,33 @@ impl Asked {
 }
 
 // The EIP of a core before its open transaction, or now, where it has none.
-fn place_of(machine: &Machine, core: u8) -> u32 {
+fn place_of(machine: &Machine, core: u8) -> u32
+    ensures { result ≡ (view_at machine.now core).base.eip }
+{
     match machine.base_regs(core) {
         Ok(regs) => regs.eip,
         Err(_) => 0,
     }
 }
 
+// How many lines a core has in its sets.
+fn lines_of(machine: &Machine, core: u8) -> Counts
+    ensures reads { result.reads ≡ set.len (view_at machine.now core).reads }
+    ensures writes { result.writes ≡ set.len (view_at machine.now core).writes }
+{
+    match machine.counts(core) {
+        Ok(lines) => lines,
+        Err(_) => Counts {
+            reads: 0,
+            writes: 0,
+        },
+    }
+}
+
 // Why the next step of a core aborts of its own. Any cause, where it does not.
-fn cause_of(machine: &Machine, core: u8) -> AbortCause {
+fn cause_of(machine: &Machine, core: u8) -> AbortCause
+    ensures { IsCause machine.now core result }
+{
     if !is_inside(machine, core) {
         return AbortCause::Conflict;
     }
@@ -60,7 +85,9 @@ fn cause_of(machine: &Machine, core: u8) -> AbortCause {
 }
 
 // Whether a core is in a transaction.
-fn is_inside(machine: &Machine, core: u8) -> bool {
+fn is_inside(machine: &Machine, core: u8) -> bool
+    ensures { result ≡ is_inside (view_at machine.now core).mode }
+{
     matches!(
         machine.state(core),
         Ok(CoreState::Open(_) | CoreState::Condemned(_))
@@ -68,7 +95,9 @@ fn is_inside(machine: &Machine, core: u8) -> bool {
 }
 
 // The cause that a reason is counted as.
-fn cause_for(reason: AbortReason) -> AbortCause {
+fn cause_for(reason: AbortReason) -> AbortCause
+    ensures { result ≡ cause_for reason }
+{
     match reason {
         AbortReason::Conflict => AbortCause::Conflict,
         AbortReason::Capacity(Kind::Read, _line) => AbortCause::ReadCapacity,
@@ -81,7 +110,9 @@ fn cause_for(reason: AbortReason) -> AbortCause {
     }
 }
 
-fn cause_for_stop(stop: Stop) -> AbortCause {
+fn cause_for_stop(stop: Stop) -> AbortCause
+    ensures { result ≡ cause_for_stop stop }
+{
     match stop {
         Stop::Divide => AbortCause::Divide,
         Stop::Breakpoint => AbortCause::Breakpoint,
@@ -95,28 +126,14 @@ fn cause_for_stop(stop: Stop) -> AbortCause {
     }
 }
 
-// The EIP of a core.
-fn eip_of(machine: &Machine, core: u8) -> u32 {
-    match machine.regs(core) {
-        Ok(regs) => regs.eip,
-        Err(_) => 0,
-    }
-}
-
-/// How the next step of a core hits the open transaction of another; on which bytes is told of once it was made. None
-/// where it does not hit it.
-pub fn conflict_with(machine: &Machine, core: u8, victim: u8) -> Option<Conflict> {
-    if core == victim || !matches!(machine.state(victim), Ok(CoreState::Open(_))) {
-        return None;
-    }
-    match machine.hit(core, victim) {
-        Ok(Some(hit)) => Some(Conflict {
-            line: hit.line,
-            by: eip_of(machine, core),
-            victim: place_of(machine, victim),
-            stores: hit.kind == Kind::Write,
-            is_apart: false,
-        }),
-        _ => None,
+/// How a step of the instruction at this address hits the open transaction of another core on a line; on which bytes is
+/// told of once it was made.
+pub fn conflict_of(machine: &Machine, by: u32, victim: u8, line: u32, kind: Kind) -> Conflict {
+    Conflict {
+        line,
+        by,
+        victim: place_of(machine, victim),
+        stores: kind == Kind::Write,
+        is_apart: false,
     }
 }

@@ -1,19 +1,20 @@
 //! The command.
 
-ghost use Rattle.std.specs.Prelude.{◌≡◌, ℕ, List, OnOk, Option};
+ghost use Rattle.std.specs.Prelude.{◌≡◌, [], ℕ, List, OnOk, Option};
 ghost use Rattle.elide_setup.specs.ElideProgram.ProgramFile.{IsFile, IsRead};
 ghost use Rattle.elide_setup.specs.ElideProgram.ProgramFileType.{ProgramFile};
 ghost use Rattle.elide_setup.specs.Made.{HasRun, HasRunCourse, HasRunPlan};
 ghost use Rattle.elide_setup.specs.Recorded.{IsRecorded};
-ghost use Rattle.elide_setup.specs.Runs.{AreMachineSteps};
+ghost use Rattle.elide_setup.specs.Runs.{AreMachineSteps, IsRunOf};
 ghost use Rattle.elide_setup.specs.Schedules.{AreOf, picks_made, picks_told, schedule_made};
 ghost use Rattle.elide_setup.specs.TmCore.Theorem.{ShownMachine};
 ghost use Rattle.elide_setup.specs.Walks.{Leads};
 ghost use Rattle.tm_model.specs.declared.outcome.Outcome.{Outcome};
 ghost use Rattle.tm_model.specs.declared.outcome.Pick.{Pick};
+ghost use Rattle.tm_stats.specs.Counts.{AreCounts};
 
 use crate::counting::Counting;
-use crate::told::tell_counting;
+use crate::told::{CountedRun, tell_counting};
 use elide_args::StatsOptions;
 use elide_setup::{
     Course, Paths, Plan, ProgramFile, Progress, Refusal, Settings, Setup, new_machine, planned,
@@ -21,6 +22,7 @@ use elide_setup::{
 };
 use ia_text::Out;
 use std::alloc::Global;
+use tm_stats::AbortCause;
 
 // What is asked for beside the program and its schedule.
 #[derive(Clone, Copy)]
@@ -133,8 +135,9 @@ fn stats_of_setup<P: Paths, O: Out, G: Progress>(
     let mut counting = Counting::new(alloc, machine)?;
     let told = stats_of_course(
         alloc,
-        &mut counting,
+        setup,
         course,
+        &mut counting,
         file,
         asked,
         paths,
@@ -149,18 +152,22 @@ fn stats_of_setup<P: Paths, O: Out, G: Progress>(
 // Runs the schedule, and prints the counts.
 fn stats_of_course<P: Paths, O: Out, G: Progress>(
     alloc: Global,
-    counting: &mut Counting,
+    setup: &Setup,
     course: &Course,
+    counting: &mut Counting,
     file: &ProgramFile<'_>,
     asked: &Asked<'_>,
     paths: &mut P,
     out: &mut O,
     progress: &mut G,
 ) -> Result<(), Refusal>
+    requires first { IsRunOf setup.now.program setup.now.limits [] counting.old.machine }
+    requires none { AreCounts ⟦<AbortCause as PartialEq>⟧.eq counting.old.counts [] }
     ensures { OnOk result ((made : List (Pick × Outcome)) × (after : ShownMachine)
         × AreOf course.now (picks_made made) × Leads AreMachineSteps counting.old.machine made after
         × IsRecorded (P.content paths.new) asked.now.path (schedule_made course.now (picks_told made))) }
 {
     counting.run_course(alloc, course, asked.path, paths, progress)?;
-    tell_counting(alloc, counting, file, asked.is_json, out)
+    let run = CountedRun::Planned(setup, course);
+    tell_counting(alloc, run, counting, file, asked.is_json, out)
 }

@@ -1,12 +1,16 @@
 //! A run whose steps are counted.
 
-ghost use Rattle.std.specs.Prelude.{◌≡◌, IfOk, List};
+ghost use Rattle.std.specs.Prelude.{◌≡◌, [], IfOk, List};
 ghost use Rattle.elide_setup.specs.Recorded.{IsRecorded};
 ghost use Rattle.elide_setup.specs.Runs.{AreMachineSteps};
 ghost use Rattle.elide_setup.specs.Schedules.{AreOf, picks_made, picks_told, schedule_made};
 ghost use Rattle.elide_setup.specs.Walks.{Leads};
 ghost use Rattle.tm_model.specs.declared.outcome.Outcome.{Outcome};
 ghost use Rattle.tm_model.specs.declared.outcome.Pick.{Pick};
+ghost use Rattle.tm_model.specs.Runs.{picks_of};
+ghost use Rattle.tm_stats.specs.Counts.{AreCounts};
+ghost use Rattle.tm_stats.specs.declared.step.Step.{Step};
+ghost use Rattle.elide_stats.specs.Counted.{GoOn};
 
 use crate::asked::Asked;
 use crate::hits::{CoreBytes, Hits};
@@ -14,7 +18,7 @@ use elide_setup::{
     Board, Course, Fault, Machine, Outcome, Paths, Pick, Progress, Refusal, RunFault, StepMaker,
 };
 use std::alloc::{AllocError, Global};
-use tm_stats::{Conflicts, RunCounts};
+use tm_stats::{AbortCause, Conflicts, RunCounts};
 
 /// After how many steps of a history it is told how far the counting is.
 const PORTION: usize = 65536;
@@ -29,7 +33,8 @@ pub struct Counting {
 }
 
 impl StepMaker for Counting {
-    ghost takes = { λ before steps after. AreMachineSteps before.machine steps after.machine };
+    ghost takes = { λ before steps after. AreMachineSteps before.machine steps after.machine
+        × GoOn ⟦<AbortCause as PartialEq>⟧.eq before steps after };
 
     // Makes a step, and counts it with the transactions that it hits.
     fn make_step(&mut self, pick: Pick) -> Result<Outcome, Refusal> {
@@ -48,7 +53,8 @@ impl StepMaker for Counting {
 impl Counting {
     /// Before the first step of a machine.
     pub fn new(alloc: Global, machine: Machine) -> Result<Counting, Refusal>
-        ensures { IfOk result (λ counting. counting.machine ≡ machine) }
+        ensures machine { IfOk result (λ counting. counting.machine ≡ machine) }
+        ensures counts { IfOk result (λ counting. AreCounts ⟦<AbortCause as PartialEq>⟧.eq counting.counts []) }
     {
         let Ok(bytes) = CoreBytes::new(alloc, machine.cores()) else {
             return Err(no_memory());
@@ -72,6 +78,7 @@ impl Counting {
     ) -> Result<(), Refusal>
         ensures { IfOk result (λ _. (made : List (Pick × Outcome)) × AreOf course.now (picks_made made)
             × Leads AreMachineSteps self.old.machine made self.new.machine
+            × GoOn ⟦<AbortCause as PartialEq>⟧.eq self.old made self.new
             × IsRecorded (P.content paths.new) path.entry (schedule_made course.now (picks_told made))) }
     {
         let cores = self.machine.cores();
@@ -84,27 +91,34 @@ impl Counting {
         &mut self,
         board: &Board,
         progress: &mut G,
-    ) -> Result<(), Refusal> {
+    ) -> Result<(), Refusal>
+        ensures { IfOk result (λ _. (made : List (Pick × Outcome)) × (picks_made made ≡ picks_of board.now.history)
+            × GoOn ⟦<AbortCause as PartialEq>⟧.eq self.old made self.new) }
+    {
         let history = board.history();
         for index in 0..history.len() {
             if index % PORTION == 0 {
                 progress.tell(index as u64, history.len() as u64, "steps");
             }
-            if let Some(pick) = history.pick_at(index) {
-                self.make_step(pick)?;
-            }
+            self.make_step(history.pick_at(index).unwrap())?;
         }
         Ok(())
     }
 
     /// Brings the counts into the order in which they are told.
-    pub fn sort(&mut self) -> Result<(), AllocError> {
+    pub fn sort(&mut self) -> Result<(), AllocError>
+        ensures machine { self.new.machine ≡ self.old.machine }
+        ensures counts { (steps : List Step) → AreCounts ⟦<AbortCause as PartialEq>⟧.eq self.old.counts steps →
+            AreCounts ⟦<AbortCause as PartialEq>⟧.eq self.new.counts steps }
+    {
         self.counts.sort()?;
         self.conflicts.sort()
     }
 
     /// The counts of the steps.
-    pub fn counts(&self) -> &RunCounts {
+    pub fn counts(&self) -> &RunCounts
+        ensures { result.now ≡ self.now.counts }
+    {
         &self.counts
     }
 

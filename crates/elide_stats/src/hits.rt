@@ -1,6 +1,6 @@
 //! The transactions that steps hit, and the bytes on which they meet.
 
-use crate::asked::conflict_with;
+use crate::asked::conflict_of;
 use arrayvec::ArrayVec;
 use elide_setup::{Machine, Outcome, Reach};
 use std::alloc::{AllocError, Global};
@@ -8,6 +8,11 @@ use tm_stats::{ByteStep, Conflict, OpenBytes};
 
 /// The most cores of a machine.
 const MOST_CORES: usize = 64;
+
+const NO_BYTES: Reach = Reach {
+    load: None,
+    store: None,
+};
 
 /// The transactions of other cores that the next step of a core hits, and the bytes that it reaches.
 #[derive(Drop)]
@@ -18,20 +23,28 @@ pub struct Hits {
 }
 
 impl Hits {
-    /// Asks a machine before a step of a core.
+    /// Asks a machine before a step of a core: once, and of the hits where it may hit anybody.
     pub fn before(machine: &Machine, core: u8) -> Hits {
         let mut conflicts = ArrayVec::new();
-        for victim in 0..machine.cores() {
-            if let Some(conflict) = conflict_with(machine, core, victim) {
-                // There is room for one of each core.
-                let _ = conflicts.try_push((victim, conflict));
+        let Ok(preview) = machine.preview(core) else {
+            return Hits {
+                conflicts,
+                reach: NO_BYTES,
+            };
+        };
+        if machine.may_hit(&preview) {
+            for victim in 0..machine.cores() {
+                if let Ok(Some(hit)) = machine.hit_by(&preview, victim) {
+                    let conflict = conflict_of(machine, preview.eip, victim, hit.line, hit.kind);
+                    // There is room for one of each core.
+                    let _ = conflicts.try_push((victim, conflict));
+                }
             }
         }
-        let reach = machine.reach(core).unwrap_or(Reach {
-            load: None,
-            store: None,
-        });
-        Hits { conflicts, reach }
+        Hits {
+            conflicts,
+            reach: preview.reach,
+        }
     }
 
     /// Each hit, with the core whose transaction it is, once the outcome is known: a step in whose place an abort from

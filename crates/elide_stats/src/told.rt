@@ -1,38 +1,61 @@
 //! What is printed of a run that was counted.
 
+ghost use Rattle.std.specs.Prelude.{[], IfOk};
+ghost use Rattle.elide_setup.specs.Runs.{IsRunOf};
+ghost use Rattle.elide_stats.specs.Counted.{HasCounted};
+
 use crate::counting::{Counting, no_memory};
 use elide_report::{Labels, Naming, Report, json_line, put_columns};
-use elide_setup::{Board, Fault, Gathered, Lent, Machine, ProgramFile, Progress, Refusal};
+use elide_setup::{
+    Board, Course, Fault, Gathered, Lent, Machine, ProgramFile, Progress, Refusal, Setup,
+};
 use ia_text::Out;
 use std::alloc::Global;
+use tm_stats::AbortCause;
+
+/// The run whose steps are counted.
+#[derive(Clone, Copy)]
+pub enum CountedRun<'a> {
+    /// That of a program along a schedule.
+    Planned(&'a Setup, &'a Course),
+    /// That which a board has made.
+    Made(&'a Board),
+}
 
 /// Prints what the transactions of a run of the program of this file came to.
 pub fn tell_counting<O: Out>(
     alloc: Global,
+    run: CountedRun<'_>,
     counting: &mut Counting,
     file: &ProgramFile<'_>,
     is_json: bool,
     out: &mut O,
-) -> Result<(), Refusal> {
+) -> Result<(), Refusal>
+    requires { HasCounted ⟦<AbortCause as PartialEq>⟧.eq run counting.old }
+{
     if counting.sort().is_err() {
         return Err(no_memory());
     }
     // JSON has escapes of its own.
     let naming = if is_json { Naming::Raw } else { Naming::Shown };
     match Labels::of_file(alloc, file, naming) {
-        Ok(labels) => tell_labelled(alloc, counting, &labels, is_json, out),
+        Ok(labels) => tell_labelled(alloc, run, counting, &labels, is_json, out),
         Err(refused) => Err(Refusal::from(refused)),
     }
 }
 
-// The same with the symbols of the file, of a run whose counts are sorted.
+// The same with the symbols of the file, of a run whose counts are sorted. It is told by its counts alone: the run is
+// there for the clause.
 fn tell_labelled<O: Out>(
     alloc: Global,
+    _run: CountedRun<'_>,
     counting: &Counting,
     labels: &Labels<'_>,
     is_json: bool,
     out: &mut O,
-) -> Result<(), Refusal> {
+) -> Result<(), Refusal>
+    requires { HasCounted ⟦<AbortCause as PartialEq>⟧.eq _run counting.now }
+{
     match Report::of(alloc, counting.counts(), counting.conflicts(), labels) {
         Ok(report) => tell_report(alloc, &report, is_json, out),
         Err(_) => Err(no_memory()),
@@ -68,7 +91,9 @@ fn put_json<O: Out>(alloc: Global, report: &Report, out: &mut O) -> Result<(), R
 }
 
 // The machine of a board's program, before its first step.
-fn machine_of(alloc: Global, board: &Board) -> Result<Machine, Refusal> {
+fn machine_of(alloc: Global, board: &Board) -> Result<Machine, Refusal>
+    ensures { IfOk result (IsRunOf board.now.program board.now.limits []) }
+{
     match Machine::new(alloc, board.program(), board.limits()) {
         Ok(machine) => Ok(machine),
         Err(fault) => Err(Refusal::Fault(Fault::Machine(fault))),
@@ -90,7 +115,10 @@ pub fn tell_counts<O: Out, G: Progress>(
     let counted = counting.run_history(board, progress);
     progress.end();
     let told = match counted {
-        Ok(()) => tell_counting(alloc, &mut counting, file, is_json, out),
+        Ok(()) => {
+            let run = CountedRun::Made(board);
+            tell_counting(alloc, run, &mut counting, file, is_json, out)
+        }
         Err(refusal) => Err(refusal),
     };
     // Dropped by a call: what a machine and its counts own is much.

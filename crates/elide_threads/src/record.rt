@@ -1,31 +1,57 @@
 //! The schedule that comes about.
 
+ghost use Rattle.std.specs.Prelude.{◌≡◌, [], IfOk, OnOk};
+ghost use Rattle.tm_model.specs.Runs.{picks_of};
+ghost use Rattle.elide_setup.specs.Recorded.{IsRecorded};
+
 use elide_setup::{Board, Paths, Refusal, record};
 use std::alloc::{AllocError, Global};
 use tm_model::Pick;
 
-/// The schedule that comes about, and the path of the file that it is for. Its memory is taken before the first step.
+/// The schedule that comes about, and the path of the file that it is for, where there is one. Its memory is taken
+/// before the first step.
 #[derive(Drop)]
 pub struct Record<'a> {
-    path: &'a str,
+    path: Option<&'a str>,
     picks: Vec<Pick>,
 }
 
 impl<'a> Record<'a> {
-    /// Room for all the steps that a board can make.
-    pub fn reserve(alloc: Global, path: &'a str, board: &Board) -> Result<Record<'a>, AllocError> {
-        let picks = Vec::with_capacity(alloc, board.limit() as usize)?;
+    /// Room for all the steps that a board can make, where there is a path.
+    pub fn reserve(
+        alloc: Global,
+        path: Option<&'a str>,
+        board: &Board,
+    ) -> Result<Record<'a>, AllocError>
+        ensures path { IfOk result (λ room. room.path ≡ path.entry) }
+        ensures none { IfOk result (λ room. room.picks.items ≡ []) }
+    {
+        let most = if path.is_some() { board.limit() } else { 0 };
+        let picks = Vec::with_capacity(alloc, most as usize)?;
         Ok(Record { path, picks })
     }
 
-    /// Writes the schedule of a board's steps.
-    pub fn write<P: Paths>(mut self, board: &Board, paths: &mut P) -> Result<(), Refusal> {
-        let history = board.history();
-        for index in 0..history.len() {
-            if let Some(pick) = history.pick_at(index) {
-                self.picks.push(pick).map_err(|_| AllocError)?;
-            }
+    /// Writes the schedule of a board's steps, where there is a path: a run of it makes them again.
+    pub fn write<P: Paths>(mut self, board: &Board, paths: &mut P) -> Result<(), Refusal>
+        requires { self.picks.items ≡ [] }
+        ensures { OnOk result (IsRecorded (P.content paths.new) self.entry.path (picks_of board.now.history)) }
+    {
+        if self.path.is_none() {
+            return Ok(());
         }
-        record(Some(self.path), self.picks.as_slice(), paths)
+        fill(&mut self.picks, board)?;
+        record(self.path, self.picks.as_slice(), paths)
     }
+}
+
+// Puts the pick of each step of a board into a list that has none: an event that aborted nothing is left out.
+fn fill(picks: &mut Vec<Pick>, board: &Board) -> Result<(), AllocError>
+    requires { picks.old.items ≡ [] }
+    ensures { OnOk result (picks.new.items ≡ picks_of board.now.history) }
+{
+    let history = board.history();
+    for index in 0..history.len() {
+        picks.push(history.pick_at(index).unwrap())?;
+    }
+    Ok(())
 }

@@ -1,20 +1,26 @@
 //! The workers of a command.
 
-ghost use Rattle.std.specs.Prelude.{◌≡◌, ◌*◌, ℕ, IfOk, List, MatchResult, None, Some, false, length, replicate, true};
+ghost use Rattle.std.specs.Prelude.{◌≡◌, ◌*◌, [], ℕ, IfOk, List, MatchResult, None, Some, false, length};
+ghost use Rattle.std.specs.Prelude.{replicate, true};
 ghost use Rattle.std.specs.Option.{option_copied};
 ghost use Rattle.ia_text.specs.Writing.{Wrote};
 ghost use Rattle.elide_setup.specs.ElideProgram.ProgramFile.{IsFile};
 ghost use Rattle.elide_setup.specs.ElideProgram.ProgramFileType.{ProgramFile};
-ghost use Rattle.elide_setup.specs.ElideProgram.Settings.{number_said};
+ghost use Rattle.elide_setup.specs.ElideProgram.Settings.{number_or, number_said};
 ghost use Rattle.elide_setup.specs.Faults.{fault_number};
+ghost use Rattle.elide_setup.specs.Recorded.{IsRecorded};
 ghost use Rattle.elide_setup.specs.Setup.{IsSetup};
 ghost use Rattle.elide_setup.specs.Shown.{IsShownOf, shown_text};
 ghost use Rattle.elide_setup.specs.TmHist.Board.{IsNew, ShownBoard as Board};
 ghost use Rattle.elide_setup.specs.declared.machine.Setup.{Setup};
 ghost use Rattle.elide_setup.specs.declared.shown.ShownMemory.{ShownMemory};
 ghost use Rattle.elide_threads.specs.Burst.{burst_said};
+ghost use Rattle.elide_threads.specs.Plans.{plan_said};
 ghost use Rattle.elide_threads.specs.Printed.{IsPrinted, IsTold, IsWorked, board_object};
+ghost use Rattle.tm_model.specs.Runs.{picks_of};
 ghost use Rattle.tm_work.specs.Faults.{work_number};
+ghost use Rattle.tm_work.specs.Events.{TellDrawn};
+ghost use Rattle.tm_work.specs.Seats.{new_part};
 ghost use Rattle.tm_work.specs.Workers.{IsReport};
 
 use crate::record::Record;
@@ -24,7 +30,7 @@ use elide_json::put_threads;
 use elide_places::Places;
 use elide_setup::{
     Board, Fault, Gathered, Paths, ProgramFile, ProgramRefusal, Progress, Refusal, Settings, Setup,
-    events_of, new_board, number_of, read_file, show, shown_memory,
+    events_of, new_board, number_of, read_file, record_path, show, shown_memory,
 };
 use elide_stats::tell_counts;
 use elide_why::{NamedPlaces, tell_history};
@@ -53,7 +59,7 @@ pub fn threads<R: Threads + Wait + Sync + AllocGlobal, P: Paths, O: Out + Drop, 
     out: O,
     progress: &mut G,
 ) -> Result<O, Refusal>
-    ensures { IfOk result (λ given. IsPrinted (P.content paths.old) options.now
+    ensures { IfOk result (λ given. IsPrinted (P.content paths.old) (P.content paths.new) options.now
         (O.device out).contents (O.device given).contents) }
 {
     if options.is_json && !options.counts && options.explains {
@@ -98,12 +104,16 @@ impl<'a> Work<'a> {
         paths: &mut P,
     ) -> Result<Work<'a>, Refusal>
         ensures budget { IfOk result (λ work. number_said (option_copied options.now.budget) ≡ Some work.budget) }
+        ensures burst { IfOk result (λ work. burst_said (option_copied options.now.burst) ≡ Some work.burst) }
+        ensures plan { IfOk result (λ work. plan_said (option_copied options.now.events)
+            (option_copied options.now.seed) ≡ Some work.plan) }
+        ensures path { IfOk result (λ work. work.path ≡ options.now.«record») }
         ensures kept { (other : List ℕ) → P.content paths.new other ≡ P.content paths.old other }
     {
         let budget = number_of(options.budget, "--budget")?;
         let burst = burst_of(options.burst)?;
         let plan = plan_of(options)?;
-        let path = path_of(options, paths)?;
+        let path = record_path(options.record, options.machine.file, paths)?;
         Ok(Work {
             budget,
             burst,
@@ -131,8 +141,9 @@ fn threads_of_text<
     progress: &mut G,
 ) -> Result<O, Refusal>
     ensures { IfOk result (λ given. (file : ProgramFile) × (setup : Setup) × (board : Board) × IsFile text.now file
-        × IsSetup file settings.now setup × IsWorked setup work.entry.budget board
-        × IsTold options.now setup board (O.device out).contents (O.device given).contents) }
+        × IsSetup file settings.now setup × IsWorked setup work.entry.budget work.entry.plan board
+        × IsTold options.now setup board (O.device out).contents (O.device given).contents
+        × IsRecorded (P.content paths.new) work.entry.path (picks_of board.history)) }
 {
     let alloc = rt.alloc();
     let file = ProgramFile::read(alloc, text)?;
@@ -173,8 +184,9 @@ fn run_and_tell<
     progress: &mut G,
 ) -> Result<O, Refusal>
     requires { options.now.explains ≡ false → places ≡ None }
-    ensures { IfOk result (λ given. (board : Board) × IsWorked setup.now work.entry.budget board
-        × IsTold options.now setup.now board (O.device out).contents (O.device given).contents) }
+    ensures { IfOk result (λ given. (board : Board) × IsWorked setup.now work.entry.budget work.entry.plan board
+        × IsTold options.now setup.now board (O.device out).contents (O.device given).contents
+        × IsRecorded (P.content paths.new) work.entry.path (picks_of board.history)) }
 {
     let alloc = rt.alloc();
     let board = opened(alloc, setup, work.budget)?;
@@ -192,14 +204,14 @@ fn recorded<R: Threads + Wait + Sync + AllocGlobal, P: Paths, G: Progress + Send
     paths: &mut P,
     progress: &mut G,
 ) -> Result<Board, Refusal>
-    ensures { IfOk result (λ last. (steps : List ℕ)
+    ensures report { IfOk result (λ last. (steps : List ℕ)
         × IsReport board (replicate (length board.program.entries) work.entry.budget) last steps) }
+    ensures events { IfOk result (λ last. TellDrawn work.entry.plan.events (new_part board last)) }
+    ensures recorded { IfOk result (λ last. IsRecorded (P.content paths.new) work.entry.path (picks_of last.history)) }
 {
     let record = record_of(rt.alloc(), work.path, &board)?;
     let board = worked(rt, board, work, progress)?;
-    if let Some(record) = record {
-        record.write(&board, paths)?;
-    }
+    record.write(&board, paths)?;
     Ok(board)
 }
 
@@ -269,46 +281,52 @@ fn burst_of(text: Option<&str>) -> Result<Burst, ProgramRefusal>
 }
 
 // Which steps come under an event. A seed without events is a misuse.
-fn plan_of(options: &ThreadsOptions<'_>) -> Result<EventPlan, Refusal> {
-    let events = match options.events {
-        Some(text) => events_of(text)?,
-        None if options.seed.is_some() => return Err(Refusal::Usage("--seed")),
-        None => Events::Never,
-    };
-    let seed = match options.seed {
-        Some(_) => number_of(options.seed, "--seed")?,
-        None => FIRST_SEED,
-    };
-    Ok(EventPlan { events, seed })
-}
-
-// Where the schedule that comes about is written, which is not where the program is read.
-fn path_of<'a, P: Paths>(
-    options: &ThreadsOptions<'a>,
-    paths: &mut P,
-) -> Result<Option<&'a str>, ProgramRefusal>
-    ensures kept { (other : List ℕ) → P.content paths.new other ≡ P.content paths.old other }
+fn plan_of(options: &ThreadsOptions<'_>) -> Result<EventPlan, Refusal>
+    ensures { MatchResult result
+        (λ plan. plan_said (option_copied options.now.events) (option_copied options.now.seed) ≡ Some plan)
+        (λ _. plan_said (option_copied options.now.events) (option_copied options.now.seed) ≡ None) }
 {
-    match options.record {
-        Some(path) if paths.is_same_file(path, options.machine.file) => {
-            Err(ProgramRefusal::Usage("--record"))
-        }
-        path => Ok(path),
+    match (options.events, options.seed) {
+        (Some(text), seed) => drawn_plan(text, seed),
+        (None, Some(_)) => Err(Refusal::Usage("--seed")),
+        (None, None) => Ok(EventPlan {
+            events: Events::Never,
+            seed: FIRST_SEED,
+        }),
     }
 }
 
+// The same where events are asked for.
+fn drawn_plan(text: &str, seed: Option<&str>) -> Result<EventPlan, Refusal>
+    ensures { MatchResult result
+        (λ plan. plan_said (Some text.now) (option_copied seed.entry) ≡ Some plan)
+        (λ _. plan_said (Some text.now) (option_copied seed.entry) ≡ None) }
+{
+    let events = events_of(text)?;
+    let seed = seed_of(seed)?;
+    Ok(EventPlan { events, seed })
+}
+
+// What the events are drawn by.
+fn seed_of(text: Option<&str>) -> Result<u32, ProgramRefusal>
+    ensures { MatchResult result
+        (λ seed. number_or 1 (option_copied text.entry) ≡ Some seed)
+        (λ _. number_or 1 (option_copied text.entry) ≡ None) }
+{
+    if text.is_none() {
+        return Ok(FIRST_SEED);
+    }
+    number_of(text, "--seed")
+}
+
 // Room for the schedule, where it is asked for.
-fn record_of<'a>(
-    alloc: Global,
-    path: Option<&'a str>,
-    board: &Board,
-) -> Result<Option<Record<'a>>, Fault> {
-    match path {
-        Some(path) => match Record::reserve(alloc, path, board) {
-            Ok(record) => Ok(Some(record)),
-            Err(_) => Err(Fault::NoWorkers),
-        },
-        None => Ok(None),
+fn record_of<'a>(alloc: Global, path: Option<&'a str>, board: &Board) -> Result<Record<'a>, Fault>
+    ensures path { IfOk result (λ room. room.path ≡ path.entry) }
+    ensures none { IfOk result (λ room. room.picks.items ≡ []) }
+{
+    match Record::reserve(alloc, path, board) {
+        Ok(record) => Ok(record),
+        Err(_) => Err(Fault::NoWorkers),
     }
 }
 
@@ -328,8 +346,9 @@ fn worked<R: Threads + Wait + Sync + AllocGlobal, G: Progress + Send>(
     work: Work<'_>,
     progress: &mut G,
 ) -> Result<Board, Refusal>
-    ensures { IfOk result (λ last. (steps : List ℕ)
+    ensures report { IfOk result (λ last. (steps : List ℕ)
         × IsReport board (replicate (length board.program.entries) work.entry.budget) last steps) }
+    ensures events { IfOk result (λ last. TellDrawn work.entry.plan.events (new_part board last)) }
 {
     let alloc = rt.alloc();
     let Ok(budgets) = vec![in alloc; work.budget; usize::from(board.cores())] else {

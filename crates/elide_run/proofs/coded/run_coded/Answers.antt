@@ -15,7 +15,7 @@ returns g c =
       made = made.0;
       steps = asked_before (g.P.Paths.content c.args.paths.now) (g.P.Paths.content c.record_path.new.paths) c.args.options.now.schedule (picks_made made.0) c.record_path.ensures.kept (c.in_ok-setup.ensures.course (picks_made made.0) made.1);
       ran = made.2;
-      recorded = λ _. recorded_asked (g.P.Paths.content c.stepped-made.new.paths) c.args.options.now.record c.args.options.now.schedule c.in_ok-setup.course made.0 c.in_ok-setup.ensures.listed made.1
+      recorded = recorded_asked (g.P.Paths.content c.stepped-made.new.paths) c.args.options.now.record c.args.options.now.schedule c.in_ok-setup.course made.0 c.in_ok-setup.ensures.listed made.1
           (subst (λ (path : Option (Bor (List ℕ))). IsRecorded (g.P.Paths.content c.stepped-made.new.paths) path (schedule_made c.in_ok-setup.course (picks_told made.0))) c.in_ok-path.ensures.given made.5);
       lines = made.3;
       traced = λ _ code. cc;

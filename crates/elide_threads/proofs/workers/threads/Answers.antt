@@ -1,34 +1,46 @@
 use Rattle.std.proofs.Common.{ℕ, List, Option, subst}
 use Rattle.std.proofs.lemmas.Result.{IfOk-weaker}
+use Rattle.std.specs.Borrow.{Bor}
 use Rattle.elide_setup.specs.ElideProgram.Files.{Gives, most_bytes}
 use Rattle.elide_setup.specs.ElideProgram.ProgramFile.{IsFile}
 use Rattle.elide_setup.specs.ElideProgram.ProgramFileType.{ProgramFile}
+use Rattle.elide_setup.specs.Recorded.{IsRecorded}
 use Rattle.elide_setup.specs.Setup.{IsSetup}
 use Rattle.elide_setup.specs.TmHist.Board.{ShownBoard as Board}
 use Rattle.elide_setup.specs.declared.machine.Setup.{Setup}
 use Rattle.elide_threads.specs.Printed.{IsPrinted, IsTold, IsWorked}
+use Rattle.tm_model.specs.Runs.{picks_of}
 use Rattle.elide_threads.proofs.workers.threads.Goals as goal
 
 pub returns : goal.returns
 returns g c =
     let content : List ℕ → Option (List ℕ) = g.P.Paths.content c.args.paths.now in
+    let left : List ℕ → Option (List ℕ) = g.P.Paths.content c.threads_of_text-end.new.paths in
     let options = c.args.options.now in
     let settings = c.in_ok-settings.settings in
     let budget : ℕ = c.in_ok-work.work.budget in
+    let plan = c.in_ok-work.work.plan in
     let bytes : List ℕ = c.in_ok-text.text.items in
     let given : Gives (content options.machine.file.now) most_bytes bytes =
     subst (λ (known : Option (List ℕ)). Gives known most_bytes bytes) (c.read-2.ensures.kept options.machine.file.now) c.in_ok-text.ensures.given in
     IfOk-weaker c.threads_of_text-end.result
     (λ (device : g.row.O.Denot). (file : ProgramFile) × (setup : Setup) × (board : Board) × IsFile c.as_slice.result.now file × IsSetup file settings setup
-    × IsWorked setup budget board × IsTold options setup board (g.O.Out.device c.args.out).contents (g.O.Out.device device).contents)
-    (λ (device : g.row.O.Denot). IsPrinted content options (g.O.Out.device c.args.out).contents (g.O.Out.device device).contents)
+    × IsWorked setup budget plan board
+    × IsTold options setup board (g.O.Out.device c.args.out).contents (g.O.Out.device device).contents
+    × IsRecorded left c.in_ok-work.work.path (picks_of board.history))
+    (λ (device : g.row.O.Denot).
+    IsPrinted content left options (g.O.Out.device c.args.out).contents (g.O.Out.device device).contents)
     (λ device t. record {
       setup = t.1;
       asked = record { file = t.0; read = record { text = bytes; given = given; read = subst (λ (text : List ℕ). IsFile text t.0) c.as_slice.ensures.value t.3 }; settings = settings; said = c.in_ok-settings.ensures; made = t.4 };
       budget = budget;
       said = c.in_ok-work.ensures.budget;
+      plan = plan;
+      planned = c.in_ok-work.ensures.plan;
       board = t.2;
       worked = t.5;
+      recorded = subst (λ (path : Option (Bor (List ℕ))). IsRecorded left path (picks_of t.2.history))
+          c.in_ok-work.ensures.path t.7;
       told = t.6;
     })
     c.threads_of_text-end.ensures

@@ -1,0 +1,55 @@
+use Rattle.std.proofs.Common.{◌≡◌, ◌≤◌, ◌+◌, ◌∙◌, ℕ, List, [], ◌∷◌, ◌++◌, Some, length, take}
+use Rattle.std.proofs.Common.{ap, arith, refl, subst, sym}
+use Rattle.std.proofs.lemmas.List.{length-map, map-append, take_all, take_more}
+use Rattle.std.proofs.lemmas.Option.{get_or_from_slice_get, slice_get_within}
+use Rattle.std.specs.Prelude.{slice_get}
+use Rattle.elide_setup.specs.Schedules.{picks_made}
+use Rattle.tm_model.specs.Runs.{pick_of, picks_of}
+use Rattle.tm_model.specs.declared.outcome.Outcome.{Outcome}
+use Rattle.tm_model.specs.declared.outcome.Pick.{Pick}
+use Rattle.tm_stats.specs.contracts.cause.AbortCausePartialEq.TheImpl as causes
+use Rattle.elide_stats.proofs.Steps.{go_on_none, go_on_then}
+use Rattle.elide_stats.proofs.counting.Counting.run_history.Goals as goal
+
+-- one step more
+picks_more : (picks : List Pick) (i : ℕ) (pick : Pick) (outcome : Outcome) (made : List (Pick × Outcome)) →
+    slice_get picks i ≡ Some pick → picks_made made ≡ take i picks →
+    picks_made (made ++ (pick, outcome) ∷ []) ≡ take (i + 1) picks
+picks_more picks i pick outcome made there same =
+    map-append (λ (one : Pick × Outcome). one.0) made ((pick, outcome) ∷ [])
+    ∙ ap (λ (xs : List Pick). xs ++ pick ∷ []) same
+    ∙ sym (take_more picks i pick (slice_get_within picks i pick there)
+    ∙ ap (λ (x : Pick). take i picks ++ x ∷ []) (get_or_from_slice_get picks i pick pick there))
+
+-- all of them
+picks_all : (history : List (ℕ × Outcome)) (i : ℕ) (picks : List Pick) → length history ≤ i →
+    picks ≡ take i (picks_of history) → picks ≡ picks_of history
+picks_all history i picks all same =
+    same ∙ take_all i (picks_of history) (subst (λ (n : ℕ). n ≤ i) (sym (length-map history pick_of)) all)
+
+pub loop-index-init : goal.loop-index-init
+loop-index-init g c = ([], refl, go_on_none (causes.ghosts).eq c.args.self.now c.args.self.now refl)
+
+pub loop-index-preserved : goal.loop-index-preserved
+loop-index-preserved g c =
+    let made = c.loop-index.invariant in
+    let index = c.loop-index.index in
+    let pick : Pick = c.unwrap.result in
+    let outcome : Outcome = c.in_ok-make_step.field-0 in
+    let there : slice_get (picks_of c.args.board.now.history) index ≡ Some pick =
+    ap (λ (pairs : List (ℕ × Outcome)). slice_get (picks_of pairs) index) (sym c.history-history.ensures)
+    ∙ sym c.pick_at.ensures ∙ c.unwrap.ensures in (
+      made.0 ++ (pick, outcome) ∷ [],
+      picks_more (picks_of c.args.board.now.history) index pick outcome made.0 there made.1,
+      go_on_then (causes.ghosts).eq c.args.self.now c.loop-index.self c.make_step.new.self made.0
+          ((pick, outcome) ∷ []) made.2 c.in_ok-make_step.ensures.1,
+    )
+
+pub returns : goal.returns
+returns g c =
+    let made = c.loop-index.invariant in
+    let history : List (ℕ × Outcome) = c.args.board.now.history in
+    let same : c.len-index-end.result ≡ length history =
+    c.len-index-end.ensures ∙ ap (λ (pairs : List (ℕ × Outcome)). length pairs) c.history-history.ensures in
+    let all : length history ≤ c.loop-index.index = omega (arith, same, c.loop-index-test.false) in
+    (made.0, picks_all history c.loop-index.index (picks_made made.0) all made.1, made.2)

@@ -1,0 +1,20 @@
+use Rattle.std.proofs.Common.{◌∷◌, arith, refl}
+use Rattle.elide_stats.proofs.counting.CountingStepMaker.make_step.Goals as goal
+
+pub returns-in-Ok : goal.returns-in-Ok
+returns-in-Ok c =
+    let machine = c.args.self.now.machine in
+    let step = c.step.result in (
+      c.in_ok-outcome.ensures,
+      λ earlier. record {
+        told = step ∷ earlier;
+        are_told = (
+          c.make_step.new.self,
+          step,
+          c.in_ok-outcome.ensures,
+          c.step.ensures machine c.before-asked.ensures,
+          (refl, refl),
+        );
+        counts = λ few was. c.in-Ok.ensures.ok earlier (omega (arith, few)) was;
+      },
+    )
