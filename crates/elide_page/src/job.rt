@@ -1,5 +1,7 @@
 //! A page that is to be written.
 
+ghost use Rattle.elide_page.specs.Names.{IsNameOf};
+
 use crate::notes::Note;
 use page_program::{Form, Loaded, Sources};
 use page_run::{Stretch, Survey};
@@ -39,7 +41,9 @@ pub struct Job<'a> {
 }
 
 /// The last part of a path.
-pub fn name_of(path: &str) -> &str {
+pub fn name_of(path: &str) -> &str
+    ensures { IsNameOf path.now result.now }
+{
     match path.rsplit_once('/') {
         Some((_folder, name)) => name,
         None => path,

@@ -1,5 +1,14 @@
 //! Notes of the author, each at a step.
 
+ghost use Rattle.std.specs.Prelude.{◌≡◌, ◌++◌, ◌∷◌, [], IfOk, MatchResult, OnOk, None, Some, codes, false};
+ghost use Rattle.std.specs.Prelude.{true};
+ghost use Rattle.std.specs.List.{list_any};
+ghost use Rattle.elide_args.specs.Asked.{texts_of};
+ghost use Rattle.elide_setup.specs.Misuse.{IsMisuse};
+ghost use Rattle.ia_text.specs.Writing.{Wrote};
+ghost use Rattle.elide_page.specs.Notes.{AreNotes, comma_if, is_behind, is_outside, note_said, note_text, notes_text};
+ghost use Rattle.elide_page.specs.Notes.{piece_text, some_with};
+
 use elide_setup::{Refusal, number_of};
 use ia_text::{Out, WriteFault};
 use page_run::Window;
@@ -16,7 +25,9 @@ pub struct Note<'a> {
 }
 
 /// The notes of `--note STEP:TEXT`. One without a number, or without a colon, is a misuse.
-pub fn notes_of<'a>(alloc: Global, words: &[&'a str]) -> Result<Vec<Note<'a>>, Refusal> {
+pub fn notes_of<'a>(alloc: Global, words: &[&'a str]) -> Result<Vec<Note<'a>>, Refusal>
+    ensures { IfOk result (λ notes. AreNotes (texts_of words.now) notes.items) }
+{
     let mut notes = Vec::new(alloc);
     for word in words {
         add(&mut notes, note_of(word)?)?;
@@ -24,27 +35,46 @@ pub fn notes_of<'a>(alloc: Global, words: &[&'a str]) -> Result<Vec<Note<'a>>, R
     Ok(notes)
 }
 
-fn add<'a>(notes: &mut Vec<Note<'a>>, note: Note<'a>) -> Result<(), AllocError> {
+fn add<'a>(notes: &mut Vec<Note<'a>>, note: Note<'a>) -> Result<(), AllocError>
+    ensures { OnOk result (notes.new.items ≡ notes.old.items ++ note.entry ∷ []) }
+{
     notes.push(note)?;
     Ok(())
 }
 
-fn note_of<'a>(word: &'a str) -> Result<Note<'a>, Refusal> {
-    match word.split_once(':') {
-        Some((step, text)) => Ok(Note {
-            step: u64::from(number_of(Some(step), "--note")?),
+fn note_of<'a>(word: &'a str) -> Result<Note<'a>, Refusal>
+    ensures { MatchResult result
+        (λ note. note_said word.now ≡ Some (note.step, note.text.now))
+        (λ refusal. (note_said word.now ≡ None) × IsMisuse (codes "--note") refusal) }
+{
+    let Some((step, text)) = word.split_once(':') else {
+        return Err(Refusal::Usage("--note"));
+    };
+    match number_of(Some(step), "--note") {
+        Ok(step) => Ok(Note {
+            step: u64::from(step),
             text,
         }),
-        None => Err(Refusal::Usage("--note")),
+        Err(_) => Err(Refusal::Usage("--note")),
     }
 }
 
 /// That no note stands at a step behind the last of a run of this length.
-pub fn check_notes(notes: &[Note<'_>], total: u64) -> Result<(), Refusal> {
-    if notes.iter().any(|note| note.step > total) {
+pub fn check_notes(notes: &[Note<'_>], total: u64) -> Result<(), Refusal>
+    ensures { MatchResult result
+        (λ _. list_any (is_behind total) notes.now ≡ false)
+        (λ refusal. (list_any (is_behind total) notes.now ≡ true) × IsMisuse (codes "--note") refusal) }
+{
+    if has_behind(notes, total) {
         return Err(Refusal::Usage("--note"));
     }
     Ok(())
+}
+
+fn has_behind(notes: &[Note<'_>], total: u64) -> bool
+    ensures { result ≡ list_any (is_behind total) notes.now }
+{
+    notes.iter().any(|note| total < note.step)
 }
 
 /// Writes the notes of a page's steps and of what comes before the first, each with its number in the page.
@@ -52,31 +82,56 @@ pub fn write_notes<O: Out>(
     notes: &[Note<'_>],
     window: Window,
     out: &mut O,
-) -> Result<(), WriteFault> {
+) -> Result<(), WriteFault>
+    ensures { OnOk result (Wrote (O.device out.old) (O.device out.new) (notes_text window false notes.now)) }
+{
     let mut some = false;
     for note in notes {
-        some = write_note(some, *note, window, out)?;
+        some = write_one(some, *note, window, out)?;
     }
     Ok(())
 }
 
 // Writes a note that stands in the page, behind a comma where there was another.
-fn write_note<O: Out>(
+fn write_one<O: Out>(
     some: bool,
     note: Note<'_>,
     window: Window,
     out: &mut O,
-) -> Result<bool, WriteFault> {
-    if note.step < window.from || note.step > window.to {
+) -> Result<bool, WriteFault>
+    ensures text { OnOk result (Wrote (O.device out.old) (O.device out.new) (piece_text window some note.entry)) }
+    ensures some { IfOk result (λ is. is ≡ some_with window some note.entry) }
+{
+    if is_outside(note, window) {
         return Ok(some);
     }
+    write_comma(some, out)?;
+    write_note(note, window, out)?;
+    Ok(true)
+}
+
+fn is_outside(note: Note<'_>, window: Window) -> bool
+    ensures { result ≡ is_outside window note.entry }
+{
+    note.step < window.from || window.to < note.step
+}
+
+fn write_comma<O: Out>(some: bool, out: &mut O) -> Result<(), WriteFault>
+    ensures { OnOk result (Wrote (O.device out.old) (O.device out.new) (comma_if some)) }
+{
     if some {
         out.put(b",")?;
     }
+    Ok(())
+}
+
+fn write_note<O: Out>(note: Note<'_>, window: Window, out: &mut O) -> Result<(), WriteFault>
+    ensures { OnOk result (Wrote (O.device out.old) (O.device out.new) (note_text window note.entry)) }
+{
     out.put(b"[")?;
-    write_number(note.step - window.from, out)?;
+    write_number(note.step.saturating_sub(window.from), out)?;
     out.put(b",")?;
     write_string(note.text.as_bytes(), NOTE, out)?;
     out.put(b"]")?;
-    Ok(true)
+    Ok(())
 }

@@ -5,6 +5,7 @@ pub mod Gathering
 pub mod Made
 pub mod Misuse
 pub mod Owing
+pub mod Paging
 pub mod Recorded
 pub mod Runs
 pub mod Schedules

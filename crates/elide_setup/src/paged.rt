@@ -1,6 +1,9 @@
 //! Pages of runs that a command finds, as `hunt` and `outcomes` ask for them.
 
 ghost use Rattle.std.specs.Prelude.{◌≡◌, ℕ, IfOk, List};
+ghost use Rattle.elide_args.specs.declared.subcommand.MachineOptions.{MachineOptions};
+ghost use Rattle.elide_setup.specs.Paging.{IsPaged};
+ghost use Rattle.tm_model.specs.declared.outcome.Pick.{Pick};
 
 use crate::fault::Refusal;
 use elide_args::MachineOptions;
@@ -19,8 +22,13 @@ pub enum Paged {
 
 /// What writes runs as pages. Commands that find a run are given it, so that they do not wait for the page's own crates.
 pub trait Pages {
+    // A text, the last, is a page of the run of these steps: of the machine of these options, and of the program whose text FILE
+    // has.
+    ghost shows: { Self → MachineOptions → List ℕ → List Pick → List ℕ → Type 0 };
+
     /// Writes the run of these steps to a file, as a whole or not at all: of the machine of these options and of the program
-    /// whose text FILE has. 81 `Output` where the file cannot be written.
+    /// whose text FILE has. A run of more than 200,000 steps is [`Paged::TooLong`], and no other is. 81 `Output` where the file
+    /// cannot be written.
     fn write_page<P: Paths>(
         &self,
         alloc: Global,
@@ -29,7 +37,9 @@ pub trait Pages {
         picks: &[Pick],
         path: &str,
         paths: &mut P,
-    ) -> Result<Paged, Refusal>;
+    ) -> Result<Paged, Refusal>
+        ensures { IfOk result (IsPaged (shows self.now machine.now text.now picks.now)
+            (P.content paths.old) (P.content paths.new) path.now picks.now) };
 }
 
 /// The path that `--page` gives, which is neither that of the program nor that of the record.

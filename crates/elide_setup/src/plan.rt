@@ -145,7 +145,7 @@ impl Drawn {
 
     /// What picks the steps: each core, and the event that its step comes under.
     pub fn picker(self) -> Picker<'static>
-        ensures { AreDrawn self.events result }
+        ensures { AreDrawn self.events result.kinds }
     {
         let picker = match self.seed {
             Some(seed) => Picker::random(seed),

@@ -1,2 +1,7 @@
 pub mod Texts
 mod Saying
+mod Escaping
+mod Printing
+mod Objects
+mod Values
+pub mod Reading

@@ -5,3 +5,4 @@ pub mod Stored
 pub mod Words
 pub mod Members
 pub mod Steps
+pub mod Reading

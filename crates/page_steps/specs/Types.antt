@@ -7,6 +7,8 @@ pub use Rattle.tm_page.specs.declared.delta.StoredByte.{StoredByte}
 pub use Rattle.tm_page.specs.Types.{Hit, Regs}
 pub use Rattle.tm_page.specs.Types.{CoreState, Interference, Outcome, Aborted, AbortedBy, Begun, Committed, Idle, Inside}
 pub use Rattle.tm_page.specs.Types.{Loaded, Plain, Stopped}
+pub use Rattle.tm_page.specs.Types.{AtStop, Condemned, Mid, Open, Running}
+pub use Rattle.tm_rule.specs.declared.kinds.Stop.{Stop}
 pub use Rattle.tm_model.specs.Types.{Access}
 pub use Rattle.tm_sets.specs.declared.interface.Kind.{Kind}
 pub use Rattle.tm_sets.specs.declared.interface.Kind.TheVariants.{Read, Write}

@@ -2,6 +2,7 @@
 
 ghost use Rattle.std.specs.Prelude.{OnOk};
 ghost use Rattle.ia_text.specs.Writing.{Wrote};
+ghost use Rattle.page_steps.specs.Reading.{IsInRange, ReadsAs};
 ghost use Rattle.page_steps.specs.Steps.{step_text};
 
 use crate::members::write_members;
@@ -14,13 +15,15 @@ use tm_model::CoreState;
 use tm_page::PageDelta;
 
 /// Writes a step: its core, what it was, the registers that changed, and what else did. `before` is what the core did before
-/// it. On 5 `Write` a beginning of it was written.
+/// it. The line is JSON, in which a reader finds the delta. On 5 `Write` a beginning of it was written.
+#[tactic(auto, using(crate::proofs::Reading::step_reads))]
 pub fn write_step<O: Out>(
     delta: &PageDelta,
     before: CoreState,
     out: &mut O,
 ) -> Result<(), WriteFault>
-    ensures { OnOk result (Wrote (O.device out.old) (O.device out.new) (step_text delta.now before)) }
+    ensures text { OnOk result (Wrote (O.device out.old) (O.device out.new) (step_text delta.now before)) }
+    ensures reads { IsInRange delta.now → ReadsAs delta.now before (step_text delta.now before) }
 {
     out.put(b"[")?;
     write_number(u64::from(delta.core), out)?;

@@ -17,7 +17,7 @@ loop-number-preserved g c =
       kinds = subst (λ (kinds : Kinds). AreDrawn c.args.drawn.events kinds) (sym c.next-pick.ensures.same) c.loop-number.invariant.kinds;
       made = (
         made.0 ++ others,
-        under_more c.args.drawn.events c.loop-number.picker made.0 pick outcome c.loop-number.invariant.kinds c.next-pick.ensures.event c.next-pick.ensures.never made.1,
+        under_more c.args.drawn.events c.loop-number.picker.kinds made.0 pick outcome c.loop-number.invariant.kinds c.next-pick.ensures.event c.next-pick.ensures.never made.1,
         leads_more g.S.StepMaker.takes made.0 others c.args.maker.now c.loop-number.maker c.make_step.new.self made.2 c.in_ok-outcome.ensures,
         kept_more c.args.keeps made.0 pick outcome _ _ _ made.3 c.in_ok-keep.ensures,
       );

@@ -11,7 +11,7 @@ use Rattle.elide_setup.proofs.walk.walk_drawn.Given as goal
 -- some steps were made, and are kept where they are asked for
 abbrev pub invariant-loop-number : goal.invariant-loop-number
 invariant-loop-number g l = record {
-  kinds : AreDrawn l.fn.drawn.events l.picker;
+  kinds : AreDrawn l.fn.drawn.events l.picker.kinds;
   made : (steps : List (Pick × Outcome)) × AreUnder l.fn.drawn.events (picks_made steps) × Leads g.S.StepMaker.takes l.initial.maker steps l.maker
       × (l.kept.items ≡ l.initial.kept.items ++ (if l.fn.keeps then picks_told steps else []));
 }

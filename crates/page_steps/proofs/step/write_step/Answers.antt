@@ -1,8 +1,8 @@
 use Rattle.ia_text.proofs.Writing.{wrote_then}
 use Rattle.page_steps.proofs.step.write_step.Goals as goal
 
-pub returns : goal.returns
-returns g c =
+pub returns-clause-text : goal.returns-clause-text
+returns-clause-text g c =
     let number = rw c.from.ensures at c.in_ok-write_number.ensures in
     let letter = rw c.kind_letter.ensures at c.in_ok-put-3.ensures in
     let listed = rw c.as_slice.ensures.value at c.in_ok-write_numbers.ensures in
