@@ -32,6 +32,26 @@ function titled(made, title) {
   return made;
 }
 
+// What stands in a box, by keys that say all that is seen of it: a child whose key stays is left as it is, so that the
+// browser lays out what changed alone. Gives the children by their keys.
+const standing = new WeakMap();
+
+function refill(box, items) {
+  const old = standing.get(box) || new Map(), now = new Map();
+  for (const [key, make] of items) now.set(key, old.get(key) || make());
+  for (const [key, child] of old) if (!now.has(key)) child.remove();
+  let at = box.firstChild;
+  for (const child of now.values()) {
+    if (child === at) at = at.nextSibling; else box.insertBefore(child, at);
+  }
+  standing.set(box, now);
+  return now;
+}
+
+function setClass(made, className) {
+  if (made.className !== className) made.className = className;
+}
+
 // Colours repeat after eight cores; the number stands beside each.
 const colourOf = core => 'k' + core % 8;
 const badge = (core, more = '') =>

@@ -160,7 +160,7 @@ function drawArrows(first, last) {
   arrows = here.map(doomed => {
     const made = arrow(doomed), label = arrowLabel(doomed, used);
     if (label) made.append(label);
-    return { step: doomed.step, made };
+    return { step: doomed.step, made, shown: '' };
   });
 }
 
@@ -242,7 +242,10 @@ function moveCursor() {
   byId('flag-text').textContent = text;
   const opacity = { dim: .62, show: 0, hide: 1 }[future];
   setAll(byId('later'), { x: x + width, width: Math.max(0, scale.width - x - width + 9), 'fill-opacity': opacity });
-  for (const one of arrows) one.made.setAttribute('class', one.step > step ? 'later-' + future : '');
+  for (const one of arrows) {
+    const wanted = one.step > step ? 'later-' + future : '';
+    if (wanted !== one.shown) one.made.setAttribute('class', one.shown = wanted);
+  }
   const last = numberOf(Math.min(stepCount, scale.first + scale.shown));
   const shown = `steps ${numberOf(scale.first + 1)} to ${last}`;
   byId('timeline').setAttribute('aria-label', `Timeline of ${coreCount} cores, ${shown} `

@@ -32,7 +32,7 @@ function paintGround(height, ratio, key) {
   pen.globalAlpha = .75;
   pen.fillStyle = named('bad');
   for (const { step } of dooms) pen.fillRect(stripOf(step), coreCount * stripRow + 2, 1, 6);
-  return { canvas, key };
+  return { canvas, key, paper: named('paper'), ink: named('ink') };
 }
 
 function drawOverview() {
@@ -41,18 +41,21 @@ function drawOverview() {
   if (isWhole()) return;
   const ratio = window.devicePixelRatio || 1, height = coreCount * stripRow + 8;
   const key = [scale.width, ratio, document.documentElement.dataset.theme].join();
-  if (!ground || ground.key !== key) ground = paintGround(height, ratio, key);
-  canvas.width = scale.width * ratio;
-  canvas.height = height * ratio;
-  canvas.style.height = height + 'px';
-  const pen = canvas.getContext('2d'), style = getComputedStyle(document.documentElement);
+  if (!ground || ground.key !== key) {
+    ground = paintGround(height, ratio, key);
+    canvas.width = scale.width * ratio;
+    canvas.height = height * ratio;
+    canvas.style.height = height + 'px';
+  }
+  const pen = canvas.getContext('2d');
+  pen.setTransform(1, 0, 0, 1, 0, 0);
   pen.drawImage(ground.canvas, 0, 0);
   pen.scale(ratio, ratio);
   if (view.future === 'hide') {
-    pen.fillStyle = style.getPropertyValue('--paper').trim();
+    pen.fillStyle = ground.paper;
     pen.fillRect(stripOf(view.step + 1), 0, scale.width, height);
   }
-  pen.strokeStyle = pen.fillStyle = style.getPropertyValue('--ink').trim();
+  pen.strokeStyle = pen.fillStyle = ground.ink;
   pen.lineWidth = 2;
   pen.strokeRect(stripOf(scale.first + 1), 1, Math.max(4, scale.shown / stepCount * scale.width), height - 2);
   pen.fillRect(stripOf(view.step || 1) - 1, 0, 2.5, height);

@@ -44,52 +44,77 @@ function buildProgram() {
   }));
 }
 
-let marked = [];
+let marked = new Map();
+const nothing = { marks: [], classes: 'row' };
 
-function markRow(address, mark, classes) {
+// What is to stand beside a row: its marks, and its classes.
+function wantRow(wanted, address) {
   const instruction = instructions.get(address);
   if (!instruction) return null;
   const found = rows[instruction.row];
-  if (!marked.includes(found)) marked.push(found);
-  if (mark) found.marks.append(mark);
-  if (classes) found.row.classList.add(...classes);
+  if (!wanted.has(found)) wanted.set(found, { marks: [], classes: 'row' });
   return found;
 }
 
-function markFallback(core, number) {
-  const fallback = core.base && fallbackOf(core.base[EIP]);
-  if (fallback === null || !core.base) return;
+function addMark(wanted, address, key, make) {
+  const found = wantRow(wanted, address);
+  if (found) wanted.get(found).marks.push([key, make]);
+}
+
+function addClass(wanted, address, classes) {
+  const found = wantRow(wanted, address);
+  if (found) wanted.get(found).classes += ' ' + classes;
+  return found;
+}
+
+function fallbackMark(number) {
   const mark = titled(badge(number, 'back'), `core ${number} falls back to here`);
   mark.prepend('\u21a9');
-  markRow(fallback, mark);
+  return mark;
 }
 
-function markNext(core, number) {
+function nextMark(core, number) {
   const mark = badge(number, isDoomed(core) ? 'doomed' : isStopped(core) ? 'off' : '');
   if (isDoomed(core)) mark.prepend('\u2717');
-  return markRow(core.registers[EIP], mark);
+  return mark;
 }
 
-// Brings a row into sight, where it is not.
-function scrollTo(box, top) {
-  const isSeen = top >= box.scrollTop + 20 && top <= box.scrollTop + box.clientHeight - 60;
+function wantMarks(wanted) {
+  view.state.cores.forEach((core, number) => {
+    const fallback = core.base && fallbackOf(core.base[EIP]);
+    if (core.base && fallback !== null) addMark(wanted, fallback, 'back ' + number, () => fallbackMark(number));
+  });
+  view.state.cores.forEach((core, number) => {
+    const key = `next ${number} ${isDoomed(core)} ${isStopped(core)}`;
+    addMark(wanted, core.registers[EIP], key, () => nextMark(core, number));
+  });
+}
+
+// Brings a child of a box into sight, where it is not.
+function seek(box, child) {
+  if (!child) return;
+  const top = child.offsetTop, isSeen = top >= box.scrollTop + 20 && top <= box.scrollTop + box.clientHeight - 60;
   if (!isSeen) box.scrollTop = top - box.clientHeight / 2;
 }
 
+function showRow({ row, marks }, wanted) {
+  setClass(row, wanted.classes);
+  refill(marks, wanted.marks);
+}
+
+// Gives the row that is to be seen.
 function showProgram() {
-  for (const { row, marks } of marked) {
-    row.className = 'row';
-    marks.replaceChildren();
-  }
-  marked = [];
-  view.state.cores.forEach(markFallback);
-  view.state.cores.forEach(markNext);
-  let target = marked[0];
+  const wanted = new Map();
+  wantMarks(wanted);
+  let target = wanted.keys().next().value;
   if (view.step) {
     const [number, kind] = run.steps[view.step - 1], colour = colourOf(number);
-    const next = markRow(view.state.cores[number].registers[EIP], null, ['at', colour]);
-    const did = isAbort(kind) ? null : markRow(addresses[view.step], null, ['did', colour]);
+    const next = addClass(wanted, view.state.cores[number].registers[EIP], 'at ' + colour);
+    const did = isAbort(kind) ? null : addClass(wanted, addresses[view.step], 'did ' + colour);
     target = did || next || target;
   }
-  if (target) scrollTo(byId('source'), target.row.offsetTop);
+  for (const found of marked.keys()) if (!wanted.has(found)) showRow(found, nothing);
+  for (const [found, one] of wanted) showRow(found, one);
+  marked = wanted;
+  return target && target.row;
 }

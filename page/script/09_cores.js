@@ -46,8 +46,8 @@ function registerValue(core, register) {
   return titled(made, hex(value, 3));
 }
 
-function registerRow(core, old, register) {
-  const isChanged = core.registers[register] !== old.registers[register], back = putBack(core, register);
+function registerRow(core, old, register, back) {
+  const isChanged = core.registers[register] !== old.registers[register];
   return element('div', isChanged ? 'changed' : '', element('dt', '', registerNames[register]),
     registerValue(core, register),
     isChanged && register < EIP && element('span', 'was', 'was ' + shortHex(old.registers[register])),
@@ -76,9 +76,20 @@ function privateChips(core, isLost) {
   return words.length > 12 ? [...chips, element('span', 'quiet', `and ${words.length - 12} more`)] : chips;
 }
 
+// All that is seen of a core's sets.
+function setKey(core) {
+  const from = isDoomed(core) ? core.lost : core, isNew = ([, since]) => since === view.step;
+  const lines = [from.reads, from.writes].map(set => [...set].map(one => one.join(isNew(one) ? '*' : '-')).join());
+  const words = [...from.stored].map(([address, byte]) => `${address}=${byte}`).join();
+  return [core.state, isHexShown, ...lines, words, words && memoryKey(from)].join('|');
+}
+
+// The bytes of memory beside those that a core has stored, with which they make words.
+const memoryKey = from =>
+  [...from.stored.keys()].map(address => wordAt(view.state, address - address % 4, from)).join();
+
 function setList(core) {
   const isLost = isDoomed(core), from = isLost ? core.lost : core, [mostReads, mostWrites] = run.limits;
-  if (!isFew && !isOpen(core) && !isLost) return '';
   const list = element('dl', 'sets',
     element('dt', '', isLost ? 'had read' : `reads ${core.reads.size}/${mostReads}`),
     element('dd', '', ...lineChips(from.reads, '', isLost)),
@@ -99,18 +110,40 @@ function nextLine(core) {
 
 const setText = set => [...set.keys()].sort((a, b) => a - b).map(line => line.toString(16)).join(' ') || '-';
 
-function coreCard(core, number) {
+// The cards, each with its boxes: they stay, and what they hold changes.
+const cards = [];
+
+function coreCard(number) {
+  const state = element('span', 'state'), next = element('div'), registers = element('dl', 'registers');
+  const sets = element('div'), body = element('div', 'body', registers, sets);
+  const card = element('article', '', element('h3', '', badge(number), 'core ' + number, state), next, body);
+  return { card, state, next, registers, sets };
+}
+
+function showRegisters(box, core, old) {
+  refill(box, registerNames.map((name, register) => {
+    const back = putBack(core, register), values = [core.registers[register], old.registers[register]];
+    return [[name, ...values, back].join('|'), () => registerRow(core, old, register, back)];
+  }));
+}
+
+function showCore(core, number) {
   const didStep = view.step && run.steps[view.step - 1][0] === number, old = view.before.cores[number];
-  const registers = element('dl', 'registers', ...registerNames.map((_, register) => registerRow(core, old, register)));
-  const card = element('article', `card core ${colourOf(number)} ${didStep ? 'did' : ''}`,
-    element('h3', '', badge(number), 'core ' + number, element('span', 'state', statePill(core))),
-    nextLine(core), element('div', 'body', registers, setList(core)));
+  const { card, state, next, registers, sets } = cards[number];
+  setClass(card, `card core ${colourOf(number)} ${didStep ? 'did' : ''}`);
+  refill(state, [[[core.state, core.begun, core.doom && core.doom.step].join(), () => statePill(core)]]);
+  refill(next, [[[core.state, core.registers[EIP]].join(), () => nextLine(core)]]);
+  showRegisters(registers, core, old);
+  refill(sets, isFew || isOpen(core) || isDoomed(core) ? [[setKey(core), () => setList(core)]] : []);
   const reads = setText(core.reads), writes = setText(core.writes);
   Object.assign(card.dataset, { core: number, state: core.state, reads, writes });
-  return card;
 }
 
 function showCores() {
-  byId('cores').classList.toggle('few', isFew);
-  byId('cores').replaceChildren(...view.state.cores.map(coreCard));
+  if (!cards.length) {
+    byId('cores').classList.toggle('few', isFew);
+    cards.push(...view.state.cores.map((_, number) => coreCard(number)));
+    byId('cores').append(...cards.map(({ card }) => card));
+  }
+  view.state.cores.forEach(showCore);
 }

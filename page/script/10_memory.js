@@ -11,9 +11,15 @@ function variable([name, address]) {
   return titled(made, `${hex(address)}, line ${(address >>> 6).toString(16)}; in memory ${hex(value)}`);
 }
 
+// All that is seen of a variable.
+function variableKey([, address], index) {
+  const own = view.state.cores.map(core => hasStored(core, address) ? wordAt(view.state, address, core) : '');
+  return [index, wordAt(view.state, address), wordAt(view.before, address), isHexShown, ...own].join();
+}
+
 function showVariables() {
   byId('vars').hidden = !run.show.length;
-  byId('variables').replaceChildren(...run.show.map(variable));
+  refill(byId('variables'), run.show.map((one, index) => [variableKey(one, index), () => variable(one)]));
 }
 
 // The parts of a core that the lines show: of one that this step doomed, what it has lost.
@@ -77,48 +83,77 @@ for (const [address, name] of labels) {
 }
 
 // A word: memory's value, the cores that loaded it, and what those that stored to it see.
-function wordCell(address, writtenWords) {
-  const value = wordAt(view.state, address), name = wordNames.get(address) || '', readers = [], own = [];
+function wordAsSeen(address, writtenWords) {
+  const value = wordAt(view.state, address), readers = [], own = [];
   const isChanged = writtenWords.has(address) || value !== wordAt(view.before, address);
   view.state.cores.forEach((core, number) => {
     const parts = partsShown(core);
     if (!parts) return;
-    if (offsets.some(i => parts.loads.has(address + i))) readers.push(element('i', colourOf(number)));
-    if (!hasStored(parts, address)) return;
-    const seen = element('span', `private ${colourOf(number)}`, hex(wordAt(view.state, address, parts)));
-    seen.dataset.core = number;
-    own.push(titled(seen, `private to core ${number}`));
+    if (offsets.some(i => parts.loads.has(address + i))) readers.push(number);
+    if (hasStored(parts, address)) own.push([number, wordAt(view.state, address, parts)]);
   });
+  return { address, value, isChanged, readers, own };
+}
+
+function privateWord([core, value]) {
+  const seen = element('span', `private ${colourOf(core)}`, hex(value));
+  seen.dataset.core = core;
+  return titled(seen, `private to core ${core}`);
+}
+
+function wordCell({ address, value, isChanged, readers, own }) {
+  const name = wordNames.get(address) || '';
   const isEmpty = !value && !isChanged && !own.length && !readers.length && !name;
   const cell = element('div', `word ${isChanged ? 'changed' : ''} ${isEmpty ? 'empty' : ''}`,
-    element('span', 'at', name || '+' + (address & 63).toString(16)), element('span', 'value', hex(value)), ...own,
-    element('span', 'readers', ...readers));
+    element('span', 'at', name || '+' + (address & 63).toString(16)), element('span', 'value', hex(value)),
+    ...own.map(privateWord), element('span', 'readers', ...readers.map(core => element('i', colourOf(core)))));
   cell.dataset.at = address;
   return titled(cell, `${hex(address)} ${place(address)}`);
 }
 
-function lineBox(line, cores, hits, writtenWords) {
-  const words = element('div', 'words'), by = view.step ? run.steps[view.step - 1][0] : 0;
-  for (let address = line * 64; address < line * 64 + 64; address += 4) words.append(wordCell(address, writtenWords));
-  const dooming = hits.map(([victim, , isWrite]) => element('p', 'doomline', '\u2717 ', badge(by),
-    ` ${isWrite ? 'writes' : 'reads'} this line \u2192 `, badge(victim), ' is doomed'));
-  return element('div', `line ${hits.length ? 'hit' : ''}`, lineHead(line, cores), ...dooming, words);
+function showWords(box, line, writtenWords) {
+  refill(box, offsetsOfWords.map(offset => {
+    const word = wordAsSeen(line * 64 + offset, writtenWords);
+    return [[word.address, word.value, word.isChanged, word.readers, word.own].join('|'), () => wordCell(word)];
+  }));
+}
+
+const offsetsOfWords = Array.from({ length: 16 }, (_, index) => index * 4);
+
+function doomingLine(by, [victim, , isWrite]) {
+  return element('p', 'doomline', '\u2717 ', badge(by), ` ${isWrite ? 'writes' : 'reads'} this line \u2192 `,
+    badge(victim), ' is doomed');
+}
+
+// A line's box holds its head, whom this step doomed by it, and its words.
+function showLine(box, line, cores, hits, writtenWords) {
+  const by = view.step ? run.steps[view.step - 1][0] : 0;
+  const isLost = [...cores.keys()].map(number => isDoomed(view.state.cores[number]));
+  setClass(box, `line ${hits.length ? 'hit' : ''}`);
+  const now = refill(box, [
+    [['head', ...cores, ...isLost].join(), () => lineHead(line, cores)],
+    ...hits.map(hit => [['hit', by, ...hit].join(), () => doomingLine(by, hit)]),
+    ['words', () => element('div', 'words')],
+  ]);
+  showWords(now.get('words'), line, writtenWords);
 }
 
 const mostLines = 10;
+const legendOfLines = 'A stripe below a word: loaded by the core of that colour. A filled value: stored, private until '
+  + 'XEND. R, W: in the read set, in the write set.';
 
 function showLines() {
   const more = view.step ? moreOf(view.step) : {}, uses = lineUses(more), writtenWords = wordsWritten(more.m);
   const hitsOf = line => (more.d || []).filter(hit => hit[1] === line), isHit = line => Number(hitsOf(line).length > 0);
   const lines = [...uses.keys()].sort((a, b) => isHit(b) - isHit(a) || a - b);
-  const boxes = lines.slice(0, mostLines).map(line => lineBox(line, uses.get(line), hitsOf(line), writtenWords));
+  const shown = lines.slice(0, mostLines), items = shown.map(line => ['line ' + line, () => element('div')]);
   if (lines.length > mostLines) {
     const others = lines.slice(mostLines, 60).map(line => line.toString(16)).join(' ');
-    boxes.push(element('p', 'quiet', `and ${lines.length - mostLines} more lines: ${others}`));
+    const text = `and ${lines.length - mostLines} more lines: ${others}`;
+    items.push([text, () => element('p', 'quiet', text)]);
   }
-  boxes.push(lines.length
-    ? element('p', 'legend', 'A stripe below a word: loaded by the core of that colour. A filled value: stored, '
-      + 'private until XEND. R, W: in the read set, in the write set.')
-    : element('p', 'quiet', 'No line is in a read set or write set, and this step touched no memory.'));
-  byId('set-body').replaceChildren(...boxes);
+  items.push(lines.length ? ['legend', () => element('p', 'legend', legendOfLines)]
+    : ['none', () => element('p', 'quiet', 'No line is in a read set or write set, and this step touched no memory.')]);
+  const now = refill(byId('set-body'), items);
+  for (const line of shown) showLine(now.get('line ' + line), line, uses.get(line), hitsOf(line), writtenWords);
 }

@@ -64,21 +64,32 @@ function eventButton(event) {
   const button = element('button', '', number, badge(event.core), text);
   button.type = 'button';
   button.dataset.step = event.step;
-  if (event.step === view.step) button.setAttribute('aria-current', 'step');
   return button;
 }
 
-// The events around this step.
+function markCurrent(button, step) {
+  const isHere = step === view.step;
+  if (isHere === button.hasAttribute('aria-current')) return;
+  if (isHere) button.setAttribute('aria-current', 'step'); else button.removeAttribute('aria-current');
+}
+
+// The events around this step. Gives the one that is to be seen.
 function showEvents() {
   const list = eventsShown(), box = byId('list'), hadFocus = box.contains(document.activeElement);
   const found = list.findIndex(event => event.step >= view.step), index = found < 0 ? list.length : found;
   const from = inRange(index - 8, 0, Math.max(0, list.length - mostEvents)), part = list.slice(from, from + mostEvents);
-  const buttons = part.map(eventButton);
-  box.replaceChildren(...buttons.map(button => element('li', '', button)));
-  const mark = buttons.find(button => button.hasAttribute('aria-current'))
-    || buttons[inRange(index - from, 0, Math.max(0, part.length - 1))];
+  const now = refill(box, part.map(event => [eventKey(event), () => element('li', '', eventButton(event))]));
+  const buttons = [...now.values()].map(item => item.firstChild);
+  buttons.forEach((button, at) => markCurrent(button, part[at].step));
+  const mark = buttons[inRange(index - from, 0, Math.max(0, part.length - 1))];
   if (mark && hadFocus) mark.focus({ preventScroll: true });
-  if (mark) scrollTo(box, mark.parentNode.offsetTop);
   byId('more').textContent = list.length > part.length
     ? `${from + 1} to ${from + part.length} of ${list.length}, around this step` : list.length ? '' : 'none';
+  return mark && mark.parentNode;
+}
+
+const eventKey = ({ step, kind }) => [step, kind, notes.get(step)].join();
+
+function seekEvent() {
+  seek(byId('list'), showEvents());
 }

@@ -35,11 +35,14 @@ function show() {
   view.state = stateAt(step);
   showStage();
   followCursor();
-  showProgram();
+  const row = showProgram();
   showCores();
   showVariables();
   showLines();
-  showEvents();
+  const event = showEvents();
+  // What is read of the layout is read behind all that changes it.
+  seek(byId('source'), row);
+  seek(byId('list'), event);
   document.documentElement.dataset.step = step;
 }
 
@@ -128,7 +131,7 @@ on('slide', 'input', event => {
   go(+event.target.value);
 });
 on('go', 'change', event => go(+event.target.value - firstStep));
-on('which', 'change', showEvents);
+on('which', 'change', seekEvent);
 on('list', 'click', event => {
   const button = event.target.closest('button');
   if (!button) return;

@@ -3,7 +3,7 @@ on('future', 'change', event => {
   view.future = event.target.value;
   moveCursor();
   drawOverview();
-  showEvents();
+  seekEvent();
 });
 on('base', 'click', () => {
   isHexShown = !isHexShown;
@@ -48,7 +48,7 @@ on('my-note', 'input', event => {
   if (text) notes.set(view.step, text); else notes.delete(view.step);
   gatherMarks();
   buildEvents();
-  showEvents();
+  seekEvent();
   tellOptions();
   byId('note').hidden = !text;
   byId('note').textContent = text;

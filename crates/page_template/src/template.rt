@@ -6,8 +6,8 @@ pub const HEAD: &str = "\
 <html lang=\"en\">\n\
 <head>\n\
 <meta charset=\"utf-8\">\n\
-<meta http-equiv=\"Content-Security-Policy\" content=\"default-src 'none'; script-src 'sha256-9cRBOl+Qnv/z9feP\
-J4lepuSGNNyZgG2+Ue1f5ohb4no='; style-src 'sha256-sBDCIshEM8wXEiNz/Csi0eMMsrZGoxYx7zK6D9FVJhQ='; base-uri 'none\
+<meta http-equiv=\"Content-Security-Policy\" content=\"default-src 'none'; script-src 'sha256-tRgoiLfgTAPLsmZf\
+od8g1gISuoX4IrLKYkCm0S0t5DA='; style-src 'sha256-sBDCIshEM8wXEiNz/Csi0eMMsrZGoxYx7zK6D9FVJhQ='; base-uri 'none\
 '; form-action 'none'\">\n\
 <meta name=\"viewport\" content=\"width=device-width, initial-scale=1\">\n\
 <meta name=\"color-scheme\" content=\"light dark\">\n\
@@ -293,6 +293,21 @@ return made;\n\
 function titled(made, title) {\n\
 made.title = title;\n\
 return made;\n\
+}\n\
+const standing = new WeakMap();\n\
+function refill(box, items) {\n\
+const old = standing.get(box) || new Map(), now = new Map();\n\
+for (const [key, make] of items) now.set(key, old.get(key) || make());\n\
+for (const [key, child] of old) if (!now.has(key)) child.remove();\n\
+let at = box.firstChild;\n\
+for (const child of now.values()) {\n\
+if (child === at) at = at.nextSibling; else box.insertBefore(child, at);\n\
+}\n\
+standing.set(box, now);\n\
+return now;\n\
+}\n\
+function setClass(made, className) {\n\
+if (made.className !== className) made.className = className;\n\
 }\n\
 const colourOf = core => 'k' + core % 8;\n\
 const badge = (core, more = '') =>\n\
@@ -798,7 +813,7 @@ const here = dooms.filter(({ step }) => step >= first && step <= last).sort((a, 
 arrows = here.map(doomed => {\n\
 const made = arrow(doomed), label = arrowLabel(doomed, used);\n\
 if (label) made.append(label);\n\
-return { step: doomed.step, made };\n\
+return { step: doomed.step, made, shown: '' };\n\
 });\n\
 }\n\
 function laneSegment(index, [from, value], to, y) {\n\
@@ -875,7 +890,10 @@ byId('flag-text').textContent = text;\n\
 const opacity = { dim: .62, show: 0, hide: 1 }[future];\n\
 setAll(byId('later'), { x: x + width, width: Math.max(0, scale.width - x - width + 9), 'fill-opacity': opacity \
 });\n\
-for (const one of arrows) one.made.setAttribute('class', one.step > step ? 'later-' + future : '');\n\
+for (const one of arrows) {\n\
+const wanted = one.step > step ? 'later-' + future : '';\n\
+if (wanted !== one.shown) one.made.setAttribute('class', one.shown = wanted);\n\
+}\n\
 const last = numberOf(Math.min(stepCount, scale.first + scale.shown));\n\
 const shown = `steps ${numberOf(scale.first + 1)} to ${last}`;\n\
 byId('timeline').setAttribute('aria-label', `Timeline of ${coreCount} cores, ${shown} `\n\
@@ -911,7 +929,7 @@ pen.fillRect(stripOf(first), core * stripRow + .5, Math.max(1, stripOf(last + 1)
 pen.globalAlpha = .75;\n\
 pen.fillStyle = named('bad');\n\
 for (const { step } of dooms) pen.fillRect(stripOf(step), coreCount * stripRow + 2, 1, 6);\n\
-return { canvas, key };\n\
+return { canvas, key, paper: named('paper'), ink: named('ink') };\n\
 }\n\
 function drawOverview() {\n\
 const canvas = byId('overview');\n\
@@ -919,18 +937,21 @@ canvas.hidden = isWhole();\n\
 if (isWhole()) return;\n\
 const ratio = window.devicePixelRatio || 1, height = coreCount * stripRow + 8;\n\
 const key = [scale.width, ratio, document.documentElement.dataset.theme].join();\n\
-if (!ground || ground.key !== key) ground = paintGround(height, ratio, key);\n\
+if (!ground || ground.key !== key) {\n\
+ground = paintGround(height, ratio, key);\n\
 canvas.width = scale.width * ratio;\n\
 canvas.height = height * ratio;\n\
 canvas.style.height = height + 'px';\n\
-const pen = canvas.getContext('2d'), style = getComputedStyle(document.documentElement);\n\
+}\n\
+const pen = canvas.getContext('2d');\n\
+pen.setTransform(1, 0, 0, 1, 0, 0);\n\
 pen.drawImage(ground.canvas, 0, 0);\n\
 pen.scale(ratio, ratio);\n\
 if (view.future === 'hide') {\n\
-pen.fillStyle = style.getPropertyValue('--paper').trim();\n\
+pen.fillStyle = ground.paper;\n\
 pen.fillRect(stripOf(view.step + 1), 0, scale.width, height);\n\
 }\n\
-pen.strokeStyle = pen.fillStyle = style.getPropertyValue('--ink').trim();\n\
+pen.strokeStyle = pen.fillStyle = ground.ink;\n\
 pen.lineWidth = 2;\n\
 pen.strokeRect(stripOf(scale.first + 1), 1, Math.max(4, scale.shown / stepCount * scale.width), height - 2);\n\
 pen.fillRect(stripOf(view.step || 1) - 1, 0, 2.5, height);\n\
@@ -971,48 +992,68 @@ rows.push({ row, marks });\n\
 return row;\n\
 }));\n\
 }\n\
-let marked = [];\n\
-function markRow(address, mark, classes) {\n\
+let marked = new Map();\n\
+const nothing = { marks: [], classes: 'row' };\n\
+function wantRow(wanted, address) {\n\
 const instruction = instructions.get(address);\n\
 if (!instruction) return null;\n\
 const found = rows[instruction.row];\n\
-if (!marked.includes(found)) marked.push(found);\n\
-if (mark) found.marks.append(mark);\n\
-if (classes) found.row.classList.add(...classes);\n\
+if (!wanted.has(found)) wanted.set(found, { marks: [], classes: 'row' });\n\
 return found;\n\
 }\n\
-function markFallback(core, number) {\n\
-const fallback = core.base && fallbackOf(core.base[EIP]);\n\
-if (fallback === null || !core.base) return;\n\
+function addMark(wanted, address, key, make) {\n\
+const found = wantRow(wanted, address);\n\
+if (found) wanted.get(found).marks.push([key, make]);\n\
+}\n\
+function addClass(wanted, address, classes) {\n\
+const found = wantRow(wanted, address);\n\
+if (found) wanted.get(found).classes += ' ' + classes;\n\
+return found;\n\
+}\n\
+function fallbackMark(number) {\n\
 const mark = titled(badge(number, 'back'), `core ${number} falls back to here`);\n\
 mark.prepend('\\u21a9');\n\
-markRow(fallback, mark);\n\
+return mark;\n\
 }\n\
-function markNext(core, number) {\n\
+function nextMark(core, number) {\n\
 const mark = badge(number, isDoomed(core) ? 'doomed' : isStopped(core) ? 'off' : '');\n\
 if (isDoomed(core)) mark.prepend('\\u2717');\n\
-return markRow(core.registers[EIP], mark);\n\
+return mark;\n\
 }\n\
-function scrollTo(box, top) {\n\
-const isSeen = top >= box.scrollTop + 20 && top <= box.scrollTop + box.clientHeight - 60;\n\
+function wantMarks(wanted) {\n\
+view.state.cores.forEach((core, number) => {\n\
+const fallback = core.base && fallbackOf(core.base[EIP]);\n\
+if (core.base && fallback !== null) addMark(wanted, fallback, 'back ' + number, () => fallbackMark(number));\n\
+});\n\
+view.state.cores.forEach((core, number) => {\n\
+const key = `next ${number} ${isDoomed(core)} ${isStopped(core)}`;\n\
+addMark(wanted, core.registers[EIP], key, () => nextMark(core, number));\n\
+});\n\
+}\n\
+function seek(box, child) {\n\
+if (!child) return;\n\
+const top = child.offsetTop, isSeen = top >= box.scrollTop + 20 && top <= box.scrollTop + box.clientHeight - 6\
+0;\n\
 if (!isSeen) box.scrollTop = top - box.clientHeight / 2;\n\
 }\n\
-function showProgram() {\n\
-for (const { row, marks } of marked) {\n\
-row.className = 'row';\n\
-marks.replaceChildren();\n\
+function showRow({ row, marks }, wanted) {\n\
+setClass(row, wanted.classes);\n\
+refill(marks, wanted.marks);\n\
 }\n\
-marked = [];\n\
-view.state.cores.forEach(markFallback);\n\
-view.state.cores.forEach(markNext);\n\
-let target = marked[0];\n\
+function showProgram() {\n\
+const wanted = new Map();\n\
+wantMarks(wanted);\n\
+let target = wanted.keys().next().value;\n\
 if (view.step) {\n\
 const [number, kind] = run.steps[view.step - 1], colour = colourOf(number);\n\
-const next = markRow(view.state.cores[number].registers[EIP], null, ['at', colour]);\n\
-const did = isAbort(kind) ? null : markRow(addresses[view.step], null, ['did', colour]);\n\
+const next = addClass(wanted, view.state.cores[number].registers[EIP], 'at ' + colour);\n\
+const did = isAbort(kind) ? null : addClass(wanted, addresses[view.step], 'did ' + colour);\n\
 target = did || next || target;\n\
 }\n\
-if (target) scrollTo(byId('source'), target.row.offsetTop);\n\
+for (const found of marked.keys()) if (!wanted.has(found)) showRow(found, nothing);\n\
+for (const [found, one] of wanted) showRow(found, one);\n\
+marked = wanted;\n\
+return target && target.row;\n\
 }\n\
 const isFew = coreCount <= 4;\n\
 const shortHex = value => hex(value).replace(/^0+(?=.)/, '');\n\
@@ -1055,8 +1096,8 @@ const made = element('dd', 'flags', ...flags, element('span', 'hidden', `flags $
 made.dataset.value = hex(value, 3);\n\
 return titled(made, hex(value, 3));\n\
 }\n\
-function registerRow(core, old, register) {\n\
-const isChanged = core.registers[register] !== old.registers[register], back = putBack(core, register);\n\
+function registerRow(core, old, register, back) {\n\
+const isChanged = core.registers[register] !== old.registers[register];\n\
 return element('div', isChanged ? 'changed' : '', element('dt', '', registerNames[register]),\n\
 registerValue(core, register),\n\
 isChanged && register < EIP && element('span', 'was', 'was ' + shortHex(old.registers[register])),\n\
@@ -1083,9 +1124,17 @@ const chips = words.slice(0, 12).map(address => element('span', 'chip written' +
 `${spot(address)} = ${numberText(wordAt(view.state, address, core))}`));\n\
 return words.length > 12 ? [...chips, element('span', 'quiet', `and ${words.length - 12} more`)] : chips;\n\
 }\n\
+function setKey(core) {\n\
+const from = isDoomed(core) ? core.lost : core, isNew = ([, since]) => since === view.step;\n\
+const lines = [from.reads, from.writes].map(set => [...set].map(one => one.join(isNew(one) ? '*' : '-')).join(\
+));\n\
+const words = [...from.stored].map(([address, byte]) => `${address}=${byte}`).join();\n\
+return [core.state, isHexShown, ...lines, words, words && memoryKey(from)].join('|');\n\
+}\n\
+const memoryKey = from =>\n\
+[...from.stored.keys()].map(address => wordAt(view.state, address - address % 4, from)).join();\n\
 function setList(core) {\n\
 const isLost = isDoomed(core), from = isLost ? core.lost : core, [mostReads, mostWrites] = run.limits;\n\
-if (!isFew && !isOpen(core) && !isLost) return '';\n\
 const list = element('dl', 'sets',\n\
 element('dt', '', isLost ? 'had read' : `reads ${core.reads.size}/${mostReads}`),\n\
 element('dd', '', ...lineChips(from.reads, '', isLost)),\n\
@@ -1105,20 +1154,37 @@ return element('p', 'next', element('small', '', 'next: '), written(at), element
 at)));\n\
 }\n\
 const setText = set => [...set.keys()].sort((a, b) => a - b).map(line => line.toString(16)).join(' ') || '-';\n\
-function coreCard(core, number) {\n\
+const cards = [];\n\
+function coreCard(number) {\n\
+const state = element('span', 'state'), next = element('div'), registers = element('dl', 'registers');\n\
+const sets = element('div'), body = element('div', 'body', registers, sets);\n\
+const card = element('article', '', element('h3', '', badge(number), 'core ' + number, state), next, body);\n\
+return { card, state, next, registers, sets };\n\
+}\n\
+function showRegisters(box, core, old) {\n\
+refill(box, registerNames.map((name, register) => {\n\
+const back = putBack(core, register), values = [core.registers[register], old.registers[register]];\n\
+return [[name, ...values, back].join('|'), () => registerRow(core, old, register, back)];\n\
+}));\n\
+}\n\
+function showCore(core, number) {\n\
 const didStep = view.step && run.steps[view.step - 1][0] === number, old = view.before.cores[number];\n\
-const registers = element('dl', 'registers', ...registerNames.map((_, register) => registerRow(core, old, regi\
-ster)));\n\
-const card = element('article', `card core ${colourOf(number)} ${didStep ? 'did' : ''}`,\n\
-element('h3', '', badge(number), 'core ' + number, element('span', 'state', statePill(core))),\n\
-nextLine(core), element('div', 'body', registers, setList(core)));\n\
+const { card, state, next, registers, sets } = cards[number];\n\
+setClass(card, `card core ${colourOf(number)} ${didStep ? 'did' : ''}`);\n\
+refill(state, [[[core.state, core.begun, core.doom && core.doom.step].join(), () => statePill(core)]]);\n\
+refill(next, [[[core.state, core.registers[EIP]].join(), () => nextLine(core)]]);\n\
+showRegisters(registers, core, old);\n\
+refill(sets, isFew || isOpen(core) || isDoomed(core) ? [[setKey(core), () => setList(core)]] : []);\n\
 const reads = setText(core.reads), writes = setText(core.writes);\n\
 Object.assign(card.dataset, { core: number, state: core.state, reads, writes });\n\
-return card;\n\
 }\n\
 function showCores() {\n\
+if (!cards.length) {\n\
 byId('cores').classList.toggle('few', isFew);\n\
-byId('cores').replaceChildren(...view.state.cores.map(coreCard));\n\
+cards.push(...view.state.cores.map((_, number) => coreCard(number)));\n\
+byId('cores').append(...cards.map(({ card }) => card));\n\
+}\n\
+view.state.cores.forEach(showCore);\n\
 }\n\
 function variable([name, address]) {\n\
 const value = wordAt(view.state, address), old = wordAt(view.before, address);\n\
@@ -1131,9 +1197,13 @@ own.length > 0 && element('span', 'own', ...own.slice(1)));\n\
 Object.assign(made.dataset, { at: address, value: hex(value) });\n\
 return titled(made, `${hex(address)}, line ${(address >>> 6).toString(16)}; in memory ${hex(value)}`);\n\
 }\n\
+function variableKey([, address], index) {\n\
+const own = view.state.cores.map(core => hasStored(core, address) ? wordAt(view.state, address, core) : '');\n\
+return [index, wordAt(view.state, address), wordAt(view.before, address), isHexShown, ...own].join();\n\
+}\n\
 function showVariables() {\n\
 byId('vars').hidden = !run.show.length;\n\
-byId('variables').replaceChildren(...run.show.map(variable));\n\
+refill(byId('variables'), run.show.map((one, index) => [variableKey(one, index), () => variable(one)]));\n\
 }\n\
 function partsShown(core) {\n\
 if (!isDoomed(core)) return core;\n\
@@ -1184,51 +1254,73 @@ for (const [address, name] of labels) {\n\
 const word = address - address % 4;\n\
 if (!isInCode(address) && !wordNames.has(word)) wordNames.set(word, name + (address > word ? '+' : ''));\n\
 }\n\
-function wordCell(address, writtenWords) {\n\
-const value = wordAt(view.state, address), name = wordNames.get(address) || '', readers = [], own = [];\n\
+function wordAsSeen(address, writtenWords) {\n\
+const value = wordAt(view.state, address), readers = [], own = [];\n\
 const isChanged = writtenWords.has(address) || value !== wordAt(view.before, address);\n\
 view.state.cores.forEach((core, number) => {\n\
 const parts = partsShown(core);\n\
 if (!parts) return;\n\
-if (offsets.some(i => parts.loads.has(address + i))) readers.push(element('i', colourOf(number)));\n\
-if (!hasStored(parts, address)) return;\n\
-const seen = element('span', `private ${colourOf(number)}`, hex(wordAt(view.state, address, parts)));\n\
-seen.dataset.core = number;\n\
-own.push(titled(seen, `private to core ${number}`));\n\
+if (offsets.some(i => parts.loads.has(address + i))) readers.push(number);\n\
+if (hasStored(parts, address)) own.push([number, wordAt(view.state, address, parts)]);\n\
 });\n\
+return { address, value, isChanged, readers, own };\n\
+}\n\
+function privateWord([core, value]) {\n\
+const seen = element('span', `private ${colourOf(core)}`, hex(value));\n\
+seen.dataset.core = core;\n\
+return titled(seen, `private to core ${core}`);\n\
+}\n\
+function wordCell({ address, value, isChanged, readers, own }) {\n\
+const name = wordNames.get(address) || '';\n\
 const isEmpty = !value && !isChanged && !own.length && !readers.length && !name;\n\
 const cell = element('div', `word ${isChanged ? 'changed' : ''} ${isEmpty ? 'empty' : ''}`,\n\
-element('span', 'at', name || '+' + (address & 63).toString(16)), element('span', 'value', hex(value)), ...own\
-,\n\
-element('span', 'readers', ...readers));\n\
+element('span', 'at', name || '+' + (address & 63).toString(16)), element('span', 'value', hex(value)),\n\
+...own.map(privateWord), element('span', 'readers', ...readers.map(core => element('i', colourOf(core)))));\n\
 cell.dataset.at = address;\n\
 return titled(cell, `${hex(address)} ${place(address)}`);\n\
 }\n\
-function lineBox(line, cores, hits, writtenWords) {\n\
-const words = element('div', 'words'), by = view.step ? run.steps[view.step - 1][0] : 0;\n\
-for (let address = line * 64; address < line * 64 + 64; address += 4) words.append(wordCell(address, writtenWo\
-rds));\n\
-const dooming = hits.map(([victim, , isWrite]) => element('p', 'doomline', '\\u2717 ', badge(by),\n\
-` ${isWrite ? 'writes' : 'reads'} this line \\u2192 `, badge(victim), ' is doomed'));\n\
-return element('div', `line ${hits.length ? 'hit' : ''}`, lineHead(line, cores), ...dooming, words);\n\
+function showWords(box, line, writtenWords) {\n\
+refill(box, offsetsOfWords.map(offset => {\n\
+const word = wordAsSeen(line * 64 + offset, writtenWords);\n\
+return [[word.address, word.value, word.isChanged, word.readers, word.own].join('|'), () => wordCell(word)];\n\
+}));\n\
+}\n\
+const offsetsOfWords = Array.from({ length: 16 }, (_, index) => index * 4);\n\
+function doomingLine(by, [victim, , isWrite]) {\n\
+return element('p', 'doomline', '\\u2717 ', badge(by), ` ${isWrite ? 'writes' : 'reads'} this line \\u2192 `,\n\
+badge(victim), ' is doomed');\n\
+}\n\
+function showLine(box, line, cores, hits, writtenWords) {\n\
+const by = view.step ? run.steps[view.step - 1][0] : 0;\n\
+const isLost = [...cores.keys()].map(number => isDoomed(view.state.cores[number]));\n\
+setClass(box, `line ${hits.length ? 'hit' : ''}`);\n\
+const now = refill(box, [\n\
+[['head', ...cores, ...isLost].join(), () => lineHead(line, cores)],\n\
+...hits.map(hit => [['hit', by, ...hit].join(), () => doomingLine(by, hit)]),\n\
+['words', () => element('div', 'words')],\n\
+]);\n\
+showWords(now.get('words'), line, writtenWords);\n\
 }\n\
 const mostLines = 10;\n\
+const legendOfLines = 'A stripe below a word: loaded by the core of that colour. A filled value: stored, priva\
+te until '\n\
++ 'XEND. R, W: in the read set, in the write set.';\n\
 function showLines() {\n\
 const more = view.step ? moreOf(view.step) : {}, uses = lineUses(more), writtenWords = wordsWritten(more.m);\n\
 const hitsOf = line => (more.d || []).filter(hit => hit[1] === line), isHit = line => Number(hitsOf(line).leng\
 th > 0);\n\
 const lines = [...uses.keys()].sort((a, b) => isHit(b) - isHit(a) || a - b);\n\
-const boxes = lines.slice(0, mostLines).map(line => lineBox(line, uses.get(line), hitsOf(line), writtenWords))\
-;\n\
+const shown = lines.slice(0, mostLines), items = shown.map(line => ['line ' + line, () => element('div')]);\n\
 if (lines.length > mostLines) {\n\
 const others = lines.slice(mostLines, 60).map(line => line.toString(16)).join(' ');\n\
-boxes.push(element('p', 'quiet', `and ${lines.length - mostLines} more lines: ${others}`));\n\
+const text = `and ${lines.length - mostLines} more lines: ${others}`;\n\
+items.push([text, () => element('p', 'quiet', text)]);\n\
 }\n\
-boxes.push(lines.length\n\
-? element('p', 'legend', 'A stripe below a word: loaded by the core of that colour. A filled value: stored, '\n\
-+ 'private until XEND. R, W: in the read set, in the write set.')\n\
-: element('p', 'quiet', 'No line is in a read set or write set, and this step touched no memory.'));\n\
-byId('set-body').replaceChildren(...boxes);\n\
+items.push(lines.length ? ['legend', () => element('p', 'legend', legendOfLines)]\n\
+: ['none', () => element('p', 'quiet', 'No line is in a read set or write set, and this step touched no memory\
+.')]);\n\
+const now = refill(byId('set-body'), items);\n\
+for (const line of shown) showLine(now.get('line ' + line), line, uses.get(line), hitsOf(line), writtenWords);\n\
 }\n\
 let eventKinds = [];\n\
 const mostEvents = 24;\n\
@@ -1291,22 +1383,30 @@ const number = element('span', 'step', element('span', 'hidden', 'step '), Strin
 const button = element('button', '', number, badge(event.core), text);\n\
 button.type = 'button';\n\
 button.dataset.step = event.step;\n\
-if (event.step === view.step) button.setAttribute('aria-current', 'step');\n\
 return button;\n\
+}\n\
+function markCurrent(button, step) {\n\
+const isHere = step === view.step;\n\
+if (isHere === button.hasAttribute('aria-current')) return;\n\
+if (isHere) button.setAttribute('aria-current', 'step'); else button.removeAttribute('aria-current');\n\
 }\n\
 function showEvents() {\n\
 const list = eventsShown(), box = byId('list'), hadFocus = box.contains(document.activeElement);\n\
 const found = list.findIndex(event => event.step >= view.step), index = found < 0 ? list.length : found;\n\
 const from = inRange(index - 8, 0, Math.max(0, list.length - mostEvents)), part = list.slice(from, from + most\
 Events);\n\
-const buttons = part.map(eventButton);\n\
-box.replaceChildren(...buttons.map(button => element('li', '', button)));\n\
-const mark = buttons.find(button => button.hasAttribute('aria-current'))\n\
-|| buttons[inRange(index - from, 0, Math.max(0, part.length - 1))];\n\
+const now = refill(box, part.map(event => [eventKey(event), () => element('li', '', eventButton(event))]));\n\
+const buttons = [...now.values()].map(item => item.firstChild);\n\
+buttons.forEach((button, at) => markCurrent(button, part[at].step));\n\
+const mark = buttons[inRange(index - from, 0, Math.max(0, part.length - 1))];\n\
 if (mark && hadFocus) mark.focus({ preventScroll: true });\n\
-if (mark) scrollTo(box, mark.parentNode.offsetTop);\n\
 byId('more').textContent = list.length > part.length\n\
 ? `${from + 1} to ${from + part.length} of ${list.length}, around this step` : list.length ? '' : 'none';\n\
+return mark && mark.parentNode;\n\
+}\n\
+const eventKey = ({ step, kind }) => [step, kind, notes.get(step)].join();\n\
+function seekEvent() {\n\
+seek(byId('list'), showEvents());\n\
 }\n\
 function showStage() {\n\
 const { step } = view, note = notes.get(step) || '';\n\
@@ -1341,11 +1441,13 @@ view.before = stateAt(Math.max(0, step - 1));\n\
 view.state = stateAt(step);\n\
 showStage();\n\
 followCursor();\n\
-showProgram();\n\
+const row = showProgram();\n\
 showCores();\n\
 showVariables();\n\
 showLines();\n\
-showEvents();\n\
+const event = showEvents();\n\
+seek(byId('source'), row);\n\
+seek(byId('list'), event);\n\
 document.documentElement.dataset.step = step;\n\
 }\n\
 let asked = 0, addressed = 0;\n\
@@ -1425,7 +1527,7 @@ play(false);\n\
 go(+event.target.value);\n\
 });\n\
 on('go', 'change', event => go(+event.target.value - firstStep));\n\
-on('which', 'change', showEvents);\n\
+on('which', 'change', seekEvent);\n\
 on('list', 'click', event => {\n\
 const button = event.target.closest('button');\n\
 if (!button) return;\n\
@@ -1462,7 +1564,7 @@ on('future', 'change', event => {\n\
 view.future = event.target.value;\n\
 moveCursor();\n\
 drawOverview();\n\
-showEvents();\n\
+seekEvent();\n\
 });\n\
 on('base', 'click', () => {\n\
 isHexShown = !isHexShown;\n\
@@ -1504,7 +1606,7 @@ const text = event.target.value;\n\
 if (text) notes.set(view.step, text); else notes.delete(view.step);\n\
 gatherMarks();\n\
 buildEvents();\n\
-showEvents();\n\
+seekEvent();\n\
 tellOptions();\n\
 byId('note').hidden = !text;\n\
 byId('note').textContent = text;\n\
