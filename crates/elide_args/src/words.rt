@@ -3,6 +3,7 @@
 ghost use Rattle.std.specs.Prelude.{◌≡◌, IfOk, IfSome, Some, codes};
 ghost use Rattle.clap.specs.Matches.{first_value, found_of};
 ghost use Rattle.elide_args.specs.Asked.{Asks, IsCounting, IsHunt, IsMachine, IsPage, IsPicture, IsSchedule};
+ghost use Rattle.elide_args.specs.Line.{IsLine, IsParsedLine};
 ghost use Rattle.elide_args.specs.Asked.{IsSearch, IsSession, IsShown, IsTrying, IsWork, ShowsNothing};
 ghost use Rattle.elide_args.specs.Asked.{texts_of, values_of};
 
@@ -41,12 +42,17 @@ pub fn command_line_of<'a, O: Out, E: Out>(
     words: &'a [&'a str],
     out: &mut O,
     err: &mut E,
-) -> Result<CommandLine<'a>, NotASubcommand> {
+) -> Result<CommandLine<'a>, NotASubcommand>
+    ensures { IfOk result (IsParsedLine words.entry.now) }
+{
     let Ok(line) = command_line(alloc) else {
         return Err(NotASubcommand::NoMemory);
     };
     match line.try_get_matches_from(words) {
-        Ok(matches) => asked(alloc, &matches).ok_or(NotASubcommand::NoMemory),
+        Ok(matches) => match asked(alloc, &matches) {
+            Some(line) => Ok(line),
+            None => Err(NotASubcommand::NoMemory),
+        },
         Err(error) => Err(told(alloc, &error, words, out, err)),
     }
 }
@@ -108,7 +114,9 @@ impl<O: Out> fmt::Write for Device<'_, O> {
 }
 
 // What the words came to.
-fn asked<'a>(alloc: Global, matches: &ArgMatches<'a>) -> Option<CommandLine<'a>> {
+fn asked<'a>(alloc: Global, matches: &ArgMatches<'a>) -> Option<CommandLine<'a>>
+    ensures { IfSome result (IsLine matches.now) }
+{
     let (name, options) = matches.subcommand()?;
     Some(CommandLine {
         subcommand: any_named(alloc, name, options)?,
