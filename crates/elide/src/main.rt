@@ -11,7 +11,7 @@ mod progress;
 
 use ahead::ReadAhead;
 use arguments::{USUAL_ROOM, Words, read_words};
-use elide_command::{Surroundings, Terminals};
+use elide_command::{Again, Surroundings, Terminals};
 use elide_trial::{SystemPaths, command};
 use environment::{asks_for_no_colors, asks_for_words};
 use ia_text::{Out, ToWriter};
@@ -23,7 +23,7 @@ use tm_debug::FromReader;
 
 fn main(rt: HostRuntime) -> ExitCode {
     let stderr = rt.stderr();
-    let mut err = ToWriter::new(&stderr);
+    let mut err = ToWriter::new(Again::new(&stderr));
     let mut usual = [0; USUAL_ROOM];
     let mut long = Vec::new(rt.alloc());
     let mut words = Words::new();
@@ -33,8 +33,8 @@ fn main(rt: HostRuntime) -> ExitCode {
         return ExitCode::from(not_words.status());
     }
     let mut paths = SystemPaths::new(&rt);
-    let mut input = FromReader::new(ReadAhead::new(rt.stdin()));
-    let mut out = ToWriter::new(io::writer(&rt));
+    let mut input = FromReader::new(ReadAhead::new(Again::new(rt.stdin())));
+    let mut out = ToWriter::new(Again::new(io::writer(&rt)));
     let terminals = Terminals {
         input: rt.stdin().is_terminal(),
         output: rt.stdout().is_terminal(),
@@ -45,7 +45,8 @@ fn main(rt: HostRuntime) -> ExitCode {
         is_plain: asks_for_no_colors(&rt),
         tells_words: asks_for_words(&rt),
     };
-    let mut progress = ProgressLine::new(&rt, ToWriter::new(&stderr), terminals.errors);
+    let told = ToWriter::new(Again::new(&stderr));
+    let mut progress = ProgressLine::new(&rt, told, terminals.errors);
     let status = command(
         &rt,
         words.as_slice(),

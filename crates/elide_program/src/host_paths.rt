@@ -2,6 +2,7 @@
 
 ghost use Rattle.std.specs.Prelude.{◌≤◌, IfOk, None, length};
 
+use crate::again::Again;
 use crate::paths::{Obstacle, Paths, ReadFault, Text};
 use crate::replacing::replace;
 use ia_text::{Failed, ToWriter};
@@ -17,14 +18,14 @@ pub struct HostPaths<'a, R> {
     rt: &'a R,
 }
 
-impl<'a, R: Files + AllocGlobal> HostPaths<'a, R> {
+impl<'a, R: Files<File = File> + AllocGlobal> HostPaths<'a, R> {
     /// The files that this runtime reaches.
     pub fn new(rt: &'a R) -> HostPaths<'a, R> {
         HostPaths { rt }
     }
 }
 
-impl<R: Files + AllocGlobal> Paths for HostPaths<'_, R> {
+impl<R: Files<File = File> + AllocGlobal> Paths for HostPaths<'_, R> {
     // What the system's files hold no contract can say.
     ghost content = { λ _ _. None };
 
@@ -106,9 +107,9 @@ pub fn write_in_place<R: Files, T: Text>(rt: &R, path: &str, text: &T) -> Result
     }
 }
 
-/// Writes a text to an open file.
+/// Writes a text to an open file. A write that a signal interrupts is made again.
 pub fn write_all<F: io::Write + Drop, T: Text>(file: F, text: &T) -> Result<(), Failed> {
-    match text.write_to(ToWriter::new(file)) {
+    match text.write_to(ToWriter::new(Again::new(file))) {
         Ok(_written) => Ok(()),
         Err(_) => Err(Failed),
     }

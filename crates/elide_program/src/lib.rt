@@ -8,6 +8,7 @@
 //! line is a number as `ia_lex` reads it.
 #![tactic(auto)]
 
+mod again;
 mod entries;
 mod fault;
 mod file;
@@ -20,6 +21,7 @@ mod settings;
 mod sums;
 mod warned;
 
+pub use again::Again;
 pub use entries::EntryList;
 pub use fault::{ProgramFault, ProgramRefusal};
 pub use file::{MOST_BYTES, ProgramFile, read_file, read_source};

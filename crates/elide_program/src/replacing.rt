@@ -5,10 +5,11 @@ use crate::paths::Text;
 use arrayvec::ArrayString;
 use ia_text::Failed;
 use std::fmt::Write;
-use std::fs;
-use std::fs::{File, Permissions};
+use std::fs::{File, OpenOptions, Permissions, TryLockError};
 use std::io::ErrorKind;
+use std::os::unix::fs::MetadataExt;
 use std::rt::Files;
+use std::{fs, io};
 
 // A path that stands beside another one.
 type Beside = ArrayString<4096>;
@@ -16,12 +17,15 @@ type Beside = ArrayString<4096>;
 // How many names are tried for a file beside another one.
 const NAMES: u32 = 100;
 
-// How many bytes of a file's name that of the file beside it begins with at most: names have up to 255 bytes on most systems.
+// How many bytes of a file's name that of the file beside it begins with at most: names have up to 255 bytes on most
+// systems.
 const FRONT: usize = 200;
 
-/// Writes a text to a new file beside a path, and gives it that name when it is whole, so that what stood there before stays
-/// where a write fails. In a folder that takes no new file, the file is written where it stands.
-pub fn replace<R: Files, T: Text>(
+/// Writes a text to a file beside a path, and gives it that name when it is whole, so that what stood there before
+/// stays where a write fails. The file is new, or one that a command which was ended left behind; it is locked (`flock`)
+/// until it has its name, so that no two commands write the same one. In a folder that takes no new file, the file is
+/// written where it stands.
+pub fn replace<R: Files<File = File>, T: Text>(
     rt: &R,
     path: &str,
     permissions: Option<Permissions>,
@@ -31,13 +35,13 @@ pub fn replace<R: Files, T: Text>(
         let Some(beside) = name_beside(path, number) else {
             return write_in_place(rt, path, text);
         };
-        match File::create_new(rt, beside.as_str()) {
-            Ok(file) => {
-                let written = write_all(file, text);
-                return keep(rt, beside.as_str(), path, permissions, written);
+        match hold(rt, beside.as_str()) {
+            Ok(Some(file)) => {
+                let written = write_all(&file, text);
+                return keep(rt, &file, beside.as_str(), path, permissions, written);
             }
+            Ok(None) => {}
             Err(error) => match error.kind() {
-                ErrorKind::AlreadyExists => {}
                 ErrorKind::PermissionDenied | ErrorKind::InvalidFilename => {
                     return write_in_place(rt, path, text);
                 }
@@ -48,12 +52,12 @@ pub fn replace<R: Files, T: Text>(
     Err(Failed)
 }
 
-// The path, or a beginning of it where the name in it is long, with `.part` and a number behind, where that is no longer than a path
-// can be.
+// The path, or a beginning of it where the name in it is long, with `.elide-part` and a number behind, where that is no
+// longer than a path can be.
 fn name_beside(path: &str, number: u32) -> Option<Beside> {
     let front = front_of(path);
     let mut beside = Beside::new();
-    match write!(beside, "{front}.part{number}") {
+    match write!(beside, "{front}.elide-part{number}") {
         Ok(()) => Some(beside),
         Err(_) => None,
     }
@@ -66,16 +70,57 @@ fn front_of(path: &str) -> &str {
     &path[..end]
 }
 
+// An empty file of this name that no other command writes: a new one, or one that was left behind. None where another
+// command has it, or it is no such file.
+fn hold<R: Files<File = File>>(rt: &R, beside: &str) -> io::Result<Option<File>> {
+    match File::create_new(rt, beside) {
+        Ok(file) => match file.try_lock() {
+            Ok(()) if is_at(rt, &file, beside) => Ok(Some(file)),
+            // Where files have no locks, none is taken over either.
+            Err(TryLockError::Error(_)) => Ok(Some(file)),
+            Ok(()) | Err(TryLockError::WouldBlock) => Ok(None),
+        },
+        Err(error) if error.kind() == ErrorKind::AlreadyExists => Ok(left_behind(rt, beside)),
+        Err(error) => Err(error),
+    }
+}
+
+// A file that a command left behind, emptied.
+fn left_behind<R: Files<File = File>>(rt: &R, beside: &str) -> Option<File> {
+    // A pipe would wait here for a reader.
+    if !fs::symlink_metadata(rt, beside).ok()?.is_file() {
+        return None;
+    }
+    let file = OpenOptions::new().write(true).open(rt, beside).ok()?;
+    if file.try_lock().is_err() || !is_at(rt, &file, beside) {
+        return None;
+    }
+    file.set_len(0).ok()?;
+    Some(file)
+}
+
+// Whether the open file stands at this path, and nowhere else: who had it before may have renamed it while the lock was
+// awaited.
+fn is_at<R: Files>(rt: &R, file: &File, path: &str) -> bool {
+    match (file.metadata(), fs::symlink_metadata(rt, path)) {
+        (Ok(open), Ok(there)) => {
+            open.dev() == there.dev() && open.ino() == there.ino() && there.nlink() == 1
+        }
+        _ => false,
+    }
+}
+
 // Gives a file that was written whole its name, and removes one that was not.
 fn keep<R: Files>(
     rt: &R,
+    file: &File,
     beside: &str,
     path: &str,
     permissions: Option<Permissions>,
     written: Result<(), Failed>,
 ) -> Result<(), Failed> {
     if let Some(permissions) = permissions {
-        let _ = fs::set_permissions(rt, beside, permissions);
+        let _ = file.set_permissions(permissions);
     }
     if written.is_ok() && fs::rename(rt, beside, path).is_ok() {
         return Ok(());

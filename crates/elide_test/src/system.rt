@@ -7,6 +7,7 @@ use elide_program::{HostPaths, Paths, ReadFault, Text};
 use ia_text::Failed;
 use std::alloc::Global;
 use std::fs;
+use std::fs::File;
 use std::io::ErrorKind;
 use std::rt::Files;
 
@@ -16,14 +17,14 @@ pub struct SystemPaths<'a, R> {
     rt: &'a R,
 }
 
-impl<'a, R: Files + AllocGlobal> SystemPaths<'a, R> {
+impl<'a, R: Files<File = File> + AllocGlobal> SystemPaths<'a, R> {
     /// The files that this runtime reaches.
     pub fn new(rt: &'a R) -> SystemPaths<'a, R> {
         SystemPaths { rt }
     }
 }
 
-impl<R: Files + AllocGlobal> Paths for SystemPaths<'_, R> {
+impl<R: Files<File = File> + AllocGlobal> Paths for SystemPaths<'_, R> {
     // What the system's files hold no contract can say.
     ghost content = { λ _ _. None };
 
@@ -40,7 +41,7 @@ impl<R: Files + AllocGlobal> Paths for SystemPaths<'_, R> {
     }
 }
 
-impl<R: Files + AllocGlobal + Clone + Drop> SharedPaths for SystemPaths<'_, R> {
+impl<R: Files<File = File> + AllocGlobal + Clone + Drop> SharedPaths for SystemPaths<'_, R> {
     ghost holds = { λ _ _. None };
 
     fn read_shared(&self, path: &str, most: usize) -> Result<Vec<u8>, ReadFault> {
