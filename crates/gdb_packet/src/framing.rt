@@ -71,18 +71,18 @@ fn push_escaped(row: &mut Framed, bytes: &[u8])
     }
 }
 
-// The packet that tells these bytes.
-fn frame(bytes: &[u8]) -> Framed
-    requires { length bytes.now ≤ 16384 }
-    ensures { result.items ≡ framed bytes.now }
+// Makes an empty row the packet that tells these bytes. The row is lent: one that is given back would stand on the stack
+// three times.
+fn frame(row: &mut Framed, bytes: &[u8])
+    requires empty { row.old.items ≡ [] }
+    requires few { length bytes.now ≤ 16384 }
+    ensures { row.new.items ≡ framed bytes.now }
 {
-    let mut row = Framed::new();
-    push_escaped(&mut row, bytes);
+    push_escaped(row, bytes);
     let digits = checksum_digits(row.as_slice());
     row.insert(0, b'$');
-    push(&mut row, b"#");
-    push(&mut row, &digits);
-    row
+    push(row, b"#");
+    push(row, &digits);
 }
 
 /// Writes the packet that tells these bytes.
@@ -91,6 +91,8 @@ pub fn write_packet<O: Out>(bytes: &[u8], out: &mut O) -> Result<(), WriteFault>
     ensures text { Writes (O.device out.old) (O.device out.new) (framed bytes.now) result }
     ensures reads_back { unescaped (escaped bytes.now) ≡ Some bytes.now }
 {
-    out.put(frame(bytes).as_slice())?;
+    let mut row = Framed::new();
+    frame(&mut row, bytes);
+    out.put(row.as_slice())?;
     Ok(())
 }

@@ -61,6 +61,7 @@ fn put<O: Out>(bytes: &[u8], out: &mut O) -> Result<(), Interruption>
 }
 
 // Writes the packet that tells these bytes.
+#[inline(never)]
 fn put_packet<O: Out>(bytes: &Bytes, out: &mut O) -> Result<(), Interruption>
     ensures wrote { OnOk result (Wrote (O.device out.old) (O.device out.new) (framed bytes.now.items)) }
     ensures err { IfErr result (λ fault. fault ≡ Interruption.Write) }
@@ -123,7 +124,10 @@ fn acknowledges_behind(command: &Command, wanted: bool) -> bool
     }
 }
 
+// What is large stands in functions of their own that are not inlined: a stack that is small has to hold the bytes of a
+// packet and those of its answer, and not what hearing the one and writing the other keep there, too.
 impl Session {
+    #[inline(never)]
     fn new(board: Board, plan: Option<Vec<Pick>>) -> Session
         ensures value { session_value result ≡ start board (picks_in plan) }
         ensures reader { IsBehind [] result.reader }
@@ -202,6 +206,7 @@ impl Session {
     }
 
     // Hears a byte.
+    #[inline(never)]
     fn hear_byte(&mut self, byte: u8) -> Heard
         ensures hears { (since : List ℕ) → IsBehind since self.old.reader
             → Hears (since ++ byte ∷ []) result self.new.reader }
