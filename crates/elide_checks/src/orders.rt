@@ -2,17 +2,20 @@
 
 ghost use Rattle.std.specs.Prelude.{◌≡◌, ◌≤◌, IfOk, Some};
 ghost use Rattle.std.specs.Option.{option_copied};
-ghost use Rattle.elide_setup.specs.ElideProgram.Settings.{number_said};
+ghost use Rattle.elide_setup.specs.ElideProgram.Settings.{number_or, number_said};
 ghost use Rattle.elide_checks.specs.Runs.{AreRuns, events_asked};
 
 use crate::cut::cut;
 use elide_args::HuntOptions;
-use elide_setup::{Refusal, limit_of, number_of};
+use elide_setup::{Refusal, number_of};
 use std::thread::{Threads, available_parallelism};
 use tm_pick::{Events, Method};
 
 /// The most threads.
 const MOST_JOBS: u32 = 1024;
+
+/// The most steps of a run, where no limit is given.
+const MOST_STEPS: u32 = 1_000_000;
 
 /// What is asked of a search.
 #[derive(Clone, Copy)]
@@ -39,12 +42,13 @@ impl Orders {
         ensures runs { IfOk result (λ orders. AreRuns (option_copied options.now.runs) orders.first orders.end) }
         ensures events { IfOk result (λ orders. events_asked (option_copied options.now.events) ≡ Some orders.events) }
         ensures seed { IfOk result (λ orders. number_said (option_copied options.now.seed) ≡ Some orders.seed) }
+        ensures most { IfOk result (λ orders. number_or 1000000 (option_copied options.now.limit) ≡ Some orders.most) }
     {
         let (first, end) = runs_of(options.runs)?;
         let seed = number_of(options.seed, "--seed")?;
         let method = method_of(options.method)?;
         let events = events_of(options.events)?;
-        let most = limit_of(options.limit)?;
+        let most = most_of(options.limit)?;
         let jobs = jobs_of(rt, options.jobs)?;
         Ok(Orders {
             seed,
@@ -100,6 +104,19 @@ fn events_of(text: Option<&str>) -> Result<Events, Refusal>
         Ok(Events::Draw)
     } else {
         elide_setup::events_of(text)
+    }
+}
+
+// The most steps of a run, 1 or more.
+fn most_of(text: Option<&str>) -> Result<u32, Refusal>
+    ensures { IfOk result (λ most. number_or 1000000 (option_copied text.entry) ≡ Some most) }
+{
+    if text.is_none() {
+        return Ok(MOST_STEPS);
+    }
+    match number_of(text, "--limit")? {
+        0 => Err(Refusal::Usage("--limit")),
+        most => Ok(most),
     }
 }
 

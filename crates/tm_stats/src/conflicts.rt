@@ -60,8 +60,12 @@ impl Conflicts {
         Ok(())
     }
 
-    /// Sorts the rows, those with the most first, and those with as many in the order of their keys.
-    pub fn sort(&mut self) -> Result<(), AllocError> {
+    /// Sorts the rows, those with the most first, and those with as many in the order of their keys, which changes no count.
+    pub fn sort(&mut self) -> Result<(), AllocError>
+        ensures { (conflicts : List Conflict)
+            → AreConflicts ⟦<Conflict as PartialEq>⟧.eq self.old conflicts
+            → AreConflicts ⟦<Conflict as PartialEq>⟧.eq self.new conflicts }
+    {
         self.lines.sort_keys()?;
         self.pairs.sort_keys()?;
         self.lines.sort_by(|_, left, _, right| right.cmp(left))?;
