@@ -10,3 +10,4 @@ pub mod Runs
 pub mod Schedules
 mod ShownTexts
 pub mod Walks
+pub mod AlikeChunks

@@ -18,6 +18,7 @@ mod plan;
 mod progress;
 mod recorded;
 mod shown;
+mod side_by_side;
 mod terminals;
 mod told;
 mod walk;

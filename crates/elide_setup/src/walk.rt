@@ -16,6 +16,7 @@ use crate::fault::{Fault, Refusal};
 use crate::plan::{Course, Drawn};
 use crate::progress::Progress;
 use crate::recorded::record;
+use crate::side_by_side::{is_lone, lone_chunks};
 use elide_program::Paths;
 use std::alloc::Global;
 use tm_core::NoSuchCore;
@@ -299,19 +300,11 @@ fn run_length(core: u8, steps: &[Pick]) -> usize
     ensures alike { take result steps.now ≡ replicate result (lone_pick core) }
     ensures most { result ≤ length steps.now }
 {
-    let mut count = 0;
+    let mut count = lone_chunks(core, steps);
     while count < steps.len() && is_lone(steps[count], core) {
         count += 1;
     }
     count
-}
-
-// Whether a step is of this core, under no event.
-#[inline(always)]
-fn is_lone(pick: Pick, core: u8) -> bool
-    ensures { result ≡ true → pick ≡ lone_pick core }
-{
-    pick.core == core && pick.event.is_none()
 }
 
 // Makes so many steps of a core under no event.
