@@ -1,3 +1,8 @@
 pub mod Names
 pub mod Noting
+pub mod Listing
+pub mod Pieces
+pub mod Fronting
+pub mod Explaining
+pub mod Paging
 pub mod Untold

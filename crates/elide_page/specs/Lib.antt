@@ -1,2 +1,5 @@
 pub mod Names
 pub mod Notes
+pub mod Fronts
+pub mod Reasons
+pub mod Pages

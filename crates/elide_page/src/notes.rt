@@ -116,7 +116,8 @@ fn is_outside(note: Note<'_>, window: Window) -> bool
     note.step < window.from || window.to < note.step
 }
 
-fn write_comma<O: Out>(some: bool, out: &mut O) -> Result<(), WriteFault>
+/// Writes a comma, where something was written before.
+pub fn write_comma<O: Out>(some: bool, out: &mut O) -> Result<(), WriteFault>
     ensures { OnOk result (Wrote (O.device out.old) (O.device out.new) (comma_if some)) }
 {
     if some {

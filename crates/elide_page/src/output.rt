@@ -1,62 +1,80 @@
 //! A page as it goes to a device, or to a file.
 
-ghost use Rattle.std.specs.Prelude.{◌≡◌, IfSome, OnOk};
+ghost use Rattle.std.specs.Io.KnownBytes.{Appends};
+ghost use Rattle.std.specs.Prelude.{◌≡◌, ℕ, IfOk, IfSome, List, OnOk};
+ghost use Rattle.page_template.specs.declared.template.TheConstants.{TAIL};
+ghost use Rattle.elide_page.specs.Pages.{IsPageOf};
 
 use crate::front::put_front;
 use crate::job::Job;
 use crate::reasons::write_reasons;
 use crate::shows::{Shown, shown_of};
 use elide_setup::{Fault, Gathered, Paths, Refusal, Text};
-use ia_text::{Out, ToVec, WriteFault};
+use ia_text::{Out, WriteFault};
 use page_run::{LineUse, note_shown};
 use page_telling::write_steps;
 use page_template::{write_head, write_tail};
 use std::alloc::AllocError;
+use std::cell::Cell;
 
-/// Writes a page to a file, as a whole or not at all. The page is made in memory before.
-pub fn write_page_to<P: Paths>(job: &Job<'_>, path: &str, paths: &mut P) -> Result<(), Refusal> {
-    let bytes = page_bytes(job)?;
-    write_bytes(bytes.as_slice(), path, paths)
-}
-
-// The bytes of a page. A device in memory fails for want of it alone.
-fn page_bytes(job: &Job<'_>) -> Result<Vec<u8>, Refusal> {
-    let piece = ToVec::new(Vec::new(job.subject.loaded.alloc));
-    match write_page(job, piece) {
-        Ok(piece) => Ok(piece.bytes),
-        Err(Refusal::Fault(fault)) if fault.code() == WriteFault::Write.code() => {
-            Err(Refusal::from(AllocError))
-        }
-        Err(refusal) => Err(refusal),
+/// Writes a page to a file, as a whole or not at all. It goes there as it is made, so that no memory grows with its
+/// run. What refuses it on the way is told, and 81 `Output` where the file cannot be written.
+pub fn write_page_to<P: Paths>(job: &Job<'_>, path: &str, paths: &mut P) -> Result<(), Refusal>
+    ensures { OnOk result (IfSome (P.content paths.new path.now) (IsPageOf job.now)) }
+{
+    let file = PageFile {
+        job: *job,
+        refused: Cell::new(None),
+    };
+    match paths.write(path, &file) {
+        Ok(()) => Ok(()),
+        Err(_) => Err(refusal_of(file.refused.get())),
     }
 }
 
-// Writes bytes to a file.
-fn write_bytes<P: Paths>(bytes: &[u8], path: &str, paths: &mut P) -> Result<(), Refusal>
-    ensures { OnOk result (IfSome (P.content paths.new path.now) (λ held. held ≡ bytes.now)) }
-{
-    match paths.write(path, &PageFile(bytes)) {
-        Ok(()) => Ok(()),
-        Err(_) => Err(Refusal::Fault(Fault::Output)),
+// Why a page is not written to a file: what refused it as it was made, but for a device that failed, which was the
+// file.
+fn refusal_of(refused: Option<Refusal>) -> Refusal {
+    match refused {
+        Some(refusal) if !is_of_device(refusal) => refusal,
+        _ => Refusal::Fault(Fault::Output),
+    }
+}
+
+fn is_of_device(refusal: Refusal) -> bool {
+    match refusal {
+        Refusal::Fault(fault) => fault.code() == WriteFault::Write.code(),
+        Refusal::Usage(_) => false,
     }
 }
 
 // The text of a page.
-#[derive(Clone, Copy)]
-struct PageFile<'a>(&'a [u8]);
+#[derive(Drop)]
+struct PageFile<'a> {
+    job: Job<'a>,
+    // What refused it, where it was written and did not come to its end.
+    refused: Cell<Option<Refusal>>,
+}
 
 impl Text for PageFile<'_> {
-    ghost tells = { λ file bytes. bytes ≡ file.0.now };
+    ghost tells = { λ file bytes. IsPageOf file.job bytes };
 
     fn write_to<O: Out + Drop>(&self, out: O) -> Result<O, WriteFault> {
-        let mut out = out;
-        out.put(self.0)?;
-        Ok(out)
+        match write_page(&self.job, out) {
+            Ok(out) => Ok(out),
+            Err(refusal) => {
+                self.refused.set(Some(refusal));
+                Err(WriteFault::Write)
+            }
+        }
     }
 }
 
 /// Writes a page to a device, and gives that back.
-pub fn write_page<O: Out + Drop>(job: &Job<'_>, out: O) -> Result<O, Refusal> {
+pub fn write_page<O: Out + Drop>(job: &Job<'_>, out: O) -> Result<O, Refusal>
+    ensures { IfOk result (λ given. (bytes : List ℕ) × IsPageOf job.now bytes
+        × Appends (O.device out).contents (O.device given).contents bytes) }
+{
     let subject = &job.subject;
     let shows = shown_of(subject.loaded, subject.sums, job.survey)?;
     let lines = lines_with(job, shows.as_slice())?;
@@ -64,14 +82,17 @@ pub fn write_page<O: Out + Drop>(job: &Job<'_>, out: O) -> Result<O, Refusal> {
     write_head(subject.title.as_bytes(), &mut page)?;
     put_front(job, shows.as_slice(), &mut page)?;
     drop(shows);
-    let page = write_steps(job.stretch, lines.as_slice(), page)?;
+    let told = write_steps(job.stretch, lines.as_slice(), page)?;
     drop(lines);
-    let page = write_reasons(job, page)?;
-    finish(page)
+    let explained = write_reasons(job, told)?;
+    finish(explained)
 }
 
 // The end of a page.
-fn finish<O: Out + Drop>(page: Gathered<O>) -> Result<O, Refusal> {
+fn finish<O: Out + Drop>(page: Gathered<O>) -> Result<O, Refusal>
+    ensures { IfOk result (λ out. Appends (⟦<Gathered<O> as Out>⟧.device page).contents (O.device out).contents
+        TAIL.now) }
+{
     let mut page = page;
     write_tail(&mut page)?;
     let out = page.finish()?;

@@ -1,18 +1,25 @@
 //! The third pass over a run: why its steps aborted or stopped.
 
-ghost use Rattle.std.specs.Prelude.{OnOk};
-ghost use Rattle.page_run.specs.Plain.{WrotePlain};
+ghost use Rattle.std.specs.Prelude.{◌≡◌, ◌+◌, ◌||◌, ℕ, IfOk, List, OnOk, codes, is_some};
+ghost use Rattle.ia_text.specs.Writing.{Wrote};
+ghost use Rattle.elide_setup.specs.Runs.{IsMachineStep};
+ghost use Rattle.page_run.specs.Plain.{ArePlain};
+ghost use Rattle.elide_page.specs.Reasons.{AreReasonsOf, IsPiece, ReasonsEach, has_reason, is_told, reason_front};
+ghost use Rattle.elide_page.specs.Reasons.{reason_text};
 
 use crate::job::Job;
 use elide_setup::{Machine, Outcome, Pick, Refusal, Silent, StepMaker, new_machine};
 use elide_why::Teller;
-use ia_text::{Out, ToVec};
-use page_run::{Stretch, Window, put_piece, put_plain};
+use ia_text::{Out, ToVec, WriteFault};
+use page_run::{Stretch, Window, put_plain};
 use page_text::{REASON, write_number, write_string};
 use std::alloc::{AllocError, Global};
 
 /// Writes why steps aborted or stopped, each by its number in the page. Gives the device back.
-pub fn write_reasons<O: Out + Drop>(job: &Job<'_>, out: O) -> Result<O, Refusal> {
+pub fn write_reasons<O: Out + Drop>(job: &Job<'_>, out: O) -> Result<O, Refusal>
+    ensures { IfOk result (λ last. (text : List ℕ) × AreReasonsOf job.now.stretch text
+        × Wrote (O.device out) (O.device last) text) }
+{
     let subject = &job.subject;
     let loaded = subject.loaded;
     let teller = Teller::new(&loaded.setup.program, subject.path, loaded.places, true);
@@ -24,10 +31,14 @@ fn reasoned<T: Reasoner + Drop, O: Out + Drop>(
     stretch: Stretch<'_>,
     teller: T,
     out: O,
-) -> Result<O, Refusal> {
+) -> Result<O, Refusal>
+    ensures { IfOk result (λ last. (text : List ℕ) × AreReasonsOf stretch.entry text
+        × Wrote (O.device out) (O.device last) text) }
+{
     let alloc = stretch.alloc;
     let machine = new_machine(alloc, stretch.setup)?;
     let cores = machine.cores();
+    let out = begun(out)?;
     let mut reasoning = Reasoning {
         alloc,
         machine,
@@ -37,23 +48,44 @@ fn reasoned<T: Reasoner + Drop, O: Out + Drop>(
         some: false,
         out,
     };
-    reasoning.begin()?;
     stretch
         .course
         .walk(alloc, cores, false, &mut reasoning, &mut Silent)?;
-    let Reasoning { out, .. } = reasoning;
+    let Reasoning { out, made, .. } = reasoning;
+    check_total(made, stretch.total)?;
     ended(out)
 }
 
+// That so many steps were made as the run has. A schedule makes the steps again that it made as it was surveyed.
+fn check_total(made: u64, total: u64) -> Result<(), Refusal>
+    ensures { OnOk result (made ≡ total) }
+{
+    if made != total {
+        return Err(Refusal::from(WriteFault::Write));
+    }
+    Ok(())
+}
+
+// The beginning of the object.
+fn begun<O: Out + Drop>(out: O) -> Result<O, Refusal>
+    ensures { IfOk result (λ last. Wrote (O.device out) (O.device last) (codes ",\n\"why\":{")) }
+{
+    let mut out = out;
+    put_plain(b",\n\"why\":{", &mut out)?;
+    Ok(out)
+}
+
 // The end of the object, and of the data.
-fn ended<O: Out + Drop>(out: O) -> Result<O, Refusal> {
+fn ended<O: Out + Drop>(out: O) -> Result<O, Refusal>
+    ensures { IfOk result (λ last. Wrote (O.device out) (O.device last) (codes "}}")) }
+{
     let mut out = out;
     put_plain(b"}}", &mut out)?;
     Ok(out)
 }
 
-/// What makes a machine's step and writes its line with its reason. A trait, since what a walk comes to is known of a maker
-/// whose type names no lifetime.
+/// What makes a machine's step and writes its line with its reason. A trait, since what a walk comes to is known of a
+/// maker whose type names no lifetime.
 trait Reasoner {
     /// Makes a step, and writes its line.
     fn reason(
@@ -61,7 +93,8 @@ trait Reasoner {
         machine: &mut Machine,
         pick: Pick,
         line: &mut ToVec,
-    ) -> Result<Outcome, Refusal>;
+    ) -> Result<Outcome, Refusal>
+        ensures { IfOk result (λ outcome. IsMachineStep machine.old pick outcome machine.new) };
 }
 
 impl Reasoner for Teller<'_> {
@@ -90,47 +123,130 @@ struct Reasoning<T, O> {
 }
 
 impl<T: Reasoner, O: Out> StepMaker for Reasoning<T, O> {
-    ghost takes = { λ _ _ _. Unit {0} };
+    ghost takes = { λ before steps after. ReasonsEach
+        (record {
+          machine = before.machine;
+          window = before.window;
+          made = before.made;
+          some = before.some;
+          device = O.device before.out;
+        })
+        steps
+        (record {
+          machine = after.machine;
+          window = after.window;
+          made = after.made;
+          some = after.some;
+          device = O.device after.out;
+        }) };
 
     fn make_step(&mut self, pick: Pick) -> Result<Outcome, Refusal> {
-        if self.made >= self.window.to {
-            return self.machine.make_step(pick);
-        }
-        let mut line = ToVec::new(Vec::new(self.alloc));
-        let told = self.teller.reason(&mut self.machine, pick, &mut line);
-        if line.failures > 0 {
-            return Err(Refusal::from(AllocError));
-        }
-        let outcome = told?;
-        if self.window.holds(self.made) {
-            self.write(outcome, line.bytes.as_slice())?;
-        }
-        self.made = self.made.saturating_add(1);
-        Ok(outcome)
+        let made = one_more(self.made)?;
+        let is_past = self.made >= self.window.to;
+        let step = step_reasoned(
+            self.alloc,
+            is_past,
+            &mut self.machine,
+            &mut self.teller,
+            pick,
+        )?;
+        let some = put_step(
+            self.alloc,
+            self.window,
+            self.made,
+            made,
+            self.some,
+            &step,
+            &mut self.out,
+        )?;
+        self.some = some;
+        self.made = made;
+        Ok(step.outcome)
     }
 }
 
-impl<T: Reasoner, O: Out> Reasoning<T, O> {
-    fn begin(&mut self) -> Result<(), Refusal> {
-        put_plain(b",\n\"why\":{", &mut self.out)
+// The number of steps behind one more.
+fn one_more(made: u64) -> Result<u64, Refusal>
+    ensures { IfOk result (λ next. next ≡ made + 1) }
+{
+    match made.checked_add(1) {
+        Some(next) => Ok(next),
+        None => Err(Refusal::from(WriteFault::Write)),
     }
+}
 
-    // Writes why a step aborted or stopped, where it did.
-    fn write(&mut self, outcome: Outcome, line: &[u8]) -> Result<(), Refusal> {
-        let words = words_before(outcome);
-        if words == 0 {
-            return Ok(());
-        }
-        let some = self.some;
-        self.some = true;
-        put_reason(
-            self.alloc,
-            some,
-            self.made.saturating_sub(self.window.from).saturating_add(1),
-            behind_words(line, words),
-            &mut self.out,
-        )
+// A step that was made, with its line.
+#[derive(Drop)]
+struct MadeStep {
+    outcome: Outcome,
+    line: Vec<u8>,
+}
+
+// Makes a step, with its line where it is not behind the last of the page. Its only failure beside the machine's is
+// want of memory.
+fn step_reasoned<T: Reasoner>(
+    alloc: Global,
+    is_past: bool,
+    machine: &mut Machine,
+    teller: &mut T,
+    pick: Pick,
+) -> Result<MadeStep, Refusal>
+    ensures { IfOk result (λ step. IsMachineStep machine.old pick step.outcome machine.new) }
+{
+    let mut line = ToVec::new(Vec::new(alloc));
+    if is_past {
+        let outcome = machine.make_step(pick)?;
+        return Ok(MadeStep {
+            outcome,
+            line: line.bytes,
+        });
     }
+    let told = teller.reason(machine, pick, &mut line);
+    if line.failures > 0 {
+        return Err(Refusal::from(AllocError));
+    }
+    let outcome = told?;
+    Ok(MadeStep {
+        outcome,
+        line: line.bytes,
+    })
+}
+
+// Writes why the step of this number, behind so many others, aborted or stopped, where it did and stands in the page.
+// Answers whether one was written so far.
+fn put_step<O: Out>(
+    alloc: Global,
+    window: Window,
+    made: u64,
+    number: u64,
+    some: bool,
+    step: &MadeStep,
+    out: &mut O,
+) -> Result<bool, Refusal>
+    requires { number ≡ made + 1 }
+    ensures piece { OnOk result (IsPiece window made some step.now.outcome (O.device out.old) (O.device out.new)) }
+    ensures some { IfOk result (λ is. is ≡ (some || is_told window made step.now.outcome)) }
+{
+    match words_told(window, made, step.outcome) {
+        None => Ok(some),
+        Some(words) => {
+            let reason = behind_words(step.line.as_slice(), words);
+            let place = number.saturating_sub(window.from);
+            put_reason(alloc, some, place, reason, out)?;
+            Ok(true)
+        }
+    }
+}
+
+// How many words stand before the reason in the line of a step behind so many others, where it stands in the page and
+// has one.
+fn words_told(window: Window, made: u64, outcome: Outcome) -> Option<usize>
+    ensures { is_some result ≡ is_told window made outcome }
+{
+    if !window.holds(made) {
+        return None;
+    }
+    words_before(outcome)
 }
 
 // Writes the reason of a step of the page, behind a comma where there was another.
@@ -141,14 +257,27 @@ fn put_reason<O: Out>(
     reason: &[u8],
     out: &mut O,
 ) -> Result<(), Refusal>
-    ensures { OnOk result (WrotePlain (O.device out.old) (O.device out.new)) }
+    ensures text { OnOk result (Wrote (O.device out.old) (O.device out.new) (reason_text some step reason.now)) }
+    ensures plain { OnOk result (ArePlain (reason_text some step reason.now)) }
 {
-    let mut piece = ToVec::new(Vec::new(alloc));
-    let made = write_reason(some, step, reason, &mut piece);
-    put_piece(made, &piece, out)
+    let text = reason_of(alloc, some, step, reason)?;
+    put_plain(text.as_slice(), out)
 }
 
-fn write_reason<O: Out>(some: bool, step: u64, reason: &[u8], out: &mut O) -> Result<(), Refusal> {
+// A device in memory fails for want of it alone.
+fn reason_of(alloc: Global, some: bool, step: u64, reason: &[u8]) -> Result<Vec<u8>, AllocError>
+    ensures { IfOk result (λ text. text.items ≡ reason_text some step reason.now) }
+{
+    let mut text = ToVec::new(Vec::new(alloc));
+    match write_reason(some, step, reason, &mut text) {
+        Ok(()) => Ok(text.bytes),
+        Err(_) => Err(AllocError),
+    }
+}
+
+fn write_reason<O: Out>(some: bool, step: u64, reason: &[u8], out: &mut O) -> Result<(), WriteFault>
+    ensures { OnOk result (Wrote (O.device out.old) (O.device out.new) (reason_text some step reason.now)) }
+{
     out.put(before_reason(some))?;
     write_number(step, out)?;
     out.put(b"\":")?;
@@ -156,21 +285,25 @@ fn write_reason<O: Out>(some: bool, step: u64, reason: &[u8], out: &mut O) -> Re
     Ok(())
 }
 
-fn before_reason(some: bool) -> &'static [u8] {
+fn before_reason(some: bool) -> &'static [u8]
+    ensures { result.now ≡ reason_front some }
+{
     if some { b",\n\"" } else { b"\n\"" }
 }
 
-// How many words stand before the reason in the line of an outcome; 0, where there is none.
-fn words_before(outcome: Outcome) -> usize {
+// How many words stand before the reason in the line of an outcome that has one.
+fn words_before(outcome: Outcome) -> Option<usize>
+    ensures { is_some result ≡ has_reason outcome }
+{
     match outcome {
-        Outcome::Stopped(_) => 2,
-        Outcome::Aborted(_) | Outcome::AbortedBy(_, _) => 3,
+        Outcome::Stopped(_) => Some(2),
+        Outcome::Aborted(_) | Outcome::AbortedBy(_, _) => Some(3),
         Outcome::Plain
         | Outcome::Loaded
         | Outcome::Idle
         | Outcome::Begun
         | Outcome::Inside
-        | Outcome::Committed => 0,
+        | Outcome::Committed => None,
     }
 }
 

@@ -1,5 +1,10 @@
 //! The variables that a page shows.
 
+ghost use Rattle.std.specs.Prelude.{OnOk, false};
+ghost use Rattle.ia_text.specs.Writing.{Wrote};
+ghost use Rattle.elide_page.specs.Fronts.{shown_text, shows_text};
+
+use crate::notes::write_comma;
 use elide_places::{Label, Places};
 use elide_setup::Setup;
 use ia_text::{Out, WriteFault};
@@ -118,21 +123,25 @@ fn add_label<'a>(list: &mut Vec<Shown<'a>>, label: &'a Label) -> Result<(), Allo
 }
 
 /// Writes the variables, each with its name and its address.
-pub fn write_shown<O: Out>(list: &[Shown<'_>], out: &mut O) -> Result<(), WriteFault> {
-    for index in 0..list.len() {
-        if index > 0 {
-            out.put(b",")?;
-        }
-        write_one(list[index].address, list[index].name, out)?;
+pub fn write_shown<O: Out>(list: &[Shown<'_>], out: &mut O) -> Result<(), WriteFault>
+    ensures { OnOk result (Wrote (O.device out.old) (O.device out.new) (shows_text false list.now)) }
+{
+    let mut some = false;
+    for shown in list {
+        write_comma(some, out)?;
+        write_one(*shown, out)?;
+        some = true;
     }
     Ok(())
 }
 
-fn write_one<O: Out>(address: u32, name: &[u8], out: &mut O) -> Result<(), WriteFault> {
+fn write_one<O: Out>(shown: Shown<'_>, out: &mut O) -> Result<(), WriteFault>
+    ensures { OnOk result (Wrote (O.device out.old) (O.device out.new) (shown_text shown.entry)) }
+{
     out.put(b"[")?;
-    write_string(name, NAME, out)?;
+    write_string(shown.name, NAME, out)?;
     out.put(b",")?;
-    write_number(u64::from(address), out)?;
+    write_number(u64::from(shown.address), out)?;
     out.put(b"]")?;
     Ok(())
 }

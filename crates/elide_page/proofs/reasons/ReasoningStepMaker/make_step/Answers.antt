@@ -1,0 +1,16 @@
+use Rattle.std.proofs.Common.{refl}
+use Rattle.elide_page.proofs.reasons.ReasoningStepMaker.make_step.Goals as goal
+
+pub returns : goal.returns
+returns g c = (
+  c.args.pick,
+  c.in_ok-step.step.outcome,
+  refl,
+  record {
+    step = c.in_ok-step.ensures;
+    window = refl;
+    made = c.in_ok-made.ensures;
+    some = c.in_ok-some.ensures.some;
+    piece = c.in_ok-some.ensures.piece;
+  },
+)
