@@ -1,3 +1,4 @@
 pub mod EntrySteps
 pub mod PartSteps
+mod Refusing
 pub mod SumSteps

@@ -5,3 +5,5 @@ pub mod Settings
 pub mod Parts
 pub mod Sums
 pub mod Entries
+pub mod Forms
+pub mod Refusals

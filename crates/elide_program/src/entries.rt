@@ -1,8 +1,9 @@
 //! Where the cores begin.
 
-ghost use Rattle.std.specs.Prelude.{◌≡◌, IfOk, MatchOption, MatchResult, None, Some, false, length, true};
+ghost use Rattle.std.specs.Prelude.{◌≡◌, IfErr, IfOk, MatchOption, MatchResult, None, Some, codes, false, length, true, ℕ};
 ghost use Rattle.std.specs.List.{list_all};
 ghost use Rattle.elide_program.specs.Entries.{AreEntries, IsEntry, entry_words, is_entry, is_entry_list};
+ghost use Rattle.elide_program.specs.Refusals.{HasNoStart, NamesOption};
 
 use crate::fault::ProgramRefusal;
 use crate::file::ProgramFile;
@@ -36,7 +37,8 @@ impl<'a> EntryList<'a> {
         alloc: Global,
         file: &ProgramFile<'_>,
     ) -> Result<Vec<u32>, ProgramRefusal>
-        ensures { IfOk result (λ addresses. AreEntries file.now self.entry.text.now addresses.items) }
+        ensures entries { IfOk result (λ addresses. AreEntries file.now self.entry.text.now addresses.items) }
+        ensures none { (cores : ℕ) → IfErr result (HasNoStart file.now self.entry.text.now cores) }
     {
         let mut addresses = Vec::new(alloc);
         for word in self.text.split(',') {
@@ -71,7 +73,7 @@ fn is_entry(word: &str) -> bool
 // The address of an entry. A name that the file does not have is a misuse of the option.
 fn address_of(word: &str, file: &ProgramFile<'_>) -> Result<u32, ProgramRefusal>
     ensures { MatchResult result (λ address. IsEntry file.now word.now (Some address))
-        (λ _. IsEntry file.now word.now None) }
+        (λ refusal. IsEntry file.now word.now None × NamesOption (codes "--entry") refusal) }
 {
     match found_address(word, file) {
         Some(address) => Ok(address),

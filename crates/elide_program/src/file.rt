@@ -1,10 +1,11 @@
 //! FILE as a program: image text, an executable in ELF, or a source that is assembled.
 
-ghost use Rattle.std.specs.Prelude.{◌≡◌, ◌≤◌, ◌↔◌, IfErr, IfOk, IsTrue, List, MatchResult, None, Some, length, min, replicate, ℕ};
+ghost use Rattle.std.specs.Prelude.{◌≡◌, ◌≢◌, ◌<◌, ◌≤◌, ◌↔◌, ◌⊎◌, IfErr, IfOk, IsTrue, List, MatchResult, None, Some, codes, length, min, replicate, ℕ};
 ghost use Rattle.elide_program.specs.Entries.{AreStarts, for_cores};
 ghost use Rattle.elide_program.specs.Faults.{unread, unread_source};
 ghost use Rattle.elide_program.specs.Files.{Gives, Tells, most_bytes};
 ghost use Rattle.elide_program.specs.ProgramFile.{IsSource, is_image};
+ghost use Rattle.elide_program.specs.Refusals.{HasNoStart, IsWant, NamesOption};
 ghost use Rattle.ia_elf.specs.Fields.{IsMagic};
 
 use crate::entries::EntryList;
@@ -76,12 +77,14 @@ impl<'a> ProgramFile<'a> {
     ghost use Rattle.elide_program.specs.ProgramFile.{IsFile, IsFileSymbol, TellsElf, TellsLoad};
     ghost use Rattle.elide_program.specs.ProgramFile.{file_base, file_bytes, file_code_len, file_end, file_start};
     ghost use Rattle.elide_program.specs.ProgramFile.{loaded};
+    ghost use Rattle.elide_program.specs.Refusals.{HasNoStarts, IsNoProgram};
 
     /// A text as a program: image text where it begins with `image 1 `, an executable where it begins with the bytes
     /// 7f 45 4c 46, else a source.
     pub fn read(alloc: Global, text: &'a [u8]) -> Result<ProgramFile<'a>, ProgramRefusal>
         ensures file { IfOk result (λ file. IsFile text.now file) }
         ensures fault { IfErr result (λ refusal. IsMagic text.now → TellsElf text.now refusal) }
+        ensures none { IfErr result (IsNoProgram text.now) }
     {
         if is_elf(text) {
             match read_elf(alloc, text) {
@@ -172,6 +175,8 @@ impl<'a> ProgramFile<'a> {
             → starts.items ≡ replicate (min settings.now.cores 65) (file_start self.now)) }
         ensures starts { IfOk result (λ starts. length starts.items ≤ 64
             → AreStarts self.now settings.now.entries settings.now.cores starts.items) }
+        ensures many { IfOk result (λ starts. 64 < length starts.items → 64 < settings.now.cores) }
+        ensures none { IfErr result (HasNoStarts self.now settings.now.entries settings.now.cores) }
     {
         match settings.entries {
             Some(list) => starts_of(alloc, list, settings.cores, self),
@@ -223,6 +228,8 @@ fn starts_of(
     ensures cores { IfOk result (λ starts. length starts.items ≤ 64 → length starts.items ≡ cores) }
     ensures starts { IfOk result (λ starts. length starts.items ≤ 64
         → AreStarts file.now (Some list.entry) cores starts.items) }
+    ensures many { IfOk result (λ starts. 64 < length starts.items → 64 < cores) }
+    ensures none { IfErr result (HasNoStart file.now list.entry.text.now cores) }
 {
     let addresses = list.addresses(alloc, file)?;
     for_cores(alloc, addresses, cores)
@@ -233,6 +240,9 @@ fn starts_of(
 fn for_cores(alloc: Global, addresses: Vec<u32>, cores: u32) -> Result<Vec<u32>, ProgramRefusal>
     ensures cores { IfOk result (λ starts. length starts.items ≤ 64 → length starts.items ≡ cores) }
     ensures starts { IfOk result (λ starts. length starts.items ≤ 64 → starts.items ≡ for_cores cores addresses.items) }
+    ensures many { IfOk result (λ starts. 64 < length starts.items → 64 < cores) }
+    ensures none { IfErr result (λ refusal. IsWant refusal ⊎ ((length addresses.items ≢ 1) × (length addresses.items ≢ cores)
+        × NamesOption (codes "--entry") refusal)) }
 {
     match addresses.as_slice() {
         [alone] => same_start(alloc, *alone, cores),
@@ -243,7 +253,8 @@ fn for_cores(alloc: Global, addresses: Vec<u32>, cores: u32) -> Result<Vec<u32>,
 
 // One address for all cores. One more than the most cores is refused as any greater number is.
 fn same_start(alloc: Global, address: u32, cores: u32) -> Result<Vec<u32>, ProgramRefusal>
-    ensures { IfOk result (λ starts. starts.items ≡ replicate (min cores 65) address) }
+    ensures starts { IfOk result (λ starts. starts.items ≡ replicate (min cores 65) address) }
+    ensures want { IfErr result IsWant }
 {
     Ok(vec![in alloc; address; cores.min(65) as usize]?)
 }

@@ -28,6 +28,8 @@ impl<'a, R: Files<File = File> + AllocGlobal> HostPaths<'a, R> {
 impl<R: Files<File = File> + AllocGlobal> Paths for HostPaths<'_, R> {
     // What the system's files hold no contract can say.
     ghost content = { λ _ _. None };
+    // Nor which paths lead to one file.
+    ghost are_one = { λ _ _ _. None };
 
     fn read(&mut self, path: &str, most: usize) -> Result<Vec<u8>, ReadFault> {
         let mut file = match File::open(self.rt, path) {

@@ -1,8 +1,12 @@
 //! What is printed of memory.
 
-ghost use Rattle.std.specs.Prelude.{◌≡◌, ◌++◌, ◌∷◌, [], IfOk, IfSome, OnOk, Some};
+ghost use Rattle.std.specs.Prelude.{◌≡◌, ◌++◌, ◌∷◌, [], Contains, IfErr, IfOk, IfSome, List, MatchOption, None, OnOk};
+ghost use Rattle.std.specs.Prelude.{Some, codes, false, ℕ};
+ghost use Rattle.std.specs.Borrow.{Bor};
 ghost use Rattle.std.specs.List.{AllZip};
+ghost use Rattle.elide_program.specs.Forms.{HasNoColon, IsNoDump};
 ghost use Rattle.elide_program.specs.Parts.{AreParts, IsDump};
+ghost use Rattle.elide_program.specs.Refusals.{HasNoPart, IsNoPart, IsWant};
 ghost use Rattle.elide_program.specs.Settings.{word32};
 ghost use Rattle.elide_program.specs.Sums.{IsSum};
 
@@ -38,7 +42,8 @@ impl MemoryParts {
         settings: &Settings<'_>,
         file: &ProgramFile<'_>,
     ) -> Result<MemoryParts, ProgramRefusal>
-        ensures { IfOk result (AreParts file.now settings.now.dumps.now settings.now.shows.now) }
+        ensures parts { IfOk result (AreParts file.now settings.now.dumps.now settings.now.shows.now) }
+        ensures none { IfErr result (HasNoPart file.now settings.now.dumps.now settings.now.shows.now) }
     {
         let dumps = dumps_of(alloc, settings.dumps, file)?;
         let values = values_of(alloc, settings.shows, file)?;
@@ -51,7 +56,8 @@ fn dumps_of(
     texts: &[&str],
     file: &ProgramFile<'_>,
 ) -> Result<Vec<Dump>, ProgramRefusal>
-    ensures { IfOk result (λ dumps. AllZip (λ text dump. IsDump file.now text.now dump) texts.now dumps.items) }
+    ensures parts { IfOk result (λ dumps. AllZip (λ text dump. IsDump file.now text.now dump) texts.now dumps.items) }
+    ensures none { IfErr result (HasNoPart file.now texts.now []) }
 {
     let mut dumps = Vec::new(alloc);
     for text in texts {
@@ -68,7 +74,8 @@ fn values_of(
     texts: &[&str],
     file: &ProgramFile<'_>,
 ) -> Result<Vec<u32>, ProgramRefusal>
-    ensures { IfOk result (λ values. AllZip (λ text address. IsSum file.now text.now (Some address)) texts.now values.items) }
+    ensures parts { IfOk result (λ values. AllZip (λ text address. IsSum file.now text.now (Some address)) texts.now values.items) }
+    ensures none { IfErr result (HasNoPart file.now [] texts.now) }
 {
     let mut values = Vec::new(alloc);
     for text in texts {
@@ -82,7 +89,8 @@ fn values_of(
 
 /// Adds one at the end.
 pub fn add<T: Copy>(row: &mut Vec<T>, value: T) -> Result<(), ProgramRefusal>
-    ensures { OnOk result (row.new.items ≡ row.old.items ++ value ∷ []) }
+    ensures added { OnOk result (row.new.items ≡ row.old.items ++ value ∷ []) }
+    ensures want { IfErr result IsWant }
 {
     match row.push(value) {
         Ok(()) => Ok(()),
@@ -92,7 +100,7 @@ pub fn add<T: Copy>(row: &mut Vec<T>, value: T) -> Result<(), ProgramRefusal>
 
 // The part `AT:BYTES`.
 fn dump_of(text: &str, file: &ProgramFile<'_>) -> Option<Dump>
-    ensures { IfSome result (IsDump file.now text.now) }
+    ensures { MatchOption result (IsNoPart file.now text.now) (IsDump file.now text.now) }
 {
     let (at, count) = cut(text)?;
     Some(Dump {
@@ -103,13 +111,15 @@ fn dump_of(text: &str, file: &ProgramFile<'_>) -> Option<Dump>
 
 // What stands before the last colon, and behind it.
 fn cut(text: &str) -> Option<(&str, &str)>
-    ensures { IfSome result (λ parts. text.now ≡ parts.0.now ++ 58 ∷ parts.1.now) }
+    ensures { MatchOption result (HasNoColon text.now) (λ parts. text.now ≡ parts.0.now ++ 58 ∷ parts.1.now) }
 {
     text.rsplit_once(':')
 }
 
 /// Whether a text has the form `AT:BYTES`.
-pub fn is_dump(text: &str) -> bool {
+pub fn is_dump(text: &str) -> bool
+    ensures { result ≡ false → IsNoDump text.now }
+{
     match cut(text) {
         Some((at, count)) => is_sum(at) && word32(count).is_some(),
         None => false,

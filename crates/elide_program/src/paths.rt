@@ -1,7 +1,7 @@
 //! Files by their paths.
 
 ghost use Rattle.std.specs.Io.KnownBytes.{Appends};
-ghost use Rattle.std.specs.Prelude.{◌≡◌, ◌≤◌, ℕ, IfOk, IfSome, List, MatchResult, OnOk, Option, length};
+ghost use Rattle.std.specs.Prelude.{◌≡◌, ◌≤◌, ℕ, Bool, IfOk, IfSome, List, MatchResult, OnOk, Option, length};
 ghost use Rattle.elide_program.specs.Files.{Gives, Refuses};
 
 use ia_text::{Failed, Out, WriteFault};
@@ -51,6 +51,9 @@ pub trait Paths {
     // The content of the file at a path, where it is known.
     ghost content: { Self → List ℕ → Option (List ℕ) };
 
+    // Whether two paths lead to one regular file, where that is known.
+    ghost are_one: { Self → List ℕ → List ℕ → Option Bool };
+
     /// The whole content of a file of at most so many bytes. A longer one is [`ReadFault::TooLong`], and no other is. No
     /// file is changed.
     fn read(&mut self, path: &str, most: usize) -> Result<Vec<u8>, ReadFault>
@@ -67,5 +70,7 @@ pub trait Paths {
 
     /// Whether both paths lead to one regular file. No file is changed.
     fn is_same_file(&mut self, path: &str, other: &str) -> bool
-        ensures kept { (name : List ℕ) → content self.new name ≡ content self.old name };
+        ensures told { IfSome (are_one self.old path.now other.now) (λ one. result ≡ one) }
+        ensures kept { (name : List ℕ) → content self.new name ≡ content self.old name }
+        ensures steady { (one two : List ℕ) → are_one self.new one two ≡ are_one self.old one two };
 }

@@ -1,7 +1,11 @@
 //! The options that `run`, `threads`, `replay` and `debug` have alike.
 
-ghost use Rattle.std.specs.Prelude.{◌≡◌, IfOk, MatchResult, None, Some, option_map};
+ghost use Rattle.std.specs.Prelude.{◌≡◌, Contains, IfErr, IfOk, List, MatchResult, None, Some, codes, false, option_map, ℕ};
 ghost use Rattle.std.specs.Option.{option_copied};
+ghost use Rattle.std.specs.Borrow.{Bor};
+ghost use Rattle.elide_program.specs.Entries.{is_entry_list};
+ghost use Rattle.elide_program.specs.Forms.{IsNoDump, is_sum_form};
+ghost use Rattle.elide_program.specs.Refusals.{NamesOption};
 ghost use Rattle.elide_program.specs.Settings.{number_or, number_said};
 
 use crate::entries::EntryList;
@@ -40,12 +44,14 @@ pub struct Settings<'a> {
 }
 
 impl<'a> Settings<'a> {
+    ghost use Rattle.elide_program.specs.Refusals.{IsMisread};
     ghost use Rattle.elide_program.specs.Settings.{AreSettings};
 
     /// Reads the options in the order in which their misuse is told. Where they are not given there is 1 core with a memory of
     /// 65536 bytes, and a transaction can read and write 512 lines.
     pub fn read(options: &'a MachineOptions<'a>) -> Result<Settings<'a>, ProgramRefusal>
-        ensures { IfOk result (λ settings. AreSettings options.now settings) }
+        ensures settings { IfOk result (λ settings. AreSettings options.now settings) }
+        ensures misread { IfErr result (IsMisread options.now) }
     {
         let cores = number_or(options.cores, CORES, "--cores")?;
         let memory = number_or(options.memory, MEMORY, "--mem")?;
@@ -98,7 +104,9 @@ fn entries_of<'a>(
     text: Option<&'a str>,
     cores: u32,
 ) -> Result<Option<EntryList<'a>>, ProgramRefusal>
-    ensures { IfOk result (λ entries. option_map (λ list. list.text.now) entries ≡ option_copied text.entry) }
+    ensures entries { IfOk result (λ entries. option_map (λ list. list.text.now) entries ≡ option_copied text.entry) }
+    ensures misread { IfErr result (λ refusal. (list : List ℕ) × (option_copied text.entry ≡ Some list)
+        × (is_entry_list list cores ≡ false) × NamesOption (codes "--entry") refusal) }
 {
     let Some(text) = text else {
         return Ok(None);
@@ -110,19 +118,27 @@ fn entries_of<'a>(
 }
 
 // Refuses parts of memory of another form.
-fn check_dumps(texts: &[&str]) -> Result<(), ProgramRefusal> {
-    if texts.iter().all(|text| is_dump(text)) {
-        Ok(())
-    } else {
-        Err(ProgramRefusal::Usage("--dump"))
+fn check_dumps(texts: &[&str]) -> Result<(), ProgramRefusal>
+    ensures { IfErr result (λ refusal. (text : Bor (List ℕ)) × Contains texts.now text × IsNoDump text.now
+        × NamesOption (codes "--dump") refusal) }
+{
+    for text in texts {
+        if !is_dump(text) {
+            return Err(ProgramRefusal::Usage("--dump"));
+        }
     }
+    Ok(())
 }
 
 // Refuses places of doublewords of another form.
-fn check_shows(texts: &[&str]) -> Result<(), ProgramRefusal> {
-    if texts.iter().all(|text| is_sum(text)) {
-        Ok(())
-    } else {
-        Err(ProgramRefusal::Usage("--show"))
+fn check_shows(texts: &[&str]) -> Result<(), ProgramRefusal>
+    ensures { IfErr result (λ refusal. (text : Bor (List ℕ)) × Contains texts.now text × (is_sum_form text.now ≡ false)
+        × NamesOption (codes "--show") refusal) }
+{
+    for text in texts {
+        if !is_sum(text) {
+            return Err(ProgramRefusal::Usage("--show"));
+        }
     }
+    Ok(())
 }

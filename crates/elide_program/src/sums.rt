@@ -1,6 +1,8 @@
 //! Sums of symbols and numbers.
 
 ghost use Rattle.std.specs.Prelude.{◌≡◌, ◌+◌, ◌%◌, ◌^◌, ◌++◌, ◌<◌, ◌≤◌, ℕ, false, length, slice_index, true};
+ghost use Rattle.std.specs.List.{list_all, slice_split};
+ghost use Rattle.elide_program.specs.Forms.{behind_sign, is_sum_form, is_term, is_word, trimmed};
 ghost use Rattle.elide_program.specs.Sums.{BeginsWithSign, HasNoSign, IsSum, IsSumBehind, IsTerm};
 ghost use Rattle.elide_program.specs.Sums.{IsTrimmedSum, is_sign, signed};
 
@@ -32,20 +34,51 @@ fn trimmed_sum(text: &[u8], file: &ProgramFile<'_>) -> Option<u32>
 }
 
 /// Whether a text has the form of a sum: each term is a number, or may be a symbol's name.
-pub fn is_sum(text: &str) -> bool {
-    let bytes = text.as_bytes().trim_ascii();
-    let behind = match bytes {
-        [sign, rest @ ..] if is_sign(*sign) => rest,
-        _ => bytes,
-    };
-    behind
-        .split(|byte| is_sign(*byte))
-        .all(|term| is_word(term.trim_ascii()))
+pub fn is_sum(text: &str) -> bool
+    ensures { result ≡ is_sum_form text.now }
+{
+    are_terms(behind_sign(trimmed(text.as_bytes())))
+}
+
+// Without the spaces around it.
+fn trimmed(bytes: &[u8]) -> &[u8]
+    ensures { result.now ≡ trimmed bytes.now }
+{
+    bytes.trim_ascii()
+}
+
+// What stands behind a sign in front, where there is one.
+fn behind_sign(bytes: &[u8]) -> &[u8]
+    ensures { result.now ≡ behind_sign bytes.now }
+{
+    match bytes {
+        [sign, rest @ ..] => if is_sign(*sign) { rest } else { bytes },
+        [] => bytes,
+    }
+}
+
+// Whether what stands between signs are terms.
+fn are_terms(bytes: &[u8]) -> bool
+    ensures { result ≡ list_all is_term (slice_split is_sign bytes.now) }
+{
+    bytes.split(|byte| is_sign(*byte)).all(|term| is_term(term))
+}
+
+// Whether a term is a word with spaces around it.
+fn is_term(term: &[u8]) -> bool
+    ensures { result ≡ is_term term.now }
+{
+    is_word(trimmed(term))
 }
 
 // Whether a word is a number below 2^32, or may be a symbol's name.
-fn is_word(word: &[u8]) -> bool {
-    number_in(word).is_some() || word.first().is_some_and(|first| !first.is_ascii_digit())
+fn is_word(word: &[u8]) -> bool
+    ensures { result ≡ is_word word.now }
+{
+    match word {
+        [first, ..] => number_in(word).is_some() || !first.is_ascii_digit(),
+        [] => number_in(word).is_some(),
+    }
 }
 
 // The value of what stands behind the first sign.

@@ -42,6 +42,8 @@ impl<'a, P: Paths, E: Out> WarnedPaths<'a, P, E> {
 impl<P: Paths, E: Out> Paths for WarnedPaths<'_, P, E> {
     ghost content = { λ w. P.content w.paths.now };
 
+    ghost are_one = { λ w. P.are_one w.paths.now };
+
     fn read(&mut self, path: &str, most: usize) -> Result<Vec<u8>, ReadFault> {
         match self.paths.read(path, most) {
             Ok(bytes) => {

@@ -1,5 +1,5 @@
 -- Steps of one core side by side, none of them under an event.
-use Rattle.std.proofs.Common.{◌≡◌, ℕ, List, [], ◌∷◌, ◌++◌, length, replicate, map, Option, None, Some, refl, sym, ap, ◌∙◌, subst, Bool, true, false}
+use Rattle.std.proofs.Common.{◌≡◌, ℕ, List, [], ◌∷◌, ◌++◌, length, replicate, Option, None, Some, refl, sym, ap, ◌∙◌, subst, false}
 use Rattle.std.specs.Prelude.{All, MatchOption, IfOk, Result, Ok, Err}
 use Rattle.std.proofs.lemmas.List.Elements.{All-head, All-tail}
 use Rattle.tm_model.specs.Conflicts.{Doomed, doomed_after}
@@ -14,7 +14,7 @@ use Rattle.tm_model.specs.declared.outcome.Pick.{Pick}
 use Rattle.elide_setup.specs.Owing.{AreOwedUnder, history_made}
 use Rattle.elide_setup.specs.Runs.{AreMachineSteps}
 use Rattle.elide_setup.specs.Schedules.{lone_pick, picks_made}
-use Rattle.elide_setup.specs.TmCore.Theorem.{IsRun, ShownMachine as Machine, StandsFor, TakesAll, TakesAlone, machine_setting}
+use Rattle.elide_setup.specs.TmCore.Theorem.{IsRun, ShownMachine as Machine, TakesAll, TakesAlone, machine_setting}
 
 -- the steps of such a history
 abbrev lone_steps : List (ℕ × Outcome) → List (Pick × Outcome)

@@ -4,8 +4,12 @@ pub mod Drawing
 mod EventTexts
 mod Held
 pub mod Made
+pub mod Misread
 pub mod Owing
+pub mod OneFile
 pub mod Records
+pub mod Refusing
+pub mod Rounds
 pub mod Runs
 pub mod Schedules
 mod ShownTexts

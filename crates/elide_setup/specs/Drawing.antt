@@ -1,5 +1,5 @@
 -- What a schedule that is drawn is drawn from (docs/FORMATS.md, "Events that are drawn").
-use Rattle.std.specs.Prelude.{◌≡◌, ◌≢◌, ℕ, List, ⊤, All, Option, Some, None}
+use Rattle.std.specs.Prelude.{◌≡◌, ◌≢◌, ℕ, List, ⊤, All, Option, Some, None, option_and_then, zero, suc}
 use Rattle.std.specs.Option.{option_copied}
 use Rattle.elide_args.specs.declared.subcommand.ScheduleOptions.{ScheduleOptions}
 use Rattle.tm_model.specs.declared.outcome.Event.{Event}
@@ -35,10 +35,20 @@ pub record IsEventSeed (options : ScheduleOptions) (random : Option ℕ) (seed :
   pub said : event_seed_of random (option_copied options.seed) ≡ Some seed
   pub alone : options.events ≡ None → options.seed ≡ None
 
+-- the most steps: those of `--limit`, which are 1 or more, and 1,000,000 where it is not given
+abbrev pub some_steps : ℕ → Option ℕ
+some_steps zero = None
+some_steps (suc most) = Some (suc most)
+
+abbrev pub limit_said : Option (List ℕ) → Option ℕ
+limit_said None = Some 1000000
+limit_said (Some text) = option_and_then some_steps (word32 text)
+
 pub record IsDrawn (options : ScheduleOptions) (drawn : Drawn) : Type 0 where
   pub seed : IsSeed (option_copied options.random) drawn.seed
   pub events : events_asked (option_copied options.events) ≡ Some drawn.events
   pub event_seed : IsEventSeed options drawn.seed drawn.event_seed
+  pub most : limit_said (option_copied options.limit) ≡ Some drawn.most
 
 -- nothing is drawn: neither the most steps, nor events, nor what they are drawn from
 pub record SaysNoDraw (options : ScheduleOptions) : Type 0 where

@@ -7,6 +7,11 @@ use Rattle.tm_schedule.specs.Schedule.{fault_code}
 use Rattle.tm_hist.specs.Serial.{serial_code}
 use Rattle.tm_schedule.specs.declared.schedule.ScheduleFault.{ScheduleFault}
 use Rattle.tm_schedule.specs.declared.schedule.ScheduleFault.TheVariants.{BadSchedule, NoMemory, TooManySteps}
+use Rattle.elide_program.specs.declared.fault.ProgramFault.TheVariants as program_fault
+use Rattle.elide_program.specs.declared.fault.ProgramRefusal.{ProgramRefusal}
+use Rattle.elide_program.specs.declared.fault.ProgramRefusal.TheVariants as program
+use Rattle.ia_image.specs.declared.fault.LoadFault.TheVariants as load
+use Rattle.ia_text.specs.declared.out.WriteFault.{WriteFault}
 use Rattle.elide_setup.specs.declared.fault.Fault.{Fault}
 use Rattle.elide_setup.specs.declared.fault.Fault.TheVariants as fault
 use Rattle.elide_setup.specs.declared.fault.Refusal.{Refusal}
@@ -60,3 +65,15 @@ fault_line fault.PageTooLong = None
 abbrev pub refusal_status : Refusal → ℕ
 refusal_status (refusal.Fault why) = 1
 refusal_status (refusal.Usage name) = 2
+
+-- a program's refusal as that of a command
+abbrev pub refusal_of : ProgramRefusal → Refusal
+refusal_of (program.Fault why) = refusal.Fault (fault.Program why)
+refusal_of (program.Usage name) = refusal.Usage name
+
+-- memory is wanting, and an output device failed
+abbrev pub want : Refusal
+want = refusal.Fault (fault.Program (program_fault.Load load.NoMemory))
+
+abbrev pub not_written : WriteFault → Refusal
+not_written why = refusal.Fault (fault.Program (program_fault.Write why))

@@ -7,6 +7,8 @@ pub mod Misuse
 pub mod Owing
 pub mod Paging
 pub mod Recorded
+pub mod Refused
+pub mod Rounds
 pub mod Runs
 pub mod Schedules
 pub mod Setup

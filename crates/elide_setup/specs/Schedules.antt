@@ -1,7 +1,7 @@
 -- What a command's schedule states: the picks of the steps that it lists, each a core and the event that its step comes
 -- under, or none.
 use Rattle.std.specs.Prelude.{◌≡◌, ℕ, Bool, true, false, ◌||◌, List, [], map, Option, None, IfSome, Ok, is_some}
-use Rattle.std.specs.Prelude.{if◌then◌else◌}
+use Rattle.std.specs.Prelude.{if◌then◌else◌, length}
 use Rattle.std.specs.Option.{option_copied}
 use Rattle.elide_args.specs.declared.subcommand.ScheduleOptions.{ScheduleOptions}
 use Rattle.tm_schedule.specs.Schedule.{schedule_of, steps_of}
@@ -49,6 +49,16 @@ plan_is_list (plan.Drawn drawn) = false
 abbrev pub is_list : Course → Bool
 is_list (course.Listed listed) = true
 is_list (course.Drawn drawn) = false
+
+-- its list, which is empty where it is drawn
+abbrev pub listed_in : Course → List Pick
+listed_in (course.Listed listed) = listed.items
+listed_in (course.Drawn drawn) = []
+
+-- how many steps it has at most
+abbrev pub most_of : Course → ℕ
+most_of (course.Listed listed) = length listed.items
+most_of (course.Drawn drawn) = drawn.most
 
 -- the picks of steps that were made, each with what it came to
 abbrev pub picks_made : List (Pick × Outcome) → List Pick

@@ -130,12 +130,20 @@ impl Refusal {
 }
 
 impl From<Fault> for Refusal {
+    ghost use Rattle.elide_setup.specs.declared.fault.Refusal.TheVariants as refusal;
+
+    ghost from_gives = { λ fault given. given ≡ refusal.Fault fault };
+
     fn from(fault: Fault) -> Refusal {
         Refusal::Fault(fault)
     }
 }
 
 impl From<ProgramRefusal> for Refusal {
+    ghost use Rattle.elide_setup.specs.Faults.{refusal_of};
+
+    ghost from_gives = { λ cause given. given ≡ refusal_of cause };
+
     fn from(refusal: ProgramRefusal) -> Refusal {
         match refusal {
             ProgramRefusal::Fault(fault) => Refusal::Fault(Fault::Program(fault)),
@@ -145,18 +153,31 @@ impl From<ProgramRefusal> for Refusal {
 }
 
 impl From<AllocError> for Refusal {
+    ghost use Rattle.elide_setup.specs.Faults.{want};
+
+    ghost from_gives = { λ _ given. given ≡ want };
+
     fn from(_refused: AllocError) -> Refusal {
         Refusal::Fault(Fault::Program(ProgramFault::Load(LoadFault::NoMemory)))
     }
 }
 
 impl From<Failed> for Refusal {
+    ghost use Rattle.elide_setup.specs.Faults.{not_written};
+    ghost use Rattle.ia_text.specs.declared.out.WriteFault.TheVariants as failed;
+
+    ghost from_gives = { λ _ given. given ≡ not_written failed.Write };
+
     fn from(_failed: Failed) -> Refusal {
         Refusal::from(WriteFault::Write)
     }
 }
 
 impl From<WriteFault> for Refusal {
+    ghost use Rattle.elide_setup.specs.Faults.{not_written};
+
+    ghost from_gives = { λ fault given. given ≡ not_written fault };
+
     fn from(fault: WriteFault) -> Refusal {
         Refusal::Fault(Fault::Program(ProgramFault::Write(fault)))
     }

@@ -1,11 +1,17 @@
 //! What the commands that make a machine begin with.
 
-ghost use Rattle.std.specs.Prelude.{◌≡◌, ◌≤◌, ℕ, [], IfOk, List, length};
+ghost use Rattle.std.specs.Prelude.{◌≡◌, ◌≤◌, ℕ, [], IfErr, IfOk, List, length};
+ghost use Rattle.tm_model.specs.declared.outcome.Outcome.{Outcome};
 ghost use Rattle.tm_model.specs.declared.outcome.Pick.{Pick};
 ghost use Rattle.tm_hist.specs.Board.{IsNew};
 ghost use Rattle.elide_program.specs.Entries.{AreStarts};
 ghost use Rattle.elide_program.specs.Parts.{AreParts};
+ghost use Rattle.elide_program.specs.ProgramFile.{TellsLoad};
+ghost use Rattle.elide_program.specs.declared.fault.ProgramRefusal.{ProgramRefusal};
 ghost use Rattle.elide_program.specs.declared.file.ProgramFile.{ProgramFile};
+ghost use Rattle.elide_setup.specs.Faults.{refusal_of};
+ghost use Rattle.elide_setup.specs.Refused.{IsNoBoard, IsNoMachine, IsNotLoaded, IsNotPlanned, IsNotScheduled};
+ghost use Rattle.elide_setup.specs.Rounds.{IsAskedOut, IsOut, IsPlannedOut};
 ghost use Rattle.elide_setup.specs.Runs.{IsRunOf};
 ghost use Rattle.elide_setup.specs.Schedules.{AreAsked, AreOf, ArePlanned, are_listed, is_list, plan_is_list};
 ghost use Rattle.elide_setup.specs.Setup.{IsAsked, IsSetup};
@@ -39,7 +45,9 @@ impl Setup {
         starts: &[u32],
         parts: MemoryParts,
     ) -> Result<Setup, Refusal>
-        ensures { IfOk result (λ setup. (length starts.now ≤ 64 → length starts.now ≡ settings.now.cores)
+        ensures none { IfErr result (λ why. (cause : ProgramRefusal) × (why ≡ refusal_of cause)
+            × TellsLoad file.now settings.now.memory starts.now cause) }
+        ensures setup { IfOk result (λ setup. (length starts.now ≤ 64 → length starts.now ≡ settings.now.cores)
             → (length starts.now ≤ 64 → AreStarts file.now settings.now.entries settings.now.cores starts.now)
             → AreParts file.now settings.now.dumps.now settings.now.shows.now parts
             → IsSetup file.now settings.now setup) }
@@ -58,7 +66,9 @@ impl Setup {
         settings: &Settings<'_>,
         file: &ProgramFile<'_>,
     ) -> Result<Setup, Refusal>
-        ensures { IfOk result (IsSetup file.now settings.now) }
+        ensures setup { IfOk result (IsSetup file.now settings.now) }
+        ensures none { IfErr result (λ why. (cause : ProgramRefusal) × (why ≡ refusal_of cause)
+            × IsNotLoaded file.now settings.now cause) }
     {
         let starts = file.starts(alloc, settings)?;
         let parts = MemoryParts::of_file(alloc, settings, file)?;
@@ -86,6 +96,9 @@ pub fn scheduled<P: Paths>(
     ensures course { IfOk result (λ r. (picks : List Pick) → AreOf r.1 picks →
         AreAsked (P.content paths.old) schedule.now picks) }
     ensures listed { IfOk result (λ r. is_list r.1 ≡ are_listed schedule.now) }
+    ensures out { IfOk result (λ r. (cores : ℕ) (steps : List (Pick × Outcome)) → IsOut r.1 cores steps →
+        IsAskedOut schedule.now cores steps) }
+    ensures none { IfErr result (IsNotScheduled (P.content paths.old) machine.now schedule.now) }
 {
     let settings = Settings::read(machine)?;
     let plan = Plan::read(alloc, schedule)?;
@@ -106,6 +119,9 @@ pub fn planned<P: Paths>(
     ensures course { IfOk result (λ r. (picks : List Pick) → AreOf r.1 picks →
         ArePlanned (P.content paths.old) plan.entry picks) }
     ensures listed { IfOk result (λ r. is_list r.1 ≡ plan_is_list plan.entry) }
+    ensures out { IfOk result (λ r. (cores : ℕ) (steps : List (Pick × Outcome)) → IsOut r.1 cores steps →
+        IsPlannedOut plan.entry cores steps) }
+    ensures none { IfErr result (IsNotPlanned (P.content paths.old) file.now settings.now plan.entry) }
 {
     let starts = file.starts(alloc, settings)?;
     let parts = MemoryParts::of_file(alloc, settings, file)?;
@@ -116,7 +132,9 @@ pub fn planned<P: Paths>(
 
 /// A machine of the program before its first step.
 pub fn new_machine(alloc: Global, setup: &Setup) -> Result<Machine, Refusal>
-    ensures { IfOk result (IsRunOf setup.now.program setup.now.limits []) }
+    ensures made { IfOk result (IsRunOf setup.now.program setup.now.limits []) }
+    ensures cores { IfOk result (λ machine. length machine.views ≡ length setup.now.program.entries) }
+    ensures none { IfErr result (IsNoMachine setup.now.limits) }
 {
     match Machine::new(alloc, &setup.program, setup.limits) {
         Ok(machine) => Ok(machine),
@@ -126,7 +144,8 @@ pub fn new_machine(alloc: Global, setup: &Setup) -> Result<Machine, Refusal>
 
 /// A board of the program with room for so many steps, where what is to be printed of memory is there.
 pub fn new_board(alloc: Global, setup: &Setup, limit: u64) -> Result<Board, Refusal>
-    ensures { IfOk result (λ board. IsNew setup.now.program setup.now.limits limit board) }
+    ensures made { IfOk result (λ board. IsNew setup.now.program setup.now.limits limit board) }
+    ensures none { IfErr result (IsNoBoard setup.now limit) }
 {
     match Board::new(alloc, &setup.program, setup.limits, limit) {
         Ok(board) => {

@@ -1,6 +1,8 @@
 //! Pages of runs that a command finds, as `hunt` and `outcomes` ask for them.
 
-ghost use Rattle.std.specs.Prelude.{◌≡◌, ℕ, IfOk, List};
+ghost use Rattle.std.specs.Prelude.{◌≡◌, ◌⊎◌, ℕ, IfErr, IfOk, List, Some, true};
+ghost use Rattle.std.specs.Option.{option_copied};
+ghost use Rattle.elide_setup.specs.Refused.{AreOne, IsPageOver};
 ghost use Rattle.elide_args.specs.declared.subcommand.MachineOptions.{MachineOptions};
 ghost use Rattle.elide_setup.specs.Paging.{IsPaged};
 ghost use Rattle.tm_model.specs.declared.outcome.Pick.{Pick};
@@ -43,30 +45,35 @@ pub trait Pages {
 }
 
 /// The path that `--page` gives, which is neither that of the program nor that of the record.
+#[tactic(auto, using(crate::proofs::OneFile::is_one))]
 pub fn page_path<'a, P: Paths>(
     path: Option<&'a str>,
     file: &str,
-    record: Option<&str>,
+    recorded: Option<&str>,
     paths: &mut P,
 ) -> Result<Option<&'a str>, Refusal>
     ensures kept { (other : List ℕ) → P.content paths.new other ≡ P.content paths.old other }
     ensures given { IfOk result (λ given. given ≡ path.entry) }
+    ensures over { IfErr result (IsPageOver (P.are_one paths.old) path.entry file.now (option_copied recorded.entry)) }
 {
     let Some(page) = path else {
         return Ok(None);
     };
-    if paths.is_same_file(page, file) || is_path(record, page, paths) {
+    if paths.is_same_file(page, file) || is_path(recorded, page, paths) {
         return Err(Refusal::Usage("--page"));
     }
     Ok(Some(page))
 }
 
 // Whether both paths are one.
-fn is_path<P: Paths>(record: Option<&str>, page: &str, paths: &mut P) -> bool
-    ensures { (other : List ℕ) → P.content paths.new other ≡ P.content paths.old other }
+#[tactic(auto, using(crate::proofs::OneFile::is_one))]
+fn is_path<P: Paths>(recorded: Option<&str>, page: &str, paths: &mut P) -> bool
+    ensures kept { (other : List ℕ) → P.content paths.new other ≡ P.content paths.old other }
+    ensures one { result ≡ true → (other : List ℕ) × (option_copied recorded.entry ≡ Some other)
+        × ((other ≡ page.now) ⊎ AreOne (P.are_one paths.old page.now other) true) }
 {
-    match record {
-        Some(record) => record == page || paths.is_same_file(page, record),
+    match recorded {
+        Some(other) => other == page || paths.is_same_file(page, other),
         None => false,
     }
 }

@@ -1,11 +1,20 @@
 //! Where a command's schedule comes from.
 
-ghost use Rattle.std.specs.Prelude.{◌≡◌, ℕ, IfOk, IfSome, List, Ok, OnOk, Option, Some};
+ghost use Rattle.std.specs.Prelude.{◌≡◌, ℕ, IfErr, IfOk, IfSome, List, MatchResult, None, Ok, OnOk, Option, Some, codes, true};
 ghost use Rattle.std.specs.Option.{option_copied};
+ghost use Rattle.elide_args.specs.declared.subcommand.ScheduleOptions.{ScheduleOptions};
+ghost use Rattle.elide_program.specs.Files.{Gives, most_bytes};
+ghost use Rattle.elide_program.specs.Settings.{word32};
+ghost use Rattle.tm_model.specs.declared.outcome.Outcome.{Outcome};
 ghost use Rattle.tm_model.specs.declared.outcome.Pick.{Pick};
 ghost use Rattle.tm_pick.specs.Drawn.{AreDrawn};
 ghost use Rattle.tm_schedule.specs.Schedule.{schedule_of, steps_of};
 ghost use Rattle.elide_setup.specs.Drawing.{IsAskedDraw, IsDrawn, IsEventSeed, IsSeed, SaysNoDraw, events_asked};
+ghost use Rattle.elide_setup.specs.Drawing.{limit_said};
+ghost use Rattle.elide_setup.specs.Events.{events_said};
+ghost use Rattle.elide_setup.specs.Misuse.{IsMisuse};
+ghost use Rattle.elide_setup.specs.Refused.{HasNoCourse, HasNoSchedule, IsMisplanned, is_no_way, is_one_way, plan_path};
+ghost use Rattle.elide_setup.specs.Rounds.{IsAskedOut, IsOut, IsPlannedOut};
 ghost use Rattle.elide_setup.specs.Schedules.{AreAsked, AreOf, ArePlanned, are_listed, is_list, plan_is_list};
 
 use crate::events::events_of;
@@ -48,24 +57,22 @@ impl<'a> Plan<'a> {
             ArePlanned content plan picks → AreAsked content options.now picks) }
         ensures draw { IfOk result (IsAskedDraw options.now) }
         ensures listed { IfOk result (λ plan. plan_is_list plan ≡ are_listed options.now) }
+        ensures path { IfOk result (λ plan. IfSome (plan_path plan) (λ path. options.now.path ≡ Some path)) }
+        ensures out { IfOk result (λ plan. (cores : ℕ) (steps : List (Pick × Outcome)) → IsPlannedOut plan cores steps →
+            IsAskedOut options.now cores steps) }
+        ensures none { IfErr result (IsMisplanned options.now) }
     {
-        let given = (options.steps, options.path, options.in_turn, options.random);
-        match given {
-            (None, None, true, None) | (None, None, false, Some(_)) => {
-                Ok(Plan::Drawn(Drawn::read(options)?))
-            }
-            (Some(list), None, false, None) => {
+        check_way(options)?;
+        match (options.steps, options.path) {
+            (Some(list), _) => {
                 check_listed(options)?;
                 Ok(Plan::Steps(steps_said(alloc, list)?))
             }
-            (None, Some(path), false, None) => {
+            (None, Some(path)) => {
                 check_listed(options)?;
                 Ok(Plan::File(path))
             }
-            (None, None, false, None) if options.events.is_some() => {
-                Err(Refusal::Usage("--events"))
-            }
-            _ => Err(Refusal::Usage("--steps")),
+            (None, None) => Ok(Plan::Drawn(Drawn::read(options)?)),
         }
     }
 
@@ -74,6 +81,9 @@ impl<'a> Plan<'a> {
         ensures steps { IfOk result (λ course. (picks : List Pick) → AreOf course picks →
             ArePlanned (P.content paths.old) self.entry picks) }
         ensures listed { IfOk result (λ course. is_list course ≡ plan_is_list self.entry) }
+        ensures out { IfOk result (λ course. (cores : ℕ) (steps : List (Pick × Outcome)) → IsOut course cores steps →
+            IsPlannedOut self.entry cores steps) }
+        ensures none { IfErr result (HasNoCourse (P.content paths.old) self.entry) }
     {
         match self {
             Plan::Steps(steps) => Ok(Course::Listed(steps)),
@@ -86,9 +96,48 @@ impl<'a> Plan<'a> {
     }
 }
 
+// Refuses where none of the ways to say a schedule is taken, or more than one.
+fn check_way(options: &ScheduleOptions<'_>) -> Result<(), Refusal>
+    ensures one { OnOk result (is_one_way options.now ≡ true) }
+    ensures none { IfErr result (IsMisplanned options.now) }
+{
+    if is_one_way(options) {
+        return Ok(());
+    }
+    if is_no_way(options) && options.events.is_some() {
+        return Err(Refusal::Usage("--events"));
+    }
+    Err(Refusal::Usage("--steps"))
+}
+
+// Whether exactly one of the ways to say a schedule is taken.
+fn is_one_way(options: &ScheduleOptions<'_>) -> bool
+    ensures { result ≡ is_one_way options.now }
+{
+    if options.steps.is_some() {
+        !(options.path.is_some() || (options.in_turn || options.random.is_some()))
+    } else if options.path.is_some() {
+        !(options.in_turn || options.random.is_some())
+    } else if options.in_turn {
+        !options.random.is_some()
+    } else {
+        options.random.is_some()
+    }
+}
+
+// Whether none of them is.
+fn is_no_way(options: &ScheduleOptions<'_>) -> bool
+    ensures { result ≡ is_no_way options.now }
+{
+    !(options.steps.is_some()
+        || (options.path.is_some() || (options.in_turn || options.random.is_some())))
+}
+
 // Refuses what is said of a schedule that is drawn, beside one that is listed.
 fn check_listed(options: &ScheduleOptions<'_>) -> Result<(), Refusal>
-    ensures { OnOk result (SaysNoDraw options.now) }
+    requires { are_listed options.now ≡ true }
+    ensures none { OnOk result (SaysNoDraw options.now) }
+    ensures said { IfErr result (IsMisplanned options.now) }
 {
     if options.limit.is_some() {
         return Err(Refusal::Usage("--limit"));
@@ -104,7 +153,9 @@ fn check_listed(options: &ScheduleOptions<'_>) -> Result<(), Refusal>
 
 // The steps of a list.
 fn steps_said(alloc: Global, list: &str) -> Result<Vec<Pick>, Refusal>
-    ensures { IfOk result (λ picks. steps_of list.now ≡ Ok picks.items) }
+    ensures steps { IfOk result (λ picks. steps_of list.now ≡ Ok picks.items) }
+    ensures none { (options : ScheduleOptions) → option_copied options.steps ≡ Some list.now
+        → IfErr result (IsMisplanned options) }
 {
     match read_steps(alloc, list.as_bytes()) {
         Ok(steps) => Ok(steps),
@@ -129,7 +180,8 @@ pub struct Drawn {
 impl Drawn {
     // Reads `--random`, `--events`, `--seed` and `--limit`.
     fn read(options: &ScheduleOptions<'_>) -> Result<Drawn, Refusal>
-        ensures { IfOk result (IsDrawn options.now) }
+        ensures drawn { IfOk result (IsDrawn options.now) }
+        ensures none { IfErr result (IsMisplanned options.now) }
     {
         let seed = seed_of(options.random)?;
         let events = events_said(options.events)?;
@@ -145,7 +197,8 @@ impl Drawn {
 
     /// What picks the steps: each core, and the event that its step comes under.
     pub fn picker(self) -> Picker<'static>
-        ensures { AreDrawn self.events result.kinds }
+        ensures events { AreDrawn self.events result.kinds }
+        ensures turn { self.seed ≡ None → result.turn ≡ Some None }
     {
         let picker = match self.seed {
             Some(seed) => Picker::random(seed),
@@ -157,7 +210,9 @@ impl Drawn {
 
 // The seed of a schedule by chance, where it is one.
 fn seed_of(random: Option<&str>) -> Result<Option<u32>, Refusal>
-    ensures { IfOk result (IsSeed (option_copied random.entry)) }
+    ensures seed { IfOk result (IsSeed (option_copied random.entry)) }
+    ensures none { IfErr result (λ why. (text : List ℕ) × (option_copied random.entry ≡ Some text) × (word32 text ≡ None)
+        × IsMisuse (codes "--random") why) }
 {
     match random {
         Some(_) => Ok(Some(number_of(random, "--random")?)),
@@ -167,7 +222,9 @@ fn seed_of(random: Option<&str>) -> Result<Option<u32>, Refusal>
 
 // The events that are asked for: none, where the option is not given.
 fn events_said(events: Option<&str>) -> Result<Events, Refusal>
-    ensures { IfOk result (λ said. events_asked (option_copied events.entry) ≡ Some said) }
+    ensures events { IfOk result (λ said. events_asked (option_copied events.entry) ≡ Some said) }
+    ensures none { IfErr result (λ why. (text : List ℕ) × (option_copied events.entry ≡ Some text)
+        × (events_said text ≡ None) × IsMisuse (codes "--events") why) }
 {
     match events {
         Some(text) => events_of(text),
@@ -178,7 +235,8 @@ fn events_said(events: Option<&str>) -> Result<Events, Refusal>
 // What the events are drawn from. `--seed` says it where events are asked for and the schedule is not drawn by a seed of
 // its own.
 fn event_seed_of(options: &ScheduleOptions<'_>, random: Option<u32>) -> Result<u32, Refusal>
-    ensures { IfOk result (IsEventSeed options.now random) }
+    ensures seed { IfOk result (IsEventSeed options.now random) }
+    ensures none { IsSeed (option_copied options.now.random) random → IfErr result (IsMisplanned options.now) }
 {
     match (options.seed, random) {
         (None, random) => Ok(random.unwrap_or(1)),
@@ -188,7 +246,10 @@ fn event_seed_of(options: &ScheduleOptions<'_>, random: Option<u32>) -> Result<u
 }
 
 /// The most steps that `--limit` says, 1 or more; 1,000,000 where it is not given.
-pub fn limit_of(limit: Option<&str>) -> Result<u32, Refusal> {
+pub fn limit_of(limit: Option<&str>) -> Result<u32, Refusal>
+    ensures { MatchResult result (λ most. limit_said (option_copied limit.entry) ≡ Some most)
+        (λ why. (limit_said (option_copied limit.entry) ≡ None) × IsMisuse (codes "--limit") why) }
+{
     if limit.is_none() {
         return Ok(MOST_STEPS);
     }
@@ -200,7 +261,9 @@ pub fn limit_of(limit: Option<&str>) -> Result<u32, Refusal> {
 
 // The content of a schedule's file.
 fn text_of<P: Paths>(path: &str, paths: &mut P) -> Result<Vec<u8>, Fault>
-    ensures { IfOk result (λ text. IfSome (P.content paths.old path.now) (λ content. text.items ≡ content)) }
+    ensures none { IfErr result (λ fault. HasNoSchedule (P.content paths.old path.now) (Refusal.Fault fault)) }
+    ensures given { IfOk result (λ text. IfSome (P.content paths.old path.now) (λ content. text.items ≡ content)) }
+    ensures whole { IfOk result (λ text. Gives (P.content paths.old path.now) most_bytes text.items) }
 {
     match paths.read(path, MOST_BYTES) {
         Ok(text) => Ok(text),
@@ -211,7 +274,8 @@ fn text_of<P: Paths>(path: &str, paths: &mut P) -> Result<Vec<u8>, Fault>
 
 // The steps of a schedule text.
 fn steps_of(alloc: Global, text: &[u8]) -> Result<Vec<Pick>, Refusal>
-    ensures { IfOk result (λ picks. schedule_of text.now ≡ Ok picks.items) }
+    ensures steps { IfOk result (λ picks. schedule_of text.now ≡ Ok picks.items) }
+    ensures none { (content : Option (List ℕ)) → Gives content most_bytes text.now → IfErr result (HasNoSchedule content) }
 {
     match read_schedule(alloc, text) {
         Ok(steps) => Ok(steps),

@@ -1,8 +1,9 @@
 //! Schedules that are written to a file.
 
-ghost use Rattle.std.specs.Prelude.{◌≡◌, ℕ, IfOk, List, OnOk};
+ghost use Rattle.std.specs.Prelude.{◌≡◌, ℕ, IfErr, IfOk, IfSome, List, OnOk, false};
 ghost use Rattle.tm_schedule.specs.Schedule.{schedule_text};
 ghost use Rattle.elide_setup.specs.Recorded.{IsRecorded};
+ghost use Rattle.elide_setup.specs.Refused.{AreOne, IsOverProgram, IsUnrecorded};
 
 use crate::fault::{Fault, Refusal};
 use crate::gathered::Gathered;
@@ -12,23 +13,31 @@ use tm_model::Pick;
 use tm_schedule::write_schedule;
 
 /// The path that `--record` gives, which is not that of the program.
+#[tactic(auto, using(crate::proofs::OneFile::is_one))]
 pub fn record_path<'a, P: Paths>(
     path: Option<&'a str>,
     file: &str,
     paths: &mut P,
 ) -> Result<Option<&'a str>, Refusal>
     ensures kept { (other : List ℕ) → P.content paths.new other ≡ P.content paths.old other }
+    ensures steady { (one two : List ℕ) → P.are_one paths.new one two ≡ P.are_one paths.old one two }
     ensures given { IfOk result (λ given. given ≡ path.entry) }
+    ensures apart { IfOk result (λ _. IfSome path.entry (λ given. AreOne (P.are_one paths.old given.now file.now) false)) }
+    ensures over { IfErr result (IsOverProgram (P.are_one paths.old) path.entry file.now) }
 {
-    match path {
-        Some(path) if paths.is_same_file(path, file) => Err(Refusal::Usage("--record")),
-        path => Ok(path),
+    let Some(given) = path else {
+        return Ok(None);
+    };
+    if paths.is_same_file(given, file) {
+        return Err(Refusal::Usage("--record"));
     }
+    Ok(path)
 }
 
 /// Writes the schedule of these steps to a file, where there is a path.
 pub fn record<P: Paths>(path: Option<&str>, picks: &[Pick], paths: &mut P) -> Result<(), Refusal>
-    ensures { OnOk result (IsRecorded (P.content paths.new) path.entry picks.now) }
+    ensures written { OnOk result (IsRecorded (P.content paths.new) path.entry picks.now) }
+    ensures failed { IfErr result (IsUnrecorded path.entry) }
 {
     let Some(path) = path else {
         return Ok(());

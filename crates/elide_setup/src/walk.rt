@@ -1,14 +1,17 @@
 //! Runs over a schedule, listed or drawn.
 
 ghost use Rattle.std.specs.Prelude.{◌≡◌, ◌≤◌, ◌++◌, ◌∷◌, [], if◌then◌else◌, length, replicate, take, true};
-ghost use Rattle.std.specs.Prelude.{IfOk, List, Ok, OnOk};
+ghost use Rattle.std.specs.Prelude.{◌<◌, ◌⊎◌, ℕ, ⊤, All, IfErr, IfOk, List, Ok, OnOk, is_some, not};
 ghost use Rattle.tm_model.specs.Runs.{event_told, pick_of};
 ghost use Rattle.tm_model.specs.declared.outcome.Outcome.{Outcome};
 ghost use Rattle.tm_model.specs.declared.outcome.Pick.{Pick};
 ghost use Rattle.elide_setup.specs.Drawing.{AreUnder};
 ghost use Rattle.elide_setup.specs.Recorded.{IsRecorded};
+ghost use Rattle.elide_setup.specs.Refused.{IsNoCore, IsNoStep, IsNoWalk, IsUnrecorded, NamesNoCore};
+ghost use Rattle.elide_setup.specs.Rounds.{AreGoing, IsDrawnOut, IsOut, is_stop};
+ghost use Rattle.elide_setup.specs.declared.fault.Refusal.{Refusal};
 ghost use Rattle.elide_setup.specs.Runs.{AreBoardSteps, AreMachineSteps};
-ghost use Rattle.elide_setup.specs.Schedules.{AreOf, kept_of, lone_pick, picks_made, picks_told, schedule_made};
+ghost use Rattle.elide_setup.specs.Schedules.{AreOf, kept_of, listed_in, lone_pick, most_of, picks_made, picks_told, schedule_made};
 ghost use Rattle.elide_setup.specs.TmHist.Board.{IsOwedNext, SameBoard};
 ghost use Rattle.elide_setup.specs.Walks.{Leads};
 
@@ -35,9 +38,13 @@ pub trait StepMaker {
     // What steps do, each a pick with its outcome.
     ghost takes: { Self → List (Pick × Outcome) → Self → Type 0 };
 
+    // Why a step may be refused.
+    ghost refuses: { Refusal → Type 0 } = { λ _. ⊤ };
+
     /// Makes one step of a pick's core, under its event where it has one.
     fn make_step(&mut self, pick: Pick) -> Result<Outcome, Refusal>
-        ensures { IfOk result (λ outcome. takes self.old ((pick, outcome) ∷ []) self.new) };
+        ensures made { IfOk result (λ outcome. takes self.old ((pick, outcome) ∷ []) self.new) }
+        ensures refused { IfErr result refuses };
 
     /// Makes steps of a core side by side, under no event: one at least, and at most so many, 1 or more. Answers how many.
     fn make_run(&mut self, core: u8, most: u32) -> Result<u32, Refusal>
@@ -46,6 +53,7 @@ pub trait StepMaker {
             × (picks_made steps ≡ replicate count (lone_pick core)) × takes self.old steps self.new) }
         ensures some { IfOk result (λ count. 1 ≤ count) }
         ensures most { IfOk result (λ count. count ≤ most) }
+        ensures refused { IfErr result refuses }
     {
         self.make_step(Pick { core, event: None })?;
         Ok(1)
@@ -54,6 +62,8 @@ pub trait StepMaker {
 
 impl StepMaker for Machine {
     ghost takes = { AreMachineSteps };
+
+    ghost refuses = { IsNoCore };
 
     // Inlined, so that a walk that drops the outcome pays nothing for it.
     #[inline(always)]
@@ -73,6 +83,8 @@ impl StepMaker for Machine {
 impl StepMaker for Board {
     ghost takes = { AreBoardSteps };
 
+    ghost refuses = { IsNoStep };
+
     #[inline(always)]
     fn make_step(&mut self, pick: Pick) -> Result<Outcome, Refusal> {
         self.is_run();
@@ -88,6 +100,7 @@ fn board_step(board: &mut Board, pick: Pick) -> Result<Outcome, Refusal>
     ensures same { SameBoard board.old board.new }
     ensures ok { IfOk result (λ outcome. board.new.history ≡ board.old.history ++ (pick.core, outcome) ∷ []) }
     ensures under { IfOk result (λ outcome. IsOwedNext pick.event board.old pick.core outcome) }
+    ensures refused { IfErr result IsNoStep }
 {
     match pick.event {
         None => board_told(board.step(pick.core)),
@@ -98,7 +111,8 @@ fn board_step(board: &mut Board, pick: Pick) -> Result<Outcome, Refusal>
 // A board's answer, with the fault of a step that was not made.
 #[inline(always)]
 fn board_told(made: Result<Outcome, StepFault>) -> Result<Outcome, Refusal>
-    ensures { IfOk result (λ outcome. made ≡ Ok outcome) }
+    ensures made { IfOk result (λ outcome. made ≡ Ok outcome) }
+    ensures refused { IfErr result IsNoStep }
 {
     match made {
         Ok(outcome) => Ok(outcome),
@@ -109,7 +123,8 @@ fn board_told(made: Result<Outcome, StepFault>) -> Result<Outcome, Refusal>
 // A machine's answer, where there is no such core as the fault of a run.
 #[inline(always)]
 fn told(made: Result<Outcome, NoSuchCore>) -> Result<Outcome, Refusal>
-    ensures { IfOk result (λ outcome. made ≡ Ok outcome) }
+    ensures made { IfOk result (λ outcome. made ≡ Ok outcome) }
+    ensures refused { IfErr result IsNoCore }
 {
     match made {
         Ok(outcome) => Ok(outcome),
@@ -119,7 +134,8 @@ fn told(made: Result<Outcome, NoSuchCore>) -> Result<Outcome, Refusal>
 
 // The same of an answer to steps of one core.
 fn ran(made: Result<u32, NoSuchCore>) -> Result<u32, Refusal>
-    ensures { IfOk result (λ count. made ≡ Ok count) }
+    ensures made { IfOk result (λ count. made ≡ Ok count) }
+    ensures refused { IfErr result IsNoCore }
 {
     match made {
         Ok(count) => Ok(count),
@@ -129,7 +145,9 @@ fn ran(made: Result<u32, NoSuchCore>) -> Result<u32, Refusal>
 
 impl Course {
     /// How many steps there are at most: those of a list, or those that may be drawn.
-    pub fn most(&self) -> u64 {
+    pub fn most(&self) -> u64
+        ensures { result ≡ most_of self.now }
+    {
         match self {
             Course::Listed(steps) => steps.len() as u64,
             Course::Drawn(drawn) => u64::from(drawn.most),
@@ -137,12 +155,13 @@ impl Course {
     }
 
     /// That each pick of a list is of a core, of so many.
-    pub fn check_cores(&self, cores: u8) -> Result<(), Refusal> {
+    pub fn check_cores(&self, cores: u8) -> Result<(), Refusal>
+        ensures fit { OnOk result (All (λ (pick : Pick). pick.core < cores) (listed_in self.now)) }
+        ensures none { IfErr result (NamesNoCore (listed_in self.now) cores) }
+    {
         match self {
-            Course::Listed(steps) if steps.iter().any(|pick| pick.core >= cores) => {
-                Err(Refusal::Fault(Fault::Run(RunFault::NoSuchCore)))
-            }
-            _ => Ok(()),
+            Course::Listed(steps) => check_each(steps.as_slice(), cores),
+            Course::Drawn(_) => Ok(()),
         }
     }
 
@@ -159,8 +178,10 @@ impl Course {
         progress: &mut G,
     ) -> Result<Vec<Pick>, Refusal>
         requires { cores ≤ 64 }
-        ensures { IfOk result (λ kept. (steps : List (Pick × Outcome)) × AreOf self.now (picks_made steps)
-            × Leads S.takes maker.old steps maker.new × (kept.items ≡ kept_of self.now keeps steps)) }
+        ensures refused { IfErr result (IsNoWalk S.refuses) }
+        ensures walked { IfOk result (λ kept. (steps : List (Pick × Outcome)) × AreOf self.now (picks_made steps)
+            × Leads S.takes maker.old steps maker.new × (kept.items ≡ kept_of self.now keeps steps)
+            × IsOut self.now cores steps) }
     {
         let mut kept = Vec::new(alloc);
         let walked = self.walk_kept(cores, keeps, &mut kept, maker, progress);
@@ -180,8 +201,10 @@ impl Course {
     ) -> Result<(), Refusal>
         requires cores { cores ≤ 64 }
         requires none { kept.old.items ≡ [] }
-        ensures { IfOk result (λ _. (steps : List (Pick × Outcome)) × AreOf self.now (picks_made steps)
-            × Leads S.takes maker.old steps maker.new × (kept.new.items ≡ kept_of self.now keeps steps)) }
+        ensures refused { IfErr result (IsNoWalk S.refuses) }
+        ensures walked { IfOk result (λ _. (steps : List (Pick × Outcome)) × AreOf self.now (picks_made steps)
+            × Leads S.takes maker.old steps maker.new × (kept.new.items ≡ kept_of self.now keeps steps)
+            × IsOut self.now cores steps) }
     {
         match self {
             Course::Listed(steps) => walk_list(steps.as_slice(), maker, progress),
@@ -200,9 +223,11 @@ impl Course {
         progress: &mut G,
     ) -> Result<(), Refusal>
         requires { cores ≤ 64 }
-        ensures { IfOk result (λ _. (steps : List (Pick × Outcome)) × AreOf self.now (picks_made steps)
+        ensures refused { IfErr result (λ why. IsNoWalk S.refuses why ⊎ IsUnrecorded path.entry why) }
+        ensures walked { IfOk result (λ _. (steps : List (Pick × Outcome)) × AreOf self.now (picks_made steps)
             × Leads S.takes maker.old steps maker.new
-            × IsRecorded (P.content paths.new) path.entry (schedule_made self.now (picks_told steps))) }
+            × IsRecorded (P.content paths.new) path.entry (schedule_made self.now (picks_told steps))
+            × IsOut self.now cores steps) }
     {
         match self {
             Course::Listed(steps) => {
@@ -225,7 +250,8 @@ impl Course {
         kept: &[Pick],
         paths: &mut P,
     ) -> Result<(), Refusal>
-        ensures { OnOk result (IsRecorded (P.content paths.new) path.entry (schedule_made self.now kept.now)) }
+        ensures written { OnOk result (IsRecorded (P.content paths.new) path.entry (schedule_made self.now kept.now)) }
+        ensures failed { IfErr result (IsUnrecorded path.entry) }
     {
         record(path, self.schedule(kept), paths)
     }
@@ -241,13 +267,27 @@ impl Course {
     }
 }
 
+// That each of these picks is of a core, of so many.
+fn check_each(steps: &[Pick], cores: u8) -> Result<(), Refusal>
+    ensures fit { OnOk result (All (λ (pick : Pick). pick.core < cores) steps.now) }
+    ensures none { IfErr result (NamesNoCore steps.now cores) }
+{
+    for pick in steps {
+        if pick.core >= cores {
+            return Err(Refusal::Fault(Fault::Run(RunFault::NoSuchCore)));
+        }
+    }
+    Ok(())
+}
+
 // Makes the steps of a list, a portion after another.
 fn walk_list<S: StepMaker, G: Progress>(
     steps: &[Pick],
     maker: &mut S,
     progress: &mut G,
 ) -> Result<(), Refusal>
-    ensures { IfOk result (λ _. (made : List (Pick × Outcome)) × (picks_made made ≡ steps.now)
+    ensures refused { IfErr result S.refuses }
+    ensures walked { IfOk result (λ _. (made : List (Pick × Outcome)) × (picks_made made ≡ steps.now)
         × Leads S.takes maker.old made maker.new) }
 {
     let mut index = 0;
@@ -263,7 +303,8 @@ fn walk_list<S: StepMaker, G: Progress>(
 // The same of one portion: steps of one core side by side are made as a run.
 fn walk_portion<S: StepMaker>(steps: &[Pick], maker: &mut S) -> Result<(), Refusal>
     requires { length steps.now ≤ 65536 }
-    ensures { IfOk result (λ _. (made : List (Pick × Outcome)) × (picks_made made ≡ steps.now)
+    ensures refused { IfErr result S.refuses }
+    ensures walked { IfOk result (λ _. (made : List (Pick × Outcome)) × (picks_made made ≡ steps.now)
         × Leads S.takes maker.old made maker.new) }
 {
     let mut index = 0;
@@ -283,6 +324,7 @@ fn walk_front<S: StepMaker>(steps: &[Pick], maker: &mut S) -> Result<usize, Refu
         × Leads S.takes maker.old made maker.new) }
     ensures some { IfOk result (λ count. 1 ≤ count) }
     ensures most { IfOk result (λ count. count ≤ length steps.now) }
+    ensures refused { IfErr result S.refuses }
 {
     let first = steps[0];
     let count = run_length(first.core, steps);
@@ -309,7 +351,8 @@ fn run_length(core: u8, steps: &[Pick]) -> usize
 
 // Makes so many steps of a core under no event.
 fn walk_run<S: StepMaker>(core: u8, count: u32, maker: &mut S) -> Result<(), Refusal>
-    ensures { IfOk result (λ _. (made : List (Pick × Outcome))
+    ensures refused { IfErr result S.refuses }
+    ensures walked { IfOk result (λ _. (made : List (Pick × Outcome))
         × (picks_made made ≡ replicate count (lone_pick core)) × Leads S.takes maker.old made maker.new) }
 {
     let mut done = 0;
@@ -331,34 +374,58 @@ fn walk_drawn<S: StepMaker, G: Progress>(
     progress: &mut G,
 ) -> Result<(), Refusal>
     requires { cores ≤ 64 }
-    ensures { IfOk result (λ _. (steps : List (Pick × Outcome)) × AreUnder drawn.events (picks_made steps)
+    ensures refused { IfErr result (IsNoWalk S.refuses) }
+    ensures walked { IfOk result (λ _. (steps : List (Pick × Outcome)) × AreUnder drawn.events (picks_made steps)
         × Leads S.takes maker.old steps maker.new
-        × (kept.new.items ≡ kept.old.items ++ (if keeps then picks_told steps else []))) }
+        × (kept.new.items ≡ kept.old.items ++ (if keeps then picks_told steps else []))
+        × IsDrawnOut (not (is_some drawn.seed)) cores drawn.most steps) }
 {
     let mut going = Going::all(cores);
     let mut picker = drawn.picker();
     for number in 0..drawn.most {
         if going.is_empty() {
-            break;
+            return Ok(());
         }
         if number as usize % PORTION == 0 {
             progress.tell(u64::from(number), u64::from(drawn.most), "steps");
         }
         let pick = picker.next(&going, false);
         let outcome = maker.make_step(pick)?;
-        if let Outcome::Stopped(_) = outcome {
-            going.remove(pick.core);
-        }
+        settle(&mut going, pick, outcome);
         keep(keeps, kept, pick, outcome)?;
     }
     Ok(())
 }
 
+// Takes a core out that has stopped with a step.
+#[inline(always)]
+fn settle(going: &mut Going, pick: Pick, outcome: Outcome)
+    ensures { (cores : ℕ) (steps : List (Pick × Outcome)) → AreGoing cores steps going.old →
+        AreGoing cores (steps ++ (pick, outcome) ∷ []) going.new }
+{
+    if !is_stop(outcome) {
+        return;
+    }
+    going.remove(pick.core);
+}
+
+// Whether a core has stopped with this outcome.
+#[inline(always)]
+fn is_stop(outcome: Outcome) -> bool
+    ensures { result ≡ is_stop outcome }
+{
+    match outcome {
+        Outcome::Stopped(_) => true,
+        _ => false,
+    }
+}
+
 // Puts a step to a list, where it is to be kept, under the event that its outcome tells.
 #[inline(always)]
 fn keep(keeps: bool, list: &mut Vec<Pick>, pick: Pick, outcome: Outcome) -> Result<(), Refusal>
-    ensures { OnOk result (list.new.items
+    ensures kept { OnOk result (list.new.items
         ≡ list.old.items ++ (if keeps then pick_of (pick.core, outcome) ∷ [] else [])) }
+    ensures want { IfErr result (λ why. why ≡ Refusal.Fault (Fault.Run RunFault.NoMemory)) }
 {
     if !keeps {
         return Ok(());

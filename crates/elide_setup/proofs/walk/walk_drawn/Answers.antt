@@ -1,9 +1,11 @@
-use Rattle.std.proofs.Common.{[], ◌∷◌, ◌++◌, List, subst, sym}
+use Rattle.std.proofs.Common.{◌≡◌, ◌≤◌, [], ◌∷◌, ◌++◌, List, arith, length, refl, rules, subst, sym}
 use Rattle.tm_model.specs.declared.outcome.Outcome.{Outcome}
 use Rattle.tm_model.specs.declared.outcome.Pick.{Pick}
 use Rattle.tm_pick.specs.Drawn.{AreDrawn}
 use Rattle.tm_pick.specs.declared.kinds.Kinds.{Kinds}
 use Rattle.elide_setup.proofs.Drawing.{under_more}
+use Rattle.elide_setup.proofs.Rounds.{at_end, at_limit, begun, more_under_way, no_seed}
+use Rattle.std.specs.Prelude.{is_some, not}
 use Rattle.elide_setup.proofs.Walks.{kept_more, leads_more}
 use Rattle.elide_setup.proofs.walk.walk_drawn.Goals as goal
 
@@ -18,7 +20,47 @@ loop-number-preserved g c =
       made = (
         made.0 ++ others,
         under_more c.args.drawn.events c.loop-number.picker.kinds made.0 pick outcome c.loop-number.invariant.kinds c.next-pick.ensures.event c.next-pick.ensures.never made.1,
-        leads_more g.S.StepMaker.takes made.0 others c.args.maker.now c.loop-number.maker c.make_step.new.self made.2 c.in_ok-outcome.ensures,
-        kept_more c.args.keeps made.0 pick outcome _ _ _ made.3 c.in_ok-keep.ensures,
+        leads_more g.S.StepMaker.takes made.0 others c.args.maker.now c.loop-number.maker c.make_step.new.self made.2 c.in_ok-outcome.ensures.made,
+        kept_more c.args.keeps made.0 pick outcome _ _ _ made.3 c.in_ok-keep.ensures.kept,
+        more_under_way (not (is_some c.args.drawn.seed)) c.args.cores c.loop-number.number c.loop-number.going c.settle.new.going c.loop-number.picker.turn c.next-pick.new.self.turn made.0 pick outcome
+            made.4 c.next-pick.ensures.core c.next-pick.ensures.turn c.next-pick.ensures.goes_on (c.settle.ensures c.args.cores made.0 made.4.left),
       );
     }
+
+pub loop-number-init : goal.loop-number-init
+loop-number-init g c = record {
+  kinds = c.picker-picker.ensures.events;
+  made = (
+    [],
+    search rules,
+    ([], refl, refl),
+    search rules,
+    begun (not (is_some c.args.drawn.seed)) c.args.cores c.all-going.result c.picker-picker.result.turn c.all-going.ensures.below c.all-going.ensures.each
+        (λ e. c.picker-picker.ensures.turn (no_seed c.args.drawn.seed e)),
+  );
+}
+
+-- all cores have stopped
+pub returns-then-is_empty-clause-walked : goal.returns-then-is_empty-clause-walked
+returns-then-is_empty-clause-walked g c =
+    let made = c.loop-number.invariant.made in
+    let none : length c.loop-number.going ≡ 0 = search rules in
+    let few : c.loop-number.number ≤ c.args.drawn.most = omega arith in (
+      made.0,
+      made.1,
+      made.2,
+      made.3,
+      at_end (not (is_some c.args.drawn.seed)) c.args.cores c.args.drawn.most c.loop-number.number c.loop-number.going c.loop-number.picker.turn made.0 made.4 few none,
+    )
+
+-- there are as many steps as there may be
+pub returns-clause-walked : goal.returns-clause-walked
+returns-clause-walked g c =
+    let made = c.loop-number.invariant.made in
+    let all : c.loop-number.number ≡ c.args.drawn.most = omega arith in (
+      made.0,
+      made.1,
+      made.2,
+      made.3,
+      at_limit (not (is_some c.args.drawn.seed)) c.args.cores c.args.drawn.most c.loop-number.number c.loop-number.going c.loop-number.picker.turn made.0 made.4 all,
+    )

@@ -10,10 +10,10 @@ pub returns-then-count-lt-SHORTEST-clause-steps : goal.returns-then-count-lt-SHO
 returns-then-count-lt-SHORTEST-clause-steps g c = (
   (get_or c.args.steps.now 0 none, c.in_ok-make_step.field-0) ∷ [],
   first_step c.args.steps.now c.in_ok-make_step.field-0 none c.requires.some,
-  leads_one g.S.StepMaker.takes _ c.args.maker.now c.make_step.new.self c.in_ok-make_step.ensures,
+  leads_one g.S.StepMaker.takes _ c.args.maker.now c.make_step.new.self c.in_ok-make_step.ensures.made,
 )
 
 pub returns-clause-steps : goal.returns-clause-steps
 returns-clause-steps g c =
-    let made = c.in_ok-walk_run.ensures in
+    let made = c.in_ok-walk_run.ensures.walked in
     (made.0, made.1 ∙ sym c.run_length-count.ensures.alike, made.2)

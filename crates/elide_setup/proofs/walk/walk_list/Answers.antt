@@ -8,7 +8,7 @@ loop-index-preserved g c =
     let n : ℕ = c.min-count.result in
     let same : i + n - i ≡ n = omega arith in
     let made = c.loop-index.invariant.made in
-    let others = c.in_ok-walk_portion.ensures in
+    let others = c.in_ok-walk_portion.ensures.walked in
     record {
       most = omega arith;
       made = (

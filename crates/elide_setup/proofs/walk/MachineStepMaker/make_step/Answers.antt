@@ -2,12 +2,12 @@ use Rattle.std.proofs.Common.{None, Some}
 use Rattle.elide_setup.proofs.Runs.{machine_step}
 use Rattle.elide_setup.proofs.walk.MachineStepMaker.make_step.Goals as goal
 
-pub returns-in-None : goal.returns-in-None
-returns-in-None c =
+pub returns-in-None-clause-made : goal.returns-in-None-clause-made
+returns-in-None-clause-made c =
     machine_step None c.args.self.now c.step.new.self c.args.pick c.step.result c.told.result c.in-None.is c.step.ensures.same
-    c.step.ensures.ok c.step.ensures.run c.told.ensures
+    c.step.ensures.ok c.step.ensures.run c.told.ensures.made
 
-pub returns-in-Some : goal.returns-in-Some
-returns-in-Some c =
+pub returns-in-Some-clause-made : goal.returns-in-Some-clause-made
+returns-in-Some-clause-made c =
     machine_step (Some c.in-Some.event) c.args.self.now c.step_under.new.self c.args.pick c.step_under.result c.told-in-Some.result
-    c.in-Some.is c.step_under.ensures.same c.step_under.ensures.ok c.step_under.ensures.run c.told-in-Some.ensures
+    c.in-Some.is c.step_under.ensures.same c.step_under.ensures.ok c.step_under.ensures.run c.told-in-Some.ensures.made
