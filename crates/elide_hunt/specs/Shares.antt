@@ -1,7 +1,7 @@
 -- Runs that are shared out among threads.
 use Rattle.std.specs.Prelude.{◌≡◌, ℕ, ◌+◌, ◌-◌, ◌*◌, ◌/◌, ◌<◌, ◌≤◌, nat_lt, if◌then◌else◌, Option, Some, None}
-use Rattle.tm_pick.specs.declared.events.Events.{Events}
-use Rattle.tm_hunt.specs.Hunt.{HavePassed}
+use Rattle.elide_setup.specs.TmHist.Board.{ShownBoard as Board}
+use Rattle.tm_hunt.specs.Attempts.{HavePassed}
 use Rattle.tm_hunt.specs.declared.trial.Trial.{Trial}
 use Rattle.elide_hunt.specs.declared.block.Share.{Share}
 
@@ -14,7 +14,7 @@ abbrev pub IsFirstFailed : ℕ → ℕ → ℕ → Option ℕ → Type 0
 IsFirstFailed first end passed None = first ≤ end → first + passed ≡ end
 IsFirstFailed first end passed (Some run) = (first + passed ≡ run) × (run < end)
 
--- what a search over these runs under these events came to, without the schedule of the one that failed
-pub record IsShare (trial : Trial) (events : Events) (first end : ℕ) (share : Share) : Type 0 where
-  pub passed : HavePassed trial events (share.ended + share.cut)
+-- what a search over these runs came to, without the schedule of the one that failed
+pub record IsShare (trial : Trial) (made : ℕ → Board → Type 0) (first end : ℕ) (share : Share) : Type 0 where
+  pub passed : HavePassed trial made first share.ended share.cut
   pub failed : IsFirstFailed first end (share.ended + share.cut) share.failed

@@ -2,6 +2,7 @@
 
 ghost use Rattle.std.specs.Prelude.{◌≡◌, ℕ, ◌+◌, ◌^◌, ◌<◌, ◌≤◌, IfOk, length, option_map};
 ghost use Rattle.std.specs.List.{slice_index_or};
+ghost use Rattle.tm_hunt.specs.Sources.{IsPlannedRun};
 ghost use Rattle.elide_hunt.specs.Shares.{IsShare, share_start};
 
 use crate::fault::fault_of;
@@ -9,7 +10,7 @@ use elide_checks::{Fault, Refusal};
 use std::alloc::Global;
 use std::thread;
 use std::thread::Threads;
-use tm_hunt::{HuntFault, Search, Trial, first_failing};
+use tm_hunt::{HuntFault, PlannedRuns, Search, Trial, first_failing};
 use tm_pick::Plan;
 
 /// What some runs came to: the first that failed, and how many before it passed.
@@ -28,7 +29,8 @@ impl Share {
     fn then(self, next: &Share) -> Share
         requires { self.ended + self.cut + (next.now.ended + next.now.cut) < 2 ^ 32 }
         ensures failed { result.failed ≡ next.now.failed }
-        ensures passed { result.ended + result.cut ≡ self.ended + self.cut + (next.now.ended + next.now.cut) }
+        ensures ended { result.ended ≡ self.ended + next.now.ended }
+        ensures cut { result.cut ≡ self.cut + next.now.cut }
     {
         Share {
             failed: next.failed,
@@ -59,7 +61,7 @@ impl Block<'_> {
         requires some { 0 < self.now.jobs }
         requires ordered { self.now.first ≤ self.now.end }
         requires short { self.now.end < 2 ^ 32 }
-        ensures { IfOk result (IsShare self.now.trial self.now.plan.events self.now.first self.now.end) }
+        ensures { IfOk result (IsShare self.now.trial (IsPlannedRun self.now.plan) self.now.first self.now.end) }
     {
         let alloc = rt.alloc();
         let shares = thread::map_indices(
@@ -78,13 +80,13 @@ impl Block<'_> {
     fn share(&self, alloc: Global, job: usize) -> Result<Share, HuntFault>
         requires within { job < self.now.jobs }
         requires ordered { self.now.first ≤ self.now.end }
-        ensures { IfOk result (IsShare self.now.trial self.now.plan.events
+        ensures { IfOk result (IsShare self.now.trial (IsPlannedRun self.now.plan)
             (share_start self.now.first self.now.end self.now.jobs job)
             (share_start self.now.first self.now.end self.now.jobs (job + 1))) }
     {
         let first = self.start_of(job);
         let end = self.start_of(job + 1);
-        match first_failing(alloc, &self.trial, self.plan, first, end) {
+        match first_failing(alloc, &self.trial, &PlannedRuns, self.plan, first, end) {
             Ok(search) => Ok(share_of(&search)),
             Err(fault) => Err(fault),
         }
@@ -110,10 +112,10 @@ impl Block<'_> {
         requires short { self.now.end < 2 ^ 32 }
         requires counted { length shares.now ≡ self.now.jobs }
         requires each { (job : ℕ) (other : _) → job < self.now.jobs → IfOk (slice_index_or shares.now job other)
-            (IsShare self.now.trial self.now.plan.events
+            (IsShare self.now.trial (IsPlannedRun self.now.plan)
             (share_start self.now.first self.now.end self.now.jobs job)
             (share_start self.now.first self.now.end self.now.jobs (job + 1))) }
-        ensures { IfOk result (IsShare self.now.trial self.now.plan.events self.now.first self.now.end) }
+        ensures { IfOk result (IsShare self.now.trial (IsPlannedRun self.now.plan) self.now.first self.now.end) }
     {
         let mut all = Share {
             failed: None,

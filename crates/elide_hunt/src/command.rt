@@ -13,11 +13,13 @@ ghost use Rattle.tm_hunt.specs.Attempts.{IsFailure, IsSearch};
 ghost use Rattle.tm_hunt.specs.Cycle.{IsCycle};
 ghost use Rattle.tm_hunt.specs.Deciding.{cost_told, deciding};
 ghost use Rattle.tm_hunt.specs.Kept.{KeepsKinds};
+ghost use Rattle.tm_hunt.specs.Sources.{IsPlannedRun};
 ghost use Rattle.tm_hunt.specs.declared.trial.Trial.{Trial};
+ghost use Rattle.tm_pick.specs.declared.method.Plan.{Plan};
 ghost use Rattle.elide_object.specs.Object.{object_text};
 ghost use Rattle.elide_hunt.specs.Lines.{search_text};
 ghost use Rattle.elide_hunt.specs.Object.{search_value};
-ghost use Rattle.elide_hunt.specs.Printed.{IsHunted, IsPrinted, IsTold, IsTrialOf, answer_of};
+ghost use Rattle.elide_hunt.specs.Printed.{IsHunted, IsPlanOf, IsPrinted, IsTold, IsTrialOf, answer_of};
 
 use crate::fault::fault_of;
 use crate::object::tell_object;
@@ -56,9 +58,9 @@ impl Answer {
     }
 }
 
-/// Makes runs by chance until one fails, shortens its schedule, writes it and its page where that is asked for, and prints what
-/// came about. Answers whether a run failed and what became of its page, and gives the device back. Where the page cannot be
-/// written that is the refusal, and what came about is printed before.
+/// Makes the runs that the method draws, by their numbers, until one fails, shortens its schedule, writes it and its page where
+/// that is asked for, and prints what came about. Answers whether a run failed and what became of its page, and gives the device
+/// back. Where the page cannot be written that is the refusal, and what came about is printed before.
 pub fn hunt<R: Threads + Sync + AllocGlobal, P: Paths, O: Out + Drop, G: Progress, W: Pages>(
     rt: &R,
     options: &HuntOptions<'_>,
@@ -186,8 +188,8 @@ fn hunted<R: Threads + Sync + AllocGlobal, G: Progress>(
     progress: &mut G,
 ) -> Result<(Search, Beside), Refusal>
     ensures { IfOk result (λ made. (file : ProgramFile) × (setup : Setup) × (trial : Trial) × IsFile text.now file
-        × IsSetup file settings.now setup × IsTrialOf text.now file options.now setup trial
-        × IsHunted trial orders.now.events orders.now.first orders.now.end made.1 made.0) }
+        × IsSetup file settings.now setup × IsTrialOf text.now file options.now setup orders.now trial
+        × IsHunted trial orders.now made.1 made.0) }
 {
     let alloc = rt.alloc();
     let file = ProgramFile::read(alloc, text)?;
@@ -210,8 +212,8 @@ fn hunted_in<R: Threads + Sync + AllocGlobal, G: Progress>(
 ) -> Result<(Search, Beside), Refusal>
     ensures { (text : List ℕ) (file : ProgramFile) (options : HuntOptions) →
         AreChecks text file options demands.now.checks.items →
-        IfOk result (λ made. (trial : Trial) × IsTrialOf text file options setup.now trial
-        × IsHunted trial orders.now.events orders.now.first orders.now.end made.1 made.0) }
+        IfOk result (λ made. (trial : Trial) × IsTrialOf text file options setup.now orders.now trial
+        × IsHunted trial orders.now made.1 made.0) }
 {
     let checks = demands.checks(setup.program.mem_size(), setup.program.cores())?;
     let trial = Trial {
@@ -230,7 +232,7 @@ fn shortest<R: Threads + Sync + AllocGlobal, G: Progress>(
     orders: &Orders,
     progress: &mut G,
 ) -> Result<(Search, Beside), Refusal>
-    ensures { IfOk result (λ made. IsHunted trial.now orders.now.events orders.now.first orders.now.end made.1 made.0) }
+    ensures { IfOk result (λ made. IsHunted trial.now orders.now made.1 made.0) }
 {
     let Search { found, ended, cut } = tried(rt, trial, orders, progress)?;
     let Some(Found { run, mut failure }) = found else {
@@ -255,7 +257,8 @@ fn tried<R: Threads + Sync + AllocGlobal, G: Progress>(
     orders: &Orders,
     progress: &mut G,
 ) -> Result<Search, Refusal>
-    ensures { IfOk result (IsSearch trial.now orders.now.events orders.now.first orders.now.end) }
+    ensures { IfOk result (λ search. (plan : Plan) × IsPlanOf orders.now trial.now plan
+        × IsSearch trial.now (IsPlannedRun plan) orders.now.first orders.now.end search) }
 {
     let length = match usual_length(rt.alloc(), trial) {
         Ok(length) => length,

@@ -2,12 +2,13 @@
 
 ghost use Rattle.std.specs.Prelude.{◌^◌, ◌<◌, ◌≤◌, IfOk};
 ghost use Rattle.tm_hunt.specs.Attempts.{IsSearch};
+ghost use Rattle.tm_hunt.specs.Sources.{IsPlannedRun};
 
 use crate::block::Block;
 use crate::fault::fault_of;
 use elide_checks::{Orders, Progress, Refusal};
 use std::thread::Threads;
-use tm_hunt::{Search, Trial, first_failing};
+use tm_hunt::{PlannedRuns, Search, Trial, first_failing};
 use tm_pick::Plan;
 
 /// How many runs a thread makes before it is joined, at first and at most.
@@ -15,7 +16,7 @@ const FIRST_SHARE: u32 = 16;
 
 const MOST_SHARE: u32 = 4096;
 
-/// Makes the runs that are asked for until one fails, each thread a share of runs side by side. Of the runs that fail
+/// Makes the runs that are asked for by a plan until one fails, each thread a share of runs side by side. Of the runs that fail
 /// the one with the lowest number is told, and those with a lower one are counted, so that the answer does not depend
 /// on the threads. What is told is what that run comes to when it is made once more.
 pub fn searched<R: Threads + Sync + AllocGlobal, G: Progress>(
@@ -25,7 +26,8 @@ pub fn searched<R: Threads + Sync + AllocGlobal, G: Progress>(
     orders: &Orders,
     progress: &mut G,
 ) -> Result<Search, Refusal>
-    ensures { IfOk result (IsSearch trial.now plan.events orders.now.first orders.now.end) }
+    ensures { IfOk result (IsSearch trial.now (IsPlannedRun plan)
+        orders.now.first orders.now.end) }
 {
     let mut ended: u32 = 0;
     let mut cut: u32 = 0;
@@ -88,7 +90,8 @@ fn searched_in<R: Threads + Sync + AllocGlobal>(
     requires some { 0 < block.now.jobs }
     requires ordered { block.now.first ≤ block.now.end }
     requires short { block.now.end < 2 ^ 32 }
-    ensures { IfOk result (IsSearch block.now.trial block.now.plan.events block.now.first block.now.end) }
+    ensures { IfOk result (IsSearch block.now.trial (IsPlannedRun block.now.plan)
+        block.now.first block.now.end) }
 {
     let share = block.made(rt)?;
     let Some(failing) = share.failed else {
@@ -98,7 +101,14 @@ fn searched_in<R: Threads + Sync + AllocGlobal>(
             cut: share.cut,
         });
     };
-    match first_failing(rt.alloc(), &block.trial, block.plan, failing, block.end) {
+    match first_failing(
+        rt.alloc(),
+        &block.trial,
+        &PlannedRuns,
+        block.plan,
+        failing,
+        block.end,
+    ) {
         Ok(again) => Ok(Search {
             found: again.found,
             ended: share.ended + again.ended,

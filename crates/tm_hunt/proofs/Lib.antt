@@ -1,5 +1,8 @@
 pub mod Ending
 pub mod Passing
+pub mod Counted
+pub mod Halts
+pub mod Left
 pub mod Told
 pub mod KeptKinds
 pub mod Costs

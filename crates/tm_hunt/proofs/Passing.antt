@@ -1,27 +1,28 @@
--- One more run has passed.
-use Rattle.std.proofs.Common.{◌≡◌, ℕ, ◌+◌, List, [], ◌∷◌, arith, refl}
-use Rattle.std.proofs.lemmas.List.Elements.{All-cons, All-nil}
+-- Steps that are made one after another, and one more.
+use Rattle.std.proofs.Common.{◌≡◌, ℕ, List, [], ◌∷◌, ◌++◌, refl, sym, ap, ◌∙◌, subst}
+use Rattle.tm_core.specs.Theorem.{ShownMachine as Machine}
+use Rattle.tm_hist.specs.Board.{ShownBoard as Board}
+use Rattle.tm_model.specs.declared.outcome.Outcome.{Outcome}
 use Rattle.tm_model.specs.declared.outcome.Pick.{Pick}
-use Rattle.tm_pick.specs.Drawn.{AreDrawn}
-use Rattle.tm_pick.specs.declared.events.Events.{Events}
-use Rattle.tm_pick.specs.declared.kinds.Kinds.{Kinds}
-use Rattle.tm_hunt.specs.Attempts.{SomePasses}
-use Rattle.tm_hunt.specs.Hunt.{AreUnder, HavePassed, Passes}
-use Rattle.tm_hunt.specs.declared.trial.Trial.{Trial}
+use Rattle.tm_hunt.specs.Runs.{AreLeft, IsNext, IsStep, last_core}
 
-abbrev PassesUnder : Trial → Events → List Pick → Type 0
-PassesUnder trial events picks = Passes trial picks × AreUnder events picks
+pub last_more : (core : ℕ) (history : List (ℕ × Outcome)) (made : ℕ × Outcome) → last_core core (history ++ made ∷ []) ≡ made.0
+last_more core [] made = refl
+last_more core (before ∷ history) made = last_more before.0 history made
 
-pub none_passed : (trial : Trial) (events : Events) → HavePassed trial events 0
-none_passed trial events = record { schedules = []; counted = refl; each = All-nil (PassesUnder trial events) }
+pub last_is : (pick : Pick) (before after : Board) → IsStep pick before after → pick.core ≡ last_core 0 after.history
+last_is pick before after step =
+    sym (ap (last_core 0) step.made ∙ last_more 0 before.history (pick.core, step.outcome))
 
-pub one_more : (trial : Trial) (events : Events) (kinds : Kinds) (n m : ℕ) → m ≡ n + 1 → AreDrawn events kinds
-    → HavePassed trial events n → SomePasses trial kinds → HavePassed trial events m
-one_more trial events kinds n m next drawn before run =
-    let counted = before.counted in
-    record {
-      schedules = run.0 ∷ before.schedules;
-      counted = omega arith;
-      each =
-          All-cons (PassesUnder trial events) run.0 before.schedules (run.1, (kinds, drawn, run.2)) before.each;
-    }
+-- the next step, of a machine and a core that are those of the board
+pub next_of : {Steps : Type 0} (picks : Steps → Machine → ℕ → List ℕ → Pick → Steps → Type 0) (source next : Steps) (before after : Board) (machine : Machine) (last : ℕ)
+    (going : List ℕ) (pick : Pick) → machine ≡ before.machine → last ≡ last_core 0 before.history → AreLeft before going → picks source machine last going pick next →
+    IsStep pick before after → IsNext picks source next before after
+next_of picks source next before after machine last going pick same_machine same_last left picked step = record {
+  going = going;
+  left = left;
+  pick = pick;
+  picked = subst (λ (core : ℕ). picks source before.machine core going pick next) same_last
+      (subst (λ (shown : Machine). picks source shown last going pick next) same_machine picked);
+  step = step;
+}

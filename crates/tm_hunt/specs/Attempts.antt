@@ -1,19 +1,17 @@
 -- What a run comes to, and a search.
-use Rattle.std.specs.Prelude.{◌≡◌, ⊤, ℕ, ◌+◌, ◌<◌, ◌≤◌, true, List, length, Option, Some, None}
+use Rattle.std.specs.Prelude.{◌≡◌, ⊤, ℕ, suc, ◌+◌, ◌<◌, ◌≤◌, true, length, Option, Some, None}
+use Rattle.tm_check.specs.Checks.{HasEnded, IsViolatedAt, NoneViolated}
 use Rattle.tm_core.specs.Machine.{bad_limits}
-use Rattle.tm_hist.specs.Board.{bad_limit}
+use Rattle.tm_hist.specs.Board.{IsFull, ShownBoard as Board, bad_limit}
+use Rattle.tm_hist.specs.TmModel.Runs.{picks_of}
 use Rattle.tm_hist.specs.declared.board.BoardFault.{BoardFault}
 use Rattle.tm_hist.specs.declared.board.BoardFault.TheVariants.{BadLimit, BadLimits, NoMachine, NoMemory as NoHistory}
-use Rattle.tm_model.specs.declared.outcome.Pick.{Pick}
-use Rattle.tm_pick.specs.Kinds.{AreOfKinds}
-use Rattle.tm_pick.specs.declared.events.Events.{Events}
-use Rattle.tm_pick.specs.declared.kinds.Kinds.{Kinds}
-use Rattle.tm_hunt.specs.Hunt.{AreUnder, Fails, HavePassed, Passes}
+use Rattle.tm_hunt.specs.Hunt.{Fails, RunsTo}
 use Rattle.tm_hunt.specs.declared.attempt.Attempt.{Attempt}
 use Rattle.tm_hunt.specs.declared.attempt.Attempt.TheVariants.{Ended, Cut, Failed}
 use Rattle.tm_hunt.specs.declared.failure.Failure.{Failure}
 use Rattle.tm_hunt.specs.declared.attempt.HuntFault.{HuntFault}
-use Rattle.tm_hunt.specs.declared.attempt.HuntFault.TheVariants.{Board, NoMemory}
+use Rattle.tm_hunt.specs.declared.attempt.HuntFault.TheVariants.{Board as OfBoard, NoMemory}
 use Rattle.tm_hunt.specs.declared.searching.Found.{Found}
 use Rattle.tm_hunt.specs.declared.searching.Search.{Search}
 use Rattle.tm_hunt.specs.declared.trial.Trial.{Trial}
@@ -26,7 +24,7 @@ IsBoardRefusal trial (NoMachine memory) = ⊤
 IsBoardRefusal trial (NoHistory memory) = ⊤
 
 abbrev pub IsRefusal : Trial → HuntFault → Type 0
-IsRefusal trial (Board fault) = IsBoardRefusal trial fault
+IsRefusal trial (OfBoard fault) = IsBoardRefusal trial fault
 IsRefusal trial NoMemory = ⊤
 
 -- the failure is one, and all of its steps decide where it has not reached the limit
@@ -34,25 +32,39 @@ pub record IsFailure (trial : Trial) (failure : Failure) : Type 0 where
   pub fails : Fails trial failure.picks.items failure.check
   pub whole : length failure.picks.items < trial.most → failure.front ≡ length failure.picks.items
 
--- some run under events of these kinds violates no check
-abbrev pub SomePasses : Trial → Kinds → Type 0
-SomePasses trial kinds = (picks : List Pick) × Passes trial picks × AreOfKinds kinds picks
+-- What a run came to whose board is this one: it violates no check, and each core has stopped, or there are as many
+-- steps as there may be; or it violates this check, and all of its steps are the schedule, which decide.
+abbrev pub ComesTo : Trial → Board → Attempt → Type 0
+ComesTo trial board Ended = HasEnded board × NoneViolated board trial.checks.now
+ComesTo trial board Cut = IsFull board × ¬ (HasEnded board) × NoneViolated board trial.checks.now
+ComesTo trial board (Failed failure) =
+    IsViolatedAt board trial.checks.now failure.check × (failure.picks.items ≡ picks_of board.history)
+    × (failure.front ≡ length failure.picks.items)
 
--- what a run under events of these kinds came to
-abbrev pub IsAttempt : Trial → Kinds → Attempt → Type 0
-IsAttempt trial kinds Ended = SomePasses trial kinds
-IsAttempt trial kinds Cut = SomePasses trial kinds
-IsAttempt trial kinds (Failed failure) = IsFailure trial failure × AreOfKinds kinds failure.picks.items
+-- a run whose board was made so came to this
+pub record IsAttempt (trial : Trial) (made : Board → Type 0) (attempt : Attempt) : Type 0 where
+  pub board : Board
+  pub run : RunsTo trial (picks_of board.history) board
+  pub so : made board
+  pub came_to : ComesTo trial board attempt
+
+-- The runs of the numbers from a first one on were made, each as that of its number, and passed: so many of them ended,
+-- and so many reached the limit.
+pub data HavePassed (trial : Trial) (made : ℕ → Board → Type 0) (first : ℕ) : ℕ → ℕ → Type 0 where
+  none_passed : HavePassed trial made first 0 0
+  one_ended : {ended cut : ℕ} → HavePassed trial made first ended cut
+      → IsAttempt trial (made (first + (ended + cut))) Ended → HavePassed trial made first (suc ended) cut
+  one_cut : {ended cut : ℕ} → HavePassed trial made first ended cut
+      → IsAttempt trial (made (first + (ended + cut))) Cut → HavePassed trial made first ended (suc cut)
 
 -- the first run that failed, of runs below an end; or all passed
-abbrev pub IsFirst : Trial → Events → ℕ → ℕ → ℕ → Option Found → Type 0
-IsFirst trial events first end passed None = first ≤ end → first + passed ≡ end
-IsFirst trial events first end passed (Some found) =
-    IsFailure trial found.failure × AreUnder events found.failure.picks.items
-    × (first + passed ≡ found.run) × (found.run < end)
+abbrev pub IsFirst : Trial → (ℕ → Board → Type 0) → ℕ → ℕ → ℕ → Option Found → Type 0
+IsFirst trial made first end passed None = first ≤ end → first + passed ≡ end
+IsFirst trial made first end passed (Some found) =
+    IsAttempt trial (made found.run) (Failed found.failure) × (first + passed ≡ found.run) × (found.run < end)
 
--- a search over the runs from a first one up to an end, under these events: the runs before the one that failed were
--- made, and passed
-pub record IsSearch (trial : Trial) (events : Events) (first end : ℕ) (search : Search) : Type 0 where
-  pub passed : HavePassed trial events (search.ended + search.cut)
-  pub found : IsFirst trial events first end (search.ended + search.cut) search.found
+-- a search over the runs from a first one up to an end: those before the one that failed were made, each as that of its
+-- number, and passed
+pub record IsSearch (trial : Trial) (made : ℕ → Board → Type 0) (first end : ℕ) (search : Search) : Type 0 where
+  pub passed : HavePassed trial made first search.ended search.cut
+  pub found : IsFirst trial made first end (search.ended + search.cut) search.found

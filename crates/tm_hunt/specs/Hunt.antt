@@ -1,13 +1,9 @@
 -- What a search for a failing schedule comes to.
-use Rattle.std.specs.Prelude.{◌≡◌, ◌⊎◌, ℕ, List, All, length}
+use Rattle.std.specs.Prelude.{◌≡◌, ◌⊎◌, ℕ, List}
 use Rattle.tm_model.specs.declared.outcome.Pick.{Pick}
 use Rattle.tm_hist.specs.TmModel.Runs.{picks_of}
 use Rattle.tm_hist.specs.Board.{IsFull, IsHistory, ShownBoard as Board}
-use Rattle.tm_check.specs.Checks.{HasEnded, IsViolatedAt, NoneViolated}
-use Rattle.tm_pick.specs.Drawn.{AreDrawn}
-use Rattle.tm_pick.specs.Kinds.{AreOfKinds}
-use Rattle.tm_pick.specs.declared.events.Events.{Events}
-use Rattle.tm_pick.specs.declared.kinds.Kinds.{Kinds}
+use Rattle.tm_check.specs.Checks.{HasEnded, IsViolatedAt}
 use Rattle.tm_hunt.specs.declared.trial.Trial.{Trial}
 
 -- a board of what is tried: its program, its limits, and at most so many steps
@@ -35,20 +31,3 @@ SomeViolated trial board = (index : ℕ) × IsViolatedAt board trial.checks.now 
 -- a run goes on until each core has stopped, the limit is reached, or a check is violated
 abbrev pub IsOver : Trial → Board → Type 0
 IsOver trial board = (HasEnded board ⊎ IsFull board) ⊎ SomeViolated trial board
-
--- the run of this schedule comes to its end, and violates none
-pub record Passes (trial : Trial) (picks : List Pick) : Type 0 where
-  pub board : Board
-  pub run : RunsTo trial picks board
-  pub is_over : HasEnded board ⊎ IsFull board
-  pub keeps : NoneViolated board trial.checks.now
-
--- the events of a schedule are such as these runs come under: of their kinds, and none where they have none
-abbrev pub AreUnder : Events → List Pick → Type 0
-AreUnder events picks = (kinds : Kinds) × AreDrawn events kinds × AreOfKinds kinds picks
-
--- there are so many runs under these events, which may be alike, and each violates no check
-pub record HavePassed (trial : Trial) (events : Events) (count : ℕ) : Type 0 where
-  pub schedules : List (List Pick)
-  pub counted : length schedules ≡ count
-  pub each : All (λ (picks : List Pick). Passes trial picks × AreUnder events picks) schedules

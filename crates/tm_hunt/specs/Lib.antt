@@ -1,4 +1,6 @@
 pub mod Hunt
+pub mod Runs
+pub mod Sources
 pub mod Attempts
 pub mod Cost
 pub mod Kept

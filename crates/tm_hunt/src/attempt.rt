@@ -4,13 +4,13 @@ ghost use Rattle.std.specs.Prelude.{◌≡◌, ◌≤◌, IfErr, IfOk};
 ghost use Rattle.tm_hist.specs.TmModel.Runs.{picks_of};
 ghost use Rattle.tm_hist.specs.History.{pairs_of};
 ghost use Rattle.tm_hunt.specs.declared.attempt.HuntFault.TheVariants.{Board as OfBoard, NoMemory};
-ghost use Rattle.tm_hunt.specs.Attempts.{IsAttempt, IsRefusal};
+ghost use Rattle.tm_hunt.specs.Attempts.{ComesTo, IsAttempt, IsRefusal};
 ghost use Rattle.tm_hunt.specs.Hunt.{IsOver, IsTrialOf};
-ghost use Rattle.tm_pick.specs.Kinds.{AreOfKinds};
-ghost use Rattle.tm_pick.specs.declared.kinds.Kinds.{Kinds};
+ghost use Rattle.tm_hunt.specs.Runs.{AreStepsOf};
 
 use crate::failure::Failure;
 use crate::one_run::{board_of, run};
+use crate::source::StepSource;
 use crate::trial::Trial;
 use std::alloc::{AllocError, Global};
 use thiserror::Error;
@@ -57,19 +57,20 @@ pub enum Attempt {
     Failed(Failure),
 }
 
-/// Makes the run of these picks, on the board of its trial.
-pub fn try_run(
+/// Makes the run whose steps are picked so, on the board of its trial.
+pub fn try_run<S: StepSource>(
     alloc: Global,
     trial: &Trial<'_>,
     board: &mut Board,
-    picker: &mut Picker<'_>,
+    source: &mut S,
 ) -> Result<Attempt, HuntFault>
     requires of_trial { IsTrialOf trial.now board.old }
     ensures of_trial { IsTrialOf trial.now board.new }
-    ensures ok { IfOk result (IsAttempt trial.now picker.old.kinds) }
+    ensures ok { IfOk result (IsAttempt trial.now (AreStepsOf S.picks S.kinds source.old)) }
     ensures err { IfErr result (IsRefusal trial.now) }
 {
-    run(trial, board, picker);
+    run(trial, board, source);
+    board.is_run();
     judged(alloc, trial, board)
 }
 
@@ -84,14 +85,12 @@ pub fn usual_length(alloc: Global, trial: &Trial<'_>) -> Result<u32, HuntFault>
 }
 
 // What the run of a board came to.
+#[tactic(auto, using(crate::proofs::Ending::was_cut))]
 fn judged(alloc: Global, trial: &Trial<'_>, board: &Board) -> Result<Attempt, HuntFault>
-    requires of_trial { IsTrialOf trial.now board.now }
     requires over { IsOver trial.now board.now }
-    ensures ok { (kinds : Kinds) → AreOfKinds kinds (picks_of board.now.history) →
-        IfOk result (IsAttempt trial.now kinds) }
+    ensures ok { IfOk result (ComesTo trial.now board.now) }
     ensures err { IfErr result (IsRefusal trial.now) }
 {
-    board.is_run();
     match first_violated(trial.checks, board) {
         Some(check) => {
             let picks = picks_made(alloc, board.history())?;

@@ -1,22 +1,24 @@
 //! One run.
 
-ghost use Rattle.std.specs.Prelude.{◌≡◌, ◌<◌, ◌+◌, ◌++◌, ◌∷◌, ◌⊎◌, [], All, IfErr, IfOk, IfSome, IsNone, IsTrue};
+ghost use Rattle.std.specs.Prelude.{◌≡◌, ◌≢◌, ◌↔◌, ◌<◌, ◌+◌, ◌++◌, ◌∷◌, ◌⊎◌, [], ℕ, All, Contains, IfErr, IfOk, IsTrue};
 ghost use Rattle.std.specs.Prelude.{None, Some, length};
-ghost use Rattle.tm_hist.specs.Board.{SameBoard};
+ghost use Rattle.tm_hist.specs.Board.{IsOwedNext, SameBoard};
 ghost use Rattle.tm_hist.specs.TmModel.Runs.{event_told, picks_of};
+ghost use Rattle.tm_hist.specs.TmRule.Stop.{Stop};
 ghost use Rattle.tm_pick.specs.Kinds.{AreOfKinds, IsOfKinds};
 ghost use Rattle.tm_pick.specs.declared.kinds.Kinds.{Kinds};
 ghost use Rattle.tm_hunt.specs.Attempts.{IsBoardRefusal};
-ghost use Rattle.tm_check.specs.Checks.{HasEnded};
 ghost use Rattle.tm_hunt.specs.Hunt.{IsOver, IsTrialOf, SomeViolated};
+ghost use Rattle.tm_hunt.specs.Runs.{AreLeft, AreStepsOf, IsStep};
 
+use crate::source::StepSource;
 use crate::trial::Trial;
 use std::alloc::Global;
-use tm_check::{Check, first_violated, has_ended};
+use tm_check::{Check, first_violated};
 use tm_core::{Outcome, Stop};
 use tm_hist::{Board, BoardFault};
 use tm_model::{Event, Pick};
-use tm_pick::{Going, Picker};
+use tm_pick::Going;
 
 /// The board of a trial, before its first step.
 pub fn board_of(alloc: Global, trial: &Trial<'_>) -> Result<Board, BoardFault>
@@ -28,81 +30,84 @@ pub fn board_of(alloc: Global, trial: &Trial<'_>) -> Result<Board, BoardFault>
 
 /// Takes the board of a trial back before its first step, and makes the steps that are picked: until each core has
 /// stopped, or one for a reason that is checked, or the limit is reached.
-pub fn run(trial: &Trial<'_>, board: &mut Board, picker: &mut Picker<'_>)
+pub fn run<S: StepSource>(trial: &Trial<'_>, board: &mut Board, source: &mut S)
     requires of_trial { IsTrialOf trial.now board.old }
     ensures of_trial { IsTrialOf trial.now board.new }
     ensures over { IsOver trial.now board.new }
-    ensures kinds { AreOfKinds picker.old.kinds (picks_of board.new.history) }
+    ensures steps { AreStepsOf S.picks S.kinds source.old board.new }
 {
     board.restart();
-    step_all(trial, picker, board);
+    step_all(trial, source, board);
 }
 
 // Makes the steps that are picked.
-#[tactic(auto, using(crate::proofs::Told::none_made))]
-fn step_all(trial: &Trial<'_>, picker: &mut Picker<'_>, board: &mut Board)
+fn step_all<S: StepSource>(trial: &Trial<'_>, source: &mut S, board: &mut Board)
     requires new { board.old.history ≡ [] }
     ensures same { SameBoard board.old board.new }
     ensures over { IsOver trial.now board.new }
-    ensures kinds { AreOfKinds picker.old.kinds (picks_of board.new.history) }
+    ensures steps { AreStepsOf S.picks S.kinds source.old board.new }
 {
     let mut going = all_cores(board);
     let mut last = 0;
     'steps: while board.made() < board.limit() {
-        let Some(left) = left_of(going, board) else {
+        if going.is_empty() {
             return;
-        };
-        going = left;
-        let told = picker.heeds(trial.program, board.machine(), last);
-        let pick = picker.next(&going, told);
+        }
+        let pick = source.next_step(trial.program, board.machine(), last, &going);
         last = pick.core;
-        if step_one(trial, board, &mut going, pick) {
+        let outcome = step_one(board, &mut going, pick);
+        if is_violated(trial, board, outcome) {
             return;
         }
     }
 }
 
-// All cores.
+// All cores, of which none has stopped before the first step.
+#[tactic(auto, using(crate::proofs::Left::all_left))]
 fn all_cores(board: &Board) -> Going
-    ensures some { 0 < length result }
-    ensures below { All (λ core. core < length board.now.program.entries) result }
+    requires { board.now.history ≡ [] }
+    ensures { AreLeft board.now result }
 {
     board.is_run();
     Going::all(board.machine().cores())
 }
 
-// The cores that have not stopped, where there is one.
-fn left_of(going: Going, board: &Board) -> Option<Going>
-    requires { All (λ core. core < length board.now.program.entries) going }
-    ensures none { IsNone result → HasEnded board.now }
-    ensures some { IfSome result (λ left. 0 < length left) }
-    ensures below { IfSome result (All (λ core. core < length board.now.program.entries)) }
-{
-    if !going.is_empty() {
-        return Some(going);
-    }
-    if has_ended(board) {
-        return None;
-    }
-    Some(all_cores(board))
-}
-
-// Makes the step of a pick, and takes its core out where it stops. Whether a check is violated now.
+// Makes the step of a pick, and takes its core out where it stops.
 #[tactic(auto, using(crate::proofs::Told::step_of))]
-fn step_one(trial: &Trial<'_>, board: &mut Board, going: &mut Going, pick: Pick) -> bool
-    requires below { All (λ core. core < length board.old.program.entries) going.old }
-    requires is_core { pick.core < length board.old.program.entries }
+fn step_one(board: &mut Board, going: &mut Going, pick: Pick) -> Outcome
+    requires left { AreLeft board.old going.old }
+    requires among { Contains going.old pick.core }
     requires room { length board.old.history < board.old.limit }
-    ensures same { SameBoard board.old board.new }
-    ensures below { All (λ core. core < length board.old.program.entries) going.new }
-    ensures one_more { length board.new.history ≡ length board.old.history + 1 }
+    ensures step { IsStep pick board.old board.new }
+    ensures left { AreLeft board.new going.new }
     ensures kinds { (kinds : Kinds) → IsOfKinds kinds pick.event → AreOfKinds kinds (picks_of board.old.history) →
         AreOfKinds kinds (picks_of board.new.history) }
-    ensures violated { IsTrue result → SomeViolated trial.now board.new }
 {
-    match make_step(board, pick) {
+    board.is_run();
+    let outcome = make_step(board, pick);
+    board.is_run();
+    take_out(going, pick.core, outcome);
+    outcome
+}
+
+// Takes a core out that has stopped with this outcome.
+fn take_out(going: &mut Going, core: u8, outcome: Outcome)
+    ensures stopped { (why : Stop) → outcome ≡ Outcome.Stopped why →
+        (other : ℕ) → Contains going.new other ↔ (Contains going.old other × (other ≢ core)) }
+    ensures goes_on { ((why : Stop) → outcome ≢ Outcome.Stopped why) → going.new ≡ going.old }
+{
+    match outcome {
+        Outcome::Stopped(_why) => going.remove(core),
+        _ => {}
+    }
+}
+
+// Whether a check is violated behind a step with this outcome, which is looked for where a core has stopped.
+fn is_violated(trial: &Trial<'_>, board: &Board, outcome: Outcome) -> bool
+    ensures { IsTrue result → SomeViolated trial.now board.now }
+{
+    match outcome {
         Outcome::Stopped(why) => {
-            going.remove(pick.core);
             is_checked(trial.checks, why) && first_violated(trial.checks, board).is_some()
         }
         _ => false,
@@ -114,6 +119,7 @@ fn make_step(board: &mut Board, pick: Pick) -> Outcome
     requires is_core { pick.core < length board.old.program.entries }
     requires room { length board.old.history < board.old.limit }
     ensures same { SameBoard board.old board.new }
+    ensures owed { IsOwedNext pick.event board.old pick.core result }
     ensures made { board.new.history ≡ board.old.history ++ (pick.core, result) ∷ [] }
     ensures told { (event_told result ≡ None) ⊎ (event_told result ≡ pick.event) }
 {
@@ -128,6 +134,7 @@ fn step_alone(board: &mut Board, core: u8) -> Outcome
     requires is_core { core < length board.old.program.entries }
     requires room { length board.old.history < board.old.limit }
     ensures same { SameBoard board.old board.new }
+    ensures owed { IsOwedNext None board.old core result }
     ensures made { board.new.history ≡ board.old.history ++ (core, result) ∷ [] }
     ensures told { event_told result ≡ None }
 {
@@ -143,6 +150,7 @@ fn step_under(board: &mut Board, core: u8, event: Event) -> Outcome
     requires is_core { core < length board.old.program.entries }
     requires room { length board.old.history < board.old.limit }
     ensures same { SameBoard board.old board.new }
+    ensures owed { IsOwedNext (Some event) board.old core result }
     ensures made { board.new.history ≡ board.old.history ++ (core, result) ∷ [] }
     ensures told { (event_told result ≡ None) ⊎ (event_told result ≡ Some event) }
 {

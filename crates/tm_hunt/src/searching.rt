@@ -1,13 +1,17 @@
 //! Runs by chance, until one fails.
 
 ghost use Rattle.std.specs.Prelude.{IfErr, IfOk};
-ghost use Rattle.tm_hunt.specs.Attempts.{IsRefusal, IsSearch};
+ghost use Rattle.tm_hunt.specs.Attempts.{IsAttempt, IsRefusal, IsSearch};
+ghost use Rattle.tm_hunt.specs.Hunt.{IsTrialOf};
+ghost use Rattle.tm_hunt.specs.Runs.{IsOfRun};
 
 use crate::attempt::{Attempt, HuntFault, try_run};
 use crate::failure::Failure;
 use crate::one_run::board_of;
+use crate::source::RunSource;
 use crate::trial::Trial;
 use std::alloc::Global;
+use tm_hist::Board;
 use tm_pick::Plan;
 
 /// A run that was found to fail.
@@ -30,24 +34,24 @@ pub struct Search {
     pub cut: u32,
 }
 
-/// Makes the runs of these numbers, from the first one up to the end, until one violates a check. They come under the
-/// events of the plan, and under none where it has none.
-pub fn first_failing(
+/// Makes the runs of these numbers by a plan, from the first one up to the end, until one violates a check. They come
+/// under the events of the plan, and under none where it has none.
+pub fn first_failing<S: RunSource>(
     alloc: Global,
     trial: &Trial<'_>,
+    runs: &S,
     plan: Plan,
     first: u32,
     end: u32,
 ) -> Result<Search, HuntFault>
-    ensures ok { IfOk result (IsSearch trial.now plan.events first end) }
+    ensures ok { IfOk result (IsSearch trial.now (IsOfRun S.begins S.Steps.picks plan) first end) }
     ensures err { IfErr result (IsRefusal trial.now) }
 {
-    let cores = trial.program.cores();
     let mut board = board_of(alloc, trial)?;
     let mut ended = 0;
     let mut cut = 0;
     'runs: for run in first..end {
-        match try_run(alloc, trial, &mut board, &mut plan.run(run, cores))? {
+        match run_of(alloc, trial, &mut board, runs, plan, run)? {
             Attempt::Ended => ended += 1,
             Attempt::Cut => cut += 1,
             Attempt::Failed(failure) => {
@@ -64,4 +68,22 @@ pub fn first_failing(
         ended,
         cut,
     })
+}
+
+// Makes the run of this number, on the board of its trial.
+fn run_of<S: RunSource>(
+    alloc: Global,
+    trial: &Trial<'_>,
+    board: &mut Board,
+    runs: &S,
+    plan: Plan,
+    number: u32,
+) -> Result<Attempt, HuntFault>
+    requires of_trial { IsTrialOf trial.now board.old }
+    ensures of_trial { IsTrialOf trial.now board.new }
+    ensures ok { IfOk result (IsAttempt trial.now (IsOfRun S.begins S.Steps.picks plan number)) }
+    ensures err { IfErr result (IsRefusal trial.now) }
+{
+    let mut steps = runs.run(plan, number, trial.program.cores());
+    try_run(alloc, trial, board, &mut steps)
 }

@@ -82,6 +82,7 @@ fn picker_of<'a>(trial: &Trial<'_>, front: &'a [Pick], length: usize) -> Picker<
 }
 
 // What the run of a front comes to, where it fails, behind a failure whose run has so many steps.
+#[tactic(auto, using(crate::proofs::Ending::failure_of))]
 fn failure_of(
     alloc: Global,
     trial: &Trial<'_>,

@@ -1,6 +1,6 @@
 //! A machine that makes the steps of a list.
 
-ghost use Rattle.std.specs.Prelude.{◌≡◌, ◌∷◌, [], IfErr, IfOk, IsTrue};
+ghost use Rattle.std.specs.Prelude.{◌≡◌, ◌-◌, ◌∷◌, [], IfErr, IfOk, IsTrue, length};
 ghost use Rattle.tm_core.specs.Theorem.{SameMachine};
 ghost use Rattle.tm_hist.specs.TmModel.Runs.{event_told};
 ghost use Rattle.tm_hunt.specs.Attempts.{IsBoardRefusal};
@@ -54,7 +54,9 @@ impl<'a> Walker<'a> {
     }
 
     /// How many steps of the list are left.
-    pub fn left(&self) -> usize {
+    pub fn left(&self) -> usize
+        ensures { result ≡ length self.now.picks.now - self.now.made }
+    {
         self.picks.len().saturating_sub(self.made)
     }
 

@@ -20,6 +20,7 @@ returns g c =
     (subst (λ (known : Option (List ℕ)). Gives known most_bytes bytes)
     (c.page_path.ensures.kept options.machine.file.now) c.in_ok-text.ensures.given) in
     let one = c.in_ok-search.search in
+    let orders = c.in_ok-orders.orders in
     let beside = c.in_ok-search.beside in
     let made = c.in_ok-search.ensures in
     record {
@@ -28,16 +29,20 @@ returns g c =
         file = made.0;
         read = record { text = bytes; given = given; read = subst (λ (text : List ℕ). IsFile text made.0) c.as_slice.ensures.value made.3 };
         settings = c.in_ok-settings.settings;
-        said = c.in_ok-settings.ensures;
+        said = c.in_ok-settings.ensures.settings;
         made = made.4;
       };
       trial = made.2;
-      made = subst (λ (text : List ℕ). IsTrialOf text made.0 options made.1 made.2) c.as_slice.ensures.value made.5;
-      first = c.in_ok-orders.orders.first;
-      end = c.in_ok-orders.orders.end;
-      runs = c.in_ok-orders.ensures.runs;
-      events = c.in_ok-orders.orders.events;
-      said = c.in_ok-orders.ensures.events;
+      made = subst (λ (text : List ℕ). IsTrialOf text made.0 options made.1 orders made.2) c.as_slice.ensures.value made.5;
+      orders = orders;
+      ordered = record {
+        runs = c.in_ok-orders.ensures.runs;
+        seed = c.in_ok-orders.ensures.seed;
+        method = c.in_ok-orders.ensures.method;
+        events = c.in_ok-orders.ensures.events;
+        most = c.in_ok-orders.ensures.most;
+        jobs = c.in_ok-orders.ensures.jobs;
+      };
       beside = beside;
       search = one;
       hunted = made.6;

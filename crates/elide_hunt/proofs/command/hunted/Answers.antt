@@ -16,8 +16,8 @@ returns g c =
     let read = c.in_ok-file.file in
     let loaded = c.in_ok-setup.setup in
     IfOk-weaker c.hunted_in-made.result
-    (λ (made : Search × Beside). (trial : Trial) × IsTrialOf c.args.text.now read options loaded trial × IsHunted trial orders.events orders.first orders.end made.1 made.0)
+    (λ (made : Search × Beside). (trial : Trial) × IsTrialOf c.args.text.now read options loaded orders trial × IsHunted trial orders made.1 made.0)
     (λ (made : Search × Beside). (file : ProgramFile) × (setup : Setup) × (trial : Trial) × IsFile c.args.text.now file
-    × IsSetup file c.args.settings.now setup × IsTrialOf c.args.text.now file options setup trial × IsHunted trial orders.events orders.first orders.end made.1 made.0)
-    (λ made t. (read, loaded, t.0, c.in_ok-file.ensures.file, c.in_ok-setup.ensures, t.1, t.2))
+    × IsSetup file c.args.settings.now setup × IsTrialOf c.args.text.now file options setup orders trial × IsHunted trial orders made.1 made.0)
+    (λ made t. (read, loaded, t.0, c.in_ok-file.ensures.file, c.in_ok-setup.ensures.setup, t.1, t.2))
     (c.hunted_in-made.ensures c.args.text.now read options c.in_ok-demands.ensures)

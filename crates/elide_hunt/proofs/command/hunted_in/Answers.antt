@@ -5,5 +5,5 @@ use Rattle.elide_hunt.proofs.command.hunted_in.Goals as goal
 
 pub returns : goal.returns
 returns g c text file options are =
-    with_trial _ c.args.orders.now.events text file options c.args.setup.now c.args.orders.now.first c.args.orders.now.end c.shortest.result c.shortest.ensures refl refl
+    with_trial _ c.args.orders.now text file options c.args.setup.now c.shortest.result c.shortest.ensures refl refl refl
     (subst (AreChecks text file options) (sym c.in_ok-checks.ensures) are)

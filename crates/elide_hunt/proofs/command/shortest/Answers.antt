@@ -6,7 +6,7 @@ use Rattle.elide_hunt.proofs.command.shortest.Goals as goal
 
 pub returns : goal.returns
 returns g c =
-    shortened_hunt c.args.trial.now c.args.orders.now.events c.args.orders.now.first c.args.orders.now.end
+    shortened_hunt c.args.trial.now c.args.orders.now
     (record { before = c.counts_of-before.result; cycle = c.in_ok-cycle.cycle })
     c.in_ok-found.field-0 c.in-Some.field-0 c.shortened.new.failure c.in-Some.is c.in_ok-found.ensures
     (subst (λ (picks : List Pick). c.counts_of-before.result ≡ counts_of picks) c.as_slice.ensures.value c.counts_of-before.ensures)

@@ -1,5 +1,7 @@
-use Rattle.std.proofs.Common.{rules, ◌≡◌, ◌+◌, ℕ, true, false, arith, refl, subst, Result, Ok, None}
+use Rattle.std.proofs.Common.{rules, ◌≡◌, ◌+◌, ℕ, true, false, arith, subst, Result, Ok, None}
 use Rattle.std.specs.Prelude.{IfOk, is_some}
+use Rattle.elide_setup.specs.TmHist.Board.{ShownBoard as Board}
+use Rattle.tm_hunt.specs.Sources.{IsPlannedRun}
 use Rattle.tm_hunt.specs.declared.attempt.HuntFault.{HuntFault}
 use Rattle.elide_hunt.specs.Shares.{IsShare, share_start}
 use Rattle.elide_hunt.specs.declared.block.Share.{Share}
@@ -9,48 +11,53 @@ use Rattle.elide_hunt.proofs.block.Block.joined.Goals as goal
 pub loop-share-init : goal.loop-share-init
 loop-share-init c =
     let block = c.args.self.now in
-    joined_none block.trial block.plan.events block.first block.end block.jobs (record { failed = None; ended = 0; cut = 0 }) c.requires.some refl refl refl
+    let made : ℕ → Board → Type 0 = IsPlannedRun block.plan in
+    joined_none block.trial made block.first block.end block.jobs c.requires.some
 
 pub then-all-requires : goal.then-all-requires
 then-all-requires c =
     let block = c.args.self.now in
+    let made : ℕ → Board → Type 0 = IsPlannedRun block.plan in
     let index = c.loop-share.share-index in
-    let Gives : Result Share HuntFault → Type 0 = λ r. IfOk r (IsShare block.trial block.plan.events (share_start block.first block.end block.jobs index)
+    let Gives : Result Share HuntFault → Type 0 = λ r. IfOk r (IsShare block.trial made (share_start block.first block.end block.jobs index)
     (share_start block.first block.end block.jobs (index + 1))) in
     let given = subst Gives c.in-Ok.is (c.requires.each index (Ok (record { failed = None; ended = 0; cut = 0 })) (omega arith)) in
     let next = share_next block.first block.end block.jobs index c.requires.ordered in
     let most = share_most block.first block.end block.jobs (index + 1) c.requires.ordered in
-    let fits = share_fits block.trial block.plan.events _ _ c.in-Ok.next next given in
+    let fits = share_fits block.trial made _ _ c.in-Ok.next next given in
     let before = c.loop-share.invariant.counted in
     omega arith
 
 pub returns-then-is_some : goal.returns-then-is_some
 returns-then-is_some c =
     let block = c.args.self.now in
+    let made : ℕ → Board → Type 0 = IsPlannedRun block.plan in
     let index = c.loop-share.share-index in
-    let Gives : Result Share HuntFault → Type 0 = λ r. IfOk r (IsShare block.trial block.plan.events (share_start block.first block.end block.jobs index)
+    let Gives : Result Share HuntFault → Type 0 = λ r. IfOk r (IsShare block.trial made (share_start block.first block.end block.jobs index)
     (share_start block.first block.end block.jobs (index + 1))) in
     let given = subst Gives c.in-Ok.is (c.requires.each index (Ok (record { failed = None; ended = 0; cut = 0 })) (omega arith)) in
     let some : is_some c.then-all.result.failed ≡ true = search rules in
-    joined_failed block.trial block.plan.events block.first block.end block.jobs index c.then-all.result c.requires.ordered some
-    (joined_share block.trial block.plan.events block.first block.end block.jobs index c.loop-share.all c.in-Ok.next c.then-all.result c.requires.ordered
-    c.loop-share.invariant given c.then-all.ensures.failed c.then-all.ensures.passed)
+    joined_failed block.trial made block.first block.end block.jobs index c.then-all.result c.requires.ordered some
+    (joined_share block.trial made block.first block.end block.jobs index c.loop-share.all c.in-Ok.next c.then-all.result c.requires.ordered
+    c.loop-share.invariant given c.then-all.ensures.failed c.then-all.ensures.ended c.then-all.ensures.cut)
 
 pub loop-share-preserved : goal.loop-share-preserved
 loop-share-preserved c =
     let block = c.args.self.now in
+    let made : ℕ → Board → Type 0 = IsPlannedRun block.plan in
     let index = c.loop-share.share-index in
-    let Gives : Result Share HuntFault → Type 0 = λ r. IfOk r (IsShare block.trial block.plan.events (share_start block.first block.end block.jobs index)
+    let Gives : Result Share HuntFault → Type 0 = λ r. IfOk r (IsShare block.trial made (share_start block.first block.end block.jobs index)
     (share_start block.first block.end block.jobs (index + 1))) in
     let given = subst Gives c.in-Ok.is (c.requires.each index (Ok (record { failed = None; ended = 0; cut = 0 })) (omega arith)) in
     let none : is_some c.then-all.result.failed ≡ false = search rules in
-    joined_more block.trial block.plan.events block.first block.end block.jobs index c.then-all.result c.requires.ordered (none_of c.then-all.result.failed none)
-    (joined_share block.trial block.plan.events block.first block.end block.jobs index c.loop-share.all c.in-Ok.next c.then-all.result c.requires.ordered
-    c.loop-share.invariant given c.then-all.ensures.failed c.then-all.ensures.passed)
+    joined_more block.trial made block.first block.end block.jobs index c.then-all.result c.requires.ordered (none_of c.then-all.result.failed none)
+    (joined_share block.trial made block.first block.end block.jobs index c.loop-share.all c.in-Ok.next c.then-all.result c.requires.ordered
+    c.loop-share.invariant given c.then-all.ensures.failed c.then-all.ensures.ended c.then-all.ensures.cut)
 
 pub returns : goal.returns
 returns c =
     let block = c.args.self.now in
+    let made : ℕ → Board → Type 0 = IsPlannedRun block.plan in
     let last : c.loop-share.share-index ≡ block.jobs = omega arith in
-    joined_all block.trial block.plan.events block.first block.end block.jobs c.loop-share.all
-    (subst (λ (n : ℕ). Joined block.trial block.plan.events block.first block.end block.jobs n c.loop-share.all) last c.loop-share.invariant)
+    joined_all block.trial made block.first block.end block.jobs c.loop-share.all
+    (subst (λ (n : ℕ). Joined block.trial made block.first block.end block.jobs n c.loop-share.all) last c.loop-share.invariant)

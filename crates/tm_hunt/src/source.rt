@@ -1,0 +1,73 @@
+//! What makes runs, and the steps of a run.
+
+ghost use Rattle.std.specs.Prelude.{◌≡◌, ◌<◌, ◌≤◌, ℕ, List, Contains, length};
+ghost use Rattle.tm_core.specs.Theorem.{ShownMachine};
+ghost use Rattle.tm_model.specs.declared.outcome.Pick.{Pick};
+ghost use Rattle.tm_pick.specs.Drawn.{AreDrawn};
+ghost use Rattle.tm_pick.specs.Kinds.{IsOfKinds};
+ghost use Rattle.tm_pick.specs.declared.kinds.Kinds.{Kinds};
+ghost use Rattle.tm_pick.specs.declared.method.Plan.{Plan};
+ghost use Rattle.tm_hunt.specs.Sources.{BeginsByPlan, PicksNext};
+
+use tm_core::{Machine, Program};
+use tm_model::Pick;
+use tm_pick::{Going, Picker, Plan};
+
+/// What picks the steps of a run, one after another.
+pub trait StepSource {
+    // The step that it picks next on a machine, where the step before was of this core, and these cores have not
+    // stopped; and what picks the step behind it.
+    ghost picks: { Self → ShownMachine → ℕ → List ℕ → Pick → Self → Type 0 };
+
+    // The kinds of the events that its steps come under.
+    ghost kinds: { Self → Kinds };
+
+    /// The next step, of a core that has not stopped, with its event, if any. It sees the machine, which is one of the
+    /// program, and the core of the step before, 0 before the first one.
+    fn next_step(&mut self, program: &Program, machine: &Machine, last: u8, going: &Going) -> Pick
+        requires { 0 < length going.now }
+        ensures core { Contains going.now result.core }
+        ensures picked { picks self.old machine.now last going.now result self.new }
+        ensures event { IsOfKinds (kinds self.old) result.event }
+        ensures same { kinds self.new ≡ kinds self.old };
+}
+
+/// What makes the runs of a search by their numbers.
+pub trait RunSource {
+    /// What picks the steps of a run.
+    type Steps: StepSource + Drop;
+
+    // What picks the steps of the run of this number by a plan, for a machine of so many cores.
+    ghost begins: { Plan → ℕ → ℕ → Self.Steps → Type 0 };
+
+    /// What picks the steps of the run of this number by a plan, for a machine of so many cores.
+    fn run(&self, plan: Plan, number: u32, cores: u8) -> Self::Steps
+        requires { cores ≤ 64 }
+        ensures begun { begins plan number cores result }
+        ensures kinds { AreDrawn plan.events (Self.Steps.kinds result) };
+}
+
+impl StepSource for Picker<'_> {
+    ghost picks = { PicksNext };
+
+    ghost kinds = { λ picker. picker.kinds };
+
+    fn next_step(&mut self, program: &Program, machine: &Machine, last: u8, going: &Going) -> Pick {
+        let told = self.heeds(program, machine, last);
+        self.next(going, told)
+    }
+}
+
+/// The runs that a plan draws.
+#[derive(Clone, Copy)]
+pub struct PlannedRuns;
+
+impl RunSource for PlannedRuns {
+    type Steps = Picker<'static>;
+
+    ghost begins = { BeginsByPlan };
+
+    fn run(&self, plan: Plan, number: u32, cores: u8) -> Picker<'static> {
+        plan.run(number, cores)
+    }
+}
