@@ -1,1 +1,2 @@
-mod Recording
+pub mod Recording
+pub mod Telling

@@ -1,6 +1,7 @@
 //! A schedule, run twice: once to count its steps, where it is drawn step by step, and once to watch them.
 
 ghost use Rattle.std.specs.Prelude.{◌≡◌, IfOk, List};
+ghost use Rattle.elide_draw.specs.Told.{AreTold, IsToldOf};
 ghost use Rattle.elide_draw.specs.Watched.{IsTally, IsWatched};
 ghost use Rattle.elide_setup.specs.Runs.{AreMachineSteps};
 ghost use Rattle.elide_setup.specs.Schedules.{AreOf, kept_of, picks_made};
@@ -8,6 +9,8 @@ ghost use Rattle.elide_setup.specs.TmCore.Theorem.{ShownMachine};
 ghost use Rattle.elide_setup.specs.Walks.{Leads};
 ghost use Rattle.tm_model.specs.declared.outcome.Outcome.{Outcome};
 ghost use Rattle.tm_model.specs.declared.outcome.Pick.{Pick};
+ghost use Rattle.tm_timeline.specs.Told.{Grows, IsBlank, SameSteps};
+ghost use Rattle.tm_timeline.specs.declared.timeline.Timeline.{Timeline};
 
 use crate::rounds::Rounds;
 use crate::scene::Scene;
@@ -99,7 +102,8 @@ pub fn watched<S: Scene + Drop, G: Progress>(
     sums: &[&str],
     progress: &mut G,
 ) -> Result<Timeline, Refusal>
-    ensures { IfOk result (λ _. (made : List (Pick × Outcome)) × IsWatched setup.now course.now made) }
+    ensures { IfOk result (λ timeline. (made : List (Pick × Outcome)) × IsWatched setup.now course.now made
+        × IsToldOf window made timeline) }
 {
     let machine = new_machine(alloc, setup)?;
     match opened(alloc, setup, &machine, window, &scene, sums) {
@@ -128,7 +132,9 @@ fn opened<S: Scene>(
     window: Window,
     scene: &S,
     sums: &[&str],
-) -> Result<Timeline, Refusal> {
+) -> Result<Timeline, Refusal>
+    ensures { IfOk result (λ begun. (blank : Timeline) × IsBlank window blank × SameSteps blank begun) }
+{
     shown_memory(machine.view(), &setup.parts, &[])?;
     let mut timeline = Timeline::new(alloc, machine.cores(), window)?;
     match tell_opening(alloc, machine, scene, sums, &mut timeline) {
@@ -137,13 +143,16 @@ fn opened<S: Scene>(
     }
 }
 
+#[tactic(auto, using(crate::proofs::Telling::same_self, crate::proofs::Telling::same_more))]
 fn tell_opening<S: Scene>(
     alloc: Global,
     machine: &Machine,
     scene: &S,
     sums: &[&str],
     timeline: &mut Timeline,
-) -> Result<(), AllocError> {
+) -> Result<(), AllocError>
+    ensures { SameSteps timeline.old timeline.new }
+{
     for sum in sums {
         timeline.add_variable(alloc, Label::of(*sum))?;
     }
@@ -156,8 +165,9 @@ fn watched_by<S: Scene + Drop, G: Progress>(
     mut watcher: Watcher<S>,
     progress: &mut G,
 ) -> Result<Timeline, Refusal>
-    ensures { IfOk result (λ _. (made : List (Pick × Outcome)) × AreOf course.now (picks_made made)
-        × (after : ShownMachine) × Leads AreMachineSteps watcher.machine made after) }
+    ensures { IfOk result (λ done. (made : List (Pick × Outcome)) × AreOf course.now (picks_made made)
+        × (after : ShownMachine) × Leads AreMachineSteps watcher.machine made after
+        × (last : Timeline) × AreTold watcher.timeline made last × (done.next ≡ last.next) × Grows last done) }
 {
     match watch(alloc, course, &mut watcher, progress) {
         Ok(()) => Ok(watcher.into_timeline()),
@@ -176,7 +186,9 @@ fn watch<S: Scene, G: Progress>(
     progress: &mut G,
 ) -> Result<(), Refusal>
     ensures { IfOk result (λ _. (made : List (Pick × Outcome)) × AreOf course.now (picks_made made)
-        × Leads AreMachineSteps watcher.old.machine made watcher.new.machine) }
+        × Leads AreMachineSteps watcher.old.machine made watcher.new.machine
+        × (last : Timeline) × AreTold watcher.old.timeline made last
+        × (watcher.new.timeline.next ≡ last.next) × Grows last watcher.new.timeline) }
 {
     let cores = watcher.machine.cores();
     course.walk(alloc, cores, false, watcher, progress)?;

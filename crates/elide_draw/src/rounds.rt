@@ -1,5 +1,7 @@
 //! Steps in which cores wait.
 
+ghost use Rattle.tm_timeline.specs.Told.{SameSteps};
+
 use elide_setup::{Machine, Outcome};
 use ia_insn::Op;
 use ia_regs::Regs;
@@ -33,6 +35,7 @@ impl Rounds {
 
     /// Tells a timeline in which steps a core waited, behind a step that it was told: on PAUSE outside of transactions, and in each
     /// round of a loop outside of them that ended with the registers which it began with, and stored nothing.
+    #[tactic(auto, using(crate::proofs::Telling::same_self, crate::proofs::Telling::same_more))]
     pub fn tell(
         &mut self,
         machine: &Machine,
@@ -40,7 +43,9 @@ impl Rounds {
         outcome: &Outcome,
         deed: &Deed,
         timeline: &mut Timeline,
-    ) {
+    )
+        ensures { SameSteps timeline.old timeline.new }
+    {
         let index = usize::from(core);
         let Ok(regs) = machine.regs(core) else {
             return;
@@ -53,19 +58,34 @@ impl Rounds {
             return;
         }
         let next = timeline.next();
-        if is_pause(deed) {
-            timeline.waited(core, next.saturating_sub(1));
-        }
+        tell_pause(core, deed, timeline);
         if regs.eip > deed.eip {
             return;
         }
-        let begun = self.list[index];
-        if let Some(round) = begun {
-            if round.regs == regs {
-                timeline.waited(core, round.step);
-            }
-        }
+        tell_round(core, self.list[index], &regs, timeline);
         self.list[index] = Some(Round { regs, step: next });
+    }
+}
+
+// Tells that a core waited in its last step, where that was PAUSE.
+#[tactic(auto, using(crate::proofs::Telling::same_self))]
+fn tell_pause(core: u8, deed: &Deed, timeline: &mut Timeline)
+    ensures { SameSteps timeline.old timeline.new }
+{
+    if is_pause(deed) {
+        let next = timeline.next();
+        timeline.waited(core, next.saturating_sub(1));
+    }
+}
+
+// Tells that a core waited in a round that ends with these registers, where it began with them.
+#[tactic(auto, using(crate::proofs::Telling::same_self))]
+fn tell_round(core: u8, begun: Option<Round>, regs: &Regs, timeline: &mut Timeline)
+    ensures { SameSteps timeline.old timeline.new }
+{
+    match begun {
+        Some(round) if round.regs == *regs => timeline.waited(core, round.step),
+        _ => {}
     }
 }
 

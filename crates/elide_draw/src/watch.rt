@@ -1,7 +1,9 @@
 //! A step, and whom it hits.
 
-ghost use Rattle.std.specs.Prelude.{IfOk};
+ghost use Rattle.std.specs.Prelude.{◌≡◌, ◌∷◌, [], IfOk, OnOk};
+ghost use Rattle.elide_draw.specs.Told.{AreTold};
 ghost use Rattle.elide_setup.specs.Runs.{AreMachineSteps, IsMachineStep};
+ghost use Rattle.tm_timeline.specs.Told.{SameSteps};
 
 use crate::rounds::Rounds;
 use crate::scene::Scene;
@@ -28,14 +30,17 @@ pub struct Watcher<S> {
 
 impl<S: Scene + Drop> Watcher<S> {
     /// The timeline.
-    pub fn into_timeline(self) -> Timeline {
+    pub fn into_timeline(self) -> Timeline
+        ensures { result ≡ self.timeline }
+    {
         let Watcher { timeline, .. } = self;
         timeline
     }
 }
 
 impl<S: Scene> StepMaker for Watcher<S> {
-    ghost takes = { λ before steps after. AreMachineSteps before.machine steps after.machine };
+    ghost takes = { λ before steps after. AreMachineSteps before.machine steps after.machine
+        × AreTold before.timeline steps after.timeline };
 
     fn make_step(&mut self, pick: Pick) -> Result<Outcome, Refusal> {
         watch_step(
@@ -56,7 +61,8 @@ fn watch_step<S: Scene>(
     scene: &S,
     rounds: &mut Rounds,
 ) -> Result<Outcome, Refusal>
-    ensures { IfOk result (λ outcome. IsMachineStep machine.old pick outcome machine.new) }
+    ensures step { IfOk result (λ outcome. IsMachineStep machine.old pick outcome machine.new) }
+    ensures told { IfOk result (λ outcome. AreTold timeline.old ((pick, outcome) ∷ []) timeline.new) }
 {
     let core = pick.core;
     let before = if timeline.shows_steps() {
@@ -71,13 +77,30 @@ fn watch_step<S: Scene>(
     };
     let outcome = machine.make_step(pick)?;
     tell_hits(machine, core, &uses, timeline)?;
-    tell_step(machine, core, outcome, before, timeline, scene, rounds)?;
+    tell_step(machine, pick, outcome, before, timeline, scene, rounds)?;
     tell_variables(machine, scene.variables(), timeline)?;
     Ok(outcome)
 }
 
-// Tells what a step was, and, of one that is drawn, what it did and whether its core waited.
+// Tells what a step was, and what there is to tell of one that is drawn.
 fn tell_step<S: Scene>(
+    machine: &Machine,
+    pick: Pick,
+    outcome: Outcome,
+    before: Option<Before>,
+    timeline: &mut Timeline,
+    scene: &S,
+    rounds: &mut Rounds,
+) -> Result<(), AllocError>
+    ensures { OnOk result (AreTold timeline.old ((pick, outcome) ∷ []) timeline.new) }
+{
+    timeline.told(pick.core, outcome)?;
+    tell_deed(machine, pick.core, outcome, before, timeline, scene, rounds)
+}
+
+// Tells of a step that is drawn what it did and whether its core waited.
+#[tactic(auto, using(crate::proofs::Telling::same_self, crate::proofs::Telling::same_more))]
+fn tell_deed<S: Scene>(
     machine: &Machine,
     core: u8,
     outcome: Outcome,
@@ -85,8 +108,9 @@ fn tell_step<S: Scene>(
     timeline: &mut Timeline,
     scene: &S,
     rounds: &mut Rounds,
-) -> Result<(), AllocError> {
-    timeline.told(core, outcome)?;
+) -> Result<(), AllocError>
+    ensures { SameSteps timeline.old timeline.new }
+{
     let Some(deed) = deed_of(machine, core, &outcome, before) else {
         return Ok(());
     };
@@ -105,18 +129,35 @@ fn deed_of(machine: &Machine, core: u8, outcome: &Outcome, before: Option<Before
 }
 
 /// Tells what memory has at each variable.
+#[tactic(auto, using(crate::proofs::Telling::same_self, crate::proofs::Telling::same_more))]
 pub fn tell_variables(
     machine: &Machine,
     addresses: &[u32],
     timeline: &mut Timeline,
-) -> Result<(), AllocError> {
+) -> Result<(), AllocError>
+    ensures { SameSteps timeline.old timeline.new }
+{
     let memory = machine.view();
     for index in 0..addresses.len() {
-        if let Some(value) = doubleword_at(memory, addresses[index]) {
-            timeline.tell_variable(index, value)?;
-        }
+        tell_variable(memory, addresses[index], index, timeline)?;
     }
     Ok(())
+}
+
+// Tells what memory has at the variable of this index, where it has a doubleword there.
+#[tactic(auto, using(crate::proofs::Telling::same_self))]
+fn tell_variable(
+    memory: &[u8],
+    address: u32,
+    index: usize,
+    timeline: &mut Timeline,
+) -> Result<(), AllocError>
+    ensures { SameSteps timeline.old timeline.new }
+{
+    match doubleword_at(memory, address) {
+        Some(value) => timeline.tell_variable(index, value),
+        None => Ok(()),
+    }
 }
 
 // The doubleword at an address, where memory has it.
@@ -134,18 +175,36 @@ fn doubleword_at(memory: &[u8], address: u32) -> Option<u32> {
 }
 
 // Tells the transactions that were open before the step and are condemned behind it.
+#[tactic(auto, using(crate::proofs::Telling::same_self, crate::proofs::Telling::same_more))]
 fn tell_hits(
     machine: &Machine,
     core: u8,
     uses: &Option<Uses>,
     timeline: &mut Timeline,
-) -> Result<(), AllocError> {
+) -> Result<(), AllocError>
+    ensures { SameSteps timeline.old timeline.new }
+{
     for victim in 0..machine.cores() {
-        if timeline.is_open(victim) && is_condemned(machine, victim) {
-            timeline.hit(victim, core, use_on(uses, victim))?;
-        }
+        tell_hit(machine, core, victim, uses, timeline)?;
     }
     Ok(())
+}
+
+// Tells the transaction of a core, where it was open before the step and is condemned behind it.
+#[tactic(auto, using(crate::proofs::Telling::same_self))]
+fn tell_hit(
+    machine: &Machine,
+    core: u8,
+    victim: u8,
+    uses: &Option<Uses>,
+    timeline: &mut Timeline,
+) -> Result<(), AllocError>
+    ensures { SameSteps timeline.old timeline.new }
+{
+    if !timeline.is_open(victim) || !is_condemned(machine, victim) {
+        return Ok(());
+    }
+    timeline.hit(victim, core, use_on(uses, victim))
 }
 
 // Whether the transaction of a core is doomed.

@@ -1,8 +1,9 @@
 //! What `elide stats` tells of the steps that were counted: in columns, and as JSON.
 //!
-//! Promises no more than safety: that the counts are those of the steps that were told of is proved of `tm_stats`; what is
-//! printed is compared by `doc_tests`. Stands on `tm_stats` for the counts, on `elide_program` for the symbols of a program and on
-//! `elide_places` for how they are shown.
+//! Promised: a report has a row for each count, in their order (`specs/Rows.antt`), and in columns each number stands behind its
+//! own name (`specs/Columns.antt`). That the counts are those of the steps that were told is proved of `tm_stats`. The sums of
+//! steps, the sizes, what places and causes are called, and the JSON are compared by `doc_tests`. Stands on `tm_stats` for the
+//! counts, on `elide_program` for the symbols of a program and on `elide_places` for how they are shown.
 #![tactic(auto)]
 
 mod columns;

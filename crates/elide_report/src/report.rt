@@ -1,9 +1,17 @@
 //! What is told of a run, row by row.
 
+ghost use Rattle.std.specs.Prelude.{◌≡◌, ◌++◌, ◌∷◌, [], IfOk, OnOk, sum, sum_by};
+ghost use Rattle.std.specs.List.{AllZip};
+ghost use Rattle.elide_report.specs.Rows.{AreStepsOf, IsAbortRow, IsHitRow, IsLineRow, IsPlaceRow, IsSum};
+ghost use Rattle.elide_report.specs.Rows.{lost_of_place, steps_of_size, use_text};
+
 use crate::labels::Labels;
+use indexmap::IndexMap;
 use serde::Serialize;
 use std::alloc::{AllocError, Global};
-use tm_stats::{Conflict, Conflicts, PlaceCause, PlaceSize, RunCounts, Spread, Tally, spread_from};
+use tm_stats::{
+    Conflict, Conflicts, PlaceCause, PlaceCounts, PlaceSize, RunCounts, Spread, Tally, spread_from,
+};
 
 /// What is told of a run. Addresses have eight hexadecimal digits.
 #[derive(Drop, Serialize)]
@@ -115,13 +123,17 @@ pub struct HitRow {
 }
 
 impl Report {
+    ghost use Rattle.elide_report.specs.Rows.{IsReportOf};
+
     /// What is told of the steps that were counted and of the transactions that they hit, both sorted.
     pub fn of(
         alloc: Global,
         counts: &RunCounts,
         conflicts: &Conflicts,
         labels: &Labels<'_>,
-    ) -> Result<Report, AllocError> {
+    ) -> Result<Report, AllocError>
+        ensures { IfOk result (IsReportOf counts.now conflicts.now) }
+    {
         let mut report = Report::begun(alloc, counts);
         match report.fill(alloc, counts, conflicts, labels) {
             Ok(()) => Ok(report),
@@ -130,7 +142,9 @@ impl Report {
     }
 
     // How the steps divide, and no row yet.
-    fn begun(alloc: Global, counts: &RunCounts) -> Report {
+    fn begun(alloc: Global, counts: &RunCounts) -> Report
+        ensures { AreStepsOf counts.now result.steps }
+    {
         Report {
             steps: steps_of(counts),
             transactions: Vec::new(alloc),
@@ -148,7 +162,10 @@ impl Report {
         counts: &RunCounts,
         conflicts: &Conflicts,
         labels: &Labels<'_>,
-    ) -> Result<(), AllocError> {
+    ) -> Result<(), AllocError>
+        requires { AreStepsOf counts.now self.old.steps }
+        ensures { IfOk result (λ _. IsReportOf counts.now conflicts.now self.new) }
+    {
         self.transactions = places_of(alloc, counts, labels)?;
         self.aborts = aborts_of(alloc, &counts.causes)?;
         self.sizes = sizes_of(alloc, counts)?;
@@ -159,26 +176,61 @@ impl Report {
 }
 
 // How the steps divide.
-fn steps_of(counts: &RunCounts) -> StepsRow {
-    let mut committed = 0u64;
-    for (key, many) in counts.lengths.iter() {
-        committed = committed.saturating_add(key.size.saturating_mul(*many));
-    }
-    let mut aborted = 0u64;
-    for (_place, row) in counts.places.iter() {
-        aborted = aborted.saturating_add(row.lost);
-    }
-    let mut open = 0u64;
-    for steps in counts.under_way.iter() {
-        open = open.saturating_add(*steps);
-    }
+fn steps_of(counts: &RunCounts) -> StepsRow
+    ensures { AreStepsOf counts.now result }
+{
     StepsRow {
         all: counts.steps,
         outside: counts.outside,
-        committed,
-        aborted,
-        open,
+        committed: committed_steps(&counts.lengths),
+        aborted: lost_steps(&counts.places),
+        open: open_steps(&counts.under_way),
         idle: counts.idle,
+    }
+}
+
+// The steps of the transactions that committed.
+fn committed_steps(lengths: &Tally<PlaceSize>) -> u64
+    ensures { IsSum (sum_by steps_of_size lengths.now.entries) result }
+{
+    let mut steps = 0u64;
+    for index in 0..lengths.len() {
+        let (key, many) = lengths.get_index(index).unwrap();
+        steps = steps.saturating_add(key.size.saturating_mul(*many));
+    }
+    steps
+}
+
+// The steps of those that aborted.
+fn lost_steps(places: &IndexMap<u32, PlaceCounts>) -> u64
+    ensures { IsSum (sum_by lost_of_place places.now.entries) result }
+{
+    let mut steps = 0u64;
+    for index in 0..places.len() {
+        let (_, row) = places.get_index(index).unwrap();
+        steps = steps.saturating_add(row.lost);
+    }
+    steps
+}
+
+// The steps of those that are open, of all cores.
+fn open_steps(under_way: &[u64]) -> u64
+    ensures { IsSum (sum under_way.now) result }
+{
+    let mut steps = 0u64;
+    for core in 0..under_way.len() {
+        steps = steps.saturating_add(under_way[core]);
+    }
+    steps
+}
+
+// Adds a row.
+fn add<T: Drop>(rows: &mut Vec<T>, row: T) -> Result<(), AllocError>
+    ensures { OnOk result (rows.new.items ≡ rows.old.items ++ row ∷ []) }
+{
+    match rows.push(row) {
+        Ok(()) => Ok(()),
+        Err(_) => Err(AllocError),
     }
 }
 
@@ -191,33 +243,54 @@ fn places_of(
     alloc: Global,
     counts: &RunCounts,
     labels: &Labels<'_>,
-) -> Result<Vec<PlaceRow>, AllocError> {
+) -> Result<Vec<PlaceRow>, AllocError>
+    ensures { IfOk result (λ rows. AllZip IsPlaceRow counts.now.places.entries rows.items) }
+{
     let mut rows = Vec::new(alloc);
-    for (place, row) in counts.places.iter() {
-        let told = PlaceRow {
-            place: hex(alloc, *place)?,
-            symbol: labels.place(alloc, *place)?,
-            begun: row.begun,
-            committed: row.committed,
-            aborted: row.aborted,
-            lost: row.lost,
-        };
-        rows.push(told).map_err(|_| AllocError)?;
+    for index in 0..counts.places.len() {
+        let (place, row) = counts.places.get_index(index).unwrap();
+        add(&mut rows, place_row(alloc, *place, row, labels)?)?;
     }
     Ok(rows)
 }
 
-fn aborts_of(alloc: Global, causes: &Tally<PlaceCause>) -> Result<Vec<AbortRow>, AllocError> {
+fn place_row(
+    alloc: Global,
+    place: u32,
+    row: &PlaceCounts,
+    labels: &Labels<'_>,
+) -> Result<PlaceRow, AllocError>
+    ensures { IfOk result (IsPlaceRow (place, row.now)) }
+{
+    Ok(PlaceRow {
+        place: hex(alloc, place)?,
+        symbol: labels.place(alloc, place)?,
+        begun: row.begun,
+        committed: row.committed,
+        aborted: row.aborted,
+        lost: row.lost,
+    })
+}
+
+fn aborts_of(alloc: Global, causes: &Tally<PlaceCause>) -> Result<Vec<AbortRow>, AllocError>
+    ensures { IfOk result (λ rows. AllZip IsAbortRow causes.now.entries rows.items) }
+{
     let mut rows = Vec::new(alloc);
-    for (key, count) in causes.iter() {
-        let told = AbortRow {
-            place: hex(alloc, key.place)?,
-            cause: format!(in alloc; "{}", key.cause)?,
-            count: *count,
-        };
-        rows.push(told).map_err(|_| AllocError)?;
+    for index in 0..causes.len() {
+        let (key, count) = causes.get_index(index).unwrap();
+        add(&mut rows, abort_row(alloc, key, *count)?)?;
     }
     Ok(rows)
+}
+
+fn abort_row(alloc: Global, key: &PlaceCause, count: u64) -> Result<AbortRow, AllocError>
+    ensures { IfOk result (IsAbortRow (key.now, count)) }
+{
+    Ok(AbortRow {
+        place: hex(alloc, key.place)?,
+        cause: format!(in alloc; "{}", key.cause)?,
+        count,
+    })
 }
 
 fn sizes_of(alloc: Global, counts: &RunCounts) -> Result<Vec<SizeRow>, AllocError> {
@@ -240,8 +313,7 @@ fn push_sizes(
         let Some((spread, end)) = spread_from(sizes, start) else {
             return Ok(());
         };
-        rows.push(size_row(alloc, spread, of)?)
-            .map_err(|_| AllocError)?;
+        add(rows, size_row(alloc, spread, of)?)?;
         start = end;
     }
     Ok(())
@@ -261,28 +333,43 @@ fn lines_of(
     alloc: Global,
     conflicts: &Conflicts,
     labels: &Labels<'_>,
-) -> Result<Vec<LineRow>, AllocError> {
+) -> Result<Vec<LineRow>, AllocError>
+    ensures { IfOk result (λ rows. AllZip IsLineRow conflicts.now.lines.entries rows.items) }
+{
     let mut rows = Vec::new(alloc);
-    for (line, count) in conflicts.lines.iter() {
-        let told = LineRow {
-            line: hex(alloc, line.saturating_mul(64))?,
-            symbols: labels.line(alloc, *line)?,
-            count: *count,
-        };
-        rows.push(told).map_err(|_| AllocError)?;
+    for index in 0..conflicts.lines.len() {
+        let (line, count) = conflicts.lines.get_index(index).unwrap();
+        add(&mut rows, line_row(alloc, *line, *count, labels)?)?;
     }
     Ok(rows)
+}
+
+fn line_row(
+    alloc: Global,
+    line: u32,
+    count: u64,
+    labels: &Labels<'_>,
+) -> Result<LineRow, AllocError>
+    ensures { IfOk result (IsLineRow (line, count)) }
+{
+    Ok(LineRow {
+        line: hex(alloc, line.saturating_mul(64))?,
+        symbols: labels.line(alloc, line)?,
+        count,
+    })
 }
 
 fn hits_of(
     alloc: Global,
     conflicts: &Conflicts,
     labels: &Labels<'_>,
-) -> Result<Vec<HitRow>, AllocError> {
+) -> Result<Vec<HitRow>, AllocError>
+    ensures { IfOk result (λ rows. AllZip IsHitRow conflicts.now.pairs.entries rows.items) }
+{
     let mut rows = Vec::new(alloc);
-    for (conflict, count) in conflicts.pairs.iter() {
-        rows.push(hit_row(alloc, conflict, *count, labels)?)
-            .map_err(|_| AllocError)?;
+    for index in 0..conflicts.pairs.len() {
+        let (conflict, count) = conflicts.pairs.get_index(index).unwrap();
+        add(&mut rows, hit_row(alloc, conflict, *count, labels)?)?;
     }
     Ok(rows)
 }
@@ -292,14 +379,16 @@ fn hit_row(
     conflict: &Conflict,
     count: u64,
     labels: &Labels<'_>,
-) -> Result<HitRow, AllocError> {
+) -> Result<HitRow, AllocError>
+    ensures { IfOk result (IsHitRow (conflict.now, count)) }
+{
     let from = hex(alloc, conflict.by)?;
     let from_symbol = labels.place(alloc, conflict.by)?;
     let victim = hex(alloc, conflict.victim)?;
     let victim_symbol = labels.place(alloc, conflict.victim)?;
     Ok(HitRow {
         line: hex(alloc, conflict.line.saturating_mul(64))?,
-        by: if conflict.stores { "write" } else { "read" },
+        by: use_of(conflict.stores),
         from,
         from_symbol,
         victim,
@@ -307,4 +396,11 @@ fn hit_row(
         count,
         false_sharing: conflict.is_apart,
     })
+}
+
+// How a step used a line.
+fn use_of(stores: bool) -> &'static str
+    ensures { result.now ≡ use_text stores }
+{
+    if stores { "write" } else { "read" }
 }

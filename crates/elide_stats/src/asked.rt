@@ -5,6 +5,7 @@ ghost use Rattle.std.specs.FinSet as set;
 ghost use Rattle.elide_setup.specs.TmCore.Theorem.{ShownMachine, view_at};
 ghost use Rattle.elide_stats.specs.Causes.{cause_for, cause_for_stop};
 ghost use Rattle.elide_stats.specs.Counted.{IsAskedOf, IsCause, IsStep, is_inside};
+ghost use Rattle.elide_stats.specs.Hits.{IsConflict, is_store};
 
 use elide_setup::{AbortReason, CoreState, Counts, Kind, Machine, Outcome, Stop};
 use tm_stats::{AbortCause, Conflict, Step};
@@ -128,12 +129,23 @@ fn cause_for_stop(stop: Stop) -> AbortCause
 
 /// How a step of the instruction at this address hits the open transaction of another core on a line; on which bytes is
 /// told of once it was made.
-pub fn conflict_of(machine: &Machine, by: u32, victim: u8, line: u32, kind: Kind) -> Conflict {
+pub fn conflict_of(machine: &Machine, by: u32, victim: u8, line: u32, kind: Kind) -> Conflict
+    ensures { IsConflict machine.now by victim line kind result }
+{
     Conflict {
         line,
         by,
         victim: place_of(machine, victim),
-        stores: kind == Kind::Write,
+        stores: is_store(kind),
         is_apart: false,
+    }
+}
+
+fn is_store(kind: Kind) -> bool
+    ensures { result ≡ is_store kind }
+{
+    match kind {
+        Kind::Read => false,
+        Kind::Write => true,
     }
 }

@@ -123,7 +123,9 @@ impl Counting {
     }
 
     /// The counts of the transactions that were hit.
-    pub fn conflicts(&self) -> &Conflicts {
+    pub fn conflicts(&self) -> &Conflicts
+        ensures { result.now ≡ self.now.conflicts }
+    {
         &self.conflicts
     }
 }
@@ -151,6 +153,8 @@ fn count_hits(
 }
 
 /// Want of memory for the counts of a run.
-pub fn no_memory() -> Refusal {
+pub fn no_memory() -> Refusal
+    ensures { result ≡ Refusal.Fault (Fault.Run RunFault.NoMemory) }
+{
     Refusal::Fault(Fault::Run(RunFault::NoMemory))
 }

@@ -1,5 +1,8 @@
 //! The transactions that steps hit, and the bytes on which they meet.
 
+ghost use Rattle.std.specs.Prelude.{◌≡◌};
+ghost use Rattle.elide_stats.specs.Hits.{hits_made};
+
 use crate::asked::conflict_of;
 use arrayvec::ArrayVec;
 use elide_setup::{Machine, Outcome, Reach};
@@ -49,7 +52,9 @@ impl Hits {
 
     /// Each hit, with the core whose transaction it is, once the outcome is known: a step in whose place an abort from
     /// outside came was not made, and hits nobody.
-    pub fn conflicts_by(&self, outcome: Outcome) -> &[(u8, Conflict)] {
+    pub fn conflicts_by(&self, outcome: Outcome) -> &[(u8, Conflict)]
+        ensures { result.now ≡ hits_made outcome self.now.conflicts.items }
+    {
         match outcome {
             Outcome::AbortedBy(_, _) => &[],
             _ => self.conflicts.as_slice(),
@@ -57,7 +62,9 @@ impl Hits {
     }
 
     /// The step, once its outcome is known.
-    pub fn step(&self, outcome: Outcome) -> ByteStep {
+    pub fn step(&self, outcome: Outcome) -> ByteStep
+        ensures { result ≡ record { outcome = outcome; reach = self.now.reach } }
+    {
         ByteStep {
             outcome,
             reach: self.reach,

@@ -4,6 +4,8 @@ use Rattle.tm_timeline.specs.declared.fate.Fate.{Fate}
 use Rattle.tm_timeline.specs.declared.picture.Picture.{Picture}
 use Rattle.tm_timeline.specs.declared.picture.Picture.TheVariants.{Few, Many}
 use Rattle.tm_timeline.specs.declared.spans.Span.{Span}
+use Rattle.tm_timeline.specs.declared.timeline.Timeline.{Timeline}
+use Rattle.tm_timeline.specs.declared.window.Window.{Window}
 
 -- whether transactions are drawn one by one
 abbrev pub is_few : Picture → Bool
@@ -26,3 +28,26 @@ pub record AddsBar (old new : Picture) (by step : ℕ) (what : Fate) : Type 0 wh
   pub span : Span
   pub ended : IsEnded span by step what
   pub added : bars new ≡ bars old ++ span ∷ []
+
+-- bars are added behind those that there were, and none is taken away
+abbrev pub GrowBars : Picture → Picture → Type 0
+GrowBars old new = (more : List Span) × (bars new ≡ bars old ++ more)
+
+-- no step is told yet of a run that is drawn in this window
+pub record IsBlank (window : Window) (timeline : Timeline) : Type 0 where
+  pub drawn : timeline.window ≡ window
+  pub next : timeline.next ≡ 0
+  pub none : bars timeline.picture ≡ []
+
+-- the same steps are told, and the same bars are drawn
+pub record SameSteps (old new : Timeline) : Type 0 where
+  pub window : new.window ≡ old.window
+  pub next : new.next ≡ old.next
+  pub few : is_few new.picture ≡ is_few old.picture
+  pub bars : bars new.picture ≡ bars old.picture
+
+-- the picture is of the same window and kind, and no bar was taken away
+pub record Grows (old new : Timeline) : Type 0 where
+  pub window : new.window ≡ old.window
+  pub few : is_few new.picture ≡ is_few old.picture
+  pub bars : GrowBars old.picture new.picture

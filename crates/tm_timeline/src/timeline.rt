@@ -1,6 +1,6 @@
 //! What is kept of a run.
 
-ghost use Rattle.std.specs.Prelude.{◌≡◌, ◌<◌, ◌≤◌, ◌++◌, ◌∷◌, [], OnOk, Some, true};
+ghost use Rattle.std.specs.Prelude.{◌≡◌, ◌+◌, ◌^◌, ◌<◌, ◌≤◌, ◌++◌, ◌∷◌, [], IfOk, OnErr, OnOk, Some, true};
 
 use crate::columns::{Columns, StepKind};
 use crate::fate::{Fate, fate_at};
@@ -45,11 +45,13 @@ struct Transaction {
 
 impl Timeline {
     ghost use Rattle.tm_timeline.specs.Fates.{fate_at};
-    ghost use Rattle.tm_timeline.specs.Told.{AddsBar, IsEnded, bars, is_few};
+    ghost use Rattle.tm_timeline.specs.Told.{AddsBar, GrowBars, Grows, IsBlank, IsEnded, SameSteps, bars, is_few};
     ghost use Rattle.tm_timeline.specs.declared.fate.Fate.{Fate};
 
     /// A run of so many cores, of which no step is told.
-    pub fn new(alloc: Global, cores: u8, window: Window) -> Result<Timeline, AllocError> {
+    pub fn new(alloc: Global, cores: u8, window: Window) -> Result<Timeline, AllocError>
+        ensures { IfOk result (IsBlank window) }
+    {
         let picture = if window.is_detailed() {
             Picture::Few(Spans::new(alloc))
         } else {
@@ -66,7 +68,9 @@ impl Timeline {
     }
 
     /// One more variable that is drawn below the cores, where transactions are drawn one by one. Of more than 64 the first are.
-    pub fn add_variable(&mut self, alloc: Global, name: Label) -> Result<(), AllocError> {
+    pub fn add_variable(&mut self, alloc: Global, name: Label) -> Result<(), AllocError>
+        ensures { SameSteps self.old self.new }
+    {
         match self.picture {
             Picture::Few(_) => self.variables.add(alloc, name),
             Picture::Many(_) => Ok(()),
@@ -74,7 +78,9 @@ impl Timeline {
     }
 
     /// Tells what memory has at a variable, the first of which is 0, behind the steps that were told.
-    pub fn tell_variable(&mut self, index: usize, value: u32) -> Result<(), AllocError> {
+    pub fn tell_variable(&mut self, index: usize, value: u32) -> Result<(), AllocError>
+        ensures { SameSteps self.old self.new }
+    {
         self.variables.tell(index, self.window, self.next, value)
     }
 
@@ -84,7 +90,9 @@ impl Timeline {
     }
 
     /// Tells what the last step did that was told and is drawn as one.
-    pub fn describe(&mut self, text: StepText) -> Result<(), AllocError> {
+    pub fn describe(&mut self, text: StepText) -> Result<(), AllocError>
+        ensures { SameSteps self.old self.new }
+    {
         match &mut self.picture {
             Picture::Few(spans) => spans.describe_last(text),
             Picture::Many(_) => Ok(()),
@@ -92,12 +100,16 @@ impl Timeline {
     }
 
     /// The number of the next step, counted from 0.
-    pub fn next(&self) -> u32 {
+    pub fn next(&self) -> u32
+        ensures { result ≡ self.now.next }
+    {
         self.next
     }
 
     /// Tells that a core waited in its steps outside of transactions from this one on, counted from 0.
-    pub fn waited(&mut self, core: u8, from: u32) {
+    pub fn waited(&mut self, core: u8, from: u32)
+        ensures { SameSteps self.old self.new }
+    {
         match &mut self.picture {
             Picture::Few(spans) => spans.mark_waits(core, from),
             Picture::Many(_) => {}
@@ -127,6 +139,7 @@ impl Timeline {
     }
 
     fn set(&mut self, core: u8, transaction: Option<Transaction>)
+        ensures next { self.new.next ≡ self.old.next }
         ensures window { self.new.window ≡ self.old.window }
         ensures picture { self.new.picture ≡ self.old.picture }
     {
@@ -136,7 +149,9 @@ impl Timeline {
     }
 
     /// Tells that the next step, of core `by`, hits the open transaction of another core. To be told before the step is.
-    pub fn hit(&mut self, victim: u8, by: u8, on: Option<LineUse>) -> Result<(), AllocError> {
+    pub fn hit(&mut self, victim: u8, by: u8, on: Option<LineUse>) -> Result<(), AllocError>
+        ensures { SameSteps self.old self.new }
+    {
         let Some(transaction) = self.transaction(victim) else {
             return Ok(());
         };
@@ -168,7 +183,8 @@ impl Timeline {
     /// Tells the next step: its core and what it was. Where transactions are drawn one by one, and the step is in the window, a
     /// commit or an abort adds the bar of a transaction that came to this by this step.
     pub fn told(&mut self, core: u8, outcome: Outcome) -> Result<(), AllocError>
-        ensures window { self.new.window ≡ self.old.window }
+        ensures next { self.old.next + 1 < 2 ^ 32 → self.new.next ≡ self.old.next + 1 }
+        ensures grows { Grows self.old self.new }
         ensures bar { OnOk result ((what : Fate) → fate_at outcome ≡ Some what → is_few self.old.picture ≡ true →
             self.old.window.from ≤ self.old.next → self.old.next < self.old.window.to →
             AddsBar self.old.picture self.new.picture core self.old.next what) }
@@ -185,6 +201,7 @@ impl Timeline {
 
     // Begins a transaction of a core, where this step does.
     fn begin(&mut self, core: u8, step: u32, outcome: Outcome)
+        ensures next { self.new.next ≡ self.old.next }
         ensures window { self.new.window ≡ self.old.window }
         ensures picture { self.new.picture ≡ self.old.picture }
     {
@@ -199,6 +216,7 @@ impl Timeline {
 
     // Keeps a step, where the window has it.
     fn keep(&mut self, number: u32, core: u8, outcome: Outcome) -> Result<(), AllocError>
+        ensures next { self.new.next ≡ self.old.next }
         ensures window { self.new.window ≡ self.old.window }
         ensures kind { is_few self.new.picture ≡ is_few self.old.picture }
         ensures bars { bars self.new.picture ≡ bars self.old.picture }
@@ -225,7 +243,8 @@ impl Timeline {
 
     // Ends the transaction of a core by this step.
     fn end(&mut self, core: u8, step: u32, fate: Fate) -> Result<(), AllocError>
-        ensures window { self.new.window ≡ self.old.window }
+        ensures next { self.new.next ≡ self.old.next }
+        ensures grows { Grows self.old self.new }
         ensures bar { OnOk result (is_few self.old.picture ≡ true → self.old.window.from ≤ step →
             step < self.old.window.to → AddsBar self.old.picture self.new.picture core step fate) }
     {
@@ -258,8 +277,10 @@ impl Timeline {
     }
 
     // Keeps a transaction that has a step in the window.
+    #[tactic(auto, using(crate::proofs::Growing::grown_same, crate::proofs::Growing::grown_one))]
     fn add(&mut self, span: Span) -> Result<(), AllocError>
-        ensures window { self.new.window ≡ self.old.window }
+        ensures next { self.new.next ≡ self.old.next }
+        ensures grows { Grows self.old self.new }
         ensures bars { OnOk result (is_few self.old.picture ≡ true →
             bars self.new.picture ≡ bars self.old.picture ++ span ∷ []) }
     {
@@ -274,18 +295,31 @@ impl Timeline {
     }
 
     /// Tells that the run has ended: what is open stays open, or doomed.
-    pub fn finish(&mut self) -> Result<(), AllocError> {
+    pub fn finish(&mut self) -> Result<(), AllocError>
+        ensures next { self.new.next ≡ self.old.next }
+        ensures grows { Grows self.old self.new }
+    {
         let last = self.next.saturating_sub(1);
         for core in 0..self.cores {
-            if let Some(transaction) = self.transaction(core) {
-                let fate = match transaction.hit {
-                    Some(_) => Fate::Doomed,
-                    None => Fate::Open,
-                };
-                self.end(core, last, fate)?;
-            }
+            self.finish_core(core, last)?;
         }
         Ok(())
+    }
+
+    // Ends the transaction of a core that is open at the end of the run, whose last step is this one.
+    #[tactic(auto, using(crate::proofs::Growing::grows_self))]
+    fn finish_core(&mut self, core: u8, last: u32) -> Result<(), AllocError>
+        ensures next { self.new.next ≡ self.old.next }
+        ensures grows { Grows self.old self.new }
+    {
+        let Some(transaction) = self.transaction(core) else {
+            return Ok(());
+        };
+        let fate = match transaction.hit {
+            Some(_) => Fate::Doomed,
+            None => Fate::Open,
+        };
+        self.end(core, last, fate)
     }
 
     /// Writes the picture as SVG: of these cores, under a title, with the symbols of lines.

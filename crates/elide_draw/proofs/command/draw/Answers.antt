@@ -24,7 +24,7 @@ returns-in-Ok g c =
     (λ other. made.3 other ∙ c.record_path.ensures.kept other)
     (subst (λ (held : Option (List ℕ)). IsRead held made.0) (c.record_path.ensures.kept options.machine.file.now)
     (subst (λ (file : Bor (List ℕ)). IsRead (next file.now) made.0) c.in-Ok.ensures.file made.2))
-    c.in_ok-settings.ensures
+    c.in_ok-settings.ensures.settings
     (λ picks. c.in_ok-plan.ensures.steps content picks)
     c.in_ok-plan.ensures.listed made.4))
     c.draw_plan.ensures

@@ -12,6 +12,7 @@ returns g c =
     let asked = c.args.asked.now in
     on_ok_weaker c.record_drawn-drawn.result
     (λ (h : IsRecorded left asked.path (schedule_made c.args.course.now c.in_ok-counted.counted.made.items)).
-    has_run left c.args.setup.now c.args.course.now asked.path c.in_ok-counted.counted.made.items c.in_ok-timeline.ensures
+    has_run left c.args.setup.now c.args.course.now asked.path c.in_ok-counted.counted.made.items
+    (c.in_ok-timeline.ensures.0, c.in_ok-timeline.ensures.1)
     (subst (λ (keeps : Bool). IsTally c.args.setup.now c.args.course.now keeps c.in_ok-counted.counted.made.items) c.is_some.ensures c.in_ok-counted.ensures) h)
     c.record_drawn-drawn.ensures

@@ -10,4 +10,4 @@ returns c =
     IfOk-weaker c.of_file.result (λ (setup : Setup). IsSetup c.in_ok-file.file c.args.settings.now setup)
     (λ (setup : Setup). (file : ProgramFile) × IsFile c.args.text.now file × IsSetup file c.args.settings.now setup)
     (λ setup is. (c.in_ok-file.file, c.in_ok-file.ensures.file, is))
-    c.of_file.ensures
+    c.of_file.ensures.setup

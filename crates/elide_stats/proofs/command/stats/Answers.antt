@@ -22,7 +22,7 @@ returns g c =
     (of_plan content made.1 left options.machine options.schedule c.in_ok-path.path made.0 c.in_ok-settings.settings c.in_ok-plan.plan
     (λ other. made.3 other ∙ c.record_path.ensures.kept other)
     (subst (λ (held : Option (List ℕ)). IsRead held made.0) (c.record_path.ensures.kept options.machine.file.now) made.2)
-    c.in_ok-settings.ensures
+    c.in_ok-settings.ensures.settings
     (λ picks. c.in_ok-plan.ensures.steps content picks)
     c.in_ok-plan.ensures.listed made.4))
     c.stats_of_path.ensures

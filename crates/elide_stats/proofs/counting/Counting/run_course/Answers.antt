@@ -2,6 +2,7 @@ use Rattle.std.proofs.Common.{Bool, List}
 use Rattle.std.proofs.lemmas.Result.{IfOk-weaker}
 use Rattle.elide_setup.specs.Recorded.{IsRecorded}
 use Rattle.elide_setup.specs.Runs.{AreMachineSteps}
+use Rattle.elide_setup.specs.Rounds.{IsOut}
 use Rattle.elide_setup.specs.Schedules.{AreOf, picks_made, picks_told, schedule_made}
 use Rattle.elide_setup.specs.Walks.{Leads}
 use Rattle.tm_model.specs.declared.outcome.Outcome.{Outcome}
@@ -24,8 +25,8 @@ returns g c =
     λ made. IsRecorded left c.args.path (schedule_made course (picks_told made)) in
     IfOk-weaker c.walk_recorded.result
     (λ _. (made : List (Pick × Outcome)) × AreOf course (picks_made made) × Leads (Counts same) first made last
-    × Kept made)
+    × Kept made × IsOut course c.cores-cores.result made)
     (λ _. (made : List (Pick × Outcome)) × AreOf course (picks_made made)
     × Leads AreMachineSteps first.machine made last.machine × GoOn same first made last × Kept made)
     (λ _ h. let all = walk_counted same h.0 first last h.2 in (h.0, h.1, all.0, all.1, h.3))
-    c.walk_recorded.ensures
+    c.walk_recorded.ensures.walked

@@ -42,7 +42,7 @@ loop-index-preserved g c =
       made.0 ++ (pick, outcome) ∷ [],
       picks_more (picks_of c.args.board.now.history) index pick outcome made.0 there made.1,
       go_on_then (causes.ghosts).eq c.args.self.now c.loop-index.self c.make_step.new.self made.0
-          ((pick, outcome) ∷ []) made.2 c.in_ok-make_step.ensures.1,
+          ((pick, outcome) ∷ []) made.2 c.in_ok-make_step.ensures.made.1,
     )
 
 pub returns : goal.returns

@@ -1,17 +1,17 @@
 use Rattle.std.proofs.Common.{◌∷◌, arith, refl}
 use Rattle.elide_stats.proofs.counting.CountingStepMaker.make_step.Goals as goal
 
-pub returns-in-Ok : goal.returns-in-Ok
-returns-in-Ok c =
+pub returns-in-Ok-clause-made : goal.returns-in-Ok-clause-made
+returns-in-Ok-clause-made c =
     let machine = c.args.self.now.machine in
     let step = c.step.result in (
-      c.in_ok-outcome.ensures,
+      c.in_ok-outcome.ensures.made,
       λ earlier. record {
         told = step ∷ earlier;
         are_told = (
           c.make_step.new.self,
           step,
-          c.in_ok-outcome.ensures,
+          c.in_ok-outcome.ensures.made,
           c.step.ensures machine c.before-asked.ensures,
           (refl, refl),
         );
