@@ -2,10 +2,12 @@
 //!
 //! Promised: what [`debug`] writes are the answers of a session (`tm_debug`) to the input, with the machine that the options say and
 //! room for 1,000,000 steps, along the schedule that they ask for: spoken where input and output are a terminal's, and plain else.
+//! It is refused, or ends early, for the reason that it names alone (`specs/Refused.antt`).
 //! Which cores a schedule that is drawn picks is compared by `doc_tests`. Stands on `elide_session` and `tm_debug`.
 #![tactic(auto)]
 
-ghost use Rattle.std.specs.Prelude.{◌≡◌, OnOk};
+ghost use Rattle.std.specs.Prelude.{◌≡◌, IfErr, OnOk};
+ghost use Rattle.elide_debug.specs.Refused.{IsRefused};
 ghost use Rattle.elide_debug.specs.Served.{IsServed, manner_at};
 
 use elide_args::SessionOptions;
@@ -25,8 +27,10 @@ pub fn debug<R: Wait, P: Paths, I: In, O: Out>(
     out: &mut O,
     terminals: Terminals,
 ) -> Result<(), Refusal>
-    ensures { OnOk result (IsServed (P.content paths.old) options.now terminals
+    ensures served { OnOk result (IsServed (P.content paths.old) options.now terminals
         (I.remaining input.old) (I.remaining input.new) (O.device out.old) (O.device out.new)) }
+    ensures refused { IfErr result (IsRefused (P.content paths.old) options.now
+        (I.failed input.old) (I.failed input.new) (O.device out.old) (O.device out.new)) }
 {
     let manner = manner_at(terminals);
     let start = opened(

@@ -1,4 +1,5 @@
 pub mod Alike
 pub mod Printed
+pub mod Refused
 pub mod Replayed
 pub mod Told

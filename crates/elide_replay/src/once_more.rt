@@ -1,19 +1,23 @@
 //! `elide replay`.
 
-ghost use Rattle.std.specs.Prelude.{◌≡◌, ◌↔◌, ◌++◌, IfOk, List, None, OnOk, false, max, true};
+ghost use Rattle.std.specs.Prelude.{◌≡◌, ◌⊎◌, ◌↔◌, ◌++◌, IfErr, IfOk, List, None, OnOk, false, max, true};
 ghost use Rattle.ia_text.specs.Writing.{Wrote};
 ghost use Rattle.tm_model.specs.declared.outcome.Outcome.{Outcome};
 ghost use Rattle.tm_model.specs.declared.outcome.Pick.{Pick};
 ghost use Rattle.tm_model.specs.Runs.{picks_of};
+ghost use Rattle.elide_setup.specs.Faults.{want};
 ghost use Rattle.elide_setup.specs.Recorded.{IsRecorded};
+ghost use Rattle.elide_setup.specs.Refused.{IsAnyWant, IsNoBoard, IsNotScheduled, IsUnrecorded};
 ghost use Rattle.elide_setup.specs.Schedules.{AreAsked, AreOf, picks_made};
 ghost use Rattle.elide_setup.specs.Setup.{IsAsked};
 ghost use Rattle.elide_setup.specs.Shown.{shown_text};
 ghost use Rattle.elide_replay.specs.Printed.{IsPrinted, IsTold};
+ghost use Rattle.elide_replay.specs.Refused.{HasNoSerial, IsNotCompared, IsNotMade, IsRefused};
 ghost use Rattle.elide_replay.specs.Replayed.{IsBoardOf};
 ghost use Rattle.elide_setup.specs.Runs.{HasMade};
 ghost use Rattle.elide_replay.specs.Told.{agreement_object, agreement_text};
 ghost use Rattle.elide_why.specs.ElideSetup.Shown.{IsWhole};
+ghost use Rattle.elide_why.specs.Refused.{IsUnwritten};
 ghost use Rattle.elide_why.specs.TmHist.Board.{IsNew};
 ghost use Rattle.elide_why.specs.TmHist.Replay.{Replays};
 
@@ -46,6 +50,8 @@ pub fn replay<P: Paths, O: Out + Drop, G: Progress>(
     ensures agrees { IfOk result (λ r. r.0 ≡ Agreement.Agrees) }
     ensures printed { IfOk result (λ r. IsPrinted (P.content paths.old) (P.content paths.new) options.now
         (O.device out).contents (O.device r.1).contents) }
+    ensures refused { options.now.is_json ≡ false →
+        IfErr result (IsRefused (P.content paths.old) (P.are_one paths.old) options.now) }
 {
     if options.is_json && options.explains {
         return Err(Refusal::Usage("--json"));
@@ -76,6 +82,7 @@ fn board_of<G: Progress>(
     ensures made { IfOk result (IsBoardOf setup.now) }
     ensures steps { IfOk result (λ board. (steps : List (Pick × Outcome)) × HasMade board steps
         × AreOf course.now (picks_made steps)) }
+    ensures none { IfErr result (IsNotMade setup.now course.now) }
 {
     let mut board = opened(alloc, setup, course.most())?;
     course.check_cores(board.cores())?;
@@ -86,7 +93,8 @@ fn board_of<G: Progress>(
 
 // A board before its first step, with room for so many, and for one at least.
 fn opened(alloc: Global, setup: &Setup, most: u64) -> Result<Board, Refusal>
-    ensures { IfOk result (λ board. IsNew setup.now.program setup.now.limits (max most 1) board) }
+    ensures made { IfOk result (λ board. IsNew setup.now.program setup.now.limits (max most 1) board) }
+    ensures none { IfErr result (IsNoBoard setup.now (max most 1)) }
 {
     match Board::new(alloc, &setup.program, setup.limits, most.max(1)) {
         Ok(board) => Ok(board),
@@ -110,6 +118,7 @@ fn compared<P: Paths, O: Out + Drop, G: Progress>(
     ensures agrees { IfOk result (λ r. r.0 ≡ Agreement.Agrees) }
     ensures told { IfOk result (λ r. IsTold setup.now options.now board.now (O.device out).contents (O.device r.1).contents) }
     ensures recorded { IfOk result (λ _. IsRecorded (P.content paths.new) path.entry (picks_of board.now.history)) }
+    ensures refused { options.now.is_json ≡ false → IfErr result (IsNotCompared setup.now board.now path.entry) }
 {
     board.is_run();
     let sums = options.machine.shows.as_slice();
@@ -139,7 +148,8 @@ fn write_record<P: Paths>(
     path: Option<&str>,
     paths: &mut P,
 ) -> Result<(), Refusal>
-    ensures { OnOk result (IsRecorded (P.content paths.new) path.entry (picks_of board.now.history)) }
+    ensures written { OnOk result (IsRecorded (P.content paths.new) path.entry (picks_of board.now.history)) }
+    ensures failed { IfErr result (λ why. IsUnrecorded path.entry why ⊎ IsAnyWant why) }
 {
     if path.is_none() {
         return Ok(());
@@ -161,6 +171,8 @@ fn begun<P: Paths>(
     ensures course { IfOk result (λ r. (picks : List Pick) → AreOf r.1 picks →
         AreAsked (P.content paths.old) options.now.schedule picks) }
     ensures places { IfOk result (λ r. options.now.explains ≡ false → r.2 ≡ None) }
+    ensures none { IfErr result (λ why. IsNotScheduled (P.content paths.old) options.now.machine options.now.schedule why
+        ⊎ (why ≡ want)) }
 {
     if options.explains {
         let (setup, course, places) = scheduled_places(
@@ -178,7 +190,8 @@ fn begun<P: Paths>(
 
 // The serial run of a board's history.
 fn again(alloc: Global, board: &Board) -> Result<Serial, Refusal>
-    ensures { IfOk result (λ serial. Replays board.now serial) }
+    ensures serial { IfOk result (λ serial. Replays board.now serial) }
+    ensures none { IfErr result HasNoSerial }
 {
     match board.replay(alloc) {
         Ok(serial) => Ok(serial),
@@ -198,6 +211,7 @@ fn tell_asked<O: Out>(
 ) -> Result<Agreement, Refusal>
     requires { IsWhole memory }
     ensures agrees { IfOk result (λ agreement. agreement ≡ Agreement.Agrees ↔ Replays board.now serial.now) }
+    ensures unwritten { options.now.is_json ≡ false → IfErr result IsUnwritten }
     ensures lines { IfOk result (λ agreement. options.now.is_json ≡ false → Wrote (O.device out.old) (O.device out.new)
         (shown_text board.now.machine memory.entry ++ agreement_text agreement)) }
     ensures object { IfOk result (λ agreement. options.now.is_json ≡ true → Wrote (O.device out.old) (O.device out.new)
@@ -245,6 +259,7 @@ fn tell<O: Out>(
 ) -> Result<Agreement, Refusal>
     requires { IsWhole memory }
     ensures agrees { IfOk result (λ agreement. agreement ≡ Agreement.Agrees ↔ Replays board.now serial.now) }
+    ensures unwritten { IfErr result IsUnwritten }
     ensures told { IfOk result (λ agreement. Wrote (O.device out.old) (O.device out.new)
         (shown_text board.now.machine memory.entry ++ agreement_text agreement)) }
 {

@@ -1,5 +1,6 @@
 mod Ends
 mod Printed
+mod Refusing
 mod Rows
 mod Running
 mod Steps

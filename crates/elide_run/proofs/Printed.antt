@@ -14,6 +14,7 @@ kept_before content left options setup machine first begun ended kept run = reco
   made = run.made;
   steps = run.steps;
   ran = run.ran;
+  out = run.out;
   recorded = run.recorded;
   lines = run.lines;
   traced = run.traced;

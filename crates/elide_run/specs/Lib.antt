@@ -1,3 +1,4 @@
 pub mod Halting
 pub mod Object
 pub mod Printed
+pub mod Refused

@@ -8,6 +8,7 @@ use Rattle.elide_json.specs.Objects.{run_members}
 use Rattle.elide_json.specs.Outcomes.{outcomes_value, run_back, run_value}
 use Rattle.elide_object.specs.Object.{object_text}
 use Rattle.elide_setup.specs.Recorded.{IsRecorded}
+use Rattle.elide_setup.specs.Rounds.{IsAskedOut}
 use Rattle.elide_setup.specs.Runs.{IsRunOf}
 use Rattle.elide_setup.specs.Schedules.{AreAsked, picks_made, schedule_asked}
 use Rattle.elide_setup.specs.Setup.{IsAsked}
@@ -61,6 +62,7 @@ pub record IsObjectPrinted (content left : List ℕ → Option (List ℕ)) (opti
   pub steps : AreAsked content options.schedule (picks_made made)
   pub machine : Machine
   pub ran : IsRunOf setup.program setup.limits made machine
+  pub out : IsAskedOut options.schedule (length setup.program.entries) made
   pub recorded : IsRecorded left options.record (schedule_asked options.schedule made)
   pub came_to : ending ≡ asked_ending options.expects_halt machine
   pub wrote :

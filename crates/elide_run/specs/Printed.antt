@@ -1,10 +1,11 @@
 -- What `elide run` prints (docs/FORMATS.md, "Printed lines"): the lines of its steps, and below them the state of the
 -- machine that these steps made of FILE's program.
-use Rattle.std.specs.Prelude.{◌≡◌, ℕ, Bool, false, List, [], ◌++◌, Option, if◌then◌else◌}
+use Rattle.std.specs.Prelude.{◌≡◌, ℕ, Bool, false, List, [], ◌++◌, Option, if◌then◌else◌, length}
 use Rattle.std.specs.Io.KnownBytes.{Appends}
 use Rattle.std.specs.List.{flat_map}
 use Rattle.elide_args.specs.declared.subcommand.RunOptions.{RunOptions}
 use Rattle.elide_setup.specs.Recorded.{IsRecorded}
+use Rattle.elide_setup.specs.Rounds.{IsAskedOut}
 use Rattle.elide_setup.specs.Runs.{IsRunOf}
 use Rattle.tm_model.specs.declared.outcome.Outcome.{Outcome}
 use Rattle.tm_model.specs.declared.outcome.Pick.{Pick}
@@ -35,6 +36,7 @@ pub record IsRunAsAsked (content left : List ℕ → Option (List ℕ)) (options
   pub made : List (Pick × Outcome)
   pub steps : AreAsked content options.schedule (picks_made made)
   pub ran : IsRunOf setup.program setup.limits made machine
+  pub out : IsAskedOut options.schedule (length setup.program.entries) made
   pub recorded : IsRecorded left options.record (schedule_asked options.schedule made)
   pub lines : List ℕ
   pub traced : options.explains ≡ false → options.shows_code ≡ false → lines ≡ trace_text options.traces made

@@ -1,8 +1,10 @@
 //! Runs whose outcomes are told with their instructions.
 
-ghost use Rattle.std.specs.Prelude.{◌≡◌, ℕ, IfOk, List, true};
+ghost use Rattle.std.specs.Prelude.{◌≡◌, ℕ, IfErr, IfOk, List, true};
 ghost use Rattle.ia_text.specs.Writing.{Wrote};
+ghost use Rattle.elide_setup.specs.Refused.{IsNoCore};
 ghost use Rattle.elide_run.specs.Printed.{IsRunAsAsked};
+ghost use Rattle.elide_run.specs.Refused.{IsRefused};
 
 use crate::explained::{StepTeller, stepped};
 use elide_args::RunOptions;
@@ -25,8 +27,9 @@ pub fn run_coded<P: Paths, O: Out + Drop, G: Progress>(
     progress: &mut G,
 ) -> Result<(Setup, Machine, Gathered<O>), Refusal>
     requires code { options.now.shows_code ≡ true }
-    ensures { IfOk result (λ r. IsRunAsAsked (P.content paths.old) (P.content paths.new) options.now r.0 r.1
+    ensures made { IfOk result (λ r. IsRunAsAsked (P.content paths.old) (P.content paths.new) options.now r.0 r.1
         (⟦<Gathered<O> as Out>⟧.device page).contents (⟦<Gathered<O> as Out>⟧.device r.2).contents) }
+    ensures refused { IfErr result (IsRefused (P.content paths.old) (P.are_one paths.old) options.now) }
 {
     let path = record_path(options.record, options.machine.file, paths)?;
     let (setup, course, labels) = scheduled_labels(
@@ -57,8 +60,9 @@ pub fn run_coded_explained<P: Paths, O: Out + Drop, G: Progress>(
     progress: &mut G,
 ) -> Result<(Setup, Machine, Gathered<O>), Refusal>
     requires { options.now.explains ≡ true }
-    ensures { IfOk result (λ r. IsRunAsAsked (P.content paths.old) (P.content paths.new) options.now r.0 r.1
+    ensures made { IfOk result (λ r. IsRunAsAsked (P.content paths.old) (P.content paths.new) options.now r.0 r.1
         (⟦<Gathered<O> as Out>⟧.device page).contents (⟦<Gathered<O> as Out>⟧.device r.2).contents) }
+    ensures refused { IfErr result (IsRefused (P.content paths.old) (P.are_one paths.old) options.now) }
 {
     let path = record_path(options.record, options.machine.file, paths)?;
     let (setup, course, places) = scheduled_places(
@@ -106,7 +110,9 @@ impl StepTeller for CodeTeller<'_> {
 }
 
 // What a machine tells of a step before it.
-fn before(machine: &Machine, program: &Program, core: u8) -> Result<Before, Refusal> {
+fn before(machine: &Machine, program: &Program, core: u8) -> Result<Before, Refusal>
+    ensures { IfErr result IsNoCore }
+{
     match Before::of(machine, program, core) {
         Some(before) => Ok(before),
         None => Err(Refusal::Fault(Fault::Run(RunFault::NoSuchCore))),
@@ -114,12 +120,9 @@ fn before(machine: &Machine, program: &Program, core: u8) -> Result<Before, Refu
 }
 
 // What a step did, by the machine behind it.
-fn deed_of(
-    before: &Before,
-    machine: &Machine,
-    core: u8,
-    outcome: &Outcome,
-) -> Result<Deed, Refusal> {
+fn deed_of(before: &Before, machine: &Machine, core: u8, outcome: &Outcome) -> Result<Deed, Refusal>
+    ensures { IfErr result IsNoCore }
+{
     if core < machine.cores() {
         Ok(before.deed(machine, core, outcome))
     } else {

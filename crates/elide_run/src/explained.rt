@@ -1,13 +1,15 @@
 //! Runs that tell why transactions abort.
 
-ghost use Rattle.std.specs.Prelude.{◌≡◌, ℕ, IfOk, List, true};
+ghost use Rattle.std.specs.Prelude.{◌≡◌, ℕ, IfErr, IfOk, List, length, true};
 ghost use Rattle.ia_text.specs.Writing.{Wrote};
+ghost use Rattle.elide_setup.specs.Rounds.{IsOut};
 ghost use Rattle.elide_setup.specs.Runs.{AreMachineSteps, IsMachineStep, IsRunOf};
 ghost use Rattle.elide_setup.specs.Recorded.{IsRecorded};
 ghost use Rattle.elide_setup.specs.Schedules.{AreOf, picks_made, picks_told, schedule_made};
 ghost use Rattle.tm_model.specs.declared.outcome.Outcome.{Outcome};
 ghost use Rattle.tm_model.specs.declared.outcome.Pick.{Pick};
 ghost use Rattle.elide_run.specs.Printed.{IsRunAsAsked};
+ghost use Rattle.elide_run.specs.Refused.{IsNoRun, IsRefused, IsUnexplained};
 
 use crate::opening::machine_of;
 use elide_args::RunOptions;
@@ -30,8 +32,9 @@ pub fn run_explained<P: Paths, O: Out + Drop, G: Progress>(
     progress: &mut G,
 ) -> Result<(Setup, Machine, Gathered<O>), Refusal>
     requires { options.now.explains ≡ true }
-    ensures { IfOk result (λ r. IsRunAsAsked (P.content paths.old) (P.content paths.new) options.now r.0 r.1
+    ensures made { IfOk result (λ r. IsRunAsAsked (P.content paths.old) (P.content paths.new) options.now r.0 r.1
         (⟦<Gathered<O> as Out>⟧.device page).contents (⟦<Gathered<O> as Out>⟧.device r.2).contents) }
+    ensures refused { IfErr result (IsRefused (P.content paths.old) (P.are_one paths.old) options.now) }
 {
     let path = record_path(options.record, options.machine.file, paths)?;
     let (setup, course, places) = scheduled_places(
@@ -65,10 +68,12 @@ pub fn stepped<T: StepTeller + Drop, P: Paths, O: Out + Drop, G: Progress>(
     page: Gathered<O>,
     progress: &mut G,
 ) -> Result<(Machine, Gathered<O>), Refusal>
-    ensures { IfOk result (λ r. (made : List (Pick × Outcome)) × AreOf course.now (picks_made made)
+    ensures refused { IfErr result (IsNoRun setup.now course.now path.entry) }
+    ensures made { IfOk result (λ r. (made : List (Pick × Outcome)) × AreOf course.now (picks_made made)
         × IsRunOf setup.now.program setup.now.limits made r.0 × (text : List ℕ)
         × Wrote (⟦<Gathered<O> as Out>⟧.device page) (⟦<Gathered<O> as Out>⟧.device r.1) text
-        × IsRecorded (P.content paths.new) path.entry (schedule_made course.now (picks_told made))) }
+        × IsRecorded (P.content paths.new) path.entry (schedule_made course.now (picks_told made))
+        × IsOut course.now (length setup.now.program.entries) made) }
 {
     let machine = machine_of(alloc, setup, course)?;
     let cores = machine.cores();
@@ -93,7 +98,8 @@ pub trait StepTeller {
         out: &mut O,
     ) -> Result<Outcome, Refusal>
         ensures step { IfOk result (λ outcome. IsMachineStep machine.old pick outcome machine.new) }
-        ensures told { IfOk result (λ _. (text : List ℕ) × Wrote (O.device out.old) (O.device out.new) text) };
+        ensures told { IfOk result (λ _. (text : List ℕ) × Wrote (O.device out.old) (O.device out.new) text) }
+        ensures refused { IfErr result IsUnexplained };
 }
 
 impl StepTeller for Teller<'_> {
@@ -119,6 +125,8 @@ impl<T: StepTeller, O: Out> StepMaker for Telling<T, O> {
     ghost takes = { λ before steps after. AreMachineSteps before.machine steps after.machine
         × (text : List ℕ)
         × Wrote (⟦<Gathered<O> as Out>⟧.device before.page) (⟦<Gathered<O> as Out>⟧.device after.page) text };
+
+    ghost refuses = { IsUnexplained };
 
     fn make_step(&mut self, pick: Pick) -> Result<Outcome, Refusal> {
         self.teller

@@ -1,9 +1,10 @@
 //! Cores that have not stopped at the end.
 
-ghost use Rattle.std.specs.Prelude.{◌≡◌, ◌++◌, ◌<◌, IfOk, length};
+ghost use Rattle.std.specs.Prelude.{◌≡◌, ◌++◌, ◌<◌, IfErr, IfOk, length};
 ghost use Rattle.arrayvec.specs.ArrayVec.{array_vec_len};
 ghost use Rattle.ia_text.specs.Writing.{Wrote, Writes};
 ghost use Rattle.elide_setup.specs.TmCore.Theorem.{view_at};
+ghost use Rattle.elide_why.specs.Refused.{IsUnwritten};
 ghost use Rattle.elide_run.specs.Halting.{halt_ending, halt_lines, is_stopped, running_line};
 
 use elide_why::{CoreState, Machine, Refusal};
@@ -22,7 +23,8 @@ pub enum Ending {
 
 /// Prints a line for each core that has not stopped, with the address at which it is.
 pub fn ending_of<O: Out>(machine: &Machine, out: &mut O) -> Result<Ending, Refusal>
-    ensures { IfOk result (λ ending. (ending ≡ halt_ending machine.now)
+    ensures unwritten { IfErr result IsUnwritten }
+    ensures told { IfOk result (λ ending. (ending ≡ halt_ending machine.now)
         × Wrote (O.device out.old) (O.device out.new) (halt_lines machine.now)) }
 {
     let mut ending = Ending::AsAsked;

@@ -7,6 +7,7 @@ ghost use Rattle.ia_text.specs.Writing.{Wrote};
 ghost use Rattle.elide_json.specs.Objects.{run_members};
 ghost use Rattle.elide_json.specs.Outcomes.{rows_text, run_back, run_front, run_rows};
 ghost use Rattle.elide_setup.specs.Recorded.{IsRecorded};
+ghost use Rattle.elide_setup.specs.Rounds.{IsOut};
 ghost use Rattle.elide_setup.specs.Runs.{AreMachineSteps, IsRunOf};
 ghost use Rattle.elide_setup.specs.Schedules.{AreOf, picks_made, picks_told, schedule_made};
 ghost use Rattle.tm_model.specs.declared.outcome.Outcome.{Outcome};
@@ -83,7 +84,8 @@ fn stepped<P: Paths, O: Out + Drop, G: Progress>(
         × IsRunOf setup.now.program setup.now.limits made r.0
         × Wrote (⟦<Gathered<O> as Out>⟧.device page) (⟦<Gathered<O> as Out>⟧.device r.1)
         (run_front traces ++ run_rows traces made)
-        × IsRecorded (P.content paths.new) path.entry (schedule_made course.now (picks_told made))) }
+        × IsRecorded (P.content paths.new) path.entry (schedule_made course.now (picks_told made))
+        × IsOut course.now (length setup.now.program.entries) made) }
 {
     let mut machine = machine_of(alloc, setup, course)?;
     let cores = machine.cores();

@@ -1,6 +1,7 @@
 //! What a run begins with.
 
-ghost use Rattle.std.specs.Prelude.{[], IfOk};
+ghost use Rattle.std.specs.Prelude.{◌≡◌, [], IfErr, IfOk, length};
+ghost use Rattle.elide_run.specs.Refused.{IsNotReady};
 ghost use Rattle.elide_setup.specs.Runs.{IsRunOf};
 
 use elide_why::{Course, Machine, Refusal, Setup, new_machine, shown_memory};
@@ -9,7 +10,9 @@ use std::alloc::Global;
 /// The machine of a program before its first step, where the schedule names its cores alone, and what is to be printed of memory
 /// is there.
 pub fn machine_of(alloc: Global, setup: &Setup, course: &Course) -> Result<Machine, Refusal>
-    ensures { IfOk result (IsRunOf setup.now.program setup.now.limits []) }
+    ensures made { IfOk result (IsRunOf setup.now.program setup.now.limits []) }
+    ensures cores { IfOk result (λ machine. length machine.views ≡ length setup.now.program.entries) }
+    ensures none { IfErr result (IsNotReady setup.now course.now) }
 {
     let machine = new_machine(alloc, setup)?;
     course.check_cores(machine.cores())?;

@@ -1,14 +1,17 @@
 //! `elide run`.
 
-ghost use Rattle.std.specs.Prelude.{◌≡◌, ℕ, IfOk, List, false, true};
+ghost use Rattle.std.specs.Prelude.{◌≡◌, ◌⊎◌, ℕ, IfErr, IfOk, List, false, length, true};
 ghost use Rattle.ia_text.specs.Writing.{Wrote};
 ghost use Rattle.elide_setup.specs.Recorded.{IsRecorded};
+ghost use Rattle.elide_setup.specs.Rounds.{IsOut};
 ghost use Rattle.elide_setup.specs.Runs.{AreMachineSteps, IsRunOf};
 ghost use Rattle.elide_setup.specs.Schedules.{AreOf, picks_made, picks_told, schedule_made};
 ghost use Rattle.tm_model.specs.declared.outcome.Outcome.{Outcome};
 ghost use Rattle.tm_model.specs.declared.outcome.Pick.{Pick};
 ghost use Rattle.elide_run.specs.Object.{IsObjectPrinted};
 ghost use Rattle.elide_run.specs.Printed.{IsPrinted, IsRunAsAsked, IsTold, outcome_lines, trace_text};
+ghost use Rattle.elide_run.specs.Refused.{HasNotAll, IsNoRun, IsRefused};
+ghost use Rattle.elide_why.specs.Refused.{IsUntold, IsUnwritten};
 
 use crate::coded::{run_coded, run_coded_explained};
 use crate::explained::run_explained;
@@ -42,6 +45,8 @@ pub fn run<P: Paths, O: Out + Drop, G: Progress>(
         options.now r.0 (O.device out).contents (O.device r.1).contents) }
     ensures object { IfOk result (λ r. options.now.is_json ≡ true → IsObjectPrinted (P.content paths.old)
         (P.content paths.new) options.now r.0 (O.device out).contents (O.device r.1).contents) }
+    ensures refused { options.now.is_json ≡ false →
+        IfErr result (IsRefused (P.content paths.old) (P.are_one paths.old) options.now) }
 {
     if options.shows_code && !options.traces {
         return Err(Refusal::Usage("--code"));
@@ -62,8 +67,9 @@ fn run_lines<P: Paths, O: Out + Drop, G: Progress>(
     out: O,
     progress: &mut G,
 ) -> Result<(Ending, O), Refusal>
-    ensures { IfOk result (λ r. IsPrinted (P.content paths.old) (P.content paths.new) options.now r.0
+    ensures printed { IfOk result (λ r. IsPrinted (P.content paths.old) (P.content paths.new) options.now r.0
         (O.device out).contents (O.device r.1).contents) }
+    ensures refused { IfErr result (IsRefused (P.content paths.old) (P.are_one paths.old) options.now) }
 {
     let page = Gathered::new(out);
     let (setup, machine, page) = run_steps(alloc, options, names, paths, page, progress)?;
@@ -82,8 +88,9 @@ fn run_steps<P: Paths, O: Out + Drop, G: Progress>(
     page: Gathered<O>,
     progress: &mut G,
 ) -> Result<(Setup, Machine, Gathered<O>), Refusal>
-    ensures { IfOk result (λ r. IsRunAsAsked (P.content paths.old) (P.content paths.new) options.now r.0 r.1
+    ensures made { IfOk result (λ r. IsRunAsAsked (P.content paths.old) (P.content paths.new) options.now r.0 r.1
         (⟦<Gathered<O> as Out>⟧.device page).contents (⟦<Gathered<O> as Out>⟧.device r.2).contents) }
+    ensures refused { IfErr result (IsRefused (P.content paths.old) (P.are_one paths.old) options.now) }
 {
     match (options.explains, options.shows_code) {
         (true, true) => run_coded_explained(alloc, options, names, paths, page, progress),
@@ -102,8 +109,9 @@ fn run_plainly<P: Paths, O: Out + Drop, G: Progress>(
     progress: &mut G,
 ) -> Result<(Setup, Machine, Gathered<O>), Refusal>
     requires { options.now.explains ≡ false }
-    ensures { IfOk result (λ r. IsRunAsAsked (P.content paths.old) (P.content paths.new) options.now r.0 r.1
+    ensures made { IfOk result (λ r. IsRunAsAsked (P.content paths.old) (P.content paths.new) options.now r.0 r.1
         (⟦<Gathered<O> as Out>⟧.device page).contents (⟦<Gathered<O> as Out>⟧.device r.2).contents) }
+    ensures refused { IfErr result (IsRefused (P.content paths.old) (P.are_one paths.old) options.now) }
 {
     let path = record_path(options.record, options.machine.file, paths)?;
     let (setup, course) = scheduled(alloc, &options.machine, &options.schedule, paths)?;
@@ -124,11 +132,13 @@ fn stepped<P: Paths, O: Out + Drop, G: Progress>(
     page: Gathered<O>,
     progress: &mut G,
 ) -> Result<(Machine, Gathered<O>), Refusal>
-    ensures { IfOk result (λ r. (made : List (Pick × Outcome)) × AreOf course.now (picks_made made)
+    ensures refused { IfErr result (IsNoRun setup.now course.now path.entry) }
+    ensures made { IfOk result (λ r. (made : List (Pick × Outcome)) × AreOf course.now (picks_made made)
         × IsRunOf setup.now.program setup.now.limits made r.0
         × Wrote (⟦<Gathered<O> as Out>⟧.device page) (⟦<Gathered<O> as Out>⟧.device r.1)
         (trace_text options.now.traces made)
-        × IsRecorded (P.content paths.new) path.entry (schedule_made course.now (picks_told made))) }
+        × IsRecorded (P.content paths.new) path.entry (schedule_made course.now (picks_told made))
+        × IsOut course.now (length setup.now.program.entries) made) }
 {
     let mut machine = machine_of(alloc, setup, course)?;
     let cores = machine.cores();
@@ -154,6 +164,8 @@ impl<O: Out> StepMaker for Tracing<O> {
         × Wrote (⟦<Gathered<O> as Out>⟧.device before.page) (⟦<Gathered<O> as Out>⟧.device after.page)
         (outcome_lines steps) };
 
+    ghost refuses = { IsUntold };
+
     fn make_step(&mut self, pick: Pick) -> Result<Outcome, Refusal> {
         let outcome = self.machine.make_step(pick)?;
         write_outcome(pick.core, &outcome, &mut self.page)?;
@@ -168,7 +180,8 @@ fn tell<O: Out + Drop>(
     options: &RunOptions<'_>,
     page: Gathered<O>,
 ) -> Result<(Ending, O), Refusal>
-    ensures { IfOk result (λ r. IsTold options.now setup.now machine.now r.0
+    ensures refused { IfErr result (λ why. HasNotAll setup.now machine.now why ⊎ IsUnwritten why) }
+    ensures told { IfOk result (λ r. IsTold options.now setup.now machine.now r.0
         (⟦<Gathered<O> as Out>⟧.device page).contents (O.device r.1).contents) }
 {
     let mut page = page;

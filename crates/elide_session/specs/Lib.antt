@@ -1,4 +1,5 @@
 pub mod Opened
+pub mod Refused
 pub mod Symbols
 pub mod DebugCommand
 pub mod ElideSetup

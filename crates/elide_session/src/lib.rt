@@ -2,13 +2,15 @@
 //!
 //! Promised: the board is that of the options and of the program in FILE before its first step, with room for 1,000,000 steps; the
 //! plan is the schedule that the options ask for, in the words of `elide_setup`, and there is none where they ask for none; each name
-//! stands for what it stands for in that program; and the number of the fault that ends a session early. Which cores a schedule that
+//! stands for what it stands for in that program; that a session is not opened for the reason that it names alone
+//! (`specs/Refused.antt`); and the number of the fault that ends a session early. Which cores a schedule that
 //! is drawn picks, and which labels a program has, is compared by `doc_tests`. Stands on `elide_setup` and, for sessions, on
 //! `tm_debug`.
 #![tactic(auto)]
 
-ghost use Rattle.std.specs.Prelude.{◌≡◌, IfOk, true};
+ghost use Rattle.std.specs.Prelude.{◌≡◌, IfErr, IfOk, true};
 ghost use Rattle.elide_session.specs.Opened.{IsOpened, IsPlan, is_scheduled, says_draw};
+ghost use Rattle.elide_session.specs.Refused.{IsEndBy, IsNotOpened, IsUndrawn};
 ghost use Rattle.elide_session.specs.Symbols.{AreSymbolsOf};
 ghost use Rattle.elide_setup.specs.Drawing.{AreUnder};
 ghost use Rattle.elide_setup.specs.Faults.{fault_number};
@@ -58,6 +60,7 @@ pub fn opened<P: Paths>(
 ) -> Result<Opening, Refusal>
     ensures opened { IfOk result (λ r. IsOpened (P.content paths.old machine.now.file.now) machine.now r.board r.names.symbols.items) }
     ensures plan { IfOk result (λ r. IsPlan (P.content paths.old) schedule.now r.plan.items) }
+    ensures none { IfErr result (IsNotOpened (P.content paths.old) machine.now schedule.now) }
 {
     if is_scheduled(schedule) {
         return opened_scheduled(alloc, machine, schedule, wants_labels, paths);
@@ -77,7 +80,8 @@ pub fn opened<P: Paths>(
 
 /// The fault that ended a session early. The board that comes with it is not asked for.
 pub fn session_fault(fault: &SessionFault) -> Fault
-    ensures { fault_number result ≡ session_code fault.now }
+    ensures number { fault_number result ≡ session_code fault.now }
+    ensures kind { IsEndBy (session_code fault.now) result }
 {
     match fault {
         SessionFault::Read(_) => Fault::SessionRead,
@@ -116,6 +120,7 @@ fn opened_scheduled<P: Paths>(
     requires { is_scheduled schedule.now ≡ true }
     ensures opened { IfOk result (λ r. IsOpened (P.content paths.old machine.now.file.now) machine.now r.board r.names.symbols.items) }
     ensures plan { IfOk result (λ r. IsPlan (P.content paths.old) schedule.now r.plan.items) }
+    ensures none { IfErr result (IsNotOpened (P.content paths.old) machine.now schedule.now) }
 {
     let settings = Settings::read(machine)?;
     let asked = Plan::read(alloc, schedule)?;
@@ -149,7 +154,8 @@ fn names_of(
 
 // The picks of a schedule.
 fn plan_of(alloc: Global, setup: &Setup, course: Course) -> Result<Vec<Pick>, Refusal>
-    ensures { IfOk result (λ plan. AreOf course plan.items) }
+    ensures picks { IfOk result (λ plan. AreOf course plan.items) }
+    ensures none { IfErr result (IsUndrawn setup.now) }
 {
     match course {
         Course::Listed(steps) => Ok(steps),
@@ -159,7 +165,8 @@ fn plan_of(alloc: Global, setup: &Setup, course: Course) -> Result<Vec<Pick>, Re
 
 // Those of one that is drawn, as a run on a machine of its own draws it, and no more of them than a session can ask for.
 fn drawn_plan(alloc: Global, setup: &Setup, drawn: Drawn) -> Result<Vec<Pick>, Refusal>
-    ensures { IfOk result (λ plan. AreUnder drawn.events plan.items) }
+    ensures under { IfOk result (λ plan. AreUnder drawn.events plan.items) }
+    ensures none { IfErr result (IsUndrawn setup.now) }
 {
     let mut machine = new_machine(alloc, setup)?;
     let most = drawn.most.min(MOST_DRAWN);

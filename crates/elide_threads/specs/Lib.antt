@@ -1,3 +1,4 @@
 pub mod Burst
 pub mod Plans
 pub mod Printed
+pub mod Refused

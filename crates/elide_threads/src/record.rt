@@ -1,8 +1,9 @@
 //! The schedule that comes about.
 
-ghost use Rattle.std.specs.Prelude.{◌≡◌, [], IfOk, OnOk};
+ghost use Rattle.std.specs.Prelude.{◌≡◌, ◌⊎◌, [], IfErr, IfOk, OnOk};
 ghost use Rattle.tm_model.specs.Runs.{picks_of};
 ghost use Rattle.elide_setup.specs.Recorded.{IsRecorded};
+ghost use Rattle.elide_setup.specs.Refused.{IsAnyWant, IsUnrecorded};
 
 use elide_setup::{Board, Paths, Refusal, record};
 use std::alloc::{AllocError, Global};
@@ -34,7 +35,8 @@ impl<'a> Record<'a> {
     /// Writes the schedule of a board's steps, where there is a path: a run of it makes them again.
     pub fn write<P: Paths>(mut self, board: &Board, paths: &mut P) -> Result<(), Refusal>
         requires { self.picks.items ≡ [] }
-        ensures { OnOk result (IsRecorded (P.content paths.new) self.entry.path (picks_of board.now.history)) }
+        ensures failed { IfErr result (λ why. IsUnrecorded self.entry.path why ⊎ IsAnyWant why) }
+        ensures written { OnOk result (IsRecorded (P.content paths.new) self.entry.path (picks_of board.now.history)) }
     {
         if self.path.is_none() {
             return Ok(());

@@ -1,14 +1,17 @@
 //! The workers of a command.
 
-ghost use Rattle.std.specs.Prelude.{◌≡◌, ◌*◌, [], ℕ, IfOk, List, MatchResult, None, Some, false, length};
-ghost use Rattle.std.specs.Prelude.{replicate, true};
+ghost use Rattle.std.specs.Prelude.{◌≡◌, ◌*◌, ◌⊎◌, [], ℕ, Bool, IfErr, IfOk, List, MatchResult, None, Option, Some, codes, false};
+ghost use Rattle.std.specs.Prelude.{length, replicate, true};
 ghost use Rattle.std.specs.Option.{option_copied};
 ghost use Rattle.ia_text.specs.Writing.{Wrote};
+ghost use Rattle.elide_setup.specs.ElideProgram.Files.{Gives, most_bytes};
 ghost use Rattle.elide_setup.specs.ElideProgram.ProgramFile.{IsFile};
 ghost use Rattle.elide_setup.specs.ElideProgram.ProgramFileType.{ProgramFile};
-ghost use Rattle.elide_setup.specs.ElideProgram.Settings.{number_or, number_said};
-ghost use Rattle.elide_setup.specs.Faults.{fault_number};
+ghost use Rattle.elide_setup.specs.ElideProgram.Settings.{AreSettings, number_or, number_said};
+ghost use Rattle.elide_setup.specs.Faults.{fault_number, refusal_of, want};
+ghost use Rattle.elide_setup.specs.Misuse.{IsMisuse};
 ghost use Rattle.elide_setup.specs.Recorded.{IsRecorded};
+ghost use Rattle.elide_setup.specs.Refused.{IsAnyWant, IsNoBoard, IsUnrecorded};
 ghost use Rattle.elide_setup.specs.Setup.{IsSetup};
 ghost use Rattle.elide_setup.specs.Shown.{IsShownOf, shown_text};
 ghost use Rattle.elide_setup.specs.TmHist.Board.{IsNew, ShownBoard as Board};
@@ -17,6 +20,7 @@ ghost use Rattle.elide_setup.specs.declared.shown.ShownMemory.{ShownMemory};
 ghost use Rattle.elide_threads.specs.Burst.{burst_said};
 ghost use Rattle.elide_threads.specs.Plans.{plan_said};
 ghost use Rattle.elide_threads.specs.Printed.{IsPrinted, IsTold, IsWorked, board_object};
+ghost use Rattle.elide_threads.specs.Refused.{IsMisworked, IsNoPlan, IsNoWork, IsNotTold, IsNotWorked, IsRefused};
 ghost use Rattle.tm_model.specs.Runs.{picks_of};
 ghost use Rattle.tm_work.specs.Faults.{work_number};
 ghost use Rattle.tm_work.specs.Events.{TellDrawn};
@@ -59,8 +63,10 @@ pub fn threads<R: Threads + Wait + Sync + AllocGlobal, P: Paths, O: Out + Drop, 
     out: O,
     progress: &mut G,
 ) -> Result<O, Refusal>
-    ensures { IfOk result (λ given. IsPrinted (P.content paths.old) (P.content paths.new) options.now
+    ensures printed { IfOk result (λ given. IsPrinted (P.content paths.old) (P.content paths.new) options.now
         (O.device out).contents (O.device given).contents) }
+    ensures refused { options.now.counts ≡ false → options.now.is_json ≡ false →
+        IfErr result (IsRefused (P.content paths.old) (P.are_one paths.old) options.now) }
 {
     if options.is_json && !options.counts && options.explains {
         return Err(Refusal::Usage("--json"));
@@ -109,6 +115,7 @@ impl<'a> Work<'a> {
             (option_copied options.now.seed) ≡ Some work.plan) }
         ensures path { IfOk result (λ work. work.path ≡ options.now.«record») }
         ensures kept { (other : List ℕ) → P.content paths.new other ≡ P.content paths.old other }
+        ensures refused { IfErr result (IsMisworked (P.are_one paths.old) options.now) }
     {
         let budget = number_of(options.budget, "--budget")?;
         let burst = burst_of(options.burst)?;
@@ -140,7 +147,13 @@ fn threads_of_text<
     out: O,
     progress: &mut G,
 ) -> Result<O, Refusal>
-    ensures { IfOk result (λ given. (file : ProgramFile) × (setup : Setup) × (board : Board) × IsFile text.now file
+    ensures refused { options.now.counts ≡ false → options.now.is_json ≡ false →
+        (content : List ℕ → Option (List ℕ)) (are_one : List ℕ → List ℕ → Option Bool) →
+        Gives (content options.now.machine.file.now) most_bytes text.now → AreSettings options.now.machine settings.now →
+        number_said (option_copied options.now.budget) ≡ Some work.entry.budget →
+        plan_said (option_copied options.now.events) (option_copied options.now.seed) ≡ Some work.entry.plan →
+        work.entry.path ≡ options.now.«record» → IfErr result (IsRefused content are_one options.now) }
+    ensures told { IfOk result (λ given. (file : ProgramFile) × (setup : Setup) × (board : Board) × IsFile text.now file
         × IsSetup file settings.now setup × IsWorked setup work.entry.budget work.entry.plan board
         × IsTold options.now setup board (O.device out).contents (O.device given).contents
         × IsRecorded (P.content paths.new) work.entry.path (picks_of board.history)) }
@@ -184,7 +197,9 @@ fn run_and_tell<
     progress: &mut G,
 ) -> Result<O, Refusal>
     requires { options.now.explains ≡ false → places ≡ None }
-    ensures { IfOk result (λ given. (board : Board) × IsWorked setup.now work.entry.budget work.entry.plan board
+    ensures refused { options.now.counts ≡ false → options.now.is_json ≡ false →
+        IfErr result (IsNoWork setup.now work.entry.budget work.entry.plan work.entry.path) }
+    ensures told { IfOk result (λ given. (board : Board) × IsWorked setup.now work.entry.budget work.entry.plan board
         × IsTold options.now setup.now board (O.device out).contents (O.device given).contents
         × IsRecorded (P.content paths.new) work.entry.path (picks_of board.history)) }
 {
@@ -208,6 +223,7 @@ fn recorded<R: Threads + Wait + Sync + AllocGlobal, P: Paths, G: Progress + Send
         × IsReport board (replicate (length board.program.entries) work.entry.budget) last steps) }
     ensures events { IfOk result (λ last. TellDrawn work.entry.plan.events (new_part board last)) }
     ensures recorded { IfOk result (λ last. IsRecorded (P.content paths.new) work.entry.path (picks_of last.history)) }
+    ensures refused { IfErr result (λ why. IsNotWorked why ⊎ (IsUnrecorded work.entry.path why ⊎ IsAnyWant why)) }
 {
     let record = record_of(rt.alloc(), work.path, &board)?;
     let board = worked(rt, board, work, progress)?;
@@ -227,7 +243,9 @@ fn tell_run<O: Out + Drop, G: Progress>(
     progress: &mut G,
 ) -> Result<O, Refusal>
     requires { options.now.explains ≡ false → places ≡ None }
-    ensures { IfOk result (λ given. IsTold options.now setup.now board.now (O.device out).contents (O.device given).contents) }
+    ensures told { IfOk result (λ given. IsTold options.now setup.now board.now (O.device out).contents (O.device given).contents) }
+    ensures refused { options.now.counts ≡ false → options.now.is_json ≡ false →
+        IfErr result (IsNotTold setup.now board.now) }
 {
     let mut page = Gathered::new(out);
     if let Some(places) = places {
@@ -255,7 +273,8 @@ fn places_of(
     names: bool,
     text: &[u8],
 ) -> Result<Option<NamedPlaces>, Refusal>
-    ensures { IfOk result (λ places. options.now.explains ≡ false → places ≡ None) }
+    ensures places { IfOk result (λ places. options.now.explains ≡ false → places ≡ None) }
+    ensures want { IfErr result (λ why. why ≡ want) }
 {
     if options.explains {
         let places = Places::of_text(alloc, text)?;
@@ -269,7 +288,7 @@ fn places_of(
 fn burst_of(text: Option<&str>) -> Result<Burst, ProgramRefusal>
     ensures { MatchResult result
         (λ burst. burst_said (option_copied text.entry) ≡ Some burst)
-        (λ _. burst_said (option_copied text.entry) ≡ None) }
+        (λ why. (burst_said (option_copied text.entry) ≡ None) × IsMisuse (codes "--burst") (refusal_of why)) }
 {
     if text.is_none() {
         return Ok(Burst::Varying);
@@ -284,7 +303,7 @@ fn burst_of(text: Option<&str>) -> Result<Burst, ProgramRefusal>
 fn plan_of(options: &ThreadsOptions<'_>) -> Result<EventPlan, Refusal>
     ensures { MatchResult result
         (λ plan. plan_said (option_copied options.now.events) (option_copied options.now.seed) ≡ Some plan)
-        (λ _. plan_said (option_copied options.now.events) (option_copied options.now.seed) ≡ None) }
+        (λ why. (plan_said (option_copied options.now.events) (option_copied options.now.seed) ≡ None) × IsNoPlan why) }
 {
     match (options.events, options.seed) {
         (Some(text), seed) => drawn_plan(text, seed),
@@ -300,7 +319,7 @@ fn plan_of(options: &ThreadsOptions<'_>) -> Result<EventPlan, Refusal>
 fn drawn_plan(text: &str, seed: Option<&str>) -> Result<EventPlan, Refusal>
     ensures { MatchResult result
         (λ plan. plan_said (Some text.now) (option_copied seed.entry) ≡ Some plan)
-        (λ _. plan_said (Some text.now) (option_copied seed.entry) ≡ None) }
+        (λ why. (plan_said (Some text.now) (option_copied seed.entry) ≡ None) × IsNoPlan why) }
 {
     let events = events_of(text)?;
     let seed = seed_of(seed)?;
@@ -311,7 +330,7 @@ fn drawn_plan(text: &str, seed: Option<&str>) -> Result<EventPlan, Refusal>
 fn seed_of(text: Option<&str>) -> Result<u32, ProgramRefusal>
     ensures { MatchResult result
         (λ seed. number_or 1 (option_copied text.entry) ≡ Some seed)
-        (λ _. number_or 1 (option_copied text.entry) ≡ None) }
+        (λ why. (number_or 1 (option_copied text.entry) ≡ None) × IsMisuse (codes "--seed") (refusal_of why)) }
 {
     if text.is_none() {
         return Ok(FIRST_SEED);
@@ -323,6 +342,7 @@ fn seed_of(text: Option<&str>) -> Result<u32, ProgramRefusal>
 fn record_of<'a>(alloc: Global, path: Option<&'a str>, board: &Board) -> Result<Record<'a>, Fault>
     ensures path { IfOk result (λ room. room.path ≡ path.entry) }
     ensures none { IfOk result (λ room. room.picks.items ≡ []) }
+    ensures want { IfErr result (λ fault. fault ≡ Fault.NoWorkers) }
 {
     match Record::reserve(alloc, path, board) {
         Ok(record) => Ok(record),
@@ -332,7 +352,8 @@ fn record_of<'a>(alloc: Global, path: Option<&'a str>, board: &Board) -> Result<
 
 // A board with room for so many steps of each core.
 fn opened(alloc: Global, setup: &Setup, budget: u32) -> Result<Board, Refusal>
-    ensures { IfOk result (λ board.
+    ensures none { IfErr result (IsNoBoard setup.now (length setup.now.program.entries * budget)) }
+    ensures made { IfOk result (λ board.
         IsNew setup.now.program setup.now.limits (length setup.now.program.entries * budget) board) }
 {
     let limit = u64::from(setup.program.cores()) * u64::from(budget);
@@ -349,6 +370,7 @@ fn worked<R: Threads + Wait + Sync + AllocGlobal, G: Progress + Send>(
     ensures report { IfOk result (λ last. (steps : List ℕ)
         × IsReport board (replicate (length board.program.entries) work.entry.budget) last steps) }
     ensures events { IfOk result (λ last. TellDrawn work.entry.plan.events (new_part board last)) }
+    ensures refused { IfErr result IsNotWorked }
 {
     let alloc = rt.alloc();
     let Ok(budgets) = vec![in alloc; work.budget; usize::from(board.cores())] else {
@@ -374,7 +396,8 @@ fn worked<R: Threads + Wait + Sync + AllocGlobal, G: Progress + Send>(
 
 // Why the workers did not all run. The board that comes with it is not asked for.
 fn fault_of(fault: &WorkFault) -> Fault
-    ensures { fault_number result ≡ work_number fault.now }
+    ensures number { fault_number result ≡ work_number fault.now }
+    ensures kind { IsNotWorked (Refusal.Fault result) }
 {
     match fault {
         WorkFault::SpawnRefused(_, _) => Fault::SpawnRefused,
@@ -390,6 +413,7 @@ fn tell_asked<O: Out>(
     setup: &Setup,
     out: &mut O,
 ) -> Result<(), Refusal>
+    ensures refused { options.now.is_json ≡ false → IfErr result (IsNotTold setup.now board.now) }
     ensures lines { IfOk result (λ _. options.now.is_json ≡ false → (memory : ShownMemory)
         × IsShownOf board.now.machine.memory setup.now.parts options.now.machine.shows.items memory
         × Wrote (O.device out.old) (O.device out.new) (shown_text board.now.machine memory)) }
@@ -406,7 +430,8 @@ fn tell_asked<O: Out>(
 
 // Prints the state and what is asked for of memory.
 fn tell<O: Out>(board: &Board, setup: &Setup, sums: &[&str], out: &mut O) -> Result<(), Refusal>
-    ensures { IfOk result (λ _. (memory : ShownMemory) × IsShownOf board.now.machine.memory setup.now.parts sums.now memory
+    ensures refused { IfErr result (IsNotTold setup.now board.now) }
+    ensures told { IfOk result (λ _. (memory : ShownMemory) × IsShownOf board.now.machine.memory setup.now.parts sums.now memory
         × Wrote (O.device out.old) (O.device out.new) (shown_text board.now.machine memory)) }
 {
     let machine = board.machine();

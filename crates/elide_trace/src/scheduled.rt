@@ -1,9 +1,17 @@
 //! A program, its schedule and its labels.
 
-ghost use Rattle.std.specs.Prelude.{◌≡◌, IfOk, List};
+ghost use Rattle.std.specs.Prelude.{◌≡◌, ◌⊎◌, ℕ, IfErr, IfOk, IfSome, List, Option, Some};
+ghost use Rattle.tm_model.specs.declared.outcome.Outcome.{Outcome};
 ghost use Rattle.tm_model.specs.declared.outcome.Pick.{Pick};
+ghost use Rattle.elide_args.specs.declared.subcommand.MachineOptions.{MachineOptions};
+ghost use Rattle.elide_args.specs.declared.subcommand.ScheduleOptions.{ScheduleOptions};
+ghost use Rattle.elide_setup.specs.ElideProgram.Files.{Gives, most_bytes};
 ghost use Rattle.elide_setup.specs.ElideProgram.ProgramFile.{IsFile};
 ghost use Rattle.elide_setup.specs.ElideProgram.ProgramFileType.{ProgramFile};
+ghost use Rattle.elide_setup.specs.ElideProgram.Settings.{AreSettings};
+ghost use Rattle.elide_setup.specs.Faults.{want};
+ghost use Rattle.elide_setup.specs.Refused.{IsNotScheduled, plan_path};
+ghost use Rattle.elide_setup.specs.Rounds.{IsAskedOut, IsOut, IsPlannedOut};
 ghost use Rattle.elide_setup.specs.Schedules.{AreAsked, AreOf, ArePlanned, are_listed, is_list, plan_is_list};
 ghost use Rattle.elide_setup.specs.Setup.{IsAsked, IsSetup};
 
@@ -26,6 +34,9 @@ pub fn scheduled_labels<P: Paths>(
     ensures course { IfOk result (λ r. (picks : List Pick) → AreOf r.1 picks →
         AreAsked (P.content paths.old) schedule.now picks) }
     ensures listed { IfOk result (λ r. is_list r.1 ≡ are_listed schedule.now) }
+    ensures out { IfOk result (λ r. (cores : ℕ) (steps : List (Pick × Outcome)) → IsOut r.1 cores steps →
+        IsAskedOut schedule.now cores steps) }
+    ensures none { IfErr result (λ why. IsNotScheduled (P.content paths.old) machine.now schedule.now why ⊎ (why ≡ want)) }
 {
     let settings = Settings::read(machine)?;
     let plan = Plan::read(alloc, schedule)?;
@@ -47,6 +58,13 @@ fn labels_with<P: Paths>(
     ensures course { IfOk result (λ r. (picks : List Pick) → AreOf r.1 picks →
         ArePlanned (P.content paths.old) plan.entry picks) }
     ensures listed { IfOk result (λ r. is_list r.1 ≡ plan_is_list plan.entry) }
+    ensures out { IfOk result (λ r. (cores : ℕ) (steps : List (Pick × Outcome)) → IsOut r.1 cores steps →
+        IsPlannedOut plan.entry cores steps) }
+    ensures none { (content : List ℕ → Option (List ℕ)) (machine : MachineOptions) (schedule : ScheduleOptions) →
+        ((other : List ℕ) → P.content paths.old other ≡ content other) →
+        Gives (content machine.file.now) most_bytes text.now → AreSettings machine settings.now →
+        IfSome (plan_path plan.entry) (λ path. schedule.path ≡ Some path) →
+        IfErr result (λ why. IsNotScheduled content machine schedule why ⊎ (why ≡ want)) }
 {
     let file = ProgramFile::read(alloc, text)?;
     let (setup, course) = planned(alloc, settings, plan, &file, paths)?;

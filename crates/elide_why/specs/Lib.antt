@@ -5,3 +5,4 @@ pub mod Words
 pub mod ElideSetup
 pub mod TmCore
 pub mod TmHist
+pub mod Refused

@@ -1,7 +1,9 @@
 //! The steps of a board that are told.
 
-ghost use Rattle.std.specs.Prelude.{ℕ, IfOk, List};
+ghost use Rattle.std.specs.Prelude.{ℕ, IfErr, IfOk, List};
 ghost use Rattle.ia_text.specs.Writing.{Wrote};
+ghost use Rattle.elide_setup.specs.Refused.{IsNoMachine};
+ghost use Rattle.elide_why.specs.Refused.{IsNotRetold};
 
 use crate::placed::NamedPlaces;
 use crate::teller::Teller;
@@ -21,7 +23,8 @@ pub fn tell_history<O: Out, G: Progress>(
     out: &mut O,
     progress: &mut G,
 ) -> Result<(), Refusal>
-    ensures { IfOk result (λ _. (text : List ℕ) × Wrote (O.device out.old) (O.device out.new) text) }
+    ensures told { IfOk result (λ _. (text : List ℕ) × Wrote (O.device out.old) (O.device out.new) text) }
+    ensures refused { IfErr result (IsNotRetold board.now.limits) }
 {
     let told = told_steps(alloc, board, path, places, out, progress);
     progress.end();
@@ -36,10 +39,10 @@ fn told_steps<O: Out, G: Progress>(
     out: &mut O,
     progress: &mut G,
 ) -> Result<(), Refusal>
-    ensures { IfOk result (λ _. (text : List ℕ) × Wrote (O.device out.old) (O.device out.new) text) }
+    ensures told { IfOk result (λ _. (text : List ℕ) × Wrote (O.device out.old) (O.device out.new) text) }
+    ensures refused { IfErr result (IsNotRetold board.now.limits) }
 {
-    let machine = Machine::new(alloc, board.program(), board.limits());
-    let mut machine = machine.map_err(Fault::Machine)?;
+    let mut machine = machine_like(alloc, board)?;
     let teller = Teller::new(board.program(), path, &places.places, false);
     let mut teller = teller.naming(places.names);
     let history = board.history();
@@ -52,4 +55,14 @@ fn told_steps<O: Out, G: Progress>(
         }
     }
     Ok(())
+}
+
+// A machine of a board's program and limits before its first step.
+fn machine_like(alloc: Global, board: &Board) -> Result<Machine, Refusal>
+    ensures { IfErr result (IsNoMachine board.now.limits) }
+{
+    match Machine::new(alloc, board.program(), board.limits()) {
+        Ok(machine) => Ok(machine),
+        Err(fault) => Err(Refusal::Fault(Fault::Machine(fault))),
+    }
 }

@@ -1,7 +1,8 @@
 //! Steps that are made and told.
 
-ghost use Rattle.std.specs.Prelude.{ℕ, IfOk, List};
+ghost use Rattle.std.specs.Prelude.{ℕ, IfErr, IfOk, List};
 ghost use Rattle.elide_setup.specs.Runs.{IsMachineStep};
+ghost use Rattle.elide_why.specs.Refused.{IsUntold, IsUnwritten};
 ghost use Rattle.ia_text.specs.Writing.{Wrote};
 
 use crate::interference::write_interference;
@@ -78,6 +79,7 @@ impl<'a> Teller<'a> {
     ) -> Result<Outcome, Refusal>
         ensures step { IfOk result (λ outcome. IsMachineStep machine.old pick outcome machine.new) }
         ensures told { IfOk result (λ _. (text : List ℕ) × Wrote (O.device out.old) (O.device out.new) text) }
+        ensures refused { IfErr result IsUntold }
     {
         if self.asked.anew(machine, pick.core).is_err() {
             return Err(Refusal::Fault(Fault::Run(RunFault::NoSuchCore)));
@@ -100,7 +102,8 @@ impl<'a> Teller<'a> {
         begun: Option<u64>,
         out: &mut O,
     ) -> Result<(), Refusal>
-        ensures { IfOk result (λ _. (text : List ℕ) × Wrote (O.device out.old) (O.device out.new) text) }
+        ensures told { IfOk result (λ _. (text : List ℕ) × Wrote (O.device out.old) (O.device out.new) text) }
+        ensures refused { IfErr result IsUnwritten }
     {
         let core = self.asked.core;
         match (outcome, reason) {
@@ -125,7 +128,8 @@ impl<'a> Teller<'a> {
         begun: Option<u64>,
         out: &mut O,
     ) -> Result<(), Refusal>
-        ensures { IfOk result (λ _. (text : List ℕ) × Wrote (O.device out.old) (O.device out.new) text) }
+        ensures told { IfOk result (λ _. (text : List ℕ) × Wrote (O.device out.old) (O.device out.new) text) }
+        ensures refused { IfErr result IsUnwritten }
     {
         let words = Words::at(self.program, self.path, self.places, self.asked.eip);
         write_interference(self.asked.core, interference, status, begun, &words, out)?;
@@ -140,7 +144,8 @@ impl<'a> Teller<'a> {
         reason: &Reason,
         out: &mut O,
     ) -> Result<(), Refusal>
-        ensures { IfOk result (λ _. (text : List ℕ) × Wrote (O.device out.old) (O.device out.new) text) }
+        ensures told { IfOk result (λ _. (text : List ℕ) × Wrote (O.device out.old) (O.device out.new) text) }
+        ensures refused { IfErr result IsUnwritten }
     {
         let words = self.words_of(reason);
         write_abort(core, status, reason, &words, out)?;
@@ -149,7 +154,8 @@ impl<'a> Teller<'a> {
 
     #[inline(never)]
     fn tell_stop<O: Out>(&self, out: &mut O) -> Result<(), Refusal>
-        ensures { IfOk result (λ _. (text : List ℕ) × Wrote (O.device out.old) (O.device out.new) text) }
+        ensures told { IfOk result (λ _. (text : List ℕ) × Wrote (O.device out.old) (O.device out.new) text) }
+        ensures refused { IfErr result IsUnwritten }
     {
         let outside = self.outside_at(self.asked.eip);
         write_stop(self.asked.core, &outside, out)?;

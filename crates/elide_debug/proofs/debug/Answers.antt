@@ -1,7 +1,10 @@
+use Rattle.std.proofs.lemmas.Result.{err_from_is_err_and}
+use Rattle.elide_debug.proofs.Refusing.{ended}
+use Rattle.elide_debug.specs.Refused.{unopened}
 use Rattle.elide_debug.proofs.debug.Goals as goal
 
-pub returns-in-Ok : goal.returns-in-Ok
-returns-in-Ok g c = record {
+pub returns-in-Ok-clause-served : goal.returns-in-Ok-clause-served
+returns-in-Ok-clause-served g c = record {
   first = c.in_ok-start.start.board;
   last = c.in-Ok._board;
   plan = c.in_ok-start.start.plan.items;
@@ -13,3 +16,12 @@ returns-in-Ok g c = record {
   speaks = c.manner_at-manner.ensures;
   answers = c.in-Ok.ensures.ok;
 }
+
+pub returns-in-Err-clause-refused : goal.returns-in-Err-clause-refused
+returns-in-Err-clause-refused g c =
+    ended (g.P.Paths.content c.args.paths.now) c.args.options.now _ _ _ _ _ _ c.session_fault.ensures.kind c.in-Err.ensures.read c.in-Err.ensures.write
+
+pub returns-in_err-start-clause-refused : goal.returns-in_err-start-clause-refused
+returns-in_err-start-clause-refused g c =
+    let p = err_from_is_err_and c.from_residual.result c.from_residual.ensures.1 in
+    rw (p.1, p.2) (unopened c.in_err-start.ensures.none)

@@ -20,7 +20,7 @@ returns g c =
           read = subst (λ (text : List ℕ). IsFile text made.0) c.as_slice.ensures.value made.1;
         };
         settings = c.in_ok-settings.settings;
-        said = c.in_ok-settings.ensures;
+        said = c.in_ok-settings.ensures.settings;
         made = made.4;
       };
       under = c.in_ok-under.under;

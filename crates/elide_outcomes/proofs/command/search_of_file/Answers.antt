@@ -29,4 +29,4 @@ returns g c =
     c.as_slice-2.ensures.value c.in_ok-ends.ensures) in
     found_of_file text file c.args.settings.now asked c.in_ok-setup.setup items checks
     (record { search = search; labels = c.in_ok-labels.labels })
-    sought c.in_ok-setup.ensures shown checked c.in_ok-labels.ensures
+    sought c.in_ok-setup.ensures.setup shown checked c.in_ok-labels.ensures

@@ -17,7 +17,7 @@ returns g c =
       device = g.O.Out.device r.out;
     } in
     let stretch = c.args.stretch in
-    let walked = c.in_ok-walk.ensures in
+    let walked = c.in_ok-walk.ensures.walked in
     let ended = c.walk.new.maker in
     let all = all_reasoned spot (λ a steps b h. h) walked.0 _ ended walked.2 in
     IfOk-weaker c.ended.result
@@ -25,5 +25,5 @@ returns g c =
     (λ (last : g.row.O.Denot). (text : List ℕ) × AreReasonsOf stretch text
     × Wrote (g.O.Out.device c.args.out) (g.O.Out.device last) text)
     (λ last end. reasons_written stretch walked.0 _ (spot ended) (g.O.Out.device c.args.out) (g.O.Out.device last)
-    walked.1 c.in_ok-machine.ensures refl refl refl all c.in_ok-check_total.ensures c.in_ok-out.ensures end)
+    walked.1 c.in_ok-machine.ensures.made refl refl refl all c.in_ok-check_total.ensures c.in_ok-out.ensures end)
     c.ended.ensures

@@ -21,7 +21,7 @@ returns-clause-told g c =
     let above : (lines : List ℕ) × (c.args.options.now.explains ≡ false → lines ≡ []) × Appends (held begun).contents (held page).contents lines =
     elim c.match-places.branch [
       | in-Some+in_ok-tell_history w ↦
-          let more = w.in_ok-tell_history.ensures in (
+          let more = w.in_ok-tell_history.ensures.told in (
             more.0,
             (λ e. let none = c.requires e in let some = w.in-Some.is in cc),
             subst (λ (m : Gathered g.row.O.Denot). Appends (held begun).contents (held m).contents more.0) (sym w.page-is) more.1.bytes,
@@ -31,7 +31,7 @@ returns-clause-told g c =
     ] in
     let memory = c.in_ok-memory.memory in
     let is = c.in_ok-memory.ensures in
-    let agrees : c.in_ok-agreement.agreement ≡ Agrees = c.in_ok-agreement.ensures.agrees.1 c.in_ok-serial.ensures in
+    let agrees : c.in_ok-agreement.agreement ≡ Agrees = c.in_ok-agreement.ensures.agrees.1 c.in_ok-serial.ensures.serial in
     let page-end : Option (List ℕ) = (held c.tell_asked.new.out).contents in
     let last : Option (List ℕ) = (g.O.Out.device c.in_ok-out.out).contents in
     let passed : (text : List ℕ) → Appends (held page).contents page-end text → Appends (g.O.Out.device c.args.out).contents last (above.0 ++ text) =

@@ -10,6 +10,9 @@ use Rattle.elide_replay.specs.Printed.{IsPrinted, IsTold}
 use Rattle.elide_setup.specs.Recorded.{IsRecorded}
 use Rattle.elide_setup.specs.Schedules.{picks_made, picks_told}
 use Rattle.elide_replay.specs.declared.agreement.Agreement.{Agreement}
+use Rattle.std.proofs.lemmas.Result.{IfErr-weaker, err_from_is_err_and}
+use Rattle.elide_replay.proofs.Refusing.{of_opening}
+use Rattle.elide_replay.specs.Refused.{IsNotCompared, IsRefused, not_compared, not_made}
 use Rattle.elide_replay.proofs.once_more.replay.Goals as goal
 
 -- two facts of what is answered give a third
@@ -46,3 +49,32 @@ returns-clause-printed g c =
       told = told;
     })
     c.compared.ensures.told recorded
+
+pub returns-in_err-setup-clause-refused : goal.returns-in_err-setup-clause-refused
+returns-in_err-setup-clause-refused g c json =
+    let p = err_from_is_err_and c.from_residual-in_err-setup.result c.from_residual-in_err-setup.ensures.1 in
+    rw (p.1, p.2)
+    (of_opening (g.P.Paths.content c.args.paths.now) (g.P.Paths.content c.record_path.new.paths) (g.P.Paths.are_one c.args.paths.now) c.args.options.now c.in_err-setup.field-0.0
+    c.record_path.ensures.kept c.in_err-setup.ensures.none)
+
+pub returns-in_err-board-clause-refused : goal.returns-in_err-board-clause-refused
+returns-in_err-board-clause-refused g c json =
+    let content : List ℕ → Option (List ℕ) = g.P.Paths.content c.args.paths.now in
+    let options = c.args.options.now in
+    let setup = c.in_ok-setup.setup in
+    let p = err_from_is_err_and c.from_residual-in_err-board.result c.from_residual-in_err-board.ensures.1 in
+    rw (p.1, p.2)
+    (not_made setup c.in_ok-setup.course
+    (subst (λ (text : Option (List ℕ)). IsAsked text options.machine setup) (c.record_path.ensures.kept options.machine.file.now) c.in_ok-setup.ensures.setup)
+    (λ picks are. asked_before content (g.P.Paths.content c.record_path.new.paths) options.schedule picks c.record_path.ensures.kept (c.in_ok-setup.ensures.course picks are))
+    c.in_err-board.ensures.none)
+
+pub returns-clause-refused : goal.returns-clause-refused
+returns-clause-refused g c json =
+    let options = c.args.options.now in
+    let setup = c.in_ok-setup.setup in
+    let board = c.in_ok-board.board in
+    let is = subst (λ (text : Option (List ℕ)). IsAsked text options.machine setup) (c.record_path.ensures.kept options.machine.file.now) c.in_ok-setup.ensures.setup in
+    IfErr-weaker c.compared.result (IsNotCompared setup board c.in_ok-path.path) (IsRefused (g.P.Paths.content c.args.paths.now) (g.P.Paths.are_one c.args.paths.now) options)
+    (λ why h. not_compared setup board is c.in_ok-board.ensures.made (subst (λ (path : Option (Bor (List ℕ))). IsNotCompared setup board path why) c.in_ok-path.ensures.given h))
+    (c.compared.ensures.refused json)

@@ -1,4 +1,4 @@
-use Rattle.std.proofs.Common.{◌∙◌, ◌++◌, ℕ, List, Option, append_assoc, subst}
+use Rattle.std.proofs.Common.{◌∙◌, ◌++◌, ℕ, List, Option, append_assoc, length, subst}
 use Rattle.std.proofs.lemmas.Result.{IfOk-weaker}
 use Rattle.std.specs.Borrow.{Bor}
 use Rattle.std.specs.Io.KnownBytes.{Appends}
@@ -44,6 +44,7 @@ returns g c =
       steps = asked_before content (g.P.Paths.content c.record_path.new.paths) options.schedule (picks_made made.0) c.record_path.ensures.kept (c.in_ok-setup.ensures.course (picks_made made.0) made.1);
       machine = machine;
       ran = made.2;
+      out = c.in_ok-setup.ensures.out (length setup.program.entries) made.0 made.5;
       recorded = recorded_asked left options.record options.schedule c.in_ok-setup.course made.0 c.in_ok-setup.ensures.listed made.1
           (subst (λ (path : Option (Bor (List ℕ))). IsRecorded left path (schedule_made c.in_ok-setup.course (picks_told made.0))) c.in_ok-path.ensures.given made.4);
       came_to = end.came_to;

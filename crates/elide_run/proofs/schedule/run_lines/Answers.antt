@@ -1,14 +1,19 @@
-use Rattle.std.proofs.Common.{ℕ, List, Option}
+use Rattle.std.proofs.Common.{ℕ, List, Option, ◌⊎◌}
 use Rattle.std.proofs.lemmas.Result.{IfOk-weaker}
 use Rattle.elide_setup.specs.Gathering.{told}
 use Rattle.elide_setup.specs.declared.gathered.Gathered.{Gathered}
 use Rattle.elide_run.specs.Printed.{IsPrinted, IsTold}
 use Rattle.elide_run.specs.declared.halting.Ending.{Ending}
 use Rattle.elide_run.proofs.Printed.{kept_before}
+use Rattle.std.proofs.lemmas.Result.{IfErr-weaker}
+use Rattle.elide_run.proofs.Refusing.{of_end}
+use Rattle.elide_run.specs.Refused.{HasNotAll, IsRefused}
+use Rattle.elide_setup.specs.declared.fault.Refusal.{Refusal}
+use Rattle.elide_why.specs.Refused.{IsUnwritten}
 use Rattle.elide_run.proofs.schedule.run_lines.Goals as goal
 
-pub returns : goal.returns
-returns g c =
+pub returns-clause-printed : goal.returns-clause-printed
+returns-clause-printed g c =
     let content : List ℕ → Option (List ℕ) = g.P.Paths.content c.args.paths.now in
     let left : List ℕ → Option (List ℕ) = g.P.Paths.content c.run_steps.new.paths in
     let held : Gathered g.row.O.Denot → Option (List ℕ) = λ m. told (g.O.Out.device m.out).contents (g.O.Out.device m.before.value).contents m.failures m.row.items in
@@ -22,7 +27,18 @@ returns g c =
       setup = made.setup;
       machine = made.machine;
       between = held made.page;
-      ran = kept_before content left c.args.options.now made.setup made.machine first begun (held made.page) c.new-page.ensures.kept made.ensures;
+      ran = kept_before content left c.args.options.now made.setup made.machine first begun (held made.page) c.new-page.ensures.kept made.ensures.made;
       told = ended;
     })
-    c.tell-told.ensures
+    c.tell-told.ensures.told
+
+pub returns-clause-refused : goal.returns-clause-refused
+returns-clause-refused g c =
+    let content : List ℕ → Option (List ℕ) = g.P.Paths.content c.args.paths.now in
+    let are_one = g.P.Paths.are_one c.args.paths.now in
+    let options = c.args.options.now in
+    let setup = c.in_ok-setup.setup in
+    let machine = c.in_ok-setup.machine in
+    let made = c.in_ok-setup.ensures.made in
+    IfErr-weaker c.tell-told.result (λ (why : Refusal). HasNotAll setup machine why ⊎ IsUnwritten why) (IsRefused content are_one options)
+    (λ why h. of_end content are_one options setup machine made.made why made.asked made.ran h) c.tell-told.ensures.refused

@@ -1,27 +1,55 @@
+use Rattle.std.proofs.Common.{◌∙◌, ℕ, subst, inl}
+use Rattle.std.proofs.lemmas.Result.{err_from_is_err_and}
+use Rattle.elide_setup.specs.Rounds.{IsOut}
 use Rattle.elide_setup.proofs.Runs.{run_of_all}
 use Rattle.elide_setup.specs.Gathering.{told}
 use Rattle.elide_run.proofs.Steps.{traced, wrote_traced, wrote_untraced}
+use Rattle.elide_run.proofs.Refusing.{of_walk}
+use Rattle.elide_run.specs.Refused.{unready}
+use Rattle.elide_setup.specs.Refused.{IsNoCore}
+use Rattle.elide_why.specs.Refused.{IsUntold}
 use Rattle.elide_run.proofs.schedule.stepped.Goals as goal
 
-pub returns-then-not-options : goal.returns-then-not-options
-returns-then-not-options g c =
-    let made = c.in_ok-walk_recorded.ensures in (
+pub returns-then-not-options-clause-made : goal.returns-then-not-options-clause-made
+returns-then-not-options-clause-made g c =
+    let made = c.in_ok-walk_recorded.ensures.walked in (
       made.0,
       made.1,
-      run_of_all c.args.setup.now.program c.args.setup.now.limits made.0 c.in_ok-machine.machine c.walk_recorded.new.maker c.in_ok-machine.ensures made.2,
+      run_of_all c.args.setup.now.program c.args.setup.now.limits made.0 c.in_ok-machine.machine c.walk_recorded.new.maker c.in_ok-machine.ensures.made made.2,
       wrote_untraced _ c.args.options.now.traces made.0 c.if-not-options.true,
       made.3,
+      subst (λ (n : ℕ). IsOut c.args.course.now n made.0) (c.cores-cores.ensures.count ∙ c.in_ok-machine.ensures.cores) made.4,
     )
 
-pub returns : goal.returns
-returns g c =
-    let made = c.in_ok-walk_recorded-2.ensures in
+pub returns-clause-made : goal.returns-clause-made
+returns-clause-made g c =
+    let made = c.in_ok-walk_recorded-2.ensures.walked in
     let all = traced made.0 _ _ made.2 (λ m. m.machine)
     (λ m. record { contents = told (g.O.Out.device m.page.out).contents (g.O.Out.device m.page.before.value).contents m.page.failures m.page.row.items; failures = m.page.failures })
     (λ _ _ _ h. h) in (
       made.0,
       made.1,
-      run_of_all c.args.setup.now.program c.args.setup.now.limits made.0 c.in_ok-machine.machine c.walk_recorded-2.new.maker.machine c.in_ok-machine.ensures all.leads,
+      run_of_all c.args.setup.now.program c.args.setup.now.limits made.0 c.in_ok-machine.machine c.walk_recorded-2.new.maker.machine c.in_ok-machine.ensures.made all.leads,
       wrote_traced _ _ c.args.options.now.traces made.0 c.if-not-options.false all.wrote,
       made.3,
+      subst (λ (n : ℕ). IsOut c.args.course.now n made.0) (c.cores-cores.ensures.count ∙ c.in_ok-machine.ensures.cores) made.4,
     )
+
+pub returns-in_err-walk_recorded-clause-refused : goal.returns-in_err-walk_recorded-clause-refused
+returns-in_err-walk_recorded-clause-refused g c =
+    let p = err_from_is_err_and c.from_residual-in_err-walk_recorded.result c.from_residual-in_err-walk_recorded.ensures.1 in
+    rw (p.1, p.2)
+    (of_walk IsNoCore c.args.setup.now c.args.course.now c.args.path c.in_err-walk_recorded.field-0.0 (λ h. inl (inl h))
+    c.in_err-walk_recorded.ensures.refused)
+
+pub returns-in_err-walk_recorded-2-clause-refused : goal.returns-in_err-walk_recorded-2-clause-refused
+returns-in_err-walk_recorded-2-clause-refused g c =
+    let p = err_from_is_err_and c.from_residual-in_err-walk_recorded-2.result c.from_residual-in_err-walk_recorded-2.ensures.1 in
+    rw (p.1, p.2)
+    (of_walk IsUntold c.args.setup.now c.args.course.now c.args.path c.in_err-walk_recorded-2.field-0.0 (λ h. inl h)
+    c.in_err-walk_recorded-2.ensures.refused)
+
+pub returns-in_err-machine-clause-refused : goal.returns-in_err-machine-clause-refused
+returns-in_err-machine-clause-refused g c =
+    let p = err_from_is_err_and c.from_residual.result c.from_residual.ensures.1 in
+    rw (p.1, p.2) (unready c.in_err-machine.ensures.none)

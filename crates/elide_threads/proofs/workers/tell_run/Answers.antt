@@ -10,8 +10,8 @@ use Rattle.elide_threads.specs.Printed.{board_object}
 use Rattle.elide_threads.proofs.workers.tell_run.Goals.{in-Some+in_ok-tell_history, in_default, then-options+in_ok-tell_counts, else-options+in_ok-tell_asked}
 use Rattle.elide_threads.proofs.workers.tell_run.Goals as goal
 
-pub returns : goal.returns
-returns g c =
+pub returns-clause-told : goal.returns-clause-told
+returns-clause-told g c =
     let held : Gathered g.row.O.Denot → Device = λ m. record { contents = told (g.O.Out.device m.out).contents (g.O.Out.device m.before.value).contents m.failures m.row.items; failures = m.failures } in
     let begun = c.new-page.result in
     let page = c.match-places.page in
@@ -19,7 +19,7 @@ returns g c =
     let above : (lines : List ℕ) × (c.args.options.now.explains ≡ false → lines ≡ []) × Appends (held begun).contents (held page).contents lines =
     elim c.match-places.branch [
       | in-Some+in_ok-tell_history w ↦
-          let more = w.in_ok-tell_history.ensures in (
+          let more = w.in_ok-tell_history.ensures.told in (
             more.0,
             (λ e. let none = c.requires e in let some = w.in-Some.is in cc),
             subst (λ (m : Gathered g.row.O.Denot). Appends (held begun).contents (held m).contents more.0) (sym w.page-is) more.1.bytes,

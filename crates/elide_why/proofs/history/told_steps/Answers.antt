@@ -1,4 +1,4 @@
-use Rattle.std.proofs.Common.{ℕ, List, ◌++◌, sym, subst}
+use Rattle.std.proofs.Common.{◌++◌, sym, subst}
 use Rattle.ia_text.proofs.Writing.{wrote_then}
 use Rattle.ia_text.specs.Writing.{Wrote}
 use Rattle.elide_why.proofs.history.told_steps.Goals.{in-Some+in_ok-step, in_default}

@@ -23,8 +23,8 @@ returns c =
     let listed : (address : ℕ) → is_listed found.0 address ≡ is_kept old c.args.pick.core address =
     subst (λ n. (address : ℕ) → is_listed found.0 address ≡ is_kept old n address) same found.1 in
     record {
-      step = c.in_ok-outcome.ensures;
+      step = c.in_ok-outcome.ensures.made;
       mode = sym c.in_ok-state.ensures;
-      told = told_of machine after c.args.pick outcome before.reach found.0 old c.in_ok-delta.delta c.in_ok-outcome.ensures shown.within shown.reach listed difference;
+      told = told_of machine after c.args.pick outcome before.reach found.0 old c.in_ok-delta.delta c.in_ok-outcome.ensures.made shown.within shown.reach listed difference;
       kept = subst (λ l. IsKeptBehind outcome c.args.pick.core l old c.take.new.self.bytes.items) c.as_slice.ensures.value c.in_ok-take.ensures;
     }

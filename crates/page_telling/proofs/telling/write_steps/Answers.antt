@@ -27,12 +27,12 @@ returns g c =
     let machine : Machine = c.in_ok-machine.machine in
     let opened = c.open_first.new.self in
     let ended = c.walk.new.maker in
-    let walked = c.in_ok-walk.ensures in
+    let walked = c.in_ok-walk.ensures.walked in
     let known : IsKnown opened.machine opened.behind.kept.bytes.items =
     subst (λ (kept : List KeptByte). IsKnown opened.machine kept) (sym (c.open_first.ensures.kept ∙ c.new.ensures))
-    (subst (λ (m : Machine). IsKnown m []) (sym c.open_first.ensures.machine) (known_first program limits machine c.in_ok-machine.ensures)) in
+    (subst (λ (m : Machine). IsKnown m []) (sym c.open_first.ensures.machine) (known_first program limits machine c.in_ok-machine.ensures.made)) in
     let opens : IsRunOf program limits [] opened.machine =
-    subst (λ (m : Machine). IsRunOf program limits [] m) (sym c.open_first.ensures.machine) c.in_ok-machine.ensures in
+    subst (λ (m : Machine). IsRunOf program limits [] m) (sym c.open_first.ensures.machine) c.in_ok-machine.ensures.made in
     let all : HasTold (spot opened) walked.0 (spot ended) =
     has_told (spot opened) walked.0 (spot ended) known (all_tell spot (λ a steps b h. h) walked.0 opened ended walked.2) in
     IfOk-weaker c.ended.result

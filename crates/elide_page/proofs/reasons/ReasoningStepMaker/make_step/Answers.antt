@@ -1,8 +1,8 @@
 use Rattle.std.proofs.Common.{refl}
 use Rattle.elide_page.proofs.reasons.ReasoningStepMaker.make_step.Goals as goal
 
-pub returns : goal.returns
-returns g c = (
+pub returns-clause-made : goal.returns-clause-made
+returns-clause-made g c = (
   c.args.pick,
   c.in_ok-step.step.outcome,
   refl,

@@ -1,5 +1,7 @@
+use Rattle.std.proofs.lemmas.Result.{err_from_is_err_and}
 use Rattle.elide_run.proofs.Steps.{wrote_one}
 use Rattle.elide_run.proofs.schedule.TracingStepMaker.make_step.Goals as goal
 
-pub returns : goal.returns
-returns g c = (c.in_ok-outcome.ensures, wrote_one _ _ c.args.pick c.in_ok-outcome.outcome c.in_ok-write_outcome.ensures)
+pub returns-clause-made : goal.returns-clause-made
+returns-clause-made g c =
+    (c.in_ok-outcome.ensures.made, wrote_one _ _ c.args.pick c.in_ok-outcome.outcome c.in_ok-write_outcome.ensures)

@@ -1,8 +1,8 @@
 use Rattle.std.proofs.Common.{◌≤◌, ◌<◌, arith, refl}
 use Rattle.page_telling.proofs.telling.TellingStepMaker.make_step.Goals as goal
 
-pub returns : goal.returns
-returns g c =
+pub returns-clause-made : goal.returns-clause-made
+returns-clause-made g c =
     let told = c.in_ok-told.told in (
       (c.args.pick, told.outcome),
       refl,
