@@ -17,6 +17,8 @@ struct NoFiles;
 impl Paths for NoFiles {
     ghost content = { λ _ _. None };
 
+    ghost are_one = { λ _ _ _. None };
+
     fn read(&mut self, _path: &str, _most: usize) -> Result<Vec<u8>, ReadFault> {
         Err(ReadFault::Failed(Obstacle::Missing))
     }

@@ -48,6 +48,8 @@ impl Memory {
 impl Paths for Memory {
     ghost content = { λ _ _. None };
 
+    ghost are_one = { λ _ _ _. None };
+
     fn read(&mut self, path: &str, most: usize) -> Result<Vec<u8>, ReadFault> {
         self.read_shared(path, most)
     }

@@ -5,4 +5,5 @@ pub mod Items
 pub mod Conditions
 pub mod Checks
 pub mod Ends
+pub mod Refused
 pub mod Runs

@@ -1,4 +1,5 @@
--- The runs that `--runs` says, and the events that `--events` says (docs/FORMATS.md, "Options of the command line").
+-- The runs that `--runs` says, the events that `--events` says, how `--method` has the core of each step drawn, and the
+-- threads that `--jobs` says (docs/FORMATS.md, "Options of the command line").
 use Rattle.std.specs.Prelude.{◌≡◌, ◌≤◌, ◌⊎◌, ℕ, List, ◌++◌, codes, nat_eq, Option, Some, None}
 use Rattle.std.specs.Prelude.{if◌then◌else◌}
 use Rattle.std.specs.Cmp.Lexicographic.{pointwise}
@@ -6,6 +7,8 @@ use Rattle.elide_setup.specs.ElideProgram.Settings.{word32}
 use Rattle.elide_setup.specs.Events.{events_said}
 use Rattle.tm_pick.specs.declared.events.Events.{Events}
 use Rattle.tm_pick.specs.declared.events.Events.TheVariants.{Never, Draw}
+use Rattle.tm_pick.specs.declared.method.Method.{Method}
+use Rattle.tm_pick.specs.declared.method.Method.TheVariants.{Mix, Uniform, Bursts, Priorities, Seen}
 
 -- the runs of the numbers from A to B - 1
 pub record AreBetween (text : List ℕ) (first end : ℕ) : Type 0 where
@@ -26,3 +29,16 @@ AreRuns (Some text) first end = ((first ≡ 0) × (word32 text ≡ Some end)) �
 abbrev pub events_asked : Option (List ℕ) → Option Events
 events_asked None = Some Never
 events_asked (Some text) = if pointwise nat_eq text (codes "draw") then Some Draw else events_said text
+
+abbrev pub method_word : Method → List ℕ
+method_word Mix = codes "mix"
+method_word Uniform = codes "uniform"
+method_word Bursts = codes "bursts"
+method_word Priorities = codes "pct"
+method_word Seen = codes "seen"
+
+-- 1 to 1024 threads: as many as the option says; how many a machine has processors is the host's to say
+pub record AreJobs (option : Option (List ℕ)) (jobs : ℕ) : Type 0 where
+  pub some : 1 ≤ jobs
+  pub few : jobs ≤ 1024
+  pub said : (text : List ℕ) → option ≡ Some text → word32 text ≡ Some jobs

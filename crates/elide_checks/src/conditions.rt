@@ -1,8 +1,9 @@
 //! Conditions, as a text says them.
 
-ghost use Rattle.std.specs.Prelude.{◌≡◌, ◌++◌, ◌∷◌, ℕ, [], Bool, IfOk, IfSome, List, OnOk};
+ghost use Rattle.std.specs.Prelude.{◌≡◌, ◌++◌, ◌∷◌, ℕ, [], Bool, IfOk, IfSome, List, MatchResult};
 ghost use Rattle.elide_checks.specs.Conditions.{IsClause, IsComparison, IsCondition, comparison_word};
 ghost use Rattle.elide_checks.specs.Constants.{is_among};
+ghost use Rattle.elide_checks.specs.Refused.{IsNoCondition};
 ghost use Rattle.elide_setup.specs.ElideProgram.ProgramFileType.{ProgramFile as ProgramFileOf};
 ghost use Rattle.tm_check.specs.declared.clause.RunClause.{RunClause as RunClauseOf};
 
@@ -21,8 +22,9 @@ pub fn condition_of(
     scope: &Scope<'_, '_, '_>,
     name: &'static str,
 ) -> Result<Vec<RunClause>, Refusal>
-    ensures { IfOk result (λ clauses. IsCondition scope.now.file.now (is_among scope.now.constants.now.names.items)
-        text.now clauses.items) }
+    ensures { MatchResult result
+        (λ clauses. IsCondition scope.now.file.now (is_among scope.now.constants.now.names.items) text.now clauses.items)
+        (IsNoCondition name.now) }
 {
     let mut clauses = Vec::new(alloc);
     let mut rest = text;
@@ -42,8 +44,10 @@ fn add_clause(
     scope: &Scope<'_, '_, '_>,
     name: &'static str,
 ) -> Result<(), Refusal>
-    ensures { OnOk result ((clause : RunClauseOf) × (clauses.new.items ≡ clauses.old.items ++ clause ∷ [])
-        × IsClause scope.now.file.now (is_among scope.now.constants.now.names.items) text.now clause) }
+    ensures { MatchResult result
+        (λ _. (clause : RunClauseOf) × (clauses.new.items ≡ clauses.old.items ++ clause ∷ [])
+        × IsClause scope.now.file.now (is_among scope.now.constants.now.names.items) text.now clause)
+        (IsNoCondition name.now) }
 {
     match clause_of(alloc, text, scope)? {
         Some(clause) => {

@@ -1,9 +1,10 @@
 //! Names of numbers.
 
-ghost use Rattle.std.specs.Prelude.{◌≡◌, ◌++◌, [], List, OnOk, ℕ};
+ghost use Rattle.std.specs.Prelude.{◌≡◌, ◌++◌, [], List, MatchResult, OnOk, ℕ};
 ghost use Rattle.std.specs.Str.{bytes_eq};
 ghost use Rattle.ia_item.specs.Names.{whole_name};
 ghost use Rattle.elide_checks.specs.Constants.{is_among};
+ghost use Rattle.elide_setup.specs.Faults.{want};
 ghost use Rattle.elide_checks.specs.EquNames.{both_more, equ_names, names_in, none_more};
 
 use elide_setup::{ProgramFile, Refusal};
@@ -18,7 +19,6 @@ pub struct Constants<'t> {
 }
 
 impl<'t> Constants<'t> {
-    ghost use Rattle.std.specs.Prelude.{IfOk};
     ghost use Rattle.elide_checks.specs.Constants.{is_constant, is_equ_among};
     ghost use Rattle.ia_source.specs.Source.{entries_of};
 
@@ -28,8 +28,9 @@ impl<'t> Constants<'t> {
         text: &'t [u8],
         file: &ProgramFile<'_>,
     ) -> Result<Constants<'t>, Refusal>
-        ensures { IfOk result (λ constants. (name : List ℕ) →
-            is_among constants.names.items name ≡ is_constant text.now file.now name) }
+        ensures { MatchResult result
+            (λ constants. (name : List ℕ) → is_among constants.names.items name ≡ is_constant text.now file.now name)
+            (λ why. why ≡ want) }
     {
         match file {
             ProgramFile::Source(_) => Constants::of_source(alloc, text),
@@ -49,8 +50,9 @@ impl<'t> Constants<'t> {
 
     // Those of a source.
     fn of_source(alloc: Global, source: &'t [u8]) -> Result<Constants<'t>, Refusal>
-        ensures { IfOk result (λ constants. (name : List ℕ) →
-            is_among constants.names.items name ≡ is_equ_among name (entries_of source.now)) }
+        ensures { MatchResult result
+            (λ constants. (name : List ℕ) → is_among constants.names.items name ≡ is_equ_among name (entries_of source.now))
+            (λ why. why ≡ want) }
     {
         let mut walk = EquNames {
             names: Vec::new(alloc),

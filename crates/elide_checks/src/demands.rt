@@ -1,8 +1,9 @@
 //! What is checked, as the options say it.
 
-ghost use Rattle.std.specs.Prelude.{◌≡◌, ◌++◌, IfOk, List, OnOk};
+ghost use Rattle.std.specs.Prelude.{◌≡◌, ◌++◌, IfOk, List, MatchResult, OnOk, codes};
 ghost use Rattle.std.specs.List.{AllZip};
 ghost use Rattle.elide_args.specs.declared.hunt_options.HuntOptions.{HuntOptions};
+ghost use Rattle.elide_setup.specs.Misuse.{IsMisuse};
 ghost use Rattle.elide_setup.specs.TmHist.Lines.{stop_word};
 ghost use Rattle.elide_checks.specs.Checks.{AreChecks, AreChecksBy, IsDemanded, IsForbidden, IsStopCheck, halt_checks};
 ghost use Rattle.elide_checks.specs.Constants.{is_among};
@@ -138,7 +139,7 @@ fn add_halt(checks: &mut Vec<Check>, expects_halt: bool) -> Result<(), AllocErro
 
 /// A reason to stop by the word of `--stop`. Another word is a misuse.
 pub fn stop_of(word: &str) -> Result<Stop, Refusal>
-    ensures { IfOk result (λ why. stop_word why ≡ word.now) }
+    ensures { MatchResult result (λ why. stop_word why ≡ word.now) (IsMisuse (codes "--stop")) }
 {
     match word {
         "#DE" => Ok(Stop::Divide),

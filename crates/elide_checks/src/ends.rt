@@ -1,9 +1,10 @@
 //! What is checked at the ends of all schedules, as the options say it: conditions on the machine alone.
 
-ghost use Rattle.std.specs.Prelude.{◌≡◌, ◌++◌, IfOk, IfSome, List, OnOk, map};
+ghost use Rattle.std.specs.Prelude.{◌≡◌, ◌<◌, ◌++◌, IfOk, IfSome, List, MatchResult, codes, length, map};
 ghost use Rattle.std.specs.List.{AllZip};
 ghost use Rattle.elide_checks.specs.Constants.{is_among};
 ghost use Rattle.elide_checks.specs.Ends.{AreEndChecks, AreEndChecksBy, IsEndDemanded, IsEndForbidden, IsOfMachine};
+ghost use Rattle.elide_checks.specs.Refused.{AreNoChecks, IsNoCondition};
 ghost use Rattle.tm_check.specs.declared.clause.RunClause.TheVariants.{OfMachine};
 ghost use Rattle.tm_condition.specs.declared.check.Check.{Check as CheckOf};
 
@@ -33,7 +34,8 @@ impl EndChecks {
         text: &[u8],
         file: &ProgramFile<'_>,
     ) -> Result<EndChecks, Refusal>
-        ensures { IfOk result (λ ends. AreEndChecks text.now file.now demands.now forbids.now ends.checks.items) }
+        ensures { MatchResult result (λ ends. AreEndChecks text.now file.now demands.now forbids.now ends.checks.items)
+            (AreNoChecks demands.now forbids.now) }
     {
         let constants = Constants::read(alloc, text, file)?;
         let scope = Scope {
@@ -47,7 +49,8 @@ impl EndChecks {
 
     /// The checks, for a memory of this size and so many cores.
     pub fn checks(&self, size: u32, cores: u8) -> Result<&[Check], Refusal>
-        ensures { IfOk result (λ checks. checks.now ≡ self.now.checks.items) }
+        ensures { MatchResult result (λ checks. checks.now ≡ self.now.checks.items)
+            (λ why. (0 < length self.now.checks.items) × (why ≡ Refusal.Fault Fault.OutOfRange)) }
     {
         for check in &self.checks {
             if !is_there(check, size, cores) {
@@ -74,8 +77,10 @@ fn checks_of(
     forbids: &[&str],
     scope: &Scope<'_, '_, '_>,
 ) -> Result<Vec<Check>, Refusal>
-    ensures { IfOk result (λ checks. AreEndChecksBy scope.now.file.now (is_among scope.now.constants.now.names.items)
-        demands.now forbids.now checks.items) }
+    ensures { MatchResult result
+        (λ checks. AreEndChecksBy scope.now.file.now (is_among scope.now.constants.now.names.items) demands.now
+        forbids.now checks.items)
+        (AreNoChecks demands.now forbids.now) }
 {
     let mut checks = Vec::new(alloc);
     add_demanded(alloc, &mut checks, demands, scope)?;
@@ -90,9 +95,11 @@ fn add_demanded(
     texts: &[&str],
     scope: &Scope<'_, '_, '_>,
 ) -> Result<(), Refusal>
-    ensures { OnOk result ((more : List CheckOf) × (checks.new.items ≡ checks.old.items ++ more)
+    ensures { MatchResult result
+        (λ _. (more : List CheckOf) × (checks.new.items ≡ checks.old.items ++ more)
         × AllZip (λ text check. IsEndDemanded scope.now.file.now (is_among scope.now.constants.now.names.items) text.now
-        check) texts.now more) }
+        check) texts.now more)
+        (λ why. (0 < length texts.now) × IsNoCondition (codes "--check") why) }
 {
     for text in texts {
         let clauses = machine_condition_of(alloc, text, scope, "--check")?;
@@ -108,9 +115,11 @@ fn add_forbidden(
     texts: &[&str],
     scope: &Scope<'_, '_, '_>,
 ) -> Result<(), Refusal>
-    ensures { OnOk result ((more : List CheckOf) × (checks.new.items ≡ checks.old.items ++ more)
+    ensures { MatchResult result
+        (λ _. (more : List CheckOf) × (checks.new.items ≡ checks.old.items ++ more)
         × AllZip (λ text check. IsEndForbidden scope.now.file.now (is_among scope.now.constants.now.names.items) text.now
-        check) texts.now more) }
+        check) texts.now more)
+        (λ why. (0 < length texts.now) × IsNoCondition (codes "--forbid") why) }
 {
     for text in texts {
         let clauses = machine_condition_of(alloc, text, scope, "--forbid")?;
@@ -126,8 +135,9 @@ fn machine_condition_of(
     scope: &Scope<'_, '_, '_>,
     name: &'static str,
 ) -> Result<Vec<Clause>, Refusal>
-    ensures { IfOk result (λ clauses. IsOfMachine scope.now.file.now (is_among scope.now.constants.now.names.items)
-        text.now clauses.items) }
+    ensures { MatchResult result
+        (λ clauses. IsOfMachine scope.now.file.now (is_among scope.now.constants.now.names.items) text.now clauses.items)
+        (IsNoCondition name.now) }
 {
     let clauses = condition_of(alloc, text, scope, name)?;
     match on_machine(alloc, clauses)? {

@@ -4,9 +4,10 @@
 //! comparisons and bytes of its text (`specs/Conditions.antt`), each side of a comparison the item of its words
 //! (`specs/Items.antt`, `specs/Counts.antt`), in which the names that a source gives by `equ` are numbers and all others
 //! labels (`specs/Constants.antt`); those of a search over all schedules are such, but for the counts of a run, which are
-//! refused (`specs/Ends.antt`); and the runs are those of `--runs` (`specs/Runs.antt`). Which options are misuse, where a
-//! text that is no condition is at fault, the method and the limit on steps are compared by `doc_tests`. Stands on
-//! `elide_setup`, on `ia_source`, which reads a source's names once more, and on `tm_check`, whose checks it makes.
+//! refused (`specs/Ends.antt`); and the runs, their events, the method and the threads are those that the options say
+//! (`specs/Runs.antt`). Which options are misuse, and where a text that is no condition is at fault, is compared by
+//! `doc_tests`. Stands on `elide_setup`, on `ia_source`, which reads a source's names once more, and on `tm_check`, whose
+//! checks it makes.
 #![tactic(auto)]
 
 mod bytes;

@@ -3,7 +3,7 @@
 ghost use Rattle.std.specs.Prelude.{◌≡◌, ◌≤◌, IfOk, Some};
 ghost use Rattle.std.specs.Option.{option_copied};
 ghost use Rattle.elide_setup.specs.ElideProgram.Settings.{number_or, number_said};
-ghost use Rattle.elide_checks.specs.Runs.{AreRuns, events_asked};
+ghost use Rattle.elide_checks.specs.Runs.{AreJobs, AreRuns, events_asked, method_word};
 
 use crate::cut::cut;
 use elide_args::HuntOptions;
@@ -42,7 +42,9 @@ impl Orders {
         ensures runs { IfOk result (λ orders. AreRuns (option_copied options.now.runs) orders.first orders.end) }
         ensures events { IfOk result (λ orders. events_asked (option_copied options.now.events) ≡ Some orders.events) }
         ensures seed { IfOk result (λ orders. number_said (option_copied options.now.seed) ≡ Some orders.seed) }
+        ensures method { IfOk result (λ orders. option_copied options.now.method ≡ Some (method_word orders.method)) }
         ensures most { IfOk result (λ orders. number_or 1000000 (option_copied options.now.limit) ≡ Some orders.most) }
+        ensures jobs { IfOk result (λ orders. AreJobs (option_copied options.now.jobs) orders.jobs) }
     {
         let (first, end) = runs_of(options.runs)?;
         let seed = number_of(options.seed, "--seed")?;
@@ -82,7 +84,9 @@ fn runs_of(text: Option<&str>) -> Result<(u32, u32), Refusal>
     }
 }
 
-fn method_of(text: Option<&str>) -> Result<Method, Refusal> {
+fn method_of(text: Option<&str>) -> Result<Method, Refusal>
+    ensures { IfOk result (λ method. option_copied text.entry ≡ Some (method_word method)) }
+{
     match text {
         Some("mix") => Ok(Method::Mix),
         Some("uniform") => Ok(Method::Uniform),
@@ -121,16 +125,33 @@ fn most_of(text: Option<&str>) -> Result<u32, Refusal>
 }
 
 // The threads that are asked for, or one a processor.
-fn jobs_of<R: Threads>(rt: &R, text: Option<&str>) -> Result<usize, Refusal> {
+fn jobs_of<R: Threads>(rt: &R, text: Option<&str>) -> Result<usize, Refusal>
+    ensures { IfOk result (AreJobs (option_copied text.entry)) }
+{
     if text.is_some() {
-        return match number_of(text, "--jobs")? {
-            0 => Err(Refusal::Usage("--jobs")),
-            jobs if jobs > MOST_JOBS => Err(Refusal::Usage("--jobs")),
-            jobs => Ok(jobs as usize),
-        };
+        return jobs_said(text);
     }
+    Ok(processors(rt))
+}
+
+// As many as the option says.
+fn jobs_said(text: Option<&str>) -> Result<usize, Refusal>
+    ensures { IfOk result (AreJobs (option_copied text.entry)) }
+{
+    match number_of(text, "--jobs")? {
+        0 => Err(Refusal::Usage("--jobs")),
+        jobs if jobs > MOST_JOBS => Err(Refusal::Usage("--jobs")),
+        jobs => Ok(jobs as usize),
+    }
+}
+
+// One a processor, as far as the host tells how many it has.
+fn processors<R: Threads>(rt: &R) -> usize
+    ensures some { 1 ≤ result }
+    ensures few { result ≤ 1024 }
+{
     match available_parallelism(rt) {
-        Ok(processors) => Ok(processors.get().min(MOST_JOBS as usize)),
-        Err(_) => Ok(1),
+        Ok(processors) => processors.get().min(MOST_JOBS as usize),
+        Err(_) => 1,
     }
 }

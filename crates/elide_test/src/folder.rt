@@ -1,6 +1,6 @@
 //! Files as they are seen from the folder of a file with tests.
 
-ghost use Rattle.std.specs.Prelude.{◌≡◌, ◌≤◌, ◌++◌, IfOk, IfSome, length, string_bytes};
+ghost use Rattle.std.specs.Prelude.{◌≡◌, ◌≤◌, ◌++◌, IfOk, IfSome, None, length, string_bytes};
 ghost use Rattle.std.specs.Option.{option_copied};
 ghost use Rattle.elide_test.specs.Folder.{IsIn, in_folder, is_rooted, seen};
 
@@ -66,6 +66,8 @@ pub struct FolderPaths<'a, S> {
 
 impl<S: SharedPaths> Paths for FolderPaths<'_, S> {
     ghost content = { λ p path. S.holds p.paths.now (seen (option_copied p.folder) path) };
+    // None is written, so that it does not matter.
+    ghost are_one = { λ _ _ _. None };
 
     fn read(&mut self, path: &str, most: usize) -> Result<Vec<u8>, ReadFault> {
         match seen_from(self.alloc, self.folder, path) {

@@ -28,6 +28,8 @@ impl<R: Files<File = File> + AllocGlobal> Paths for SystemPaths<'_, R> {
     // What the system's files hold no contract can say.
     ghost content = { λ _ _. None };
 
+    ghost are_one = { λ _ _ _. None };
+
     fn read(&mut self, path: &str, most: usize) -> Result<Vec<u8>, ReadFault> {
         HostPaths::new(self.rt).read(path, most)
     }
