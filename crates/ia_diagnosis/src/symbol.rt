@@ -6,7 +6,7 @@ use crate::line::head_of;
 use crate::meaning::Meaning;
 use crate::near::Nearest;
 use crate::piece::{Piece, next_piece};
-use crate::words::{is_among, is_kept, is_other_register, is_sixteen_bits};
+use crate::words::{is_among, is_other_register, is_sixteen_bits};
 use ia_item::{Name, Scope};
 use ia_lex::{first_line, register_of};
 use std::alloc::{AllocError, Global};
@@ -132,12 +132,20 @@ pub fn symbol_twice<'a>(alloc: Global, line: FaultyLine<'a>) -> Result<Finding<'
     }
 }
 
-// Whether a part of a line names a symbol.
+// Whether a part of an operand names a symbol, which may be called as an instruction is.
 fn is_symbol(piece: &Piece<'_>) -> bool {
-    piece.is_word()
-        && register_of(piece.text).is_none()
-        && (!piece.is_keyword() || is_kept(piece.text))
-        && !is_among(&SIZES, piece.text)
+    piece.is_word() && register_of(piece.text).is_none() && !is_among(&SIZES, piece.text)
+}
+
+// Where the operands of a line begin: behind its mnemonic or directive.
+fn operands_of(line: &[u8], pieces: &[Piece<'_>]) -> usize {
+    let from = head_of(line).rest;
+    for piece in pieces {
+        if piece.start >= from && piece.is_keyword() && !piece.is_named("lock") {
+            return piece.end();
+        }
+    }
+    from
 }
 
 /// The first symbol of a line that is defined nowhere; of `equ` and `resb`, by no `equ` above.
@@ -199,7 +207,7 @@ impl<'a> Symbols<'a> {
         pieces: &[Piece<'a>],
         wanted: Wanted,
     ) -> Option<Piece<'a>> {
-        let from = head_of(line).rest;
+        let from = operands_of(line, pieces);
         for piece in pieces {
             if piece.start >= from && is_symbol(piece) && !self.has(piece.text, wanted) {
                 return Some(*piece);

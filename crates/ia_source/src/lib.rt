@@ -4,8 +4,8 @@
 //!
 //! Promised by `entries`: exactly the entries that the lines of the source ask for, in their order, each of which can
 //! be placed; or the first line that is wrong and the first thing that is wrong with it; or that no memory was left.
-//! By `Reader`, the same a part of the source at a time, as often as wanted, to what goes over entries (`ia_item::Walk`); what
-//! a reader takes is bounded by the source's length.
+//! By `Reader`, the same a part of the source at a time, as often as wanted, to what goes over entries (`ia_item::Walk`). How
+//! much memory a reader takes is bounded by the source's length (`budget.rt`); no clause says so.
 //! A memory operand reads as the sum of its addends, in whichever order they stand. By `is_label`, which first words of lines
 //! are labels.
 //!
