@@ -1,17 +1,22 @@
 -- What a plan's runs promise of themselves, to those who make no other use of them.
-use Rattle.std.specs.Prelude.{◌≡◌, ℕ, List, Contains, IfSome, Some}
+use Rattle.std.specs.Prelude.{◌≡◌, ℕ, List, Bool, false, Contains, IfSome, Some}
 use Rattle.tm_core.specs.Theorem.{ShownMachine as Machine}
 use Rattle.tm_hist.specs.Board.{ShownBoard as Board}
 use Rattle.tm_model.specs.declared.outcome.Pick.{Pick}
+use Rattle.tm_pick.specs.Befalls.{IsDrawnEvent}
+use Rattle.tm_pick.specs.Begun.{AreCoresOf, AreEventsOf}
+use Rattle.tm_pick.specs.Choices.{IsPicked}
 use Rattle.tm_pick.specs.Drawn.{AreDrawn}
 use Rattle.tm_pick.specs.Kinds.{IsOfKinds}
 use Rattle.tm_pick.specs.Shown.{Picks}
+use Rattle.tm_pick.specs.Sources.{is_listed}
 use Rattle.tm_pick.specs.Turns.{IsInTurn}
 use Rattle.tm_pick.specs.declared.method.Plan.{Plan}
 use Rattle.tm_hunt.specs.Runs.{IsOfRun}
 
 -- a step of a core that has not stopped, under an event of the kinds that may come; round by round it is the one whose
--- turn it is
+-- turn it is. By chance the core is the one that is drawn next, by what is heeded of the core of the step before, and
+-- the event too.
 pub record PicksNext (before : Picks) (machine : Machine) (last : ℕ) (going : List ℕ) (pick : Pick) (after : Picks)
     : Type 0 where
   pub among : Contains going pick.core
@@ -19,10 +24,15 @@ pub record PicksNext (before : Picks) (machine : Machine) (last : ℕ) (going : 
   pub same : after.kinds ≡ before.kinds
   pub in_turn : IfSome before.turn (λ last. IsInTurn last going pick.core)
   pub goes_on : IfSome before.turn (λ last. after.turn ≡ Some (Some pick.core))
+  pub heeded : Bool
+  pub drawn : IsPicked heeded before.manner going pick.core after.manner
+  pub befalls : is_listed before.manner ≡ false → IsDrawnEvent before.lot pick.event after.lot
 
--- the first picks come under the events of the plan
-abbrev pub BeginsByPlan : Plan → ℕ → ℕ → Picks → Type 0
-BeginsByPlan plan number cores picker = AreDrawn plan.events picker.kinds
+-- the first picks come under the events of the plan, and what they are drawn by is that of the run of this number
+pub record BeginsByPlan (plan : Plan) (number cores : ℕ) (picker : Picks) : Type 0 where
+  pub kinds : AreDrawn plan.events picker.kinds
+  pub cores_drawn : AreCoresOf plan number cores picker.manner
+  pub events_drawn : AreEventsOf plan.events plan.seed number picker.lot
 
 -- a board of the run of this number that a plan draws
 abbrev pub IsPlannedRun : Plan → ℕ → Board → Type 0

@@ -11,6 +11,16 @@ use Rattle.tm_pick.specs.declared.kinds.Kinds.{Kinds}
 abbrev pub no_kinds : Kinds
 no_kinds = record { interrupt = false; eviction = false; snoop = false }
 
+-- each
+abbrev pub all_kinds : Kinds
+all_kinds = record { interrupt = true; eviction = true; snoop = true }
+
+-- this one alone
+abbrev pub only_kind : Interference → Kinds
+only_kind Interrupt = record { interrupt = true; eviction = false; snoop = false }
+only_kind Eviction = record { interrupt = false; eviction = true; snoop = false }
+only_kind Snoop = record { interrupt = false; eviction = false; snoop = true }
+
 -- whether this one is among them
 abbrev pub has_kind : Kinds → Interference → Bool
 has_kind kinds Interrupt = kinds.interrupt

@@ -6,3 +6,8 @@ pub mod Sources
 pub mod Rows
 pub mod Turns
 pub mod Shown
+pub mod Chances
+pub mod Methods
+pub mod Begun
+pub mod Choices
+pub mod Befalls

@@ -2,7 +2,7 @@
 
 ghost use Rattle.std.specs.Prelude.{◌≤◌, ◌<◌, Contains, length};
 
-use crate::chance::Chance;
+use crate::chance::{Chance, power_of_two};
 use crate::going::Going;
 
 /// How many mean lengths there are: 1, 2, 4 and so on, up to 256 steps.
@@ -18,9 +18,15 @@ pub struct Bursts {
 }
 
 impl Bursts {
+    ghost use Rattle.tm_pick.specs.Begun.{AreBursts};
+    ghost use Rattle.tm_pick.specs.Chances.{words_of};
+    ghost use Rattle.tm_pick.specs.Choices.{IsOfBursts};
+
     /// Bursts of a mean length from 1 to 256.
-    pub fn new(mut chance: Chance) -> Bursts {
-        let mean = 1 << chance.below(LENGTHS);
+    pub fn new(mut chance: Chance) -> Bursts
+        ensures { AreBursts (words_of chance) result }
+    {
+        let mean = power_of_two(chance.below(LENGTHS));
         let last = u8::MAX;
         Bursts { chance, mean, last }
     }
@@ -28,22 +34,15 @@ impl Bursts {
     /// The core of the next step.
     pub fn next(&mut self, going: &Going) -> u8
         requires { 0 < length going.now }
-        ensures { Contains going.now result }
+        ensures among { Contains going.now result }
+        ensures drawn { IsOfBursts self.old going.now result self.new }
     {
         let goes_on = self.chance.below(self.mean) != 0;
         if goes_on && going.contains(self.last) {
-            return going.from(self.last);
+            return self.last;
         }
-        self.last = any(&mut self.chance, going);
-        going.from(self.last)
+        let core = self.chance.any(going);
+        self.last = core;
+        core
     }
-}
-
-/// One of the cores, each as likely as another.
-pub fn any(chance: &mut Chance, going: &Going) -> u8
-    requires { 0 < length going.now }
-    ensures { Contains going.now result }
-{
-    let count = going.len();
-    going.at(chance.below(count as u32) as usize)
 }

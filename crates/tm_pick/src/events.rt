@@ -1,10 +1,16 @@
 //! How the events of a run are drawn.
 
+ghost use Rattle.std.specs.Prelude.{◌≡◌, ◌<◌};
+ghost use Rattle.tm_pick.specs.Begun.{AreEventsOf, IsDrawnLot, kinds_at};
+ghost use Rattle.tm_pick.specs.Chances.{words_of};
 ghost use Rattle.tm_pick.specs.Drawn.{AreDrawn};
+ghost use Rattle.tm_pick.specs.Lots.{kinds_drawn};
+ghost use Rattle.tm_pick.specs.declared.events.Events.TheVariants as events;
 
-use crate::chance::Chance;
+use crate::chance::{Chance, power_of_two};
 use crate::interferer::Interferer;
 use crate::kinds::Kinds;
+use crate::lot::Lot;
 use tm_model::Interference;
 
 /// Among how many rates a run draws its own: 1, 1/2, 1/4 and so on, down to 1/64.
@@ -32,24 +38,43 @@ impl Events {
     pub fn of_run(self, seed: u32, run: u32) -> Interferer
         ensures { AreDrawn self result }
     {
+        Interferer::by(self.lot_of_run(seed, run))
+    }
+
+    // By what the events of the run of this number are drawn, where there are any.
+    pub(crate) fn lot_of_run(self, seed: u32, run: u32) -> Option<Lot>
+        ensures kinds { AreDrawn self (kinds_drawn result) }
+        ensures lot { AreEventsOf self seed run result }
+    {
         match self {
-            Events::Never => Interferer::never(),
+            Events::Never => None,
             Events::Rate { one_in, kinds } => {
-                Interferer::new(Chance::of_events(seed, run), one_in.max(1), kinds)
+                Some(Lot::new(Chance::of_events(seed, run), one_in.max(1), kinds))
             }
-            Events::Draw => drawn(Chance::of_events(seed, run)),
+            Events::Draw => Some(drawn(Chance::of_events(seed, run))),
         }
     }
 }
 
 // Events whose rate and kinds are drawn.
-fn drawn(mut chance: Chance) -> Interferer {
-    let one_in = 1 << chance.below(RATES);
-    let kinds = match chance.below(4) {
+fn drawn(mut chance: Chance) -> Lot
+    ensures kinds { AreDrawn events.Draw result.kinds }
+    ensures lot { IsDrawnLot (words_of chance) result }
+{
+    let one_in = power_of_two(chance.below(RATES));
+    let kinds = kinds_at(chance.below(4));
+    Lot::new(chance, one_in, kinds)
+}
+
+// One kind, or all of them, by a number below 4.
+fn kinds_at(index: u32) -> Kinds
+    ensures value { result ≡ kinds_at index }
+    ensures drawn { AreDrawn events.Draw result }
+{
+    match index {
         0 => Kinds::only(Interference::Interrupt),
         1 => Kinds::only(Interference::Eviction),
         2 => Kinds::only(Interference::Snoop),
         _ => Kinds::ALL,
-    };
-    Interferer::new(chance, one_in, kinds)
+    }
 }

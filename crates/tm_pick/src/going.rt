@@ -2,6 +2,7 @@
 
 ghost use Rattle.std.specs.Prelude.{◌≡◌, ◌≢◌, ◌↔◌, ◌<◌, ◌≤◌, All, AllPairs, Contains, IfNone, IfSome, IsTrue, ℕ, List};
 ghost use Rattle.std.specs.Prelude.{length, slice_index};
+ghost use Rattle.std.specs.List.{range_with_len};
 ghost use Rattle.tm_pick.specs.Turns.{IsInTurn, IsNextFrom};
 
 use arrayvec::ArrayVec;
@@ -31,12 +32,21 @@ impl Going {
         ensures count { length result ≡ count }
         ensures below { All (λ core. core < count) result }
         ensures each { (core : ℕ) → core < count → Contains result core }
+        ensures whole { result ≡ range_with_len 0 count }
     {
         let mut cores = ArrayVec::new();
         for core in 0..count {
             cores.push(core);
         }
         Going { cores }
+    }
+
+    /// The cores, in the order of their numbers.
+    pub fn as_slice(&self) -> &[u8]
+        ensures value { result.now ≡ self.now }
+        ensures most { length result.now ≤ 64 }
+    {
+        self.cores.as_slice()
     }
 
     /// How many cores there are.
@@ -64,7 +74,8 @@ impl Going {
     /// The core with this index, counted from 0 in the order of their numbers.
     pub fn at(&self, index: usize) -> u8
         requires { index < length self.now }
-        ensures { Contains self.now result }
+        ensures among { Contains self.now result }
+        ensures value { result ≡ slice_index self.now index }
     {
         self.cores.as_slice()[index]
     }

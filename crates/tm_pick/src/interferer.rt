@@ -4,8 +4,6 @@ ghost use Rattle.std.specs.Prelude.{◌≡◌, ◌<◌, ◌≤◌, IfNone, IfSom
 ghost use Rattle.tm_pick.specs.Kinds.{IsOfKinds, no_kinds};
 ghost use Rattle.tm_pick.specs.Lots.{kinds_drawn};
 
-use crate::chance::Chance;
-use crate::kinds::Kinds;
 use crate::lot::Lot;
 use std::marker::Model;
 use tm_model::Event;
@@ -26,21 +24,18 @@ impl Model for Interferer {
 }
 
 impl Interferer {
-    // No events.
-    pub(crate) fn never() -> Interferer
-        ensures { result ≡ no_kinds }
+    // Events that are drawn by this, where there is one.
+    pub(crate) fn by(lot: Option<Lot>) -> Interferer
+        ensures { result ≡ kinds_drawn lot }
     {
-        Interferer { lot: None }
+        Interferer { lot }
     }
 
-    // Events of these kinds, at one step in so many.
-    pub(crate) fn new(chance: Chance, one_in: u32, kinds: Kinds) -> Interferer
-        requires { 1 ≤ one_in }
-        ensures { result ≡ kinds }
+    // By what it draws.
+    pub(crate) fn into_lot(self) -> Option<Lot>
+        ensures { kinds_drawn result ≡ self }
     {
-        Interferer {
-            lot: Some(Lot::new(chance, one_in, kinds)),
-        }
+        self.lot
     }
 
     /// The event of the next step, if it comes under one.

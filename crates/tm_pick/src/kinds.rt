@@ -1,18 +1,12 @@
 //! The kinds of events.
 
-ghost use Rattle.std.specs.Prelude.{◌≡◌, ◌<◌, ◌≤◌, IfSome, Some, true};
-ghost use Rattle.tm_model.specs.declared.outcome.Event.TheVariants as event;
-ghost use Rattle.tm_pick.specs.Kinds.{IsOfKinds, has_kind};
+ghost use Rattle.std.specs.Prelude.{◌≡◌, ◌<◌, ◌≤◌, true};
+ghost use Rattle.tm_pick.specs.Befalls.{kind_at, kind_count, kind_drawn};
+ghost use Rattle.tm_pick.specs.Chances.{words_of};
+ghost use Rattle.tm_pick.specs.Kinds.{IsOfKinds, has_kind, only_kind};
 
 use crate::chance::Chance;
 use tm_model::{Event, Interference};
-
-/// Each kind of abort from outside of the program.
-const ALL: [Interference; 3] = [
-    Interference::Interrupt,
-    Interference::Eviction,
-    Interference::Snoop,
-];
 
 /// The kinds of aborts from outside of the program that may come. Where none is said, none comes.
 #[derive(Clone, Copy, PartialEq, Eq, Debug)]
@@ -34,11 +28,27 @@ impl Kinds {
     };
 
     /// This one alone.
-    pub fn only(by: Interference) -> Kinds {
-        Kinds {
-            interrupt: by == Interference::Interrupt,
-            eviction: by == Interference::Eviction,
-            snoop: by == Interference::Snoop,
+    pub fn only(by: Interference) -> Kinds
+        ensures { result ≡ only_kind by }
+    {
+        let none = Kinds {
+            interrupt: false,
+            eviction: false,
+            snoop: false,
+        };
+        match by {
+            Interference::Interrupt => Kinds {
+                interrupt: true,
+                ..none
+            },
+            Interference::Eviction => Kinds {
+                eviction: true,
+                ..none
+            },
+            Interference::Snoop => Kinds {
+                snoop: true,
+                ..none
+            },
         }
     }
 
@@ -55,35 +65,36 @@ impl Kinds {
 
     // An event of one of them, each as likely as another.
     pub(crate) fn draw(self, chance: &mut Chance) -> Option<Event>
-        ensures { IsOfKinds self result }
+        ensures kinds { IsOfKinds self result }
+        ensures drawn { (result, words_of chance.new) ≡ kind_drawn self (words_of chance.old) }
     {
         let count = self.count();
         if count == 0 {
             return None;
         }
-        self.at(chance.below(count))
+        Some(Event::Abort(self.at(chance.below(count))))
     }
 
     // How many they are.
     fn count(self) -> u32
-        ensures { result ≤ 3 }
+        ensures { result ≡ kind_count self }
     {
         u32::from(self.interrupt) + u32::from(self.eviction) + u32::from(self.snoop)
     }
 
-    // The event of the kind with this index, counted from 0.
-    fn at(self, index: u32) -> Option<Event>
-        ensures { IsOfKinds self result }
+    // The kind with this index, counted from 0.
+    #[tactic(auto, using(crate::proofs::EachKind::each_kind))]
+    fn at(self, index: u32) -> Interference
+        requires { index < kind_count self }
+        ensures among { has_kind self result ≡ true }
+        ensures value { result ≡ kind_at self index }
     {
-        let mut left = index;
-        for by in ALL.as_slice() {
-            if self.contains(*by) {
-                if left == 0 {
-                    return Some(Event::Abort(*by));
-                }
-                left -= 1;
-            }
+        if self.interrupt && index == 0 {
+            Interference::Interrupt
+        } else if self.eviction && index == u32::from(self.interrupt) {
+            Interference::Eviction
+        } else {
+            Interference::Snoop
         }
-        None
     }
 }

@@ -16,12 +16,15 @@ pub struct Lot {
 }
 
 impl Lot {
+    ghost use Rattle.tm_pick.specs.Befalls.{IsOfLot};
+    ghost use Rattle.tm_pick.specs.Begun.{IsLot};
+    ghost use Rattle.tm_pick.specs.Chances.{words_of};
     ghost use Rattle.tm_pick.specs.Kinds.{IsOfKinds};
 
     /// Draws events of these kinds, at one step in so many.
     pub fn new(chance: Chance, one_in: u32, kinds: Kinds) -> Lot
         requires { 1 ≤ one_in }
-        ensures { result.kinds ≡ kinds }
+        ensures { IsLot one_in kinds (words_of chance) result }
     {
         Lot {
             chance,
@@ -34,6 +37,7 @@ impl Lot {
     pub fn next(&mut self) -> Option<Event>
         ensures kinds { IsOfKinds self.old.kinds result }
         ensures same { self.new.kinds ≡ self.old.kinds }
+        ensures drawn { IsOfLot self.old result self.new }
     {
         if self.chance.below(self.one_in) == 0 {
             self.kinds.draw(&mut self.chance)

@@ -1,8 +1,8 @@
 //! The ways to pick.
 
-ghost use Rattle.std.specs.Prelude.{◌≡◌, ◌<◌, Contains, IfNone, IfSome, None, Some, length};
+ghost use Rattle.std.specs.Prelude.{◌≡◌, ◌<◌, Contains, IfNone, IfSome, None, Some, false, length};
 
-use crate::bursts::{Bursts, any};
+use crate::bursts::Bursts;
 use crate::chance::Chance;
 use crate::front::Front;
 use crate::going::Going;
@@ -32,8 +32,9 @@ pub enum Manner<'a> {
 }
 
 impl<'a> Manner<'a> {
+    ghost use Rattle.tm_pick.specs.Choices.{IsPicked};
     ghost use Rattle.tm_pick.specs.Kinds.{IsOfKinds};
-    ghost use Rattle.tm_pick.specs.Sources.{kinds_listed, turn_of};
+    ghost use Rattle.tm_pick.specs.Sources.{is_listed, kinds_listed, turn_of};
     ghost use Rattle.tm_pick.specs.Turns.{IsInTurn};
 
     /// What it heeds of the core of the step before: whether it is at a PAUSE, or whether no other core sees its next
@@ -51,14 +52,16 @@ impl<'a> Manner<'a> {
         requires { 0 < length going.now }
         ensures core { Contains going.now result.core }
         ensures event { IsOfKinds (kinds_listed self.old) result.event }
+        ensures unlisted { is_listed self.old ≡ false → result.event ≡ None }
         ensures same { kinds_listed self.new ≡ kinds_listed self.old }
         ensures turn { IfSome (turn_of self.old) (λ last. IsInTurn last going.now result.core) }
         ensures goes_on { IfSome (turn_of self.old) (λ last. turn_of self.new ≡ Some (Some result.core)) }
         ensures other { IfNone (turn_of self.old) (turn_of self.new ≡ None) }
+        ensures picked { IsPicked told self.old going.now result.core self.new }
     {
         let core = match self {
             Manner::InTurn(turn) => turn.next(going),
-            Manner::Uniform(chance) => any(chance, going),
+            Manner::Uniform(chance) => chance.any(going),
             Manner::Bursts(bursts) => bursts.next(going),
             Manner::Priorities(priorities) => priorities.next(going, told),
             Manner::Seen(seen) => seen.next(going, told),

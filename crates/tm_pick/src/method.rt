@@ -1,8 +1,11 @@
 //! How the steps of a run by chance are drawn.
 
-ghost use Rattle.std.specs.Prelude.{◌≡◌, ◌≤◌};
+ghost use Rattle.std.specs.Prelude.{◌≡◌, ◌≢◌, ◌≤◌};
+ghost use Rattle.tm_pick.specs.Begun.{AreCoresOf, AreEventsOf};
 ghost use Rattle.tm_pick.specs.Drawn.{AreDrawn};
 ghost use Rattle.tm_pick.specs.Kinds.{no_kinds};
+ghost use Rattle.tm_pick.specs.Methods.{IsDrawnBy, method_of_run};
+ghost use Rattle.tm_pick.specs.declared.method.Method.TheVariants as method;
 
 use crate::chance::Chance;
 use crate::events::Events;
@@ -46,30 +49,36 @@ impl Plan {
     /// two. Its cores are drawn from the same numbers whatever its events are.
     pub fn run(self, run: u32, cores: u8) -> Picker<'static>
         requires { cores ≤ 64 }
-        ensures { AreDrawn self.events result.kinds }
+        ensures kinds { AreDrawn self.events result.kinds }
+        ensures cores { AreCoresOf self run cores result.manner }
+        ensures events { AreEventsOf self.events self.seed run result.lot }
     {
         self.cores_of_run(run, cores)
-            .under(self.events.of_run(self.seed, run))
+            .under_lot(self.events.lot_of_run(self.seed, run))
     }
 
     // What picks the cores of the run of this number.
     fn cores_of_run(self, run: u32, cores: u8) -> Picker<'static>
         requires { cores ≤ 64 }
-        ensures { result.kinds ≡ no_kinds }
+        ensures kinds { result.kinds ≡ no_kinds }
+        ensures cores { AreCoresOf self run cores result.manner }
     {
         let chance = Chance::of_run(self.seed, run);
         match self.method.of_run(run) {
             Method::Bursts => Picker::bursts(chance),
             Method::Priorities => Picker::priorities(chance, cores, self.length),
             Method::Seen => Picker::seen(draws_of(run), chance, self.length),
-            Method::Mix | Method::Uniform => Picker::uniform(chance),
+            Method::Uniform => Picker::uniform(chance),
+            Method::Mix => unreachable!(),
         }
     }
 }
 
 // How the core of a step that others may see is drawn in the run of this number, by the method that draws no other.
-fn draws_of(run: u32) -> Draws {
-    if run / 2 % 2 == 0 {
+fn draws_of(run: u32) -> Draws
+    ensures { IsDrawnBy run result }
+{
+    if run % 4 < 2 {
         Draws::Each
     } else {
         Draws::InRounds(Rounds::new())
@@ -78,7 +87,10 @@ fn draws_of(run: u32) -> Draws {
 
 impl Method {
     // The method of the run of this number.
-    fn of_run(self, run: u32) -> Method {
+    fn of_run(self, run: u32) -> Method
+        ensures value { result ≡ method_of_run self run }
+        ensures one { result ≢ method.Mix }
+    {
         match (self, run % 6) {
             (Method::Mix, 0) => Method::Uniform,
             (Method::Mix, 2) => Method::Bursts,

@@ -1,8 +1,15 @@
 //! What picks each step.
 
-ghost use Rattle.std.specs.Prelude.{◌≡◌, ◌<◌, ◌≤◌, Contains, IfNone, IfSome, None, Some, length};
+ghost use Rattle.std.specs.Prelude.{◌≡◌, ◌<◌, ◌≤◌, ℕ, Contains, IfNone, IfSome, None, Some, false, length};
+ghost use Rattle.tm_pick.specs.Befalls.{IsDrawnEvent};
+ghost use Rattle.tm_pick.specs.Begun.{IsManner};
+ghost use Rattle.tm_pick.specs.Chances.{generator_of, number_of_run, words_of};
+ghost use Rattle.tm_pick.specs.Choices.{IsPicked};
+ghost use Rattle.tm_pick.specs.Lots.{kinds_drawn};
+ghost use Rattle.tm_pick.specs.Methods.{IsDrawnBy};
+ghost use Rattle.tm_pick.specs.declared.method.Method.TheVariants as method;
 ghost use Rattle.tm_pick.specs.Kinds.{AreAmong, AreOfKinds, IsOfKinds, no_kinds};
-ghost use Rattle.tm_pick.specs.Sources.{both_kinds, kinds_listed, turn_of};
+ghost use Rattle.tm_pick.specs.Sources.{both_kinds, is_listed, kinds_listed, turn_of};
 ghost use Rattle.tm_pick.specs.Turns.{IsInTurn};
 ghost use Rattle.tm_pick.specs.declared.kinds.Kinds.{Kinds};
 
@@ -12,6 +19,7 @@ use crate::front::Front;
 use crate::going::Going;
 use crate::interferer::Interferer;
 use crate::kinds::Kinds;
+use crate::lot::Lot;
 use crate::manner::Manner;
 use crate::priorities::Priorities;
 use crate::seen::{Draws, Seen};
@@ -26,18 +34,22 @@ use tm_model::{Event, Pick};
 #[derive(Drop)]
 pub struct Picker<'a> {
     manner: Manner<'a>,
-    interferer: Interferer,
+    // By what its events are drawn, besides those of a list.
+    lot: Option<Lot>,
 }
 
 impl<'a> Model for Picker<'a> {
+    ghost use Rattle.tm_pick.specs.Lots.{kinds_drawn};
     ghost use Rattle.tm_pick.specs.Shown.{Picks};
     ghost use Rattle.tm_pick.specs.Sources.{both_kinds, kinds_listed, turn_of};
 
     ghost Value = { Picks };
 
     ghost view = { λ picker. record {
-      kinds = both_kinds (kinds_listed picker.manner) picker.interferer;
+      kinds = both_kinds (kinds_listed picker.manner) (kinds_drawn picker.lot);
       turn = turn_of picker.manner;
+      manner = picker.manner;
+      lot = picker.lot;
     } };
 }
 
@@ -52,7 +64,9 @@ impl<'a> Picker<'a> {
 
     /// Each core as likely as another, by this seed.
     pub fn random(seed: u32) -> Picker<'a>
-        ensures { result.kinds ≡ no_kinds }
+        ensures kinds { result.kinds ≡ no_kinds }
+        ensures cores { (cores length : ℕ) →
+            IsManner method.Uniform 0 cores length (generator_of (number_of_run seed 0)) result.manner }
     {
         Picker::uniform(Chance::of_run(seed, 0))
     }
@@ -78,21 +92,27 @@ impl<'a> Picker<'a> {
 
     // Each core as likely as another.
     pub(crate) fn uniform(chance: Chance) -> Picker<'a>
-        ensures { result.kinds ≡ no_kinds }
+        ensures kinds { result.kinds ≡ no_kinds }
+        ensures manner { (run cores length : ℕ) →
+            IsManner method.Uniform run cores length (words_of chance) result.manner }
     {
         Picker::of_manner(Manner::Uniform(chance))
     }
 
     // Bursts of random length.
     pub(crate) fn bursts(chance: Chance) -> Picker<'a>
-        ensures { result.kinds ≡ no_kinds }
+        ensures kinds { result.kinds ≡ no_kinds }
+        ensures manner { (run cores length : ℕ) →
+            IsManner method.Bursts run cores length (words_of chance) result.manner }
     {
         Picker::of_manner(Manner::Bursts(Bursts::new(chance)))
     }
 
     // Drawn so where other cores see it, in a run that takes about so many steps.
     pub(crate) fn seen(draws: Draws, chance: Chance, length: u32) -> Picker<'a>
-        ensures { result.kinds ≡ no_kinds }
+        ensures kinds { result.kinds ≡ no_kinds }
+        ensures manner { (run cores : ℕ) → IsDrawnBy run draws →
+            IsManner method.Seen run cores length (words_of chance) result.manner }
     {
         Picker::of_manner(Manner::Seen(Seen::new(draws, chance, most_in_a_row(length))))
     }
@@ -100,7 +120,9 @@ impl<'a> Picker<'a> {
     // By random priorities of so many cores, in a run that takes about so many steps.
     pub(crate) fn priorities(chance: Chance, cores: u8, length: u32) -> Picker<'a>
         requires { cores ≤ 64 }
-        ensures { result.kinds ≡ no_kinds }
+        ensures kinds { result.kinds ≡ no_kinds }
+        ensures manner { (run : ℕ) →
+            IsManner method.Priorities run cores length (words_of chance) result.manner }
     {
         let going = Going::all(cores);
         Picker::of_manner(Manner::Priorities(Priorities::new(chance, &going, length)))
@@ -126,22 +148,31 @@ impl<'a> Picker<'a> {
     fn of_manner(manner: Manner<'a>) -> Picker<'a>
         ensures kinds { result.kinds ≡ kinds_listed manner.entry }
         ensures turn { result.turn ≡ turn_of manner.entry }
+        ensures manner { result.manner ≡ manner.entry }
     {
-        Picker {
-            manner,
-            interferer: Interferer::never(),
-        }
+        Picker { manner, lot: None }
     }
 
     /// The same picks, under these events besides those of its list.
-    #[tactic(auto, using(crate::proofs::OfKinds::draw_alone))]
     pub fn under(self, interferer: Interferer) -> Picker<'a>
         ensures kinds { self.entry.kinds ≡ no_kinds → result.kinds ≡ interferer }
         ensures turn { result.turn ≡ self.entry.turn }
+        ensures manner { result.manner ≡ self.entry.manner }
+    {
+        self.under_lot(interferer.into_lot())
+    }
+
+    // The same, with events that are drawn by this, where there is one.
+    #[tactic(auto, using(crate::proofs::OfKinds::draw_alone))]
+    pub(crate) fn under_lot(self, lot: Option<Lot>) -> Picker<'a>
+        ensures kinds { self.entry.kinds ≡ no_kinds → result.kinds ≡ kinds_drawn lot }
+        ensures turn { result.turn ≡ self.entry.turn }
+        ensures manner { result.manner ≡ self.entry.manner }
+        ensures lot { result.lot ≡ lot }
     {
         Picker {
             manner: self.manner,
-            interferer,
+            lot,
         }
     }
 
@@ -156,8 +187,10 @@ impl<'a> Picker<'a> {
         ensures turn { IfSome self.old.turn (λ last. IsInTurn last going.now result.core) }
         ensures goes_on { IfSome self.old.turn (λ last. self.new.turn ≡ Some (Some result.core)) }
         ensures other { IfNone self.old.turn (self.new.turn ≡ None) }
+        ensures drawn { is_listed self.old.manner ≡ false → IsDrawnEvent self.old.lot result.event self.new.lot }
+        ensures picked { IsPicked told self.old.manner going.now result.core self.new.manner }
     {
-        let drawn = self.interferer.next();
+        let drawn = next_event(&mut self.lot);
         let pick = self.manner.next(going, told);
         Pick {
             core: pick.core,
@@ -166,11 +199,25 @@ impl<'a> Picker<'a> {
     }
 }
 
+// The event that is drawn for the next step, if any.
+#[inline(always)]
+fn next_event(lot: &mut Option<Lot>) -> Option<Event>
+    ensures kinds { IsOfKinds (kinds_drawn lot.old) result }
+    ensures same { kinds_drawn lot.new ≡ kinds_drawn lot.old }
+    ensures drawn { IsDrawnEvent lot.old result lot.new }
+{
+    match lot {
+        None => None,
+        Some(lot) => lot.next(),
+    }
+}
+
 // The event of a list, or else the one that was drawn.
 #[inline(always)]
 #[tactic(auto, using(crate::proofs::OfKinds::of_left, crate::proofs::OfKinds::of_right))]
 fn first_of(listed: Option<Event>, drawn: Option<Event>) -> Option<Event>
-    ensures { (kinds others : Kinds) → IsOfKinds kinds listed → IsOfKinds others drawn →
+    ensures alone { listed ≡ None → result ≡ drawn }
+    ensures kinds { (kinds others : Kinds) → IsOfKinds kinds listed → IsOfKinds others drawn →
         IsOfKinds (both_kinds kinds others) result }
 {
     match listed {

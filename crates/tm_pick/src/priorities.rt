@@ -1,7 +1,10 @@
 //! Random priorities (PCT).
 
-ghost use Rattle.std.specs.Prelude.{◌≡◌, ◌≤◌, ◌<◌, Contains, false, length};
-ghost use Rattle.tm_pick.specs.Rows.{longest_row};
+ghost use Rattle.std.specs.List.{range_with_len};
+ghost use Rattle.std.specs.Prelude.{◌≡◌, ◌≤◌, ◌<◌, ℕ, Contains, IsPermutation, false, length};
+ghost use Rattle.rand.specs.Shuffle.{shuffled};
+ghost use Rattle.tm_pick.specs.Begun.{ArePriorities, falls_drawn};
+ghost use Rattle.tm_pick.specs.Chances.{words_of};
 
 use crate::chance::Chance;
 use crate::going::{Going, index_of};
@@ -30,14 +33,11 @@ pub struct Priorities {
 impl Priorities {
     /// Priorities of these cores, in a run that takes about so many steps.
     pub fn new(mut chance: Chance, going: &Going, length: u32) -> Priorities
-        ensures { result.most ≡ longest_row length }
+        ensures { (cores : ℕ) → going.now ≡ range_with_len 0 cores →
+            ArePriorities cores length (words_of chance) result }
     {
         let order = shuffled(&mut chance, going);
-        let mut falls = ArrayVec::new();
-        for _ in 0..1 + chance.below(MOST_FALLS as u32) {
-            // There is room for three.
-            let _ = falls.try_push(1 + chance.below(length.max(1)));
-        }
+        let falls = falls_drawn(&mut chance, length.max(1));
         Priorities {
             order,
             falls,
@@ -92,13 +92,28 @@ impl Priorities {
     }
 }
 
-/// The cores in an order by chance.
-pub fn shuffled(chance: &mut Chance, going: &Going) -> ArrayVec<u8, 64> {
-    let mut order = ArrayVec::new();
-    for index in 0..going.len() {
-        // There is room for all.
-        let _ = order.try_push(going.at(index));
+// The steps at which a core falls, 1 to 3 of them, each from 1 to a length.
+#[tactic(auto, using(crate::proofs::Falls::falls_more))]
+fn falls_drawn(chance: &mut Chance, length: u32) -> ArrayVec<u32, MOST_FALLS>
+    requires { 0 < length }
+    ensures { (result.items, words_of chance.new) ≡ falls_drawn length (words_of chance.old) }
+{
+    let count = 1 + chance.below(MOST_FALLS as u32);
+    let mut falls = ArrayVec::new();
+    'falls: for made in 0..count {
+        falls.push(1 + chance.below(length));
     }
+    falls
+}
+
+/// The cores in an order by chance.
+pub fn shuffled(chance: &mut Chance, going: &Going) -> ArrayVec<u8, 64>
+    ensures same { IsPermutation going.now result.items }
+    ensures drawn { (result.items, words_of chance.new) ≡ shuffled going.now 0 (words_of chance.old) }
+{
+    let mut order = ArrayVec::new();
+    // There is room for all.
+    let _ = order.try_extend_from_slice(going.as_slice());
     chance.shuffle(order.as_mut_slice());
     order
 }

@@ -1,6 +1,8 @@
 //! Rounds whose order is drawn.
 
-ghost use Rattle.std.specs.Prelude.{◌<◌, Contains, length};
+ghost use Rattle.std.specs.Prelude.{◌≡◌, ◌<◌, [], Contains, length};
+ghost use Rattle.tm_pick.specs.Chances.{words_of};
+ghost use Rattle.tm_pick.specs.Choices.{IsOfRound};
 
 use crate::chance::Chance;
 use crate::going::Going;
@@ -16,7 +18,9 @@ pub struct Rounds {
 
 impl Rounds {
     /// Before the first round.
-    pub fn new() -> Rounds {
+    pub fn new() -> Rounds
+        ensures { result.left.items ≡ [] }
+    {
         Rounds {
             left: ArrayVec::new(),
         }
@@ -25,14 +29,16 @@ impl Rounds {
     /// The core that is drawn next.
     pub fn next(&mut self, chance: &mut Chance, going: &Going) -> u8
         requires { 0 < length going.now }
-        ensures { Contains going.now result }
+        ensures among { Contains going.now result }
+        ensures drawn { IsOfRound going.now (words_of chance.old) self.old.left.items result
+            self.new.left.items (words_of chance.new) }
     {
-        while let Some(core) = self.left.pop() {
+        'left: while let Some(core) = self.left.pop() {
             if going.contains(core) {
                 return core;
             }
         }
         self.left = shuffled(chance, going);
-        going.from(self.left.pop().unwrap_or(0))
+        self.left.pop().unwrap()
     }
 }

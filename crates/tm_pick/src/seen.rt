@@ -1,8 +1,9 @@
 //! Draws where other cores see a step.
 
-ghost use Rattle.std.specs.Prelude.{◌<◌, Contains, length};
+ghost use Rattle.std.specs.Prelude.{◌≡◌, ◌<◌, Contains, length};
+ghost use Rattle.tm_pick.specs.Chances.{words_of};
+ghost use Rattle.tm_pick.specs.Choices.{IsOfSeen, IsSeenDraw};
 
-use crate::bursts::any;
 use crate::chance::Chance;
 use crate::going::Going;
 use crate::rounds::Rounds;
@@ -29,7 +30,12 @@ pub enum Draws {
 
 impl Seen {
     /// Draws so and by this chance, and after so many unseen steps of a core in a row.
-    pub fn new(draws: Draws, chance: Chance, most: u32) -> Seen {
+    pub fn new(draws: Draws, chance: Chance, most: u32) -> Seen
+        ensures draws { result.draws ≡ draws }
+        ensures chance { words_of result.chance ≡ words_of chance }
+        ensures most { result.most ≡ most }
+        ensures none_in_a_row { result.in_a_row ≡ 0 }
+    {
         Seen {
             draws,
             chance,
@@ -42,11 +48,12 @@ impl Seen {
     /// The core of the next step. It is told whether no other core sees the next step of the core of the step before.
     pub fn next(&mut self, going: &Going, unseen: bool) -> u8
         requires { 0 < length going.now }
-        ensures { Contains going.now result }
+        ensures among { Contains going.now result }
+        ensures drawn { IsOfSeen unseen self.old going.now result self.new }
     {
         if unseen && self.in_a_row < self.most && going.contains(self.last) {
             self.in_a_row = self.in_a_row.saturating_add(1);
-            return going.from(self.last);
+            return self.last;
         }
         self.in_a_row = 0;
         let core = self.draws.next(&mut self.chance, going);
@@ -59,10 +66,11 @@ impl Draws {
     // The core of the next step that others may see.
     fn next(&mut self, chance: &mut Chance, going: &Going) -> u8
         requires { 0 < length going.now }
-        ensures { Contains going.now result }
+        ensures among { Contains going.now result }
+        ensures drawn { IsSeenDraw self.old going.now (words_of chance.old) result self.new (words_of chance.new) }
     {
         match self {
-            Draws::Each => any(chance, going),
+            Draws::Each => chance.any(going),
             Draws::InRounds(rounds) => rounds.next(chance, going),
         }
     }
