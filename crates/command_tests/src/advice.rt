@@ -23,7 +23,7 @@ impl Paths for NoFiles {
         Err(ReadFault::Failed(Obstacle::Missing))
     }
 
-    fn write<T: Text>(&mut self, _path: &str, _text: &T) -> Result<(), Failed> {
+    fn write<T: Text>(&mut self, _path: &str, _text: &mut T) -> Result<(), Failed> {
         Err(Failed)
     }
 

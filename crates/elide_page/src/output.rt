@@ -15,20 +15,19 @@ use page_run::{LineUse, note_shown};
 use page_telling::write_steps;
 use page_template::{write_head, write_tail};
 use std::alloc::AllocError;
-use std::cell::Cell;
 
 /// Writes a page to a file, as a whole or not at all. It goes there as it is made, so that no memory grows with its
 /// run. What refuses it on the way is told, and 81 `Output` where the file cannot be written.
 pub fn write_page_to<P: Paths>(job: &Job<'_>, path: &str, paths: &mut P) -> Result<(), Refusal>
     ensures { OnOk result (IfSome (P.content paths.new path.now) (IsPageOf job.now)) }
 {
-    let file = PageFile {
+    let mut file = PageFile {
         job: *job,
-        refused: Cell::new(None),
+        refused: None,
     };
-    match paths.write(path, &file) {
+    match paths.write(path, &mut file) {
         Ok(()) => Ok(()),
-        Err(_) => Err(refusal_of(file.refused.get())),
+        Err(_) => Err(refusal_of(file.refused)),
     }
 }
 
@@ -53,17 +52,17 @@ fn is_of_device(refusal: Refusal) -> bool {
 struct PageFile<'a> {
     job: Job<'a>,
     // What refused it, where it was written and did not come to its end.
-    refused: Cell<Option<Refusal>>,
+    refused: Option<Refusal>,
 }
 
 impl Text for PageFile<'_> {
-    ghost tells = { λ file bytes. IsPageOf file.job bytes };
+    ghost tells = { λ file _ bytes. IsPageOf file.job bytes };
 
-    fn write_to<O: Out + Drop>(&self, out: O) -> Result<O, WriteFault> {
+    fn write_to<O: Out + Drop>(&mut self, out: O) -> Result<O, WriteFault> {
         match write_page(&self.job, out) {
             Ok(out) => Ok(out),
             Err(refusal) => {
-                self.refused.set(Some(refusal));
+                self.refused = Some(refusal);
                 Err(WriteFault::Write)
             }
         }

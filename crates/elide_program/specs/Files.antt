@@ -1,5 +1,5 @@
--- What a file gives that is read.
-use Rattle.std.specs.Prelude.{◌≡◌, ◌≤◌, ◌<◌, ⊤, ℕ, List, length, Option, Some, None}
+-- What a file gives that is read, and holds that is written.
+use Rattle.std.specs.Prelude.{◌≡◌, ◌≤◌, ◌<◌, ⊤, ℕ, List, length, Option, Some, None, IfSome}
 use Rattle.elide_program.specs.declared.fault.ProgramFault.{ProgramFault}
 use Rattle.elide_program.specs.declared.fault.ProgramRefusal.{ProgramRefusal}
 use Rattle.elide_program.specs.declared.fault.ProgramRefusal.TheVariants.{Fault}
@@ -26,3 +26,7 @@ most_bytes = 671088640
 abbrev pub Tells : (ReadFault → ProgramFault) → Option (List ℕ) → ProgramRefusal → Type 0
 Tells told content refusal =
     (fault : ReadFault) × (refusal ≡ Fault (told fault)) × Refuses content most_bytes fault
+
+-- a text was told, and it is what a file holds, where its content is known
+abbrev pub IsWritten : (List ℕ → Type 0) → Option (List ℕ) → Type 0
+IsWritten tells held = (text : List ℕ) × tells text × IfSome held (λ bytes. bytes ≡ text)

@@ -1,6 +1,8 @@
 //! The files of the system.
 
-ghost use Rattle.std.specs.Prelude.{◌≤◌, IfOk, None, length};
+ghost use Rattle.std.specs.Io.KnownBytes.{Appends};
+ghost use Rattle.std.specs.Prelude.{◌≤◌, ℕ, IfOk, List, None, OnOk, length};
+ghost use Rattle.elide_program.specs.Files.{IsWritten};
 
 use crate::again::Again;
 use crate::paths::{Obstacle, Paths, ReadFault, Text};
@@ -52,7 +54,7 @@ impl<R: Files<File = File> + AllocGlobal> Paths for HostPaths<'_, R> {
         }
     }
 
-    fn write<T: Text>(&mut self, path: &str, text: &T) -> Result<(), Failed> {
+    fn write<T: Text>(&mut self, path: &str, text: &mut T) -> Result<(), Failed> {
         match fs::symlink_metadata(self.rt, path) {
             Ok(there) if there.is_file() => {
                 if !can_write(self.rt, path) {
@@ -101,18 +103,30 @@ fn can_write<R: Files>(rt: &R, path: &str) -> bool {
     OpenOptions::new().write(true).open(rt, path).is_ok()
 }
 
-/// Writes a file where it stands.
-pub fn write_in_place<R: Files, T: Text>(rt: &R, path: &str, text: &T) -> Result<(), Failed> {
+/// Writes a file where it stands. Where that fails, it holds a beginning of the text.
+pub fn write_in_place<R: Files, T: Text>(rt: &R, path: &str, text: &mut T) -> Result<(), Failed>
+    requires { T.keeps text.old }
+    ensures written { OnOk result (IsWritten (T.tells text.old text.new) None) }
+    ensures kept { T.keeps text.new }
+{
     match File::create(rt, path) {
-        Ok(file) => write_all(file, text),
+        Ok(file) => match write_all(file, text) {
+            Ok(_file) => Ok(()),
+            Err(_) => Err(Failed),
+        },
         Err(_) => Err(Failed),
     }
 }
 
-/// Writes a text to an open file. A write that a signal interrupts is made again.
-pub fn write_all<F: io::Write + Drop, T: Text>(file: F, text: &T) -> Result<(), Failed> {
+/// Writes a text to an open file, and gives the file back. A write that a signal interrupts is made again.
+pub fn write_all<F: io::Write + Drop, T: Text>(file: F, text: &mut T) -> Result<F, Failed>
+    requires { T.keeps text.old }
+    ensures written { IfOk result (λ given. (bytes : List ℕ) × T.tells text.old text.new bytes
+        × Appends (F.contents file) (F.contents given) bytes) }
+    ensures kept { T.keeps text.new }
+{
     match text.write_to(ToWriter::new(Again::new(file))) {
-        Ok(_written) => Ok(()),
+        Ok(written) => Ok(written.writer.device),
         Err(_) => Err(Failed),
     }
 }

@@ -1,8 +1,8 @@
 //! Files by their paths.
 
 ghost use Rattle.std.specs.Io.KnownBytes.{Appends};
-ghost use Rattle.std.specs.Prelude.{◌≡◌, ◌≤◌, ℕ, Bool, IfOk, IfSome, List, MatchResult, OnOk, Option, length};
-ghost use Rattle.elide_program.specs.Files.{Gives, Refuses};
+ghost use Rattle.std.specs.Prelude.{◌≡◌, ◌≤◌, ℕ, ⊤, Bool, IfOk, IfSome, List, MatchResult, OnOk, Option, length};
+ghost use Rattle.elide_program.specs.Files.{Gives, IsWritten, Refuses};
 
 use ia_text::{Failed, Out, WriteFault};
 use thiserror::Error;
@@ -35,15 +35,21 @@ pub enum ReadFault {
     NoMemory,
 }
 
-/// A text that writes itself.
+/// A text that writes itself, which it may make as it writes it.
 pub trait Text {
-    // The text can have these bytes.
-    ghost tells: { Self → List ℕ → Type 0 };
+    // What it can tell, from before it to behind it.
+    ghost tells: { Self → Self → List ℕ → Type 0 };
 
-    /// Writes the text, and gives the device back. A beginning of the text, where the device fails.
-    fn write_to<O: Out + Drop>(&self, out: O) -> Result<O, WriteFault>
-        ensures written { IfOk result (λ given. (bytes : List ℕ) × tells self.now bytes
-            × Appends (O.device out).contents (O.device given).contents bytes) };
+    // What is true of it, however far it was written.
+    ghost keeps: { Self → Type 0 } = { λ _. ⊤ };
+
+    /// Writes the text, and gives the device back. A beginning of the text, where it is not made to its end or the device
+    /// fails.
+    fn write_to<O: Out + Drop>(&mut self, out: O) -> Result<O, WriteFault>
+        requires { keeps self.old }
+        ensures written { IfOk result (λ given. (bytes : List ℕ) × tells self.old self.new bytes
+            × Appends (O.device out).contents (O.device given).contents bytes) }
+        ensures kept { keeps self.new };
 }
 
 /// The files that a command reads and writes.
@@ -64,9 +70,12 @@ pub trait Paths {
         ensures kept { (other : List ℕ) → content self.new other ≡ content self.old other };
 
     /// Makes a file with this text, or replaces one that is there. Where that fails, a file that was there stays as it was.
-    /// What is no regular file, such as a device, is written as it is.
-    fn write<T: Text>(&mut self, path: &str, text: &T) -> Result<(), Failed>
-        ensures written { OnOk result (IfSome (content self.new path.now) (T.tells text.now)) };
+    /// What is no regular file, such as a device, is written where it stands, and so is a file whose folder takes no new
+    /// one: where that fails, a beginning of the text was written.
+    fn write<T: Text>(&mut self, path: &str, text: &mut T) -> Result<(), Failed>
+        requires { T.keeps text.old }
+        ensures written { OnOk result (IsWritten (T.tells text.old text.new) (content self.new path.now)) }
+        ensures kept { T.keeps text.new };
 
     /// Whether both paths lead to one regular file. No file is changed.
     fn is_same_file(&mut self, path: &str, other: &str) -> bool

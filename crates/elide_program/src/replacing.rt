@@ -1,5 +1,8 @@
 //! A file that is replaced as a whole.
 
+ghost use Rattle.std.specs.Prelude.{None, OnOk};
+ghost use Rattle.elide_program.specs.Files.{IsWritten};
+
 use crate::host_paths::{write_all, write_in_place};
 use crate::paths::Text;
 use arrayvec::ArrayString;
@@ -29,22 +32,65 @@ pub fn replace<R: Files<File = File>, T: Text>(
     rt: &R,
     path: &str,
     permissions: Option<Permissions>,
-    text: &T,
-) -> Result<(), Failed> {
+    text: &mut T,
+) -> Result<(), Failed>
+    requires { T.keeps text.old }
+    ensures written { OnOk result (IsWritten (T.tells text.old text.new) None) }
+    ensures kept { T.keeps text.new }
+{
+    match held_beside(rt, path) {
+        Ok(Some(part)) => write_part(rt, &part, path, permissions, text),
+        Ok(None) => write_in_place(rt, path, text),
+        Err(_) => Err(Failed),
+    }
+}
+
+// A file that is held until it is whole.
+#[derive(Drop)]
+struct Part {
+    file: File,
+    // Where it stands until then.
+    beside: Beside,
+}
+
+// Writes a text to it, and gives it this path; removes it where it is not whole.
+fn write_part<R: Files, T: Text>(
+    rt: &R,
+    part: &Part,
+    path: &str,
+    permissions: Option<Permissions>,
+    text: &mut T,
+) -> Result<(), Failed>
+    requires { T.keeps text.old }
+    ensures written { OnOk result (IsWritten (T.tells text.old text.new) None) }
+    ensures kept { T.keeps text.new }
+{
+    match write_all(&part.file, text) {
+        Ok(_file) => {
+            if take_name(rt, part, path, permissions) {
+                return Ok(());
+            }
+            remove(rt, part);
+            Err(Failed)
+        }
+        Err(_) => {
+            remove(rt, part);
+            Err(Failed)
+        }
+    }
+}
+
+// A file beside a path. None, where its folder takes none.
+fn held_beside<R: Files<File = File>>(rt: &R, path: &str) -> Result<Option<Part>, Failed> {
     for number in 0..NAMES {
         let Some(beside) = name_beside(path, number) else {
-            return write_in_place(rt, path, text);
+            return Ok(None);
         };
         match hold(rt, beside.as_str()) {
-            Ok(Some(file)) => {
-                let written = write_all(&file, text);
-                return keep(rt, &file, beside.as_str(), path, permissions, written);
-            }
+            Ok(Some(file)) => return Ok(Some(Part { file, beside })),
             Ok(None) => {}
             Err(error) => match error.kind() {
-                ErrorKind::PermissionDenied | ErrorKind::InvalidFilename => {
-                    return write_in_place(rt, path, text);
-                }
+                ErrorKind::PermissionDenied | ErrorKind::InvalidFilename => return Ok(None),
                 _ => return Err(Failed),
             },
         }
@@ -110,21 +156,14 @@ fn is_at<R: Files>(rt: &R, file: &File, path: &str) -> bool {
     }
 }
 
-// Gives a file that was written whole its name, and removes one that was not.
-fn keep<R: Files>(
-    rt: &R,
-    file: &File,
-    beside: &str,
-    path: &str,
-    permissions: Option<Permissions>,
-    written: Result<(), Failed>,
-) -> Result<(), Failed> {
+// Gives a file that was written whole its name. Whether the system let it.
+fn take_name<R: Files>(rt: &R, part: &Part, path: &str, permissions: Option<Permissions>) -> bool {
     if let Some(permissions) = permissions {
-        let _ = file.set_permissions(permissions);
+        let _ = part.file.set_permissions(permissions);
     }
-    if written.is_ok() && fs::rename(rt, beside, path).is_ok() {
-        return Ok(());
-    }
-    let _ = fs::remove_file(rt, beside);
-    Err(Failed)
+    fs::rename(rt, part.beside.as_str(), path).is_ok()
+}
+
+fn remove<R: Files>(rt: &R, part: &Part) {
+    let _ = fs::remove_file(rt, part.beside.as_str());
 }

@@ -58,7 +58,7 @@ impl<P: Paths, E: Out> Paths for WarnedPaths<'_, P, E> {
         }
     }
 
-    fn write<T: Text>(&mut self, path: &str, text: &T) -> Result<(), Failed> {
+    fn write<T: Text>(&mut self, path: &str, text: &mut T) -> Result<(), Failed> {
         self.paths.write(path, text)
     }
 

@@ -17,15 +17,15 @@ use Rattle.elide_setup.specs.Schedules.{lone_pick, picks_made}
 use Rattle.elide_setup.specs.TmCore.Theorem.{IsRun, ShownMachine as Machine, TakesAll, TakesAlone, machine_setting}
 
 -- the steps of such a history
-abbrev lone_steps : List (ℕ × Outcome) → List (Pick × Outcome)
+abbrev pub lone_steps : List (ℕ × Outcome) → List (Pick × Outcome)
 lone_steps [] = []
 lone_steps (taken ∷ history) = (lone_pick taken.0, taken.1) ∷ lone_steps history
 
-lone_history : (history : List (ℕ × Outcome)) → history_made (lone_steps history) ≡ history
+pub lone_history : (history : List (ℕ × Outcome)) → history_made (lone_steps history) ≡ history
 lone_history [] = refl
 lone_history (taken ∷ history) = ap (λ l. taken ∷ l) (lone_history history)
 
-lone_picks : (core : ℕ) (history : List (ℕ × Outcome)) → All (λ (taken : ℕ × Outcome). taken.0 ≡ core) history →
+pub lone_picks : (core : ℕ) (history : List (ℕ × Outcome)) → All (λ (taken : ℕ × Outcome). taken.0 ≡ core) history →
     picks_made (lone_steps history) ≡ replicate (length history) (lone_pick core)
 lone_picks core [] own = refl
 lone_picks core (taken ∷ history) own =
@@ -43,7 +43,7 @@ told_none Begun tells = refl
 told_none Inside tells = refl
 told_none Committed tells = refl
 
-lone_owed : (k : Setting) (a : State) (d : Doomed) (history : List (ℕ × Outcome)) → AreOwed k a d history → TellNoAbort history →
+pub lone_owed : (k : Setting) (a : State) (d : Doomed) (history : List (ℕ × Outcome)) → AreOwed k a d history → TellNoAbort history →
     AreOwedUnder k a d (lone_steps history)
 lone_owed k a d [] owed tells = tt
 lone_owed k a d (taken ∷ history) owed tells =

@@ -1,7 +1,9 @@
 pub mod Alone
+pub mod Boards
 mod Decimal
 pub mod Drawing
 mod EventTexts
+mod Forms
 mod Held
 pub mod Made
 pub mod Misread
@@ -13,5 +15,6 @@ pub mod Rounds
 pub mod Runs
 pub mod Schedules
 mod ShownTexts
+pub mod StepsKept
 pub mod Walks
 pub mod AlikeChunks

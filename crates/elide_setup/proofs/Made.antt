@@ -1,7 +1,6 @@
 -- A run that a command makes and records, from its course up to its options.
 use Rattle.std.proofs.Common.{◌≡◌, ℕ, Bool, List, [], ◌∷◌, Option, ap, subst}
 use Rattle.std.specs.Borrow.{Bor}
-use Rattle.std.specs.Prelude.{if◌then◌else◌}
 use Rattle.elide_args.specs.declared.subcommand.MachineOptions.{MachineOptions}
 use Rattle.elide_args.specs.declared.subcommand.ScheduleOptions.{ScheduleOptions}
 use Rattle.elide_program.specs.ProgramFile.{IsRead}
@@ -10,12 +9,12 @@ use Rattle.elide_program.specs.declared.file.ProgramFile.{ProgramFile}
 use Rattle.elide_program.specs.declared.settings.Settings.{Settings}
 use Rattle.tm_model.specs.declared.outcome.Outcome.{Outcome}
 use Rattle.tm_model.specs.declared.outcome.Pick.{Pick}
-use Rattle.elide_setup.proofs.Records.{recorded_if}
+use Rattle.elide_setup.proofs.Records.{recorded_as}
 use Rattle.elide_setup.proofs.Schedules.{planned_before}
 use Rattle.elide_setup.specs.Made.{HasRun, HasRunCourse, HasRunPlan}
 use Rattle.elide_setup.specs.Recorded.{IsRecorded}
-use Rattle.elide_setup.specs.Schedules.{AreAsked, AreOf, ArePlanned, are_listed, is_list, picks_made, picks_told}
-use Rattle.elide_setup.specs.Schedules.{plan_is_list}
+use Rattle.elide_setup.specs.Schedules.{AreAsked, AreOf, ArePlanned, form_asked, form_of, picks_made, plan_form}
+use Rattle.elide_setup.specs.Schedules.{recorded_text}
 use Rattle.elide_setup.specs.Setup.{IsSetup}
 use Rattle.elide_setup.specs.declared.machine.Setup.{Setup}
 use Rattle.elide_setup.specs.declared.plan.Course.{Course}
@@ -38,7 +37,7 @@ leads_within takes within steps a b h = (h.0, h.1, parts_within takes within h.0
 -- the course is that of a plan, and the program that of a file
 pub of_course : (content left : List ℕ → Option (List ℕ)) (file : ProgramFile) (settings : Settings) (plan : Plan)
     (path : Option (Bor (List ℕ))) (setup : Setup) (course : Course) → IsSetup file settings setup →
-    ((picks : List Pick) → AreOf course picks → ArePlanned content plan picks) → is_list course ≡ plan_is_list plan →
+    ((picks : List Pick) → AreOf course picks → ArePlanned content plan picks) → form_of course ≡ plan_form plan →
     HasRunCourse left setup course path → HasRunPlan content left file settings plan path
 of_course content left file settings plan path setup course loaded planned listed run = record {
   setup = setup;
@@ -47,7 +46,7 @@ of_course content left file settings plan path setup course loaded planned liste
   steps = planned (picks_made run.made) run.steps;
   machine = run.machine;
   ran = run.ran;
-  recorded = recorded_if (plan_is_list plan) left path course run.made listed run.steps run.recorded;
+  recorded = recorded_as (plan_form plan) left path course run.made listed run.steps run.recorded;
 }
 
 -- the plan and the settings are those of a command's options, and the file is FILE; no file has changed before
@@ -56,7 +55,7 @@ pub of_plan : (content given left : List ℕ → Option (List ℕ)) (options : M
     ((other : List ℕ) → given other ≡ content other) →
     IsRead (content options.file.now) file → AreSettings options settings →
     ((picks : List Pick) → ArePlanned content plan picks → AreAsked content schedule picks) →
-    plan_is_list plan ≡ are_listed schedule →
+    plan_form plan ≡ form_asked schedule →
     HasRunPlan given left file settings plan path → HasRun content left options schedule path
 of_plan content given left options schedule path file settings plan kept read said asked listed run = record {
   setup = run.setup;
@@ -65,6 +64,5 @@ of_plan content given left options schedule path file settings plan kept read sa
   steps = asked (picks_made run.made) (planned_before content given plan (picks_made run.made) kept run.steps);
   machine = run.machine;
   ran = run.ran;
-  recorded = subst
-      (λ (b : Bool). IsRecorded left path (if b then picks_made run.made else picks_told run.made)) listed run.recorded;
+  recorded = subst (λ (form : Option Bool). IsRecorded left path (recorded_text form run.made)) listed run.recorded;
 }

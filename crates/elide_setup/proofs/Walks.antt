@@ -1,10 +1,9 @@
 -- Steps that are made one after another, and more of them.
-use Rattle.std.proofs.Common.{◌≡◌, ◌≤◌, ◌+◌, ◌-◌, ℕ, Bool, true, false, List, [], ◌∷◌, ◌++◌, length, take, drop, get_or, replicate, arith, refl, sym, ap, ◌∙◌, subst, append_assoc, append-nil}
+use Rattle.std.proofs.Common.{◌≡◌, ◌≤◌, ◌+◌, ◌-◌, ℕ, List, [], ◌∷◌, ◌++◌, length, take, drop, get_or, replicate, arith, refl, sym, ap, ◌∙◌, subst, append_assoc, append-nil}
 use Rattle.std.proofs.lemmas.Grind.{common_steps}
 use Rattle.std.proofs.lemmas.List.{drop-take, map-append, replicate-append-replicate, take-append-drop, take-take, take_more}
-use Rattle.std.specs.Prelude.{if◌then◌else◌}
 use Rattle.std.proofs.lemmas.List.Concat.{flat_map-append}
-use Rattle.tm_model.specs.Runs.{pick_of, picks_of}
+use Rattle.tm_model.specs.Runs.{picks_of}
 use Rattle.tm_model.specs.declared.outcome.Outcome.{Outcome}
 use Rattle.tm_model.specs.declared.outcome.Pick.{Pick}
 use Rattle.elide_setup.specs.Owing.{history_made}
@@ -68,10 +67,14 @@ first_step picks outcome none some = sym (take_more picks 0 none (omega (arith, 
 
 -- ---- those that are kept
 
-pub kept_more : (keeps : Bool) (steps : List (Pick × Outcome)) (pick : Pick) (outcome : Outcome) (first before after : List Pick) →
-    before ≡ first ++ (if keeps then picks_told steps else []) → after ≡ before ++ (if keeps then pick_of (pick.core, outcome) ∷ [] else []) →
-    after ≡ first ++ (if keeps then picks_told (steps ++ (pick, outcome) ∷ []) else [])
-kept_more true steps pick outcome first before after h k =
-    k ∙ ap (λ l. l ++ pick_of (pick.core, outcome) ∷ []) h ∙ append_assoc first (picks_told steps) (pick_of (pick.core, outcome) ∷ [])
-    ∙ ap (λ l. first ++ l) (sym (told_on steps ((pick, outcome) ∷ [])))
-kept_more false steps pick outcome first before after h k = k ∙ append-nil before ∙ h
+parts_all : {Maker : Type 0} (keeps : Maker → List (Pick × Outcome) → Maker → Type 0) → ((a : Maker) → keeps a [] a) →
+    ((a b c : Maker) (steps others : List (Pick × Outcome)) → keeps a steps b → keeps b others c → keeps a (steps ++ others) c) →
+    (parts : List (List (Pick × Outcome))) (a b : Maker) → PartsLead keeps a parts b → keeps a (steps_in parts) b
+parts_all {Maker} keeps none on [] a b h = subst (λ (m : Maker). keeps a [] m) (sym h) (none a)
+parts_all keeps none on (part ∷ parts) a b h = on a h.0 b part (steps_in parts) h.1 (parts_all keeps none on parts h.0 b h.2)
+
+-- what is kept part by part is kept of all
+pub leads_all : {Maker : Type 0} (keeps : Maker → List (Pick × Outcome) → Maker → Type 0) → ((a : Maker) → keeps a [] a) →
+    ((a b c : Maker) (steps others : List (Pick × Outcome)) → keeps a steps b → keeps b others c → keeps a (steps ++ others) c) →
+    (steps : List (Pick × Outcome)) (a b : Maker) → Leads keeps a steps b → keeps a steps b
+leads_all keeps none on steps a b h = subst (λ (l : List (Pick × Outcome)). keeps a l b) h.1 (parts_all keeps none on h.0 a b h.2)

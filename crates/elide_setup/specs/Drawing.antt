@@ -1,5 +1,5 @@
 -- What a schedule that is drawn is drawn from (docs/FORMATS.md, "Events that are drawn").
-use Rattle.std.specs.Prelude.{◌≡◌, ◌≢◌, ℕ, List, ⊤, All, Option, Some, None, option_and_then, zero, suc}
+use Rattle.std.specs.Prelude.{◌≡◌, ◌≢◌, ℕ, Bool, true, false, List, ⊤, All, Option, Some, None, option_and_then, zero, suc}
 use Rattle.std.specs.Option.{option_copied}
 use Rattle.elide_args.specs.declared.subcommand.ScheduleOptions.{ScheduleOptions}
 use Rattle.tm_model.specs.declared.outcome.Event.{Event}
@@ -71,3 +71,9 @@ IsUnder Draw event = ⊤
 -- steps that may be
 abbrev pub AreUnder : Events → List Pick → Type 0
 AreUnder events picks = All (λ (pick : Pick). IsUnder events pick.event) picks
+
+-- whether some step may come under an event
+abbrev pub may_come : Events → Bool
+may_come Never = false
+may_come (Rate many kinds) = true
+may_come Draw = true

@@ -21,3 +21,4 @@ pub mod TmCore
 pub mod TmHist
 pub mod TmModel
 pub mod TmRule
+pub mod TmSchedule

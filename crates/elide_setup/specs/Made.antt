@@ -1,5 +1,5 @@
 -- A run that a command makes by its options, and records.
-use Rattle.std.specs.Prelude.{ℕ, List, Option, if◌then◌else◌}
+use Rattle.std.specs.Prelude.{ℕ, List, Option}
 use Rattle.std.specs.Borrow.{Bor}
 use Rattle.elide_args.specs.declared.subcommand.MachineOptions.{MachineOptions}
 use Rattle.elide_args.specs.declared.subcommand.ScheduleOptions.{ScheduleOptions}
@@ -9,8 +9,8 @@ use Rattle.tm_model.specs.declared.outcome.Outcome.{Outcome}
 use Rattle.tm_model.specs.declared.outcome.Pick.{Pick}
 use Rattle.elide_setup.specs.Recorded.{IsRecorded}
 use Rattle.elide_setup.specs.Runs.{IsRunOf}
-use Rattle.elide_setup.specs.Schedules.{AreAsked, AreOf, ArePlanned, picks_made, picks_told, plan_is_list}
-use Rattle.elide_setup.specs.Schedules.{schedule_asked, schedule_made}
+use Rattle.elide_setup.specs.Schedules.{AreAsked, AreOf, ArePlanned, picks_made, picks_told, plan_form}
+use Rattle.elide_setup.specs.Schedules.{recorded_text, schedule_asked, schedule_made}
 use Rattle.elide_setup.specs.Setup.{IsAsked, IsSetup}
 use Rattle.elide_setup.specs.TmCore.Theorem.{ShownMachine as Machine}
 use Rattle.elide_setup.specs.declared.machine.Setup.{Setup}
@@ -36,7 +36,7 @@ pub record HasRunPlan (content left : List ℕ → Option (List ℕ)) (file : Pr
   pub steps : ArePlanned content plan (picks_made made)
   pub machine : Machine
   pub ran : IsRunOf setup.program setup.limits made machine
-  pub recorded : IsRecorded left path (if plan_is_list plan then picks_made made else picks_told made)
+  pub recorded : IsRecorded left path (recorded_text (plan_form plan) made)
 
 -- the same as the options of a command ask, of what FILE's content is read as
 pub record HasRun (content left : List ℕ → Option (List ℕ)) (options : MachineOptions) (schedule : ScheduleOptions)

@@ -162,6 +162,10 @@ pub data IsNotScheduled (content : List ℕ → Option (List ℕ)) (options : Ma
   no_file : (path : Bor (List ℕ)) → schedule.path ≡ Some path → HasNoSchedule (content path.now) why
       → IsNotScheduled content options schedule why
 
+-- there is no program by the options, whichever schedule is asked for
+abbrev pub HasNoSetup : (List ℕ → Option (List ℕ)) → MachineOptions → Refusal → Type 0
+HasNoSetup content options why = (any : ScheduleOptions) → IsNotScheduled content options any why
+
 -- a listed step is of a core that a machine of so many has not
 pub record NamesNoCore (listed : List Pick) (cores : ℕ) (why : Refusal) : Type 0 where
   pub tells : why ≡ refusal.Fault (fault.Run run.NoSuchCore)

@@ -1,14 +1,14 @@
 -- What a command's schedule states: the picks of the steps that it lists, each a core and the event that its step comes
 -- under, or none.
-use Rattle.std.specs.Prelude.{◌≡◌, ℕ, Bool, true, false, ◌||◌, List, [], map, Option, None, IfSome, Ok, is_some}
+use Rattle.std.specs.Prelude.{◌≡◌, ℕ, Bool, ◌||◌, List, [], map, Option, Some, None, IfSome, Ok, is_some}
 use Rattle.std.specs.Prelude.{if◌then◌else◌, length}
 use Rattle.std.specs.Option.{option_copied}
 use Rattle.elide_args.specs.declared.subcommand.ScheduleOptions.{ScheduleOptions}
-use Rattle.tm_schedule.specs.Schedule.{schedule_of, steps_of}
+use Rattle.tm_schedule.specs.Schedule.{drawn_text, schedule_of, schedule_text, steps_of}
 use Rattle.tm_model.specs.declared.outcome.Outcome.{Outcome}
 use Rattle.tm_model.specs.declared.outcome.Pick.{Pick}
 use Rattle.tm_model.specs.Runs.{picks_of}
-use Rattle.elide_setup.specs.Drawing.{AreUnder, events_asked}
+use Rattle.elide_setup.specs.Drawing.{AreUnder, events_asked, may_come}
 use Rattle.elide_setup.specs.Owing.{history_made}
 use Rattle.elide_setup.specs.declared.plan.Course.{Course}
 use Rattle.elide_setup.specs.declared.plan.Course.TheVariants as course
@@ -39,16 +39,20 @@ AreOf (course.Drawn drawn) picks = AreUnder drawn.events picks
 abbrev pub are_listed : ScheduleOptions → Bool
 are_listed options = is_some options.steps || is_some options.path
 
--- the same of a plan that was read
-abbrev pub plan_is_list : Plan → Bool
-plan_is_list (plan.Steps listed) = true
-plan_is_list (plan.File path) = true
-plan_is_list (plan.Drawn drawn) = false
+-- how a schedule is recorded: a list by its own steps; one that is drawn by whether its steps may come under events
+abbrev pub form_of : Course → Option Bool
+form_of (course.Listed listed) = None
+form_of (course.Drawn drawn) = Some (may_come drawn.events)
 
--- the same of a course
-abbrev pub is_list : Course → Bool
-is_list (course.Listed listed) = true
-is_list (course.Drawn drawn) = false
+-- the same of a plan that was read
+abbrev pub plan_form : Plan → Option Bool
+plan_form (plan.Steps listed) = None
+plan_form (plan.File path) = None
+plan_form (plan.Drawn drawn) = Some (may_come drawn.events)
+
+-- the same as the options ask
+abbrev pub form_asked : ScheduleOptions → Option Bool
+form_asked options = if are_listed options then None else Some (is_some options.events)
 
 -- its list, which is empty where it is drawn
 abbrev pub listed_in : Course → List Pick
@@ -78,11 +82,16 @@ abbrev pub kept_of : Course → Bool → List (Pick × Outcome) → List Pick
 kept_of (course.Listed listed) keeps steps = []
 kept_of (course.Drawn drawn) keeps steps = if keeps then picks_told steps else []
 
--- the schedule that came about: the list, or what was kept of the steps that were drawn
-abbrev pub schedule_made : Course → List Pick → List Pick
-schedule_made (course.Listed listed) kept = listed.items
-schedule_made (course.Drawn drawn) kept = kept
+-- the text of the schedule that came about: that of the list, or of the steps that were drawn
+abbrev pub schedule_made : Course → List Pick → List ℕ
+schedule_made (course.Listed listed) drawn_steps = schedule_text listed.items
+schedule_made (course.Drawn drawn) drawn_steps = drawn_text (may_come drawn.events) drawn_steps
 
--- the same of steps that were made as the options ask
-abbrev pub schedule_asked : ScheduleOptions → List (Pick × Outcome) → List Pick
-schedule_asked options steps = if are_listed options then picks_made steps else picks_told steps
+-- the same of steps that were made, by how it is recorded
+abbrev pub recorded_text : Option Bool → List (Pick × Outcome) → List ℕ
+recorded_text None steps = schedule_text (picks_made steps)
+recorded_text (Some has_events) steps = drawn_text has_events (picks_told steps)
+
+-- the same as the options ask
+abbrev pub schedule_asked : ScheduleOptions → List (Pick × Outcome) → List ℕ
+schedule_asked options steps = recorded_text (form_asked options) steps

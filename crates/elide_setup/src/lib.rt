@@ -11,12 +11,14 @@
 mod events;
 mod fault;
 mod gathered;
+mod keeper;
 mod lent;
 mod machine;
 mod paged;
 mod plan;
 mod progress;
 mod recorded;
+mod recording;
 mod shown;
 mod side_by_side;
 mod terminals;

@@ -1,6 +1,7 @@
 //! Where a command's schedule comes from.
 
-ghost use Rattle.std.specs.Prelude.{◌≡◌, ℕ, IfErr, IfOk, IfSome, List, MatchResult, None, Ok, OnOk, Option, Some, codes, true};
+ghost use Rattle.std.specs.Prelude.{◌≡◌, ℕ, IfErr, IfOk, IfSome, List, MatchResult, None, Ok, OnOk, Option, Some, codes};
+ghost use Rattle.std.specs.Prelude.{is_some, true};
 ghost use Rattle.std.specs.Option.{option_copied};
 ghost use Rattle.elide_args.specs.declared.subcommand.ScheduleOptions.{ScheduleOptions};
 ghost use Rattle.elide_program.specs.Files.{Gives, most_bytes};
@@ -10,12 +11,12 @@ ghost use Rattle.tm_model.specs.declared.outcome.Pick.{Pick};
 ghost use Rattle.tm_pick.specs.Drawn.{AreDrawn};
 ghost use Rattle.tm_schedule.specs.Schedule.{schedule_of, steps_of};
 ghost use Rattle.elide_setup.specs.Drawing.{IsAskedDraw, IsDrawn, IsEventSeed, IsSeed, SaysNoDraw, events_asked};
-ghost use Rattle.elide_setup.specs.Drawing.{limit_said};
+ghost use Rattle.elide_setup.specs.Drawing.{limit_said, may_come};
 ghost use Rattle.elide_setup.specs.Events.{events_said};
 ghost use Rattle.elide_setup.specs.Misuse.{IsMisuse};
 ghost use Rattle.elide_setup.specs.Refused.{HasNoCourse, HasNoSchedule, IsMisplanned, is_no_way, is_one_way, plan_path};
 ghost use Rattle.elide_setup.specs.Rounds.{IsAskedOut, IsOut, IsPlannedOut};
-ghost use Rattle.elide_setup.specs.Schedules.{AreAsked, AreOf, ArePlanned, are_listed, is_list, plan_is_list};
+ghost use Rattle.elide_setup.specs.Schedules.{AreAsked, AreOf, ArePlanned, are_listed, form_asked, form_of, plan_form};
 
 use crate::events::events_of;
 use crate::fault::{Fault, Refusal};
@@ -56,7 +57,7 @@ impl<'a> Plan<'a> {
         ensures steps { IfOk result (λ plan. (content : List ℕ → Option (List ℕ)) (picks : List Pick) →
             ArePlanned content plan picks → AreAsked content options.now picks) }
         ensures draw { IfOk result (IsAskedDraw options.now) }
-        ensures listed { IfOk result (λ plan. plan_is_list plan ≡ are_listed options.now) }
+        ensures listed { IfOk result (λ plan. plan_form plan ≡ form_asked options.now) }
         ensures path { IfOk result (λ plan. IfSome (plan_path plan) (λ path. options.now.path ≡ Some path)) }
         ensures out { IfOk result (λ plan. (cores : ℕ) (steps : List (Pick × Outcome)) → IsPlannedOut plan cores steps →
             IsAskedOut options.now cores steps) }
@@ -80,7 +81,7 @@ impl<'a> Plan<'a> {
     pub fn course<P: Paths>(self, alloc: Global, paths: &mut P) -> Result<Course, Refusal>
         ensures steps { IfOk result (λ course. (picks : List Pick) → AreOf course picks →
             ArePlanned (P.content paths.old) self.entry picks) }
-        ensures listed { IfOk result (λ course. is_list course ≡ plan_is_list self.entry) }
+        ensures listed { IfOk result (λ course. form_of course ≡ plan_form self.entry) }
         ensures out { IfOk result (λ course. (cores : ℕ) (steps : List (Pick × Outcome)) → IsOut course cores steps →
             IsPlannedOut self.entry cores steps) }
         ensures none { IfErr result (HasNoCourse (P.content paths.old) self.entry) }
@@ -181,6 +182,7 @@ impl Drawn {
     // Reads `--random`, `--events`, `--seed` and `--limit`.
     fn read(options: &ScheduleOptions<'_>) -> Result<Drawn, Refusal>
         ensures drawn { IfOk result (IsDrawn options.now) }
+        ensures form { IfOk result (λ drawn. may_come drawn.events ≡ is_some options.now.events) }
         ensures none { IfErr result (IsMisplanned options.now) }
     {
         let seed = seed_of(options.random)?;
@@ -193,6 +195,16 @@ impl Drawn {
             event_seed,
             most,
         })
+    }
+
+    /// Whether some step may come under an event.
+    pub fn may_come(self) -> bool
+        ensures { result ≡ may_come self.events }
+    {
+        match self.events {
+            Events::Never => false,
+            Events::Rate { .. } | Events::Draw => true,
+        }
     }
 
     /// What picks the steps: each core, and the event that its step comes under.

@@ -1,7 +1,7 @@
 //! Schedules that are written to a file.
 
 ghost use Rattle.std.specs.Prelude.{◌≡◌, ℕ, IfErr, IfOk, IfSome, List, OnOk, false};
-ghost use Rattle.tm_schedule.specs.Schedule.{schedule_text};
+ghost use Rattle.tm_schedule.specs.Schedule.{drawn_text, schedule_text};
 ghost use Rattle.elide_setup.specs.Recorded.{IsRecorded};
 ghost use Rattle.elide_setup.specs.Refused.{AreOne, IsOverProgram, IsUnrecorded};
 
@@ -10,7 +10,7 @@ use crate::gathered::Gathered;
 use elide_program::{Paths, Text};
 use ia_text::{Out, WriteFault};
 use tm_model::Pick;
-use tm_schedule::write_schedule;
+use tm_schedule::{write_drawn, write_schedule};
 
 /// The path that `--record` gives, which is not that of the program.
 #[tactic(auto, using(crate::proofs::OneFile::is_one))]
@@ -35,14 +35,35 @@ pub fn record_path<'a, P: Paths>(
 }
 
 /// Writes the schedule of these steps to a file, where there is a path.
+#[tactic(auto, using(crate::proofs::Records::held_same))]
 pub fn record<P: Paths>(path: Option<&str>, picks: &[Pick], paths: &mut P) -> Result<(), Refusal>
-    ensures written { OnOk result (IsRecorded (P.content paths.new) path.entry picks.now) }
+    ensures written { OnOk result (IsRecorded (P.content paths.new) path.entry (schedule_text picks.now)) }
     ensures failed { IfErr result (IsUnrecorded path.entry) }
 {
     let Some(path) = path else {
         return Ok(());
     };
-    match paths.write(path, &Schedule(picks)) {
+    match paths.write(path, &mut Schedule(picks)) {
+        Ok(()) => Ok(()),
+        Err(_) => Err(Refusal::Fault(Fault::Output)),
+    }
+}
+
+/// The same of steps that were drawn, one of which may have come under an event.
+#[tactic(auto, using(crate::proofs::Records::held_same))]
+pub fn record_drawn<P: Paths>(
+    path: Option<&str>,
+    has_events: bool,
+    picks: &[Pick],
+    paths: &mut P,
+) -> Result<(), Refusal>
+    ensures written { OnOk result (IsRecorded (P.content paths.new) path.entry (drawn_text has_events picks.now)) }
+    ensures failed { IfErr result (IsUnrecorded path.entry) }
+{
+    let Some(path) = path else {
+        return Ok(());
+    };
+    match paths.write(path, &mut DrawnSchedule { has_events, picks }) {
         Ok(()) => Ok(()),
         Err(_) => Err(Refusal::Fault(Fault::Output)),
     }
@@ -53,11 +74,29 @@ pub fn record<P: Paths>(path: Option<&str>, picks: &[Pick], paths: &mut P) -> Re
 struct Schedule<'a>(&'a [Pick]);
 
 impl Text for Schedule<'_> {
-    ghost tells = { λ s bytes. bytes ≡ schedule_text s.0.now };
+    ghost tells = { λ s _ bytes. bytes ≡ schedule_text s.0.now };
 
-    fn write_to<O: Out + Drop>(&self, out: O) -> Result<O, WriteFault> {
+    fn write_to<O: Out + Drop>(&mut self, out: O) -> Result<O, WriteFault> {
         let mut page = Gathered::new(out);
         write_schedule(self.0, &mut page)?;
+        let out = page.finish()?;
+        Ok(out)
+    }
+}
+
+// The same of steps that were drawn.
+#[derive(Clone, Copy)]
+struct DrawnSchedule<'a> {
+    has_events: bool,
+    picks: &'a [Pick],
+}
+
+impl Text for DrawnSchedule<'_> {
+    ghost tells = { λ s _ bytes. bytes ≡ drawn_text s.has_events s.picks.now };
+
+    fn write_to<O: Out + Drop>(&mut self, out: O) -> Result<O, WriteFault> {
+        let mut page = Gathered::new(out);
+        write_drawn(self.has_events, self.picks, &mut page)?;
         let out = page.finish()?;
         Ok(out)
     }

@@ -2,7 +2,6 @@
 
 ghost use Rattle.std.specs.Prelude.{◌≡◌, ◌≤◌, ◌++◌, ◌∷◌, [], if◌then◌else◌, length, replicate, take, true};
 ghost use Rattle.std.specs.Prelude.{◌<◌, ◌⊎◌, ℕ, ⊤, All, IfErr, IfOk, List, Ok, OnOk, is_some, not};
-ghost use Rattle.tm_model.specs.Runs.{event_told, pick_of};
 ghost use Rattle.tm_model.specs.declared.outcome.Outcome.{Outcome};
 ghost use Rattle.tm_model.specs.declared.outcome.Pick.{Pick};
 ghost use Rattle.elide_setup.specs.Drawing.{AreUnder};
@@ -16,14 +15,16 @@ ghost use Rattle.elide_setup.specs.TmHist.Board.{IsOwedNext, SameBoard};
 ghost use Rattle.elide_setup.specs.Walks.{Leads};
 
 use crate::fault::{Fault, Refusal};
+use crate::keeper::{Keeper, Unkept};
 use crate::plan::{Course, Drawn};
 use crate::progress::Progress;
-use crate::recorded::record;
+use crate::recorded::{record, record_drawn};
+use crate::recording::walk_written;
 use crate::side_by_side::{is_lone, lone_chunks};
 use elide_program::Paths;
 use std::alloc::Global;
 use tm_core::NoSuchCore;
-use tm_hist::{Board, Event, Machine, Outcome, RunFault, StepFault};
+use tm_hist::{Board, Machine, Outcome, RunFault, StepFault};
 use tm_model::Pick;
 use tm_pick::Going;
 
@@ -92,6 +93,32 @@ impl StepMaker for Board {
         self.is_run();
         Ok(outcome)
     }
+
+    // Several at once, whole transactions too; the idle step of a core that has stopped, and a refusal, one by one.
+    fn make_run(&mut self, core: u8, most: u32) -> Result<u32, Refusal> {
+        let made = board_steps(self, core, most);
+        if made > 0 {
+            return Ok(made);
+        }
+        self.make_step(Pick { core, event: None })?;
+        Ok(1)
+    }
+}
+
+// Up to so many steps of a core side by side, under no event. None, where there is no such core, or where it has stopped or
+// the history is full.
+fn board_steps(board: &mut Board, core: u8, most: u32) -> u32
+    ensures steps { (steps : List (Pick × Outcome)) × (picks_made steps ≡ replicate result (lone_pick core))
+        × AreBoardSteps board.old steps board.new }
+    ensures most { result ≤ most }
+{
+    board.is_run();
+    if core >= board.cores() {
+        return 0;
+    }
+    let made = board.steps(core, most);
+    board.is_run();
+    made
 }
 
 // One step of a pick's core, under its event where it has one.
@@ -208,11 +235,12 @@ impl Course {
     {
         match self {
             Course::Listed(steps) => walk_list(steps.as_slice(), maker, progress),
-            Course::Drawn(drawn) => walk_drawn(*drawn, cores, keeps, kept, maker, progress),
+            Course::Drawn(drawn) => walk_asked(*drawn, cores, keeps, kept, maker, progress),
         }
     }
 
-    /// The same, and the schedule that came about is written where there is a path: a list before its steps are made.
+    /// The same, and the schedule that came about is written where there is a path: a list before its steps are made, and
+    /// steps that are drawn as they are made.
     pub fn walk_recorded<S: StepMaker, P: Paths, G: Progress>(
         &self,
         alloc: Global,
@@ -235,9 +263,10 @@ impl Course {
                 self.walk(alloc, cores, false, maker, progress)?;
                 Ok(())
             }
-            Course::Drawn(_) => {
-                let kept = self.walk(alloc, cores, path.is_some(), maker, progress)?;
-                record(path, kept.as_slice(), paths)
+            Course::Drawn(drawn) => {
+                let walked = walk_written(*drawn, cores, path, maker, paths, progress);
+                progress.end();
+                walked
             }
         }
     }
@@ -253,16 +282,9 @@ impl Course {
         ensures written { OnOk result (IsRecorded (P.content paths.new) path.entry (schedule_made self.now kept.now)) }
         ensures failed { IfErr result (IsUnrecorded path.entry) }
     {
-        record(path, self.schedule(kept), paths)
-    }
-
-    // The schedule that came about: the list, or what was kept of the steps that were drawn.
-    fn schedule<'a>(&'a self, kept: &'a [Pick]) -> &'a [Pick]
-        ensures { result.now ≡ schedule_made self.now kept.now }
-    {
         match self {
-            Course::Listed(steps) => steps.as_slice(),
-            Course::Drawn(_) => kept,
+            Course::Listed(steps) => record(path, steps.as_slice(), paths),
+            Course::Drawn(drawn) => record_drawn(path, drawn.may_come(), kept, paths),
         }
     }
 }
@@ -365,7 +387,7 @@ fn walk_run<S: StepMaker>(core: u8, count: u32, maker: &mut S) -> Result<(), Ref
 
 // The steps that are drawn. Where they are asked for they are kept behind those of a list, each with the event that its
 // outcome tells.
-fn walk_drawn<S: StepMaker, G: Progress>(
+fn walk_asked<S: StepMaker, G: Progress>(
     drawn: Drawn,
     cores: u8,
     keeps: bool,
@@ -380,6 +402,26 @@ fn walk_drawn<S: StepMaker, G: Progress>(
         × (kept.new.items ≡ kept.old.items ++ (if keeps then picks_told steps else []))
         × IsDrawnOut (not (is_some drawn.seed)) cores drawn.most steps) }
 {
+    if keeps {
+        return walk_drawn(drawn, cores, kept, maker, progress);
+    }
+    walk_drawn(drawn, cores, &mut Unkept, maker, progress)
+}
+
+/// Makes the steps that are drawn on a machine of so many cores, 1 to 64. Each is kept, with its outcome, as the keeper does.
+pub fn walk_drawn<S: StepMaker, K: Keeper, G: Progress>(
+    drawn: Drawn,
+    cores: u8,
+    keeper: &mut K,
+    maker: &mut S,
+    progress: &mut G,
+) -> Result<(), Refusal>
+    requires { cores ≤ 64 }
+    ensures refused { IfErr result (λ why. S.refuses why ⊎ K.fails why) }
+    ensures walked { IfOk result (λ _. (steps : List (Pick × Outcome)) × AreUnder drawn.events (picks_made steps)
+        × Leads S.takes maker.old steps maker.new × Leads K.keeps keeper.old steps keeper.new
+        × IsDrawnOut (not (is_some drawn.seed)) cores drawn.most steps) }
+{
     let mut going = Going::all(cores);
     let mut picker = drawn.picker();
     for number in 0..drawn.most {
@@ -392,7 +434,7 @@ fn walk_drawn<S: StepMaker, G: Progress>(
         let pick = picker.next(&going, false);
         let outcome = maker.make_step(pick)?;
         settle(&mut going, pick, outcome);
-        keep(keeps, kept, pick, outcome)?;
+        keeper.keep(pick, outcome)?;
     }
     Ok(())
 }
@@ -417,32 +459,5 @@ fn is_stop(outcome: Outcome) -> bool
     match outcome {
         Outcome::Stopped(_) => true,
         _ => false,
-    }
-}
-
-// Puts a step to a list, where it is to be kept, under the event that its outcome tells.
-#[inline(always)]
-fn keep(keeps: bool, list: &mut Vec<Pick>, pick: Pick, outcome: Outcome) -> Result<(), Refusal>
-    ensures kept { OnOk result (list.new.items
-        ≡ list.old.items ++ (if keeps then pick_of (pick.core, outcome) ∷ [] else [])) }
-    ensures want { IfErr result (λ why. why ≡ Refusal.Fault (Fault.Run RunFault.NoMemory)) }
-{
-    if !keeps {
-        return Ok(());
-    }
-    let event = event_told(outcome);
-    match list.push(Pick { event, ..pick }) {
-        Ok(()) => Ok(()),
-        Err(_) => Err(Refusal::Fault(Fault::Run(RunFault::NoMemory))),
-    }
-}
-
-// The event that an outcome tells of.
-fn event_told(outcome: Outcome) -> Option<Event>
-    ensures { result ≡ event_told outcome }
-{
-    match outcome {
-        Outcome::AbortedBy(interference, _status) => Some(Event::Abort(interference)),
-        _ => None,
     }
 }

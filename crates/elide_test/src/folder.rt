@@ -76,7 +76,7 @@ impl<S: SharedPaths> Paths for FolderPaths<'_, S> {
         }
     }
 
-    fn write<T: Text>(&mut self, _path: &str, _text: &T) -> Result<(), Failed> {
+    fn write<T: Text>(&mut self, _path: &str, _text: &mut T) -> Result<(), Failed> {
         Err(Failed)
     }
 

@@ -34,7 +34,7 @@ impl<R: Files<File = File> + AllocGlobal> Paths for SystemPaths<'_, R> {
         HostPaths::new(self.rt).read(path, most)
     }
 
-    fn write<T: Text>(&mut self, path: &str, text: &T) -> Result<(), Failed> {
+    fn write<T: Text>(&mut self, path: &str, text: &mut T) -> Result<(), Failed> {
         HostPaths::new(self.rt).write(path, text)
     }
 

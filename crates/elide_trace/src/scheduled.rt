@@ -12,7 +12,7 @@ ghost use Rattle.elide_setup.specs.ElideProgram.Settings.{AreSettings};
 ghost use Rattle.elide_setup.specs.Faults.{want};
 ghost use Rattle.elide_setup.specs.Refused.{IsNotScheduled, plan_path};
 ghost use Rattle.elide_setup.specs.Rounds.{IsAskedOut, IsOut, IsPlannedOut};
-ghost use Rattle.elide_setup.specs.Schedules.{AreAsked, AreOf, ArePlanned, are_listed, is_list, plan_is_list};
+ghost use Rattle.elide_setup.specs.Schedules.{AreAsked, AreOf, ArePlanned, form_asked, form_of, plan_form};
 ghost use Rattle.elide_setup.specs.Setup.{IsAsked, IsSetup};
 
 use crate::labels::labels_of;
@@ -33,7 +33,7 @@ pub fn scheduled_labels<P: Paths>(
     ensures setup { IfOk result (λ r. IsAsked (P.content paths.old machine.now.file.now) machine.now r.0) }
     ensures course { IfOk result (λ r. (picks : List Pick) → AreOf r.1 picks →
         AreAsked (P.content paths.old) schedule.now picks) }
-    ensures listed { IfOk result (λ r. is_list r.1 ≡ are_listed schedule.now) }
+    ensures listed { IfOk result (λ r. form_of r.1 ≡ form_asked schedule.now) }
     ensures out { IfOk result (λ r. (cores : ℕ) (steps : List (Pick × Outcome)) → IsOut r.1 cores steps →
         IsAskedOut schedule.now cores steps) }
     ensures none { IfErr result (λ why. IsNotScheduled (P.content paths.old) machine.now schedule.now why ⊎ (why ≡ want)) }
@@ -57,7 +57,7 @@ fn labels_with<P: Paths>(
     ensures setup { IfOk result (λ r. (file : ProgramFile) × IsFile text.now file × IsSetup file settings.now r.0) }
     ensures course { IfOk result (λ r. (picks : List Pick) → AreOf r.1 picks →
         ArePlanned (P.content paths.old) plan.entry picks) }
-    ensures listed { IfOk result (λ r. is_list r.1 ≡ plan_is_list plan.entry) }
+    ensures listed { IfOk result (λ r. form_of r.1 ≡ plan_form plan.entry) }
     ensures out { IfOk result (λ r. (cores : ℕ) (steps : List (Pick × Outcome)) → IsOut r.1 cores steps →
         IsPlannedOut plan.entry cores steps) }
     ensures none { (content : List ℕ → Option (List ℕ)) (machine : MachineOptions) (schedule : ScheduleOptions) →

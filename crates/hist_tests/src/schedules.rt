@@ -2,7 +2,9 @@
 
 use ia_text::{ToVec, WriteFault};
 use tm_core::{Event, Interference, Pick};
-use tm_schedule::{ScheduleFault, pick_of_word, read_schedule, read_steps, write_schedule};
+use tm_schedule::{
+    ScheduleFault, ScheduleWriter, pick_of_word, read_schedule, read_steps, write_schedule,
+};
 
 fn plain(core: u8) -> Pick {
     Pick { core, event: None }
@@ -38,6 +40,18 @@ fn steps_under_events_are_written(rt: HostRuntime) -> Result<(), WriteFault> {
     write_schedule(&picks, &mut out)?;
     let text = b"schedule 3\n0i*2 0 100e 100s 100*2\n";
     assert_eq!(rt; out.bytes.as_slice(), text.as_slice());
+    Ok(())
+}
+
+#[test]
+fn steps_are_written_as_they_come(rt: HostRuntime) -> Result<(), WriteFault> {
+    let mut out = ToVec::new(Vec::new(rt.alloc()));
+    let mut writer = ScheduleWriter::begin(true, &mut out)?;
+    for core in [7, 7, 200] {
+        writer.add(plain(core), &mut out)?;
+    }
+    writer.finish(&mut out)?;
+    assert_eq!(rt; out.bytes.as_slice(), b"schedule 3\n7*2 200\n".as_slice());
     Ok(())
 }
 

@@ -10,7 +10,6 @@ use Rattle.std.proofs.lemmas.Bool.Decides.{nat_tests}
 use Rattle.std.proofs.lemmas.List.{length-map, length-append}
 use Rattle.std.proofs.lemmas.Int.Digits.{all_below_base_digits_of, number_digits_of, digits_value_is, length-digits_of_step, length-digits_of-le}
 use Rattle.ia_lex.specs.Lines.{lines_of}
-use Rattle.ia_text.specs.TextLine.{line_end}
 use Rattle.tm_model.specs.declared.outcome.Pick.{Pick}
 use Rattle.tm_schedule.specs.declared.schedule.picks.Form.{Form}
 use Rattle.tm_schedule.specs.declared.schedule.picks.Form.TheVariants.{Cores, Picks}
@@ -18,7 +17,7 @@ use Rattle.tm_schedule.specs.declared.schedule.runs.Run.{Run}
 use Rattle.tm_schedule.specs.Picks.{AreBytes, pick_in, pick_word, has_event}
 use Rattle.tm_schedule.specs.ScheduleRuns.{run_steps, is_count, in_range, count_number, run_from, run_at, word_run, word_steps, runs_of, count_text, run_word}
 use Rattle.tm_schedule.specs.ScheduleWords.{steps_said, words_from, words_read, unless, words_text}
-use Rattle.tm_schedule.specs.Schedule.{schedule_of, schedule_text}
+use Rattle.tm_schedule.specs.Schedule.{drawn_text, schedule_of, schedule_text}
 use Rattle.tm_schedule.proofs.WordsBack.{Above, above_append, above_less, differs, by_test, AreWords, AreSaid, words_back, fault_back, said_back}
 use Rattle.tm_schedule.proofs.PicksBack.{pick_above, pick_long, pick_back, take_front}
 use Rattle.tm_schedule.proofs.ListsBack.{AllFit, all_fit, plain_fit}
@@ -167,8 +166,13 @@ list_back form picks h l =
     (fault_back (word_steps form) (Some 16777216) run_word run_steps words runs 0 same said (not_above (0 + length (flat_map run_steps runs)) 16777216 (omega arith)))
     ∙ ap Ok (said_back (word_steps form) run_word run_steps words runs same said ∙ runs_steps picks)
 
+none_under : (b : Bool) → (b ≡ true → false ≡ true) → b ≡ false
+none_under true h = sym (h refl)
+none_under false h = refl
+
+pub drawn_back : (has_events : Bool) (picks : List Pick) → AreBytes picks → length picks ≤ 16777216 → (has_event picks ≡ true → has_events ≡ true) → schedule_of (drawn_text has_events picks) ≡ Ok picks
+drawn_back true picks h l under = list_back Picks picks (all_fit picks h) l
+drawn_back false picks h l under = list_back Cores picks (plain_fit picks h (none_under (has_event picks) under)) l
+
 pub runs_back : (picks : List Pick) → AreBytes picks → length picks ≤ 16777216 → schedule_of (schedule_text picks) ≡ Ok picks
-runs_back picks h l =
-    by_test (λ title. schedule_of ((title ++ line_end) ++ words_text 16 0 (map run_word (runs_of picks))) ≡ Ok picks) (has_event picks) _ _
-    (λ _. list_back Picks picks (all_fit picks h) l)
-    (λ e. list_back Cores picks (plain_fit picks h e) l)
+runs_back picks h l = drawn_back (has_event picks) picks h l (λ under. under)

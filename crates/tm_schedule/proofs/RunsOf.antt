@@ -1,5 +1,5 @@
 -- The runs of a list are the list.
-use Rattle.std.proofs.Common.{map, ◌≡◌, ℕ, ◌+◌, ◌<◌, ◌≤◌, ◌==◌, ◌&&◌, Bool, true, false, List, [], ◌∷◌, ◌++◌, refl, sym, ◌∙◌, ap, arith, append_assoc, length}
+use Rattle.std.proofs.Common.{map, ◌≡◌, ℕ, ◌+◌, ◌≤◌, ◌==◌, ◌&&◌, Bool, true, false, List, [], ◌∷◌, ◌++◌, refl, sym, ◌∙◌, ap, arith, append_assoc}
 use Rattle.std.specs.Prelude.{cond, nat_lt}
 use Rattle.std.specs.List.{AllByRecursion, flat_map}
 use Rattle.std.proofs.lemmas.Bool.{ltb-true, ltb-false}
@@ -83,13 +83,9 @@ are_longest [] = tt
 are_longest (pick ∷ picks) = longest_from (once pick) picks (omega arith)
 
 -- what stands behind a word that is not the last
-behind_more : (column : ℕ) (run : Run) (picks : List Pick) → behind_word 16 column (map run_word (runs_behind run picks)) ≡ cond (column + 1 == 16) line_end (32 ∷ [])
+pub behind_more : (column : ℕ) (run : Run) (picks : List Pick) → behind_word 16 column (map run_word (runs_behind run picks)) ≡ cond (column + 1 == 16) line_end (32 ∷ [])
 behind_more column run [] = refl
 behind_more column run (pick ∷ picks) =
     by_test (λ runs. behind_word 16 column (map run_word runs) ≡ cond (column + 1 == 16) line_end (32 ∷ [])) (is_same pick run.pick && nat_lt run.count 16777216) _ _
     (λ e. behind_more column (record { pick = run.pick; count = run.count + 1 }) picks)
     (λ e. refl)
-
-pub behind_word_not_last : (column : ℕ) (picks : List Pick) → 0 < length picks → behind_word 16 column (map run_word (runs_of picks)) ≡ cond (column + 1 == 16) line_end (32 ∷ [])
-behind_word_not_last column [] h = absurd (omega arith)
-behind_word_not_last column (pick ∷ picks) h = behind_more column (once pick) picks

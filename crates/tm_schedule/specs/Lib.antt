@@ -5,4 +5,4 @@ pub mod ScheduleRuns
 pub mod Schedule
 pub mod Pieces
 pub mod Unread
-pub mod FirstRun
+pub mod ScheduleWriting

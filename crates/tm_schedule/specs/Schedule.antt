@@ -1,5 +1,5 @@
 -- The text of a schedule (docs/FORMATS.md, "Schedules").
-use Rattle.std.specs.Prelude.{ℕ, List, [], ◌∷◌, ◌++◌, codes, map, Some, None, Result, Err, nat_eq, if◌then◌else◌}
+use Rattle.std.specs.Prelude.{ℕ, Bool, List, [], ◌∷◌, ◌++◌, codes, map, Some, None, Result, Err, nat_eq, if◌then◌else◌}
 use Rattle.std.specs.Cmp.Lexicographic.{pointwise}
 use Rattle.ia_lex.specs.Lines.{lines_of}
 use Rattle.ia_text.specs.TextLine.{line_end}
@@ -54,10 +54,18 @@ steps_text picks = words_text 32 0 (map pick_word picks)
 abbrev pub numbers_text : List Pick → List ℕ
 numbers_text picks = first_title ++ line_end ++ steps_text picks
 
--- the first line of a schedule that is written
-abbrev pub title_line : List Pick → List ℕ
-title_line picks = (if has_event picks then third_title else second_title) ++ line_end
+-- the first line of a schedule that is written, by whether a step may come under an event
+abbrev pub title_line : Bool → List ℕ
+title_line has_events = (if has_events then third_title else second_title) ++ line_end
 
--- a list as schedules are written: its longest runs, 16 a line
+-- steps as words: their longest runs, 16 a line
+abbrev pub runs_text : List Pick → List ℕ
+runs_text picks = words_text 16 0 (map run_word (runs_of picks))
+
+-- steps that were drawn, as schedules are written
+abbrev pub drawn_text : Bool → List Pick → List ℕ
+drawn_text has_events picks = title_line has_events ++ runs_text picks
+
+-- a list as schedules are written
 abbrev pub schedule_text : List Pick → List ℕ
-schedule_text picks = title_line picks ++ words_text 16 0 (map run_word (runs_of picks))
+schedule_text picks = drawn_text (has_event picks) picks

@@ -1,6 +1,6 @@
 -- Runs of the same step: words `p`, one step, and `p*n`, n steps p, where p is a core number or has the letter of an
 -- event behind it (docs/FORMATS.md, "Schedules").
-use Rattle.std.specs.Prelude.{◌≡◌, ℕ, Bool, false, ◌+◌, ◌==◌, ◌&&◌, List, [], ◌∷◌, ◌++◌, map, take, drop, replicate}
+use Rattle.std.specs.Prelude.{◌≡◌, ℕ, Bool, ◌+◌, ◌==◌, ◌&&◌, List, [], ◌∷◌, ◌++◌, map, take, drop, replicate}
 use Rattle.std.specs.Prelude.{length, Option, Some, None, option_map, not, nat_lt, nat_le, if◌then◌else◌}
 use Rattle.std.specs.Char.{digit_char, is_ascii_digit}
 use Rattle.std.specs.Int.Digits.{digits_of}
@@ -53,10 +53,12 @@ word_steps form word = if length word == 0 then Some [] else option_map run_step
 abbrev pub once : Pick → Run
 once pick = record { pick = pick; count = 1 }
 
--- whether the next step belongs to a run
-abbrev pub goes_on : Run → List Pick → Bool
-goes_on run [] = false
-goes_on run (pick ∷ picks) = is_same pick run.pick && nat_lt run.count most_steps
+-- a run with the next step, where that belongs to it
+abbrev pub run_with : Run → Pick → Option Run
+run_with run pick =
+    if is_same pick run.pick && nat_lt run.count most_steps
+    then Some (record { pick = run.pick; count = run.count + 1 })
+    else None
 
 -- the longest runs of a list; one of more than 16,777,216 steps is split from the front
 abbrev pub runs_behind : Run → List Pick → List Run

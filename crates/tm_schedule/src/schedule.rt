@@ -9,6 +9,7 @@ mod picks;
 mod reading;
 mod runs;
 mod words;
+mod writer;
 mod writing;
 
 use ia_lex::first_line;
@@ -20,7 +21,8 @@ use std::alloc::Global;
 use thiserror::Error;
 use tm_model::Pick;
 use words::Unread;
-pub use writing::write_schedule;
+pub use writer::ScheduleWriter;
+pub use writing::{write_drawn, write_schedule};
 
 /// Why a schedule was not read.
 #[derive(Clone, Copy, PartialEq, Eq, Debug, Error)]

@@ -1,23 +1,26 @@
-//! Writing a list of steps as runs.
+//! Writing steps as runs.
 
-ghost use Rattle.std.specs.Prelude.{◌≡◌, ◌+◌, ◌<◌, ◌≤◌, ◌++◌, false, Ok, length, map};
+ghost use Rattle.std.specs.Prelude.{◌≡◌, ◌+◌, ◌<◌, ◌≤◌, ◌++◌, ◌∷◌, ◌==◌, [], false, if◌then◌else◌, Ok, length};
 ghost use Rattle.arrayvec.specs.ArrayVec.{array_vec_len};
 ghost use Rattle.std.specs.Int.Digits.{digits_of};
+ghost use Rattle.ia_text.specs.TextLine.{line_end};
 ghost use Rattle.ia_text.specs.Writing.{Writes};
-ghost use Rattle.tm_schedule.specs.Picks.{AreBytes, event_text, has_event};
-ghost use Rattle.tm_schedule.specs.Schedule.{schedule_of, steps_of, schedule_text, numbers_text, steps_text};
+ghost use Rattle.tm_schedule.specs.Picks.{event_text, has_event};
+ghost use Rattle.tm_schedule.specs.Schedule.{drawn_text, schedule_of, steps_of, schedule_text, numbers_text, steps_text};
 ghost use Rattle.tm_schedule.specs.Schedule.{title_line};
 ghost use Rattle.tm_schedule.specs.ScheduleRuns.{AreLongest, count_text, run_word, runs_of};
-ghost use Rattle.tm_schedule.specs.ScheduleWords.{behind_word, words_text};
+ghost use Rattle.tm_schedule.specs.ScheduleWriting.{left_text};
 
 use super::picks::{has_event, letter_of};
 use super::runs::Run;
+use super::writer::ScheduleWriter;
 use ia_text::page::push;
 use ia_text::text_line::{TextLine, push_number};
 use ia_text::{Out, WriteFault};
 use tm_model::{Event, Pick};
 
-const WORDS_A_LINE: u8 = 16;
+/// How many words stand on a line.
+pub const WORDS_A_LINE: u8 = 16;
 
 // Adds a number in decimal digits, and none for 0.
 #[tactic(auto, using(crate::proofs::Counts::count_text_step, crate::proofs::Counts::count_long, crate::proofs::Counts::count_none))]
@@ -58,15 +61,12 @@ fn push_run(row: &mut TextLine, run: Run)
     }
 }
 
-// What stands behind a word, by the words before it on its line and the steps that are left.
-fn separator(column: u8, left: &[Pick]) -> &'static [u8]
+// What stands behind a word that another one follows, by the words before it on its line.
+pub fn separator(column: u8) -> &'static [u8]
     requires { column < 16 }
-    ensures text { result.now ≡ behind_word 16 column (map run_word (runs_of left.now)) }
+    ensures text { result.now ≡ (if column + 1 == 16 then line_end else 32 ∷ []) }
     ensures len { length result.now ≡ 1 }
 {
-    if left.is_empty() {
-        return b"\n";
-    }
     if column + 1 == WORDS_A_LINE {
         b"\n"
     } else {
@@ -74,7 +74,8 @@ fn separator(column: u8, left: &[Pick]) -> &'static [u8]
     }
 }
 
-fn write_run<O: Out>(run: Run, behind: &[u8], out: &mut O) -> Result<(), WriteFault>
+// Writes the word of a run, and what stands behind it.
+pub fn write_run<O: Out>(run: Run, behind: &[u8], out: &mut O) -> Result<(), WriteFault>
     requires { length behind.now ≡ 1 }
     ensures { Writes (O.device out.old) (O.device out.new) (run_word run ++ behind.now) result }
 {
@@ -85,25 +86,11 @@ fn write_run<O: Out>(run: Run, behind: &[u8], out: &mut O) -> Result<(), WriteFa
     Ok(())
 }
 
-fn write_runs<O: Out>(picks: &[Pick], out: &mut O) -> Result<(), WriteFault>
-    ensures { Writes (O.device out.old) (O.device out.new) (words_text 16 0 (map run_word (runs_of picks.now))) result }
+// The first line of a schedule, by whether a step may come under an event.
+pub fn title_line(has_events: bool) -> &'static [u8]
+    ensures { result.now ≡ title_line has_events }
 {
-    let mut left = picks;
-    let mut column = 0;
-    'runs: while let Some((run, rest)) = Run::first(left) {
-        write_run(run, separator(column, rest), out)?;
-        column = (column + 1) % WORDS_A_LINE;
-        left = rest;
-    }
-    Ok(())
-}
-
-// The first line of the schedule of a list.
-fn title_line(picks: &[Pick]) -> &'static [u8]
-    ensures text { result.now ≡ title_line picks.now }
-    ensures cores { AreBytes picks.now }
-{
-    if has_event(picks) {
+    if has_events {
         b"schedule 3\n"
     } else {
         b"schedule 2\n"
@@ -111,8 +98,8 @@ fn title_line(picks: &[Pick]) -> &'static [u8]
 }
 
 /// Writes the schedule of a list of steps: in the third form, where one of them comes under an event, and else in the
-/// second. Either has the list's longest runs, 16 words a line, of which one of more than 16,777,216 steps is split
-/// from the front. A list of at most 16,777,216 steps is read back.
+/// second. Either has the list's longest runs, as a [`ScheduleWriter`] writes them. A list of at most 16,777,216 steps
+/// is read back.
 ///
 /// [`WriteFault::Write`], where the device failed: a beginning of the schedule was written.
 pub fn write_schedule<O: Out>(picks: &[Pick], out: &mut O) -> Result<(), WriteFault>
@@ -123,6 +110,26 @@ pub fn write_schedule<O: Out>(picks: &[Pick], out: &mut O) -> Result<(), WriteFa
     ensures first_form { has_event picks.now ≡ false → schedule_of (numbers_text picks.now) ≡ Ok picks.now }
     ensures list { steps_of (steps_text picks.now) ≡ Ok picks.now }
 {
-    out.put(title_line(picks))?;
-    write_runs(picks, out)
+    write_drawn(has_event(picks), picks, out)
+}
+
+/// The same of steps that were drawn: in the third form, where one of them may have come under an event.
+pub fn write_drawn<O: Out>(has_events: bool, picks: &[Pick], out: &mut O) -> Result<(), WriteFault>
+    ensures { Writes (O.device out.old) (O.device out.new) (drawn_text has_events picks.now) result }
+{
+    let writer = ScheduleWriter::begin(has_events, out)?;
+    write_steps(writer, picks, out)
+}
+
+// Writes steps, and ends the schedule.
+fn write_steps<O: Out>(begun: ScheduleWriter, picks: &[Pick], out: &mut O) -> Result<(), WriteFault>
+    ensures { Writes (O.device out.old) (O.device out.new) (left_text begun picks.now) result }
+{
+    let mut writer = begun;
+    let mut left = picks;
+    'picks: while let Some((pick, rest)) = left.split_first() {
+        writer.add(*pick, out)?;
+        left = rest;
+    }
+    writer.finish(out)
 }

@@ -6,7 +6,7 @@ use Rattle.tm_pick.specs.declared.kinds.Kinds.{Kinds}
 use Rattle.elide_setup.proofs.Drawing.{under_more}
 use Rattle.elide_setup.proofs.Rounds.{at_end, at_limit, begun, more_under_way, no_seed}
 use Rattle.std.specs.Prelude.{is_some, not}
-use Rattle.elide_setup.proofs.Walks.{kept_more, leads_more}
+use Rattle.elide_setup.proofs.Walks.{leads_more}
 use Rattle.elide_setup.proofs.walk.walk_drawn.Goals as goal
 
 pub loop-number-preserved : goal.loop-number-preserved
@@ -21,7 +21,7 @@ loop-number-preserved g c =
         made.0 ++ others,
         under_more c.args.drawn.events c.loop-number.picker.kinds made.0 pick outcome c.loop-number.invariant.kinds c.next-pick.ensures.event c.next-pick.ensures.never made.1,
         leads_more g.S.StepMaker.takes made.0 others c.args.maker.now c.loop-number.maker c.make_step.new.self made.2 c.in_ok-outcome.ensures.made,
-        kept_more c.args.keeps made.0 pick outcome _ _ _ made.3 c.in_ok-keep.ensures.kept,
+        leads_more g.K.Keeper.keeps made.0 others c.args.keeper.now c.loop-number.keeper c.keep.new.self made.3 c.in_ok-keep.ensures.kept,
         more_under_way (not (is_some c.args.drawn.seed)) c.args.cores c.loop-number.number c.loop-number.going c.settle.new.going c.loop-number.picker.turn c.next-pick.new.self.turn made.0 pick outcome
             made.4 c.next-pick.ensures.core c.next-pick.ensures.turn c.next-pick.ensures.goes_on (c.settle.ensures c.args.cores made.0 made.4.left),
       );
@@ -34,7 +34,7 @@ loop-number-init g c = record {
     [],
     search rules,
     ([], refl, refl),
-    search rules,
+    ([], refl, refl),
     begun (not (is_some c.args.drawn.seed)) c.args.cores c.all-going.result c.picker-picker.result.turn c.all-going.ensures.below c.all-going.ensures.each
         (λ e. c.picker-picker.ensures.turn (no_seed c.args.drawn.seed e)),
   );

@@ -1,19 +1,19 @@
-use Rattle.std.proofs.Common.{◌≡◌, ◌++◌, List, []}
-use Rattle.std.specs.Prelude.{if◌then◌else◌, is_some, not}
+use Rattle.std.proofs.Common.{List}
+use Rattle.std.specs.Prelude.{is_some, not}
 use Rattle.tm_model.specs.declared.outcome.Outcome.{Outcome}
 use Rattle.tm_model.specs.declared.outcome.Pick.{Pick}
 use Rattle.tm_pick.specs.Drawn.{AreDrawn}
 use Rattle.elide_setup.specs.Drawing.{AreUnder}
-use Rattle.elide_setup.specs.Schedules.{picks_made, picks_told}
+use Rattle.elide_setup.specs.Schedules.{picks_made}
 use Rattle.elide_setup.specs.Walks.{Leads}
 use Rattle.elide_setup.proofs.Rounds.{IsUnderWay}
 use Rattle.elide_setup.proofs.walk.walk_drawn.Given as goal
 
--- some steps were made, and are kept where they are asked for
+-- some steps were made and kept
 abbrev pub invariant-loop-number : goal.invariant-loop-number
 invariant-loop-number g l = record {
   kinds : AreDrawn l.fn.drawn.events l.picker.kinds;
   made : (steps : List (Pick × Outcome)) × AreUnder l.fn.drawn.events (picks_made steps) × Leads g.S.StepMaker.takes l.initial.maker steps l.maker
-      × (l.kept.items ≡ l.initial.kept.items ++ (if l.fn.keeps then picks_told steps else []))
+      × Leads g.K.Keeper.keeps l.initial.keeper steps l.keeper
       × IsUnderWay (not (is_some l.fn.drawn.seed)) l.fn.cores l.number l.going l.picker.turn steps;
 }

@@ -1,0 +1,167 @@
+//! The schedule of a run that is drawn, written to a file as its steps are made.
+
+ghost use Rattle.std.specs.Io.KnownBytes.{Appends};
+ghost use Rattle.std.specs.Prelude.{◌≡◌, ◌≤◌, ◌⊎◌, ◌++◌, [], ℕ, IfErr, IfOk, IfSome, List, is_some, not};
+ghost use Rattle.tm_model.specs.declared.outcome.Outcome.{Outcome};
+ghost use Rattle.tm_model.specs.declared.outcome.Pick.{Pick};
+ghost use Rattle.tm_schedule.specs.Schedule.{drawn_text};
+ghost use Rattle.tm_schedule.specs.ScheduleWriting.{left_text};
+ghost use Rattle.elide_setup.specs.Drawing.{AreUnder, may_come};
+ghost use Rattle.elide_setup.specs.Recorded.{IsRecorded};
+ghost use Rattle.elide_setup.specs.Refused.{IsNoWalk, IsUnrecorded};
+ghost use Rattle.elide_setup.specs.Rounds.{IsDrawnOut};
+ghost use Rattle.elide_setup.specs.Schedules.{picks_made, picks_told};
+ghost use Rattle.elide_setup.specs.Walks.{Leads};
+ghost use Rattle.elide_setup.specs.declared.fault.Fault.TheVariants as fault;
+ghost use Rattle.elide_setup.specs.declared.fault.Refusal.TheVariants as refusal;
+
+use crate::fault::{Fault, Refusal};
+use crate::gathered::Gathered;
+use crate::keeper::{Keeper, Unkept, pick_told};
+use crate::plan::Drawn;
+use crate::progress::Progress;
+use crate::walk::{StepMaker, walk_drawn};
+use elide_program::{Paths, Text};
+use ia_text::{Out, WriteFault};
+use tm_hist::Outcome;
+use tm_model::Pick;
+use tm_schedule::ScheduleWriter;
+
+/// Makes the steps that are drawn on a machine of so many cores, 1 to 64. Where there is a path, their schedule is written
+/// there as they are made; where a step is refused or the file cannot be written, what stood there stays.
+pub fn walk_written<S: StepMaker, P: Paths, G: Progress>(
+    drawn: Drawn,
+    cores: u8,
+    path: Option<&str>,
+    maker: &mut S,
+    paths: &mut P,
+    progress: &mut G,
+) -> Result<(), Refusal>
+    requires { cores ≤ 64 }
+    ensures refused { IfErr result (λ why. IsNoWalk S.refuses why ⊎ IsUnrecorded path.entry why) }
+    ensures walked { IfOk result (λ _. (steps : List (Pick × Outcome)) × AreUnder drawn.events (picks_made steps)
+        × Leads S.takes maker.old steps maker.new
+        × IsRecorded (P.content paths.new) path.entry (drawn_text (may_come drawn.events) (picks_told steps))
+        × IsDrawnOut (not (is_some drawn.seed)) cores drawn.most steps) }
+{
+    match path {
+        None => walk_drawn(drawn, cores, &mut Unkept, maker, progress),
+        Some(path) => walk_to_file(drawn, cores, path, maker, paths, progress),
+    }
+}
+
+// The same with a path.
+fn walk_to_file<S: StepMaker, P: Paths, G: Progress>(
+    drawn: Drawn,
+    cores: u8,
+    path: &str,
+    maker: &mut S,
+    paths: &mut P,
+    progress: &mut G,
+) -> Result<(), Refusal>
+    requires { cores ≤ 64 }
+    ensures refused { IfErr result (λ why. S.refuses why ⊎ (why ≡ refusal.Fault fault.Output)) }
+    ensures walked { IfOk result (λ _. (steps : List (Pick × Outcome)) × AreUnder drawn.events (picks_made steps)
+        × Leads S.takes maker.old steps maker.new
+        × IfSome (P.content paths.new path.now) (λ held. held ≡ drawn_text (may_come drawn.events) (picks_told steps))
+        × IsDrawnOut (not (is_some drawn.seed)) cores drawn.most steps) }
+{
+    let mut text = DrawnText {
+        drawn,
+        cores,
+        maker,
+        progress,
+        refused: None,
+    };
+    let written = paths.write(path, &mut text);
+    let DrawnText { maker, refused, .. } = text;
+    // By this it is known that the maker is the one that was lent.
+    let _maker = &*maker;
+    match written {
+        Ok(()) => Ok(()),
+        Err(_) => match refused {
+            Some(refusal) => Err(refusal),
+            None => Err(Refusal::Fault(Fault::Output)),
+        },
+    }
+}
+
+// The schedule of steps that are made while it is written.
+#[derive(Drop)]
+struct DrawnText<'a, 'b, S, G> {
+    drawn: Drawn,
+    cores: u8,
+    maker: &'a mut S,
+    progress: &'b mut G,
+    // Why the steps came to no end, where they did not.
+    refused: Option<Refusal>,
+}
+
+impl<S: StepMaker, G: Progress> Text for DrawnText<'_, '_, S, G> {
+    // The maker stays the one that was lent.
+    ghost tells = { λ before after bytes. (after.maker.ghost_name ≡ before.maker.ghost_name)
+        × (steps : List (Pick × Outcome)) × AreUnder before.drawn.events (picks_made steps)
+        × Leads S.takes before.maker.now steps after.maker.now
+        × (bytes ≡ drawn_text (may_come before.drawn.events) (picks_told steps))
+        × IsDrawnOut (not (is_some before.drawn.seed)) before.cores before.drawn.most steps };
+
+    ghost keeps = { λ text. (text.cores ≤ 64)
+        × IfSome text.refused (λ why. S.refuses why ⊎ (why ≡ refusal.Fault fault.Output)) };
+
+    fn write_to<O: Out + Drop>(&mut self, out: O) -> Result<O, WriteFault> {
+        let mut page = Gathered::new(out);
+        let writer = ScheduleWriter::begin(self.drawn.may_come(), &mut page)?;
+        let mut recorder = Recorder { writer, page };
+        match walk_drawn(
+            self.drawn,
+            self.cores,
+            &mut recorder,
+            &mut *self.maker,
+            &mut *self.progress,
+        ) {
+            Ok(()) => recorder.finish(),
+            Err(refusal) => {
+                self.refused = Some(refusal);
+                Err(WriteFault::Write)
+            }
+        }
+    }
+}
+
+// Writes the schedule of the steps that it keeps.
+#[derive(Drop)]
+struct Recorder<O> {
+    writer: ScheduleWriter,
+    page: Gathered<O>,
+}
+
+impl<O: Out + Drop> Recorder<O> {
+    // Writes what is left, and gives the device back.
+    fn finish(self) -> Result<O, WriteFault>
+        ensures { IfOk result (λ out. Appends (⟦<Gathered<O> as Out>⟧.device self.page).contents
+            (O.device out).contents (left_text self.writer [])) }
+    {
+        let Recorder { writer, mut page } = self;
+        writer.finish(&mut page)?;
+        let out = page.finish()?;
+        Ok(out)
+    }
+}
+
+impl<O: Out> Keeper for Recorder<O> {
+    // Whatever steps follow, what is written of these stands before their text.
+    ghost keeps = { λ before steps after. (bytes : List ℕ)
+        × ((rest : List Pick) → left_text before.writer (picks_told steps ++ rest) ≡ bytes ++ left_text after.writer rest)
+        × Appends (⟦<Gathered<O> as Out>⟧.device before.page).contents
+        (⟦<Gathered<O> as Out>⟧.device after.page).contents bytes };
+
+    ghost fails = { λ why. why ≡ refusal.Fault fault.Output };
+
+    #[inline(always)]
+    fn keep(&mut self, pick: Pick, outcome: Outcome) -> Result<(), Refusal> {
+        match self.writer.add(pick_told(pick, outcome), &mut self.page) {
+            Ok(()) => Ok(()),
+            Err(_) => Err(Refusal::Fault(Fault::Output)),
+        }
+    }
+}
