@@ -7,7 +7,7 @@ use Rattle.std.proofs.lemmas.Result.{IfOk-weaker}
 use Rattle.std.specs.Result.{IfOk}
 use Rattle.tm_model.specs.declared.outcome.Event.{Event}
 use Rattle.tm_model.specs.declared.outcome.Pick.{Pick}
-use Rattle.tm_outcomes.specs.Nodes.{HaveSchedules, IsFollowed, IsTree, IsUntouched}
+use Rattle.tm_outcomes.specs.Nodes.{HaveSchedules, IsFollowed, IsTree, IsUntouched, schedule_at}
 use Rattle.tm_outcomes.specs.Outcomes.{IsNoneOrOneOf}
 use Rattle.tm_outcomes.specs.Searching.{IsFollowedIn, IsOneOf, IsThis}
 use Rattle.tm_outcomes.specs.declared.fault.SearchFault.{SearchFault}
@@ -16,7 +16,9 @@ use Rattle.tm_outcomes.specs.declared.searching.Progress.{Progress}
 use Rattle.tm_outcomes.specs.declared.searching.Progress.TheVariants.{GoesOn}
 use Rattle.tm_outcomes.specs.declared.searching.Searching.{Searching}
 use Rattle.tm_outcomes.specs.declared.trial.Trial.{Trial}
+use Rattle.tm_outcomes.proofs.Benches.{one_schedule}
 use Rattle.tm_outcomes.proofs.Follows.{followed_grown, followed_more, untouched_grown}
+use Rattle.tm_outcomes.proofs.Trees.{schedule_old}
 
 -- a pick that is followed, by its core and its event
 pub under_this : (trial : Trial) (schedules : List (List Pick)) (links : List Link) (index : ℕ) (pick : Pick) →
@@ -59,6 +61,23 @@ module _ (trial : Trial) (most index core : ℕ) where
       let long = ap (λ (g : List (List Pick)). length g) step.has_grown.grown in
       let sum = length-append tree.0 step.has_grown.more in
       omega arith
+
+  -- and its schedule is what it was
+  pub holds_still : (P : List Pick → Type 0) (before after : Searching) (under : Option Event → Type 0) →
+      IsFollowedIn trial most before after index core under → HaveSchedules trial before.nodes.items →
+      index < length before.nodes.items →
+      ((schedules : List (List Pick)) → IsTree trial before.nodes.items schedules → P (schedule_at schedules index)) →
+      (schedules : List (List Pick)) → IsTree trial after.nodes.items schedules → P (schedule_at schedules index)
+  holds_still P before after under followed tree within holds = λ schedules now.
+      let step = followed.grows tree.0 tree.1 in
+      let counted = tree.1.counted in
+      let here : index < length after.nodes.items = has_node before after under followed tree within in
+      let was : schedule_at step.grown index ≡ schedule_at tree.0 index =
+      ap (λ (g : List (List Pick)). schedule_at g index) step.has_grown.grown
+      ∙ schedule_old tree.0 step.has_grown.more index (omega arith) in
+      let same : schedule_at step.grown index ≡ schedule_at schedules index =
+      one_schedule trial after.nodes.items step.grown schedules step.has_grown.tree now (length after.nodes.items) index here here in
+      subst P (sym was ∙ same) (holds tree.0 tree.1)
 
   -- under no event so far
   pub nothing_yet : (search : Searching) → length search.nodes.items ≤ most →

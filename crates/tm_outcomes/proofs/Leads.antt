@@ -1,5 +1,5 @@
 -- Nodes, and the situations that their schedules lead to.
-use Rattle.std.proofs.Common.{◌≡◌, ℕ, ◌<◌, List, Some, false, length, sym, ap, ◌∙◌, subst, arith}
+use Rattle.std.proofs.Common.{◌≡◌, ℕ, ◌<◌, List, Some, false, true, length, sym, ap, ◌∙◌, subst, arith}
 use Rattle.std.specs.Prelude.{option_map}
 use Rattle.tm_core.specs.Theorem.{ShownMachine, StandsFor, machine_setting, view_at}
 use Rattle.tm_model.specs.Setting.{Setting}
@@ -7,14 +7,14 @@ use Rattle.tm_model.specs.Shown.{view_of}
 use Rattle.tm_model.specs.Steps.{step}
 use Rattle.tm_model.specs.declared.outcome.Outcome.{Outcome}
 use Rattle.tm_model.specs.declared.outcome.Pick.{Pick}
-use Rattle.tm_outcomes.specs.Nodes.{IsUntouched, LeadsTo, schedule_at}
+use Rattle.tm_outcomes.specs.Nodes.{IsOpenBehind, IsUntouched, LeadsTo, schedule_at}
 use Rattle.tm_outcomes.specs.Verdicts.{AreSame}
-use Rattle.tm_outcomes.specs.Outcomes.{trial_setting}
+use Rattle.tm_outcomes.specs.Outcomes.{IsOpen, trial_setting}
 use Rattle.tm_outcomes.specs.Places.{AreAlike, IsAt, is_open}
 use Rattle.tm_outcomes.specs.Schedules.{Situation, with_state}
 use Rattle.tm_outcomes.specs.declared.place.Place.{Place}
 use Rattle.tm_outcomes.specs.declared.trial.Trial.{Trial}
-use Rattle.tm_outcomes.proofs.Shown.{same_under}
+use Rattle.tm_outcomes.proofs.Shown.{open_is, same_under}
 use Rattle.tm_outcomes.proofs.Somes.{same_in}
 
 -- what a machine shows, under the rules of its trial
@@ -82,3 +82,12 @@ untouched_at trial schedules index place core is_core at closed = λ now leads b
     ap (λ (o : Outcome). option_map (with_state setting now core o) (step setting now.state core o))
     (same_under by setting now.state.memory (now.state.cores core) (now.doomed core) (view_at place.machine core)
     (shows place.machine setting now at.rules stands core below) closed)
+
+-- a core that an event aborts at the end of a schedule
+pub opened_at : (trial : Trial) (schedule : List Pick) (place : Place) (core : ℕ) → core < length trial.program.now.entries →
+    IsAt trial place schedule → is_open (view_at place.machine core).mode ≡ true → IsOpenBehind trial schedule core
+opened_at trial schedule place core is_core at opened = λ now is_run.
+    let below : core < length place.machine.views = (let count = at.count in omega arith) in
+    subst (λ (x : Situation). IsOpen (x.state.cores core) (x.doomed core)) (same_in (sym at.is_run ∙ is_run))
+    (open_is (trial_setting trial) at.now.state.memory (at.now.state.cores core) (at.now.doomed core) (view_at place.machine core)
+    (shows place.machine (trial_setting trial) at.now at.rules at.stands core below) opened)

@@ -1,5 +1,6 @@
 pub mod Somes
 pub mod Runs
+pub mod Sparing
 pub mod Alone
 pub mod UnseenCores
 pub mod Crossing

@@ -13,7 +13,7 @@ use Rattle.tm_model.specs.State.{Closed, Core, Halted, Midway, Opened}
 use Rattle.tm_model.specs.declared.outcome.Pick.{Pick}
 use Rattle.tm_rule.specs.declared.kinds.OutsideResult.{OutsideResult}
 use Rattle.tm_rule.specs.declared.kinds.OutsideResult.TheVariants.{Goes, Begins, Stops}
-use Rattle.tm_outcomes.specs.Nodes.{IsPickOf}
+use Rattle.tm_outcomes.specs.Nodes.{IsPickOf, IsUsualPick}
 use Rattle.tm_outcomes.specs.Outcomes.{IsAllowed, trial_setting}
 use Rattle.tm_outcomes.specs.Places.{GoesTo, IsAt, IsPlaceOf}
 use Rattle.tm_outcomes.specs.Resting.{Advances, Rests, RestsBy, is_condemned, is_running}
@@ -23,6 +23,7 @@ use Rattle.tm_outcomes.specs.declared.place.Place.{Place}
 use Rattle.tm_outcomes.specs.declared.trial.Trial.{Trial}
 use Rattle.tm_outcomes.proofs.Catching.{then_lead}
 use Rattle.tm_outcomes.proofs.Somes.{same_in}
+use Rattle.tm_outcomes.proofs.Sparing.{IsUsualIn}
 
 -- ---- by what a machine shows
 
@@ -102,22 +103,24 @@ module _ (trial : Trial) where
   pub rests_here : (place : Place) → Rests trial place place []
   rests_here place = record {
     are_picks = All-nil (IsPickOf trial);
+    usual = All-nil (IsUsualIn trial);
     at = λ schedule at. subst (λ (s : List Pick). IsAt trial place s) (sym (append-nil schedule)) at;
     leads = λ now stands. record { end = now; rests = refl; stands = stands };
   }
 
-  pub rests_once : (before after : Place) (pick : Pick) → IsPickOf trial pick → GoesTo (trial_setting trial) before after pick →
+  pub rests_once : (before after : Place) (pick : Pick) → IsUsualPick trial pick → GoesTo (trial_setting trial) before after pick →
       ((schedule : List Pick) → IsAt trial before schedule → IsAt trial after (schedule ++ pick ∷ [])) →
       ((now : Situation) → StandsFor before.machine now.state now.doomed → IsUnseen (trial_setting trial) now pick.core) →
       Rests trial before after (pick ∷ [])
-  rests_once before after pick is_pick goes at unseen = record {
-    are_picks = All-cons (IsPickOf trial) pick [] is_pick (All-nil (IsPickOf trial));
+  rests_once before after pick is goes at unseen = record {
+    are_picks = All-cons (IsPickOf trial) pick [] is.is_pick (All-nil (IsPickOf trial));
+    usual = All-cons (IsUsualIn trial) pick [] is.usual (All-nil (IsUsualIn trial));
     at = at;
     leads = λ now stands.
         let step = goes now stands in
         record {
           end = step.next;
-          rests = (unseen now stands, is_pick.allowed, (step.next, (step.is_next, refl)));
+          rests = (unseen now stands, is.is_pick.allowed, (step.next, (step.is_next, refl)));
           stands = step.stands;
         };
   }
@@ -126,6 +129,7 @@ module _ (trial : Trial) where
       Rests trial before after (picks ++ more)
   rests_then before middle after picks more one other = record {
     are_picks = All-append (IsPickOf trial) picks more one.are_picks other.are_picks;
+    usual = All-append (IsUsualIn trial) picks more one.usual other.usual;
     at = λ schedule at. subst (λ (s : List Pick). IsAt trial after s) (append_assoc schedule picks more)
         (other.at (schedule ++ picks) (one.at schedule at));
     leads = λ now stands.
@@ -164,6 +168,7 @@ module _ (trial : Trial) where
     made = rests.made;
     are_picks = subst (λ (s : List Pick). All (IsPickOf trial) s) (sym rests.made)
         (All-cons (IsPickOf trial) pick rests.picks is_pick rests.rests.are_picks);
+    usual = rests.rests.usual;
     is_place = is_place;
     at = λ schedule is_at. subst (λ (s : List Pick). IsAt trial after s)
         (append_assoc schedule (pick ∷ []) rests.picks ∙ ap (λ (s : List Pick). schedule ++ s) (sym rests.made))

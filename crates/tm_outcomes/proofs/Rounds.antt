@@ -2,14 +2,14 @@
 use Rattle.std.proofs.Common.{◌≡◌, ℕ, ◌<◌, Bool, true, false, List, [], ◌∷◌, ◌++◌, Some, length, refl, sym, ap, ◌∙◌, subst, arith, append_assoc}
 use Rattle.std.specs.Prelude.{All, Contains, option_and_then}
 use Rattle.std.proofs.lemmas.List.{append-nil}
-use Rattle.std.proofs.lemmas.List.Elements.{All-append, All-nil, All-weaker}
+use Rattle.std.proofs.lemmas.List.Elements.{All-append, All-cons, All-nil, All-weaker}
 use Rattle.tm_core.specs.IaImage.Program.{opening_memory}
 use Rattle.tm_core.specs.Reopening.{IsSameElsewhere}
 use Rattle.tm_core.specs.Theorem.{StandsFor, machine_setting, view_at}
 use Rattle.tm_model.specs.Setting.{Setting}
 use Rattle.tm_model.specs.declared.outcome.Pick.{Pick}
-use Rattle.tm_outcomes.specs.Nodes.{IsPickOf, schedule_at}
-use Rattle.tm_outcomes.specs.Outcomes.{trial_opening, trial_setting}
+use Rattle.tm_outcomes.specs.Nodes.{IsPickOf, IsUsualPick, schedule_at}
+use Rattle.tm_outcomes.specs.Outcomes.{AreUsual, trial_opening, trial_setting}
 use Rattle.tm_outcomes.specs.Places.{AreAlike, IsAt, has_stopped}
 use Rattle.tm_outcomes.specs.Resting.{Advances}
 use Rattle.tm_outcomes.specs.Schedules.{HasEnded, Situation, after_pick, after_schedule}
@@ -25,6 +25,7 @@ use Rattle.tm_outcomes.proofs.Catching.{split}
 use Rattle.tm_outcomes.proofs.Complete.{IsAllowedIn}
 use Rattle.tm_outcomes.proofs.Leads.{alike_stands, shows}
 use Rattle.tm_outcomes.proofs.Somes.{same_in}
+use Rattle.tm_outcomes.proofs.Sparing.{IsUsualIn}
 
 -- ---- steps that are made
 
@@ -39,13 +40,15 @@ within_at trial written place schedule is at = λ now is_run.
 
 -- a pick whose stores were noted, and the steps behind it
 pub made_once : (trial : Trial) (before after : Place) (old new : Written) (pick : Pick) (steps schedule : List Pick) →
-    IsPlaceIn trial old before → IsAt trial before schedule → new.opening ≡ old.opening →
+    IsUsualPick trial pick → IsPlaceIn trial old before → IsAt trial before schedule → new.opening ≡ old.opening →
     ((line : ℕ) → Contains old.lines.items line → Contains new.lines.items line) →
     ((now : Situation) → StandsFor before.machine now.state now.doomed →
     StoresOn (machine_setting before.machine) new.lines.items now pick.core) →
     Advances trial before after pick steps → IsMade trial before after old new steps
-made_once trial before after old new pick steps schedule is at opening kept noted advances = record {
+made_once trial before after old new pick steps schedule usual is at opening kept noted advances = record {
   are_picks = advances.are_picks;
+  usual = subst (λ (s : List Pick). AreUsual trial s) (sym advances.made)
+      (All-cons (IsUsualIn trial) pick advances.rest usual.usual advances.usual);
   at = advances.at;
   place = place_at trial new after (schedule ++ steps) (ap (λ v. v.items) opening ∙ is.opening) advances.is_place (advances.at schedule at)
       (within_advanced trial new.lines.items schedule before after pick steps at advances
@@ -58,6 +61,7 @@ pub made_none : (trial : Trial) (place : Place) (written : Written) → IsPlaceI
     IsMade trial place place written written []
 made_none trial place written is = record {
   are_picks = All-nil (IsPickOf trial);
+  usual = All-nil (IsUsualIn trial);
   at = λ schedule at. subst (λ (s : List Pick). IsAt trial place s) (sym (append-nil schedule)) at;
   place = is;
   opening = refl;
@@ -69,6 +73,7 @@ pub made_then : (trial : Trial) (a b c : Place) (x y z : Written) (first more al
 made_then trial a b c x y z first more all made one other = record {
   are_picks = subst (λ (s : List Pick). All (IsPickOf trial) s) (sym made)
       (All-append (IsPickOf trial) first more one.are_picks other.are_picks);
+  usual = subst (λ (s : List Pick). AreUsual trial s) (sym made) (All-append (IsUsualIn trial) first more one.usual other.usual);
   at = λ schedule at.
       subst (λ (s : List Pick). IsAt trial c s) (append_assoc schedule first more ∙ ap (λ (s : List Pick). schedule ++ s) (sym made))
       (other.at (schedule ++ first) (one.at schedule at));
@@ -120,10 +125,10 @@ fair_by false core steps place now stands fair below is goes = fair core below i
 -- steps behind a node's schedule, to a place that is alike
 pub goes_round : (trial : Trial) (schedules : List (List Pick)) (index : ℕ) (here other : Place) (steps : List Pick) →
     IsAt trial other (schedule_at schedules index) → IsAt trial here (schedule_at schedules index ++ steps) →
-    All (IsPickOf trial) steps → AreAlike here other → IsFair other steps →
+    All (IsPickOf trial) steps → AreUsual trial steps → AreAlike here other → IsFair other steps →
     ((now : Situation) → StandsFor other.machine now.state now.doomed → ¬ HasEnded now.state) →
     GoesRound trial schedules index steps
-goes_round trial schedules index here other steps first last are_picks alike fair goes_on =
+goes_round trial schedules index here other steps first last are_picks usual alike fair goes_on =
     let setting = trial_setting trial in
     let schedule = schedule_at schedules index in
     record {
@@ -132,6 +137,7 @@ goes_round trial schedules index here other steps first last are_picks alike fai
       goes_on = goes_on first.now first.stands;
       leads_back = record {
         allowed = All-weaker (IsPickOf trial) (IsAllowedIn trial) (λ (pick : Pick) is. is.allowed) steps are_picks;
+        usual = usual;
         back = last.now;
         is_run = run_behind setting (trial_opening trial) schedule steps first.now last.now first.is_run last.is_run;
         same = both_same trial other schedule first.now last.now first first.stands

@@ -16,7 +16,7 @@ use Rattle.tm_model.specs.declared.outcome.Event.{Event}
 use Rattle.tm_model.specs.declared.outcome.Event.TheVariants as event
 use Rattle.tm_model.specs.declared.outcome.CoreState.{CoreState}
 use Rattle.tm_model.specs.declared.outcome.CoreState.TheVariants.{Running, Mid, Open, Condemned, Stopped as AtStop}
-use Rattle.tm_outcomes.specs.Outcomes.{regs_of}
+use Rattle.tm_outcomes.specs.Outcomes.{IsOpen, regs_of}
 use Rattle.tm_outcomes.specs.Places.{has_stopped, is_open}
 use Rattle.tm_outcomes.specs.Verdicts.{HasStoppedBy}
 
@@ -132,6 +132,26 @@ same_under (event.Abort by) setting memory (Opened regs steps) (Some depth) view
 same_under (event.Abort by) setting memory (Closed regs) doom view e closed = refl
 same_under (event.Abort by) setting memory (Midway regs value) doom view e closed = refl
 same_under (event.Abort by) setting memory (Halted regs stop) doom view e closed = refl
+
+-- ---- cores that an event aborts
+
+closed_mode : (core : Core) (doom : Option ℕ) (mode : CoreState) (view : View) → is_open mode ≡ false → view.mode ≡ mode →
+    is_open view.mode ≡ true → IsOpen core doom
+closed_mode core doom mode view closed is opened = absurd (false≢true (sym closed ∙ (ap is_open (sym is) ∙ opened)))
+
+pub open_is : (setting : Setting) (memory : List ℕ) (core : Core) (doom : Option ℕ) (view : View) →
+    view_of setting memory core doom ≡ Some view → is_open view.mode ≡ true → IsOpen core doom
+open_is setting memory (Opened regs steps) None view e opened = tt
+open_is setting memory (Opened regs steps) (Some depth) view e opened =
+    closed_mode (Opened regs steps) (Some depth) (Condemned depth) view refl (outside_mode (Condemned depth) regs view e) opened
+open_is setting memory (Closed regs) None view e opened = closed_mode (Closed regs) None Running view refl (outside_mode Running regs view e) opened
+open_is setting memory (Midway regs value) None view e opened =
+    closed_mode (Midway regs value) None Mid view refl (base_midway regs value (setting.outside regs value) view e).1 opened
+open_is setting memory (Halted regs stop) None view e opened =
+    closed_mode (Halted regs stop) None (AtStop stop) view refl (outside_mode (AtStop stop) regs view e) opened
+open_is setting memory (Closed regs) (Some depth) view e opened = absurd (cc)
+open_is setting memory (Midway regs value) (Some depth) view e opened = absurd (cc)
+open_is setting memory (Halted regs stop) (Some depth) view e opened = absurd (cc)
 
 -- a core that has stopped is in no transaction
 pub stopped_closed : (mode : CoreState) → has_stopped mode ≡ true → is_open mode ≡ false

@@ -17,7 +17,7 @@ use Rattle.tm_outcomes.specs.declared.trial.Trial.{Trial}
 use Rattle.tm_outcomes.specs.declared.violations.Violation.{Violation}
 use Rattle.tm_outcomes.proofs.Catching.{stays_stopped}
 use Rattle.tm_outcomes.proofs.Complete.{all_told, met, met_end}
-use Rattle.tm_outcomes.proofs.Ways.{is_cycle, is_free, is_stuck}
+use Rattle.tm_outcomes.proofs.Ways.{has_states, is_cycle, is_free, is_stuck}
 
 module _ (trial : Trial) (most done : ℕ) (search : Searching) (schedules : List (List Pick)) (told : Search)
     (searching : IsSearching trial most search schedules done) (whole : length search.nodes.items ≤ done)
@@ -47,6 +47,8 @@ module _ (trial : Trial) (most done : ℕ) (search : Searching) (schedules : Lis
         free = λ _ none. is_free trial most done search schedules searching whole of.verdict.marked of.verdict.marks
             (subst (λ (o : Option Stuck). TellsWayless search.nodes.items of.verdict.marked o) none of.verdict.stuck);
         cut = λ cut. absurd (false≢true (sym of.is_cut ∙ cut));
+        states = λ _. has_states trial most done search schedules searching whole of.verdict.marked of.verdict.marks told of.states
+            of.verdict.stuck;
         cycle = is_cycle trial most done search schedules searching whole of.verdict.marked of.verdict.marks told.cycle of.verdict.cycle;
         cut_cycle = λ cut. absurd (false≢true (sym of.is_cut ∙ cut));
         stops = all.told;
@@ -90,6 +92,7 @@ module _ (trial : Trial) (most : ℕ) (search : Searching) (told : Search) (full
         stuck = subst (λ (o : Option Stuck). IfSome o (λ s. IsStuck trial s.schedule.items)) (sym of.stuck) tt;
         free = λ whole. absurd (false≢true (sym whole ∙ of.is_cut));
         cut = λ _. of.stuck;
+        states = λ whole. absurd (false≢true (sym whole ∙ of.is_cut));
         cycle = subst (λ (o : Option Cycle). IfSome o (λ c. IsCycle trial c.schedule.items c.steps.items)) (sym of.cycle) tt;
         cut_cycle = λ _. of.cycle;
         stops = all.told;

@@ -113,5 +113,5 @@ first_tree trial node = record {
   picks = λ index below. subst (λ i. All (IsPickOf trial) (schedule_at ([] ∷ []) i)) (only index below)
       (All-nil (IsPickOf trial));
   runs = λ index below. subst (λ i. HasRun trial (schedule_at ([] ∷ []) i)) (only index below)
-      (trial_opening trial, refl, refl);
+      (trial_opening trial, refl, refl, tt);
 }

@@ -1,18 +1,20 @@
 -- Nodes with a way to an end, and nodes without one.
-use Rattle.std.proofs.Common.{◌≡◌, ℕ, zero, suc, ◌<◌, ◌≤◌, Bool, List, [], ◌∷◌, ◌++◌, Option, Some, None, length, refl, sym, ap, ◌∙◌, subst, arith}
+use Rattle.std.proofs.Common.{◌≡◌, ℕ, zero, suc, ◌<◌, ◌≤◌, Bool, true, false, List, [], ◌∷◌, ◌++◌, Option, Some, None, get_or, length, refl, sym, ap, ◌∙◌, subst, arith}
 use Rattle.std.specs.Prelude.{All, IfSome, option_and_then}
+use Rattle.std.proofs.lemmas.Bool.{false≢true}
 use Rattle.std.proofs.lemmas.List.Elements.{All-append, All-cons, All-contains, All-head, All-nil, All-tail, All-weaker}
 use Rattle.tm_model.specs.declared.outcome.Event.{Event}
 use Rattle.tm_model.specs.declared.outcome.Pick.{Pick}
 use Rattle.tm_outcomes.specs.Links.{IsWay}
-use Rattle.tm_outcomes.specs.Marks.{AreMarks, IsMarked}
+use Rattle.tm_outcomes.specs.Marks.{AreMarks, IsMarked, unmarked}
 use Rattle.tm_outcomes.specs.Nodes.{IsEnd, IsFollowed, IsPickOf, IsStep, LeadsTo, RestsAt, schedule_at}
-use Rattle.tm_outcomes.specs.Outcomes.{AreAllowed, IsAllowed, trial_opening, trial_setting}
+use Rattle.tm_outcomes.specs.Outcomes.{AreAllowed, IsAllowed, IsSparing, trial_opening, trial_setting}
 use Rattle.tm_outcomes.specs.Schedules.{HasEnded, Situation, after_pick, after_schedule}
 use Rattle.tm_outcomes.specs.Searching.{IsRoundOf, IsSearching, TellsWayless}
-use Rattle.tm_outcomes.specs.Verdicts.{CanEnd, IsCycle, IsReached, IsStuck}
+use Rattle.tm_outcomes.specs.Verdicts.{CanEnd, HasStates, IsCycle, IsJudged, IsReached, IsStuck}
 use Rattle.tm_outcomes.specs.declared.cycle.Cycle.{Cycle}
 use Rattle.tm_outcomes.specs.declared.links.Link.{Link}
+use Rattle.tm_outcomes.specs.declared.searching.Search.{Search}
 use Rattle.tm_outcomes.specs.declared.searching.Searching.{Searching}
 use Rattle.tm_outcomes.specs.declared.stuck.Stuck.{Stuck}
 use Rattle.tm_outcomes.specs.declared.trial.Trial.{Trial}
@@ -89,6 +91,70 @@ module _ (trial : Trial) (most done : ℕ) (search : Searching) (schedules : Lis
       (λ is. not_marked (marks.passed node step.to step.is_link is)) step.leads up.are_allowed up.is_run
       (subst (λ (x : Situation). HasEnded x.state) same has_ended)
 
+  -- the schedule of a node
+  reached : (node : ℕ) (now : Situation) → node < length search.nodes.items →
+      after_schedule (trial_setting trial) (trial_opening trial) (schedule_at schedules node) ≡ Some now →
+      IsReached trial (schedule_at schedules node) now
+  reached node now within is_run = record {
+    allowed = All-weaker (IsPickOf trial) (IsAllowedIn trial) (λ (pick : Pick) is. is.allowed)
+        (schedule_at schedules node) (searching.tree.picks node within);
+    is_run = is_run;
+  }
+
+  judged : (node : ℕ) → node < length search.nodes.items → (is : Bool) → get_or marked node false ≡ is →
+      IsJudged trial (schedule_at schedules node) is
+  judged node within true marked_here =
+      let counted = searching.tree.counted in
+      let run = searching.tree.runs node within in
+      let way = marks.ways node marked_here in (
+        run.0,
+        reached node run.0 within run.1,
+        can_end trial schedules search.links.items search.found.ends.items searching.steps searching.ends way.0 node run.0 way.1
+            (leads_here trial schedules node run.0 (omega arith) run.1 run.2),
+      )
+  judged node within false not_here =
+      let counted = searching.tree.counted in
+      let run = searching.tree.runs node within in (
+        run.0,
+        reached node run.0 within run.1,
+        λ can. never_ends (length can.schedule) can.schedule run.0 can.end node (omega arith)
+            (λ is. false≢true (sym not_here ∙ is)) (leads_here trial schedules node run.0 (omega arith) run.1 run.2)
+            can.allowed can.is_run can.has_ended,
+        run.3,
+      )
+
+  counted_stuck : (stuck : Option Stuck) → TellsWayless search.nodes.items marked stuck →
+      IfSome stuck (λ told. told.states ≡ unmarked marked)
+  counted_stuck None tells = tt
+  counted_stuck (Some stuck) tells = tells.states
+
+  pub has_states : (told : Search) → told.states ≡ length search.nodes.items →
+      TellsWayless search.nodes.items marked told.stuck → HasStates trial told
+  has_states told states tells =
+      let counted = searching.tree.counted in
+      record {
+        schedules = schedules;
+        can_end = marked;
+        count = counted ∙ sym states;
+        judgements = marks.count ∙ sym states;
+        all = λ schedule now is.
+            let there = met trial most done search schedules searching whole schedule now is in
+            let within : there.index < length search.nodes.items = (let w = there.leads.within in omega arith) in (
+              there.index,
+              (omega arith),
+              record {
+                steps = there.steps;
+                end = there.end;
+                rests = there.rests;
+                there = there.leads.end;
+                reached = reached there.index there.leads.end within there.leads.is_run;
+                same = there.leads.same;
+              },
+            );
+        judged = λ node below. judged node (omega arith) (get_or marked node false) refl;
+        stuck = counted_stuck told.stuck tells;
+      }
+
   pub is_stuck : (stuck : Option Stuck) → TellsWayless search.nodes.items marked stuck →
       IfSome stuck (λ told. IsStuck trial told.schedule.items)
   is_stuck None tells = tt
@@ -107,6 +173,7 @@ module _ (trial : Trial) (most done : ℕ) (search : Searching) (schedules : Lis
         },
         λ can. never_ends (length can.schedule) can.schedule run.0 can.end tells.node (omega arith) tells.not_marked leads
             can.allowed can.is_run can.has_ended,
+        subst (λ (s : List Pick). IsSparing trial s) same run.3,
       )
 
   pub is_free : TellsWayless search.nodes.items marked None → (schedule : List Pick) (now : Situation) → IsReached trial schedule now →
@@ -143,6 +210,7 @@ module _ (trial : Trial) (most done : ℕ) (search : Searching) (schedules : Lis
           is_run = subst (λ (s : List Pick). after_schedule (trial_setting trial) (trial_opening trial) s ≡ Some round.now) same
               round.is_run;
         };
+        sparing = subst (λ (s : List Pick). IsSparing trial s) same count.3;
         goes_on = round.goes_on;
         can_end = can_end trial schedules search.links.items search.found.ends.items searching.steps searching.ends way.0
             tells.node round.now way.1 leads;

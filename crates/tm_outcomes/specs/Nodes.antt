@@ -1,5 +1,5 @@
 -- The states that a search has met, each as the last step of a schedule that leads there, and the node of the rest.
-use Rattle.std.specs.Prelude.{◌≡◌, ℕ, ◌<◌, List, [], ◌∷◌, ◌++◌, All, Contains, Some, None, length, map}
+use Rattle.std.specs.Prelude.{◌≡◌, ◌⊎◌, ℕ, ◌<◌, List, [], ◌∷◌, ◌++◌, All, Contains, Some, None, length, map}
 use Rattle.std.specs.Prelude.{slice_get, slice_index_or}
 use Rattle.tm_condition.specs.Conditions.{Violates}
 use Rattle.tm_condition.specs.declared.check.Check.{Check}
@@ -7,7 +7,8 @@ use Rattle.tm_model.specs.declared.outcome.Event.{Event}
 use Rattle.tm_model.specs.declared.outcome.Pick.{Pick}
 use Rattle.tm_rule.specs.declared.kinds.Stop.{Stop}
 use Rattle.tm_outcomes.specs.Links.{IsLink, LiesWithin}
-use Rattle.tm_outcomes.specs.Outcomes.{AreTold, IsAllowed, trial_opening, trial_setting, value_of}
+use Rattle.tm_outcomes.specs.Outcomes.{AreTold, IsAllowed, IsOpen, IsSparing, trial_opening, trial_setting, usual_event}
+use Rattle.tm_outcomes.specs.Outcomes.{value_of}
 use Rattle.tm_outcomes.specs.Places.{AreAlike, IsAt}
 use Rattle.tm_outcomes.specs.Schedules.{HasEnded, Situation, after_pick, after_schedule}
 use Rattle.tm_outcomes.specs.Unseen.{LeadUnseen}
@@ -33,11 +34,27 @@ pub record IsPickOf (trial : Trial) (pick : Pick) : Type 0 where
   pub is_core : pick.core < length trial.program.now.entries
   pub allowed : IsAllowed trial.events pick.event
 
--- a schedule that can be run
+-- and under the event that is usual
+pub record IsUsualPick (trial : Trial) (pick : Pick) : Type 0 where
+  pub is_pick : IsPickOf trial pick
+  pub usual : pick.event ≡ usual_event trial.events
+
+-- a schedule that can be run, and has no event without need
 abbrev pub HasRun : Trial → List Pick → Type 0
 HasRun trial schedule =
     (now : Situation) × (after_schedule (trial_setting trial) (trial_opening trial) schedule ≡ Some now)
-    × (now.state.count ≡ length trial.program.now.entries)
+    × (now.state.count ≡ length trial.program.now.entries) × IsSparing trial schedule
+
+-- where a schedule leads to, an event aborts the core
+abbrev pub IsOpenBehind : Trial → List Pick → ℕ → Type 0
+IsOpenBehind trial schedule core =
+    (now : Situation) → after_schedule (trial_setting trial) (trial_opening trial) schedule ≡ Some now →
+    IsOpen (now.state.cores core) (now.doomed core)
+
+-- a pick under the event that is usual, or one that aborts the core where a schedule leads to
+abbrev pub IsNeededBehind : Trial → List Pick → Pick → Type 0
+IsNeededBehind trial schedule pick =
+    (pick.event ≡ usual_event trial.events) ⊎ IsOpenBehind trial schedule pick.core
 
 -- these are the schedules of the nodes
 pub record IsTree (trial : Trial) (nodes : List Node) (schedules : List (List Pick)) : Type 0 where

@@ -10,7 +10,7 @@ use Rattle.tm_model.specs.State.{Closed, Core, Halted, Midway, Opened, State}
 use Rattle.tm_model.specs.declared.outcome.Event.{Event}
 use Rattle.tm_model.specs.declared.outcome.Pick.{Pick}
 use Rattle.ia_regs.specs.declared.Regs.{Regs}
-use Rattle.tm_outcomes.specs.Schedules.{HasEnded, Situation, after_schedule, opening}
+use Rattle.tm_outcomes.specs.Schedules.{HasEnded, Situation, after_pick, after_schedule, opening}
 use Rattle.tm_outcomes.specs.declared.trial.Events.{Events}
 use Rattle.tm_outcomes.specs.declared.trial.Events.TheVariants.{Never, May, Always}
 use Rattle.tm_outcomes.specs.declared.trial.Item.{Item}
@@ -60,13 +60,40 @@ IsAllowed (Always always) event = event ≡ Some always
 abbrev pub AreAllowed : Trial → List Pick → Type 0
 AreAllowed trial schedule = All (λ pick. IsAllowed trial.events pick.event) schedule
 
--- ---- outcomes
-
 abbrev pub trial_setting : Trial → Setting
 trial_setting trial = program_setting trial.program.now trial.limits.read_lines trial.limits.write_lines
 
 abbrev pub trial_opening : Trial → Situation
 trial_opening trial = opening trial.program.now
+
+-- ---- no event without need
+
+-- what a step comes under that no event has to abort: none, but where each step comes under one
+abbrev pub usual_event : Events → Option Event
+usual_event Never = None
+usual_event (May events) = None
+usual_event (Always always) = Some always
+
+abbrev pub AreUsual : Trial → List Pick → Type 0
+AreUsual trial steps = All (λ pick. pick.event ≡ usual_event trial.events) steps
+
+-- in a transaction that is not doomed, so that an event aborts the core (SDM volume 1, 16.3.8)
+abbrev pub IsOpen : Core → Option ℕ → Type 0
+IsOpen (Opened regs steps) None = ⊤
+IsOpen core doom = ⊥
+
+-- of these steps from here on, each comes under what is usual, or under an event that aborts a transaction
+abbrev pub SparesEvents : Trial → Situation → List Pick → Type 0
+SparesEvents trial now [] = ⊤
+SparesEvents trial now (pick ∷ picks) =
+    (pick.event ≡ usual_event trial.events ⊎ IsOpen (now.state.cores pick.core) (now.doomed pick.core))
+    × ((next : Situation) → after_pick (trial_setting trial) now pick ≡ Some next → SparesEvents trial next picks)
+
+-- no step of a schedule comes under an event without need
+abbrev pub IsSparing : Trial → List Pick → Type 0
+IsSparing trial schedule = SparesEvents trial (trial_opening trial) schedule
+
+-- ---- outcomes
 
 -- this schedule, whose steps come under what the trial says, ends with each core stopped where it is run from the
 -- program's opening state, and these values are shown then
@@ -78,7 +105,7 @@ pub record IsOutcome (trial : Trial) (schedule : List Pick) (values : List ℕ) 
   pub shown : values ≡ map (value_of end.state) trial.items.now
 
 abbrev pub IsTold : Trial → Told → Type 0
-IsTold trial told = IsOutcome trial told.schedule.items told.values.items
+IsTold trial told = IsOutcome trial told.schedule.items told.values.items × IsSparing trial told.schedule.items
 
 -- these values are among the outcomes
 abbrev pub AreTold : List Told → List ℕ → Type 0
@@ -90,8 +117,9 @@ abbrev pub AreDistinct : List Told → Type 0
 AreDistinct [] = ⊤
 AreDistinct (told ∷ all) = ¬ AreTold all told.values.items × AreDistinct all
 
--- No outcome is told that is not one, and none twice; and where the search was not cut, whatever the schedule, its
--- events and its length, its outcome is told. It is cut at the limit on states alone.
+-- No outcome is told that is not one, or beside a schedule with an event without need, and none twice; and where the
+-- search was not cut, whatever the schedule, its events and its length, its outcome is told. It is cut at the limit on
+-- states alone.
 pub record IsSearch (trial : Trial) (most : ℕ) (search : Search) : Type 0 where
   pub told : All (IsTold trial) search.outcomes.items
   pub once : AreDistinct search.outcomes.items

@@ -5,7 +5,7 @@ use Rattle.tm_model.specs.declared.outcome.CoreState.{CoreState}
 use Rattle.tm_model.specs.declared.outcome.CoreState.TheVariants.{Running, Mid, Open, Condemned, Stopped as AtStop}
 use Rattle.tm_model.specs.declared.outcome.Pick.{Pick}
 use Rattle.tm_outcomes.specs.Nodes.{IsPickOf, RestsAt}
-use Rattle.tm_outcomes.specs.Outcomes.{trial_setting}
+use Rattle.tm_outcomes.specs.Outcomes.{AreUsual, trial_setting}
 use Rattle.tm_outcomes.specs.Places.{IsAt, IsPlaceOf}
 use Rattle.tm_outcomes.specs.Schedules.{Situation, after_pick}
 use Rattle.tm_outcomes.specs.declared.place.Place.{Place}
@@ -34,6 +34,7 @@ pub record StandsRested (trial : Trial) (after : Place) (picks : List Pick) (now
 -- these steps, each of them unseen, lead from one place to the other
 pub record Rests (trial : Trial) (before after : Place) (picks : List Pick) : Type 0 where
   pub are_picks : All (IsPickOf trial) picks
+  pub usual : AreUsual trial picks
   pub at : (schedule : List Pick) → IsAt trial before schedule → IsAt trial after (schedule ++ picks)
   pub leads : (now : Situation) → StandsFor before.machine now.state now.doomed → StandsRested trial after picks now
 
@@ -57,6 +58,7 @@ pub record Advances (trial : Trial) (before after : Place) (pick : Pick) (steps 
   pub rest : List Pick
   pub made : steps ≡ pick ∷ rest
   pub are_picks : All (IsPickOf trial) steps
+  pub usual : AreUsual trial rest
   pub is_place : IsPlaceOf trial after
   pub at : (schedule : List Pick) → IsAt trial before schedule → IsAt trial after (schedule ++ steps)
   pub goes : (now : Situation) → StandsFor before.machine now.state now.doomed →

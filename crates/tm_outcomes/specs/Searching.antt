@@ -4,9 +4,9 @@ use Rattle.std.specs.List.{AllPairs}
 use Rattle.tm_model.specs.declared.outcome.Event.{Event}
 use Rattle.tm_model.specs.declared.outcome.Pick.{Pick}
 use Rattle.tm_outcomes.specs.Links.{IsLink}
-use Rattle.tm_outcomes.specs.Marks.{AreMarks, IsMarked}
+use Rattle.tm_outcomes.specs.Marks.{AreMarks, IsMarked, unmarked}
 use Rattle.tm_outcomes.specs.Nodes.{HasGrown, IsEnd, IsExplored, IsFollowed, IsPickOf, IsShown, IsStep, IsTree, schedule_at}
-use Rattle.tm_outcomes.specs.Outcomes.{AreDistinct, IsAllowed, IsTold, trial_opening, trial_setting}
+use Rattle.tm_outcomes.specs.Outcomes.{AreDistinct, AreUsual, IsAllowed, IsTold, trial_opening, trial_setting}
 use Rattle.tm_outcomes.specs.Places.{IsAt}
 use Rattle.tm_outcomes.specs.Schedules.{HasEnded, Situation, after_schedule}
 use Rattle.tm_outcomes.specs.Verdicts.{IsStop, IsViolation, LeadsBack}
@@ -104,11 +104,13 @@ pub record IsOver (trial : Trial) (most : ℕ) (search : Searching) : Type 0 whe
   pub searching : IsSearching trial most search schedules done
   pub whole : length search.nodes.items ≤ done
 
--- the schedule of a node from which no link leads on to an end
+-- the schedule of the first node from which no link leads on to an end, and how many there are
 pub record IsWayless (nodes : List Node) (marked : List Bool) (stuck : Stuck) : Type 0 where
   pub node : ℕ
   pub within : node < length nodes
   pub not_marked : ¬ IsMarked marked node
+  pub first : (other : ℕ) → other < node → IsMarked marked other
+  pub states : stuck.states ≡ unmarked marked
   pub schedule : (trial : Trial) (schedules : List (List Pick)) → IsTree trial nodes schedules →
       stuck.schedule.items ≡ schedule_at schedules node
 
@@ -119,9 +121,11 @@ TellsWayless nodes marked (Some stuck) = IsWayless nodes marked stuck
 
 -- ---- a cycle
 
--- these steps lead from one place to the other, whose memory is what it was but on the lines that are noted
+-- these steps, under the event that is usual, lead from one place to the other, whose memory is what it was but on the
+-- lines that are noted
 pub record IsMade (trial : Trial) (before after : Place) (old new : Written) (steps : List Pick) : Type 0 where
   pub are_picks : All (IsPickOf trial) steps
+  pub usual : AreUsual trial steps
   pub at : (schedule : List Pick) → IsAt trial before schedule → IsAt trial after (schedule ++ steps)
   pub place : IsPlaceIn trial new after
   pub opening : new.opening ≡ old.opening

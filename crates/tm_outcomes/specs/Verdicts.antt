@@ -1,6 +1,7 @@
 -- What a search says of states from which no schedule leads to an end, of cycles that can be made for ever, of cores
 -- that stop for a reason, and of ends that violate a check.
-use Rattle.std.specs.Prelude.{◌≡◌, ◌≢◌, ℕ, ◌<◌, true, false, List, All, Contains, Some, None, IfSome, slice_get}
+use Rattle.std.specs.Prelude.{◌≡◌, ◌≢◌, ℕ, ◌<◌, Bool, true, false, List, [], All, Contains, Some, None, IfSome, length}
+use Rattle.std.specs.Prelude.{slice_get, slice_index_or}
 use Rattle.std.specs.List.{AllPairs, Any}
 use Rattle.ia_regs.specs.declared.Regs.{Regs}
 use Rattle.tm_condition.specs.Conditions.{Seen, Violates}
@@ -9,8 +10,10 @@ use Rattle.tm_model.specs.Shown.{view_of}
 use Rattle.tm_model.specs.State.{Core, Halted, State}
 use Rattle.tm_model.specs.declared.outcome.Pick.{Pick}
 use Rattle.tm_rule.specs.declared.kinds.Stop.{Stop}
-use Rattle.tm_outcomes.specs.Outcomes.{AreAllowed, regs_of, trial_opening, trial_setting}
+use Rattle.tm_outcomes.specs.Marks.{unmarked}
+use Rattle.tm_outcomes.specs.Outcomes.{AreAllowed, AreUsual, IsAllowed, IsSparing, regs_of, trial_opening, trial_setting}
 use Rattle.tm_outcomes.specs.Schedules.{HasEnded, Situation, after_schedule}
+use Rattle.tm_outcomes.specs.Unseen.{LeadUnseen}
 use Rattle.tm_outcomes.specs.declared.searching.Search.{Search}
 use Rattle.tm_outcomes.specs.declared.stops.ReachedStop.{ReachedStop}
 use Rattle.tm_outcomes.specs.declared.trial.Trial.{Trial}
@@ -39,7 +42,8 @@ pub record CanEnd (trial : Trial) (now : Situation) : Type 0 where
 
 -- behind this schedule none does
 abbrev pub IsStuck : Trial → List Pick → Type 0
-IsStuck trial schedule = (now : Situation) × IsReached trial schedule now × ¬ CanEnd trial now
+IsStuck trial schedule =
+    (now : Situation) × IsReached trial schedule now × ¬ CanEnd trial now × IsSparing trial schedule
 
 -- ---- fair cycles
 
@@ -56,9 +60,10 @@ abbrev pub HasStepOf : ℕ → List Pick → Type 0
 HasStepOf core steps = Any (λ pick. pick.core ≡ core) steps
 
 -- These steps, one of each core that has not stopped among them, lead from a situation back to one that is shown alike,
--- from which they lead back again, and so for ever.
+-- from which they lead back again, and so for ever. No event that need not come is in them: none comes for ever.
 pub record LeadsBack (trial : Trial) (now : Situation) (steps : List Pick) : Type 0 where
   pub allowed : AreAllowed trial steps
+  pub usual : AreUsual trial steps
   pub back : Situation
   pub is_run : after_schedule (trial_setting trial) now steps ≡ Some back
   pub same : AreSame trial now back
@@ -68,9 +73,40 @@ pub record LeadsBack (trial : Trial) (now : Situation) (steps : List Pick) : Typ
 pub record IsCycle (trial : Trial) (schedule steps : List Pick) : Type 0 where
   pub now : Situation
   pub reached : IsReached trial schedule now
+  pub sparing : IsSparing trial schedule
   pub goes_on : ¬ HasEnded now.state
   pub can_end : CanEnd trial now
   pub leads_back : LeadsBack trial now steps
+
+-- ---- the states that were found
+
+-- steps that no other core sees lead from here to what is shown as it is at the end of this schedule
+pub record RestsAs (trial : Trial) (now : Situation) (schedule : List Pick) : Type 0 where
+  pub steps : List Pick
+  pub end : Situation
+  pub rests : LeadUnseen (trial_setting trial) (IsAllowed trial.events) now steps end
+  pub there : Situation
+  pub reached : IsReached trial schedule there
+  pub same : AreSame trial there end
+
+-- whether some schedule goes on to an end from where this one leads
+abbrev pub IsJudged : Trial → List Pick → Bool → Type 0
+IsJudged trial schedule true = (now : Situation) × IsReached trial schedule now × CanEnd trial now
+IsJudged trial schedule false = IsStuck trial schedule
+
+-- A schedule to each of the states that were found, and whether an end can be reached from there. Wherever a schedule
+-- leads, one of these states, or what is shown alike, follows by steps that no other core sees. As many as cannot reach
+-- an end are told as stuck.
+pub record HasStates (trial : Trial) (search : Search) : Type 0 where
+  pub schedules : List (List Pick)
+  pub can_end : List Bool
+  pub count : length schedules ≡ search.states
+  pub judgements : length can_end ≡ search.states
+  pub all : (schedule : List Pick) (now : Situation) → IsReached trial schedule now →
+      (index : ℕ) × (index < search.states) × RestsAs trial now (slice_index_or schedules index [])
+  pub judged : (index : ℕ) → index < search.states →
+      IsJudged trial (slice_index_or schedules index []) (slice_index_or can_end index false)
+  pub stuck : IfSome search.stuck (λ told. told.states ≡ unmarked can_end)
 
 -- ---- stops
 
@@ -83,6 +119,7 @@ pub record IsStop (trial : Trial) (told : ReachedStop) : Type 0 where
   pub asked : Contains trial.stops.now told.why
   pub now : Situation
   pub reached : IsReached trial told.schedule.items now
+  pub sparing : IsSparing trial told.schedule.items
   pub stops : StopsBy now.state told.why
 
 -- this reason is among those that are told
@@ -101,6 +138,7 @@ pub record IsViolation (trial : Trial) (told : Violation) : Type 0 where
   pub asked : slice_get trial.checks.now told.check ≡ Some check
   pub end : Situation
   pub reached : IsReached trial told.schedule.items end
+  pub sparing : IsSparing trial told.schedule.items
   pub has_ended : HasEnded end.state
   pub violates : Violates (seen_at end.state) check
 
@@ -113,12 +151,14 @@ IsViolationTold violations check = Any (λ told. told.check ≡ check) violation
 -- No schedule is told as stuck behind which some schedule ends, no steps as a cycle that do not lead back, no schedule
 -- for a stop that it does not lead to, and none for a check that its end does not violate; and where the search was
 -- not cut and tells none, each schedule goes on to an end, none leads to a stop that is looked for, and each end passes
--- each check. Where it was cut, none is told as stuck, and no cycle.
+-- each check. Where it was cut, none is told as stuck, and no cycle. No step of a schedule that is told comes under an
+-- event without need.
 pub record IsVerdict (trial : Trial) (search : Search) : Type 0 where
   pub stuck : IfSome search.stuck (λ told. IsStuck trial told.schedule.items)
   pub free : search.is_cut ≡ false → search.stuck ≡ None → (schedule : List Pick) (now : Situation) →
       IsReached trial schedule now → CanEnd trial now
   pub cut : search.is_cut ≡ true → search.stuck ≡ None
+  pub states : search.is_cut ≡ false → HasStates trial search
   pub cycle : IfSome search.cycle (λ told. IsCycle trial told.schedule.items told.steps.items)
   pub cut_cycle : search.is_cut ≡ true → search.cycle ≡ None
   pub stops : All (IsStop trial) search.stops.items

@@ -8,7 +8,7 @@
 ghost use Rattle.std.specs.Prelude.{◌≡◌, ◌<◌, ◌++◌, ◌^◌, ℕ, All, IfErr, IfOk, IfSome, IsTrue, List, false, length};
 ghost use Rattle.tm_core.specs.Theorem.{StandsFor, view_at};
 ghost use Rattle.tm_model.specs.declared.outcome.Pick.{Pick};
-ghost use Rattle.tm_outcomes.specs.Nodes.{HaveSchedules, IsPickOf, IsTree};
+ghost use Rattle.tm_outcomes.specs.Nodes.{HaveSchedules, IsTree, IsUsualPick};
 ghost use Rattle.tm_outcomes.specs.Outcomes.{IsRefusal};
 ghost use Rattle.tm_outcomes.specs.Places.{IsAt, has_stopped};
 ghost use Rattle.tm_outcomes.specs.Searching.{GoesRound, IsMade, IsRoundOf};
@@ -46,7 +46,7 @@ fn picks_of_lap(
     graph: &Graph<'_>,
     lap: &[u32],
 ) -> Result<Option<Vec<Pick>>, AllocError>
-    ensures { IfOk result (λ found. IfSome found (λ picks. All (IsPickOf trial.now) picks.items)) }
+    ensures { IfOk result (λ found. IfSome found (λ picks. All (IsUsualPick trial.now) picks.items)) }
 {
     let mut picks = Vec::new(alloc);
     for link in lap {
@@ -60,7 +60,7 @@ fn picks_of_lap(
 
 // The pick of a link.
 fn pick_of(trial: &Trial<'_>, graph: &Graph<'_>, link: u32) -> Option<Pick>
-    ensures { IfSome result (IsPickOf trial.now) }
+    ensures { IfSome result (IsUsualPick trial.now) }
 {
     match graph.core(link) {
         Some(core) => usual_pick(trial, core),
@@ -70,7 +70,7 @@ fn pick_of(trial: &Trial<'_>, graph: &Graph<'_>, link: u32) -> Option<Pick>
 
 // The next step of a core, under no event where there need be none.
 fn usual_pick(trial: &Trial<'_>, core: u8) -> Option<Pick>
-    ensures { IfSome result (IsPickOf trial.now) }
+    ensures { IfSome result (IsUsualPick trial.now) }
 {
     if core >= trial.program.cores() {
         return None;
@@ -99,7 +99,7 @@ fn picks_of(
     first: u32,
     place: &Place,
 ) -> Result<Option<Vec<Pick>>, AllocError>
-    ensures { IfOk result (λ found. IfSome found (λ picks. All (IsPickOf trial.now) picks.items)) }
+    ensures { IfOk result (λ found. IfSome found (λ picks. All (IsUsualPick trial.now) picks.items)) }
 {
     let mut has_step = stopped_cores(alloc, place)?;
     let Some(lap) = lap_of(alloc, graph, components, first, &mut has_step)? else {
@@ -117,7 +117,7 @@ fn make(
     noted: &mut Written,
     steps: &mut Vec<Pick>,
 ) -> Result<(), AllocError>
-    requires pick { IsPickOf trial.now pick }
+    requires pick { IsUsualPick trial.now pick }
     requires place { IsPlaceIn trial.now noted.old here.old }
     requires at { (schedule : List Pick) × IsAt trial.now here.old schedule }
     ensures { IfOk result (λ _. (added : List Pick) × (steps.new.items ≡ steps.old.items ++ added)
@@ -137,7 +137,7 @@ fn make_all(
     here: &mut Place,
     noted: &mut Written,
 ) -> Result<Vec<Pick>, AllocError>
-    requires picks { All (IsPickOf trial.now) picks.now }
+    requires picks { All (IsUsualPick trial.now) picks.now }
     requires place { IsPlaceIn trial.now noted.old here.old }
     requires at { (schedule : List Pick) × IsAt trial.now here.old schedule }
     ensures { IfOk result (λ steps. IsMade trial.now here.old here.new noted.old noted.new steps.items) }

@@ -7,8 +7,9 @@
 //! behind which none leads on to an end, one to each stop that is looked for, and one to an end that violates each
 //! check; where it is not cut and tells none, there is none. Of states that can end but need not, it tells a schedule to
 //! one, and steps of all cores that go on, which lead back there; that there is none where it tells none is not promised.
-//! How many states show an outcome, have no way to an end or need not end, and how many there are, is compared by
-//! `doc_tests`. The words for it stand in `specs/Schedules.antt`, `specs/Outcomes.antt` and `specs/Verdicts.antt`, over the
+//! No step of a schedule that is told comes under an event that need not come and aborts nothing. The states that it
+//! counts, and those without a way to an end among them, are those of a list that has each, where it is not cut; that it
+//! has none twice, and how many states show an outcome or need not end, is compared by `doc_tests`. The words for it stand in `specs/Schedules.antt`, `specs/Outcomes.antt` and `specs/Verdicts.antt`, over the
 //! machine's definitions in `tm_model` alone.
 //!
 //! Two states count as one where memory and what is shown of each core are the same: the machine's steps are a

@@ -10,7 +10,7 @@ ghost use Rattle.tm_model.specs.Access.{loaded_addresses};
 ghost use Rattle.tm_model.specs.Setting.{program_setting};
 ghost use Rattle.tm_model.specs.declared.outcome.Pick.{Pick};
 ghost use Rattle.tm_outcomes.specs.Nodes.{IsPickOf};
-ghost use Rattle.tm_outcomes.specs.Outcomes.{IsAllowed, trial_setting};
+ghost use Rattle.tm_outcomes.specs.Outcomes.{trial_setting, usual_event};
 ghost use Rattle.tm_outcomes.specs.Places.{IsPlaceOf};
 ghost use Rattle.tm_outcomes.specs.Resting.{Advances, RestsBy, is_condemned, is_running};
 ghost use Rattle.tm_outcomes.specs.Schedules.{Situation};
@@ -68,9 +68,9 @@ fn is_absent(access: Option<Access>) -> bool
 }
 
 impl Trial<'_> {
-    /// What a step comes under that is the same under each event: the first that the trial says, none where it need not be one.
+    /// What a step comes under that no event has to abort: none, but where each step comes under one.
     pub fn usual_event(&self) -> Option<Event>
-        ensures { IsAllowed self.now.events result }
+        ensures { result ≡ usual_event self.now.events }
     {
         match self.events {
             Events::Never => None,

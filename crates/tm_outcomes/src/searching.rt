@@ -1,12 +1,13 @@
 //! The search.
 
 ghost use Rattle.std.specs.Prelude.{◌≡◌, ◌<◌, ◌≤◌, ◌+◌, ◌++◌, ◌∷◌, ◌^◌, [], ℕ, All, IfErr, IfOk, List, OnOk, false, length};
-ghost use Rattle.std.specs.Prelude.{Option};
+ghost use Rattle.std.specs.Prelude.{None, Option, true};
 ghost use Rattle.tm_model.specs.declared.outcome.Event.{Event};
 ghost use Rattle.tm_model.specs.declared.outcome.Pick.{Pick};
 ghost use Rattle.tm_outcomes.specs.Links.{LiesWithin};
-ghost use Rattle.tm_outcomes.specs.Nodes.{HaveSchedules, IsPickOf, IsTree, IsUntouched, schedule_at};
-ghost use Rattle.tm_outcomes.specs.Outcomes.{AreThere, IsAllowed, IsNoneOrOneOf, IsRefusal, IsSearch};
+ghost use Rattle.tm_outcomes.specs.Nodes.{HaveSchedules, IsNeededBehind, IsOpenBehind, IsPickOf, IsTree, IsUntouched};
+ghost use Rattle.tm_outcomes.specs.Nodes.{schedule_at};
+ghost use Rattle.tm_outcomes.specs.Outcomes.{AreThere, IsAllowed, IsNoneOrOneOf, IsRefusal, IsSearch, usual_event};
 ghost use Rattle.tm_outcomes.specs.Places.{IsAt};
 ghost use Rattle.tm_outcomes.specs.Searching.{AreFindings, HaveDone, IsCutOf, IsFollowedIn, IsOneOf, IsOver, IsThis, IsWholeOf};
 ghost use Rattle.tm_outcomes.specs.Verdicts.{IsVerdict};
@@ -149,6 +150,8 @@ impl Searching {
         requires bench { IsBenchOf trial.now self.old.nodes.items bench.old }
         requires within { index < length self.old.nodes.items }
         requires is_pick { IsPickOf trial.now pick }
+        requires needed { (schedules : List (List Pick)) → IsTree trial.now self.old.nodes.items schedules →
+            IsNeededBehind trial.now (schedule_at schedules index) pick }
         requires few { length self.old.nodes.items ≤ most }
         requires tree { HaveSchedules trial.now self.old.nodes.items }
         ensures found { self.new.found ≡ self.old.found }
@@ -156,6 +159,8 @@ impl Searching {
             IsFollowedIn trial.now most self.old self.new index pick.core (IsThis pick.event)) }
         ensures untouched { IfOk result (λ r. r.was_open ≡ false → (schedules : List (List Pick)) →
             IsTree trial.now self.old.nodes.items schedules → IsUntouched trial.now schedules index pick.core) }
+        ensures opened { IfOk result (λ r. r.was_open ≡ true → (schedules : List (List Pick)) →
+            IsTree trial.now self.old.nodes.items schedules → IsOpenBehind trial.now (schedule_at schedules index) pick.core) }
         ensures cut { IfOk result (λ r. r.progress ≡ Progress.IsCut → length self.new.nodes.items ≡ most) }
         ensures bench { OnOk result (IsBenchOf trial.now self.new.nodes.items bench.new) }
         ensures err { IfErr result (IsRefusal trial.now) }
@@ -188,6 +193,8 @@ impl Searching {
             IsAt trial.now bench.old.here (schedule_at schedules index) }
         requires within { index < length self.old.nodes.items }
         requires is_pick { IsPickOf trial.now pick }
+        requires needed { (schedules : List (List Pick)) → IsTree trial.now self.old.nodes.items schedules →
+            IsNeededBehind trial.now (schedule_at schedules index) pick }
         requires few { length self.old.nodes.items ≤ most }
         requires tree { HaveSchedules trial.now self.old.nodes.items }
         ensures found { self.new.found ≡ self.old.found }
@@ -195,6 +202,8 @@ impl Searching {
             IsFollowedIn trial.now most self.old self.new index pick.core (IsThis pick.event)) }
         ensures untouched { IfOk result (λ r. r.was_open ≡ false → (schedules : List (List Pick)) →
             IsTree trial.now self.old.nodes.items schedules → IsUntouched trial.now schedules index pick.core) }
+        ensures opened { IfOk result (λ r. r.was_open ≡ true → (schedules : List (List Pick)) →
+            IsTree trial.now self.old.nodes.items schedules → IsOpenBehind trial.now (schedule_at schedules index) pick.core) }
         ensures cut { IfOk result (λ r. r.progress ≡ Progress.IsCut → length self.new.nodes.items ≡ most) }
         ensures bench { OnOk result (IsBenchOf trial.now self.new.nodes.items bench.new) }
         ensures err { IfErr result (IsRefusal trial.now) }
@@ -247,6 +256,8 @@ impl Searching {
         requires bench { IsBenchOf trial.now self.old.nodes.items bench.old }
         requires within { index < length self.old.nodes.items }
         requires is_core { core < length trial.now.program.now.entries }
+        requires opened { (schedules : List (List Pick)) → IsTree trial.now self.old.nodes.items schedules →
+            IsOpenBehind trial.now (schedule_at schedules index) core }
         requires allowed { (event : Option Event) → IsNoneOrOneOf events.now event → IsAllowed trial.now.events event }
         requires few { length self.old.nodes.items ≤ most }
         requires tree { HaveSchedules trial.now self.old.nodes.items }
@@ -285,6 +296,7 @@ impl Searching {
         requires bench { IsBenchOf trial.now self.old.nodes.items bench.old }
         requires within { index < length self.old.nodes.items }
         requires is_core { core < length trial.now.program.now.entries }
+        requires usual { usual_event trial.now.events ≡ None }
         requires allowed { (event : Option Event) → IsNoneOrOneOf events.now event → IsAllowed trial.now.events event }
         requires few { length self.old.nodes.items ≤ most }
         requires tree { HaveSchedules trial.now self.old.nodes.items }

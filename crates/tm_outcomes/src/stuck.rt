@@ -22,6 +22,7 @@ pub struct Stuck {
 // The first node that is not marked.
 fn first_unmarked(marked: &[bool]) -> Option<usize>
     ensures some { IfSome result (λ node. (node < length marked.now) × ¬ IsMarked marked.now node) }
+    ensures first { IfSome result (λ node. (other : ℕ) → other < node → IsMarked marked.now other) }
     ensures none { IfNone result ((node : ℕ) → node < length marked.now → IsMarked marked.now node) }
 {
     for node in 0..marked.len() {

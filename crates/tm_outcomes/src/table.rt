@@ -1,7 +1,8 @@
 //! The outcomes that were found.
 
-ghost use Rattle.std.specs.Prelude.{◌≡◌, ◌<◌, ℕ, All, IfNone, IfOk, IfSome, List, length, slice_index_or};
-ghost use Rattle.tm_outcomes.specs.Outcomes.{AreDistinct, AreTold, IsOutcome, IsTold};
+ghost use Rattle.std.specs.Prelude.{◌≡◌, ◌<◌, ℕ, All, IfNone, IfOk, IfSome, List, Some, length, slice_get};
+ghost use Rattle.tm_outcomes.specs.Outcomes.{AreDistinct, AreTold, IsOutcome, IsSparing, IsTold};
+ghost use Rattle.tm_outcomes.specs.declared.table.Told.{Told};
 
 use crate::trial::Trial;
 use std::alloc::AllocError;
@@ -21,6 +22,8 @@ pub struct Told {
 // The outcome with these values.
 fn index_of(table: &[Told], values: &[u32]) -> Option<usize>
     ensures within { IfSome result (λ index. index < length table.now) }
+    ensures this { IfSome result (λ index. (told : Told) → slice_get table.now index ≡ Some told →
+        told.values.items ≡ values.now) }
     ensures told { IfSome result (λ index. AreTold table.now values.now) }
     ensures none { IfNone result (¬ AreTold table.now values.now) }
 {
@@ -41,6 +44,7 @@ pub fn take_up(
 ) -> Result<(), AllocError>
     requires told { All (IsTold trial.now) table.old.items }
     requires outcome { IsOutcome trial.now schedule.items values.items }
+    requires sparing { IsSparing trial.now schedule.items }
     ensures told { IfOk result (λ _. All (IsTold trial.now) table.new.items) }
     ensures here { IfOk result (λ _. AreTold table.new.items values.items) }
     ensures kept { IfOk result (λ _. (other : List ℕ) → AreTold table.old.items other → AreTold table.new.items other) }

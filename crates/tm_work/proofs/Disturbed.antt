@@ -12,7 +12,7 @@ use Rattle.tm_hist.specs.TmModel.Outcome.{Outcome}
 use Rattle.tm_hist.specs.TmModel.Outcome.TheVariants.{Aborted, AbortedBy, Begun, Committed, Idle, Inside, Loaded, Plain, Stopped}
 use Rattle.tm_hist.specs.TmModel.Runs.{TellNoAbort, event_told, is_aborted_by}
 use Rattle.tm_pick.specs.Drawn.{AreDrawn}
-use Rattle.tm_pick.specs.Kinds.{IsOfKinds, no_kinds}
+use Rattle.tm_pick.specs.Kinds.{IsOfKinds, all_kinds, no_kinds}
 use Rattle.tm_pick.specs.declared.events.Events.{Events}
 use Rattle.tm_pick.specs.declared.events.Events.TheVariants.{Never, Rate, Draw}
 use Rattle.tm_pick.specs.declared.kinds.Kinds.{Kinds}
@@ -68,7 +68,7 @@ no_kind_comes (Some (event.Abort Snoop)) h = absurd (cc)
 pub some_kinds : (events : Events) → (kinds : Kinds) × AreDrawn events kinds
 some_kinds Never = (no_kinds, refl)
 some_kinds (Rate one_in kinds) = (kinds, refl)
-some_kinds Draw = (no_kinds, tt)
+some_kinds Draw = (all_kinds, inr refl)
 
 -- ---- lists of steps
 

@@ -5,7 +5,7 @@ use Rattle.std.proofs.lemmas.List.Elements.{All-append, All-head, All-tail}
 use mathlib.Core.Logic.{dite}
 use native.Mathlib.Decide.{ℕ_discrete}
 use Rattle.std.proofs.Math.Seq.{drop-append_seam, drop-length}
-use Rattle.std.proofs.lemmas.List.{append_assoc, append-nil}
+use Rattle.std.proofs.lemmas.List.{append_assoc, append-nil, drop_all, drop-append-le}
 use Rattle.std.proofs.lemmas.List.Sums.{sum_by-append, sum_by-cons, count_by-le-length}
 use Rattle.std.proofs.lemmas.Option.{get_or_from_slice_get, slice_get_within}
 use Rattle.tm_ledger.proofs.Moves.{slice_get_front, slice_get_last, slice_get_same, slice_get_other}
@@ -14,7 +14,7 @@ use Rattle.tm_hist.specs.TmModel.Outcome.TheVariants.{Idle}
 use Rattle.tm_hist.specs.Board.{AreSteps, ShownBoard, IsStopped, IsFull, pairs_behind}
 use Rattle.tm_work.specs.declared.progress.Progress.{Progress}
 use Rattle.tm_work.specs.declared.progress.Receipt.{Receipt}
-use Rattle.tm_work.specs.Seats.{SeatProgress, seat_with, SeatTells, no_progress, HaveNoProgress, AreSeats, IsLast, IsLater, IsReceipt, IsStepMade, progress_of, progress_after_step, progress_at_end, count, new_part, GoesOn, Tells, LedgerAgrees, AreStepsMade}
+use Rattle.tm_work.specs.Seats.{SeatProgress, seat_with, SeatTells, no_progress, HaveNoProgress, AreSeats, IsLast, IsLater, IsReceipt, IsStepMade, TellsLast, progress_of, progress_after_step, progress_at_end, count, new_part, GoesOn, Tells, LedgerAgrees, AreStepsMade}
 
 count_snoc : (c : ℕ) (h : List (ℕ × Outcome)) (x : ℕ × Outcome) → count c (h ++ x ∷ []) ≡ count c h + cond (eqb x.0 c) 1 0
 count_snoc c h x = omega (arith, sum_by-append (λ (y : ℕ × Outcome). cond (eqb y.0 c) 1 0) h (x ∷ []))
@@ -34,6 +34,21 @@ if_some_map : {A : Type 0} (o : Option A) (P Q : A → Type 0) → ((a : A) → 
 if_some_map (Some a) P Q f h = f a h
 if_some_map None P Q f h = tt
 
+-- steps behind one, where the history got more
+behind_more : (c index : ℕ) (h more : List (ℕ × Outcome)) → index < length h → count c (drop (index + 1) h) ≡ 0 → count c more ≡ 0 →
+    count c (drop (index + 1) (h ++ more)) ≡ 0
+behind_more c index h more within none other =
+    let parts = ap (λ l. count c l) (drop-append-le (index + 1) h more (omega arith)) in
+    let both = sum_by-append (λ (y : ℕ × Outcome). cond (eqb y.0 c) 1 0) (drop (index + 1) h) more in
+    omega arith
+
+behind_last : (c index : ℕ) (h : List (ℕ × Outcome)) → index + 1 ≡ length h → count c (drop (index + 1) h) ≡ 0
+behind_last c index h last = ap (λ l. count c l) (drop_all (index + 1) h (omega arith))
+
+receipt_of : (given b : ShownBoard) (c : ℕ) (o : Option Receipt) → TellsLast given b c o → IfSome o (IsReceipt given b c)
+receipt_of given b c None h = tt
+receipt_of given b c (Some q) h = h
+
 All_one : {X : Type 0} (P : X → Type 0) (x : X) → P x → All P (x ∷ [])
 All_one P x h zero d below = h
 All_one P x h (suc k) d below = absurd (omega arith)
@@ -51,11 +66,24 @@ goes_on_step given b b' c r g made = record {
       (All_one (λ (step : ℕ × Outcome). step.1 ≢ Idle) (c, r.outcome) made.going));
 }
 
+-- the last step of another core, behind a step
+last_kept : (given b b' : ShownBoard) (c : ℕ) (r : Receipt) (k : ℕ) (last : Option Receipt) → GoesOn given b → IsStepMade b b' c r → k ≢ c →
+    TellsLast given b k last → TellsLast given b' k last
+last_kept given b b' c r k None g made apart h =
+    ap (λ l. count k l) (part_next given b b' c r g made) ∙ count_other c k (new_part given b) r.outcome (λ e. apart (sym e)) ∙ h
+last_kept given b b' c r k (Some q) g made apart h = (
+  h.0,
+  ap (λ l. slice_get l q.index) made.history ∙ slice_get_front b.history ((c, r.outcome) ∷ []) q.index (k, q.outcome) h.1,
+  ap (λ l. count k (drop (q.index + 1) l)) made.history
+      ∙ behind_more k q.index b.history ((c, r.outcome) ∷ []) (slice_get_within b.history q.index (k, q.outcome) h.1) h.2
+      (count_other c k [] r.outcome (λ e. apart (sym e))),
+)
+
 -- what another core's progress says
 others : (given b b' : ShownBoard) (c : ℕ) (r : Receipt) (k : ℕ) (m : Progress) → GoesOn given b → IsStepMade b b' c r → k ≢ c → Tells given b k m → Tells given b' k m
 others given b b' c r k m g made apart t = record {
   steps = t.steps ∙ sym (ap (λ l. count k l) (part_next given b b' c r g made) ∙ count_other c k (new_part given b) r.outcome (λ e. apart (sym e)));
-  last = if_some_map m.last _ _ (λ q h. (h.0, ap (λ l. slice_get l q.index) made.history ∙ slice_get_front b.history ((c, r.outcome) ∷ []) q.index (k, q.outcome) h.1)) t.last;
+  last = last_kept given b b' c r k m.last g made apart t.last;
   ended = λ e. ⊎_elim
       (λ (stopped : IsStopped b k). inl (made.stops k stopped))
       (λ (full : IsFull b). let room = made.room in absurd (omega arith))
@@ -69,6 +97,8 @@ own given b b' c r m g made t = record {
   last = (
     (let e = ap length g.history in let i = made.index in omega (arith, e, i, length-append given.history (new_part given b))),
     ap (λ l. slice_get l r.index) made.history ∙ ap (λ i. slice_get (b.history ++ (c, r.outcome) ∷ []) i) made.index ∙ slice_get_last b.history (c, r.outcome),
+    behind_last c r.index b'.history
+        (let long = ap length made.history in let i = made.index in omega (arith, long, i, length-append b.history ((c, r.outcome) ∷ []))),
   );
   ended = λ e. ⊎_elim (λ (stopped : IsStopped b c). absurd (made.stopped stopped)) (λ (full : IsFull b). let room = made.room in absurd (omega arith)) (t.ended e);
 }
@@ -173,15 +203,20 @@ module _ (given b b' : ShownBoard) (c n : ℕ) (g : GoesOn given b) (s : AreStep
   counted : (k : ℕ) → count k (new_part given b') ≡ count k (new_part given b) + count k more
   counted k = ap (λ l. count k l) part_steps ∙ sum_by-append (λ (y : ℕ × Outcome). cond (eqb y.0 k) 1 0) (new_part given b) more
 
-  -- a receipt of the board before is one of the board after
-  kept_receipt : (k : ℕ) (last : Option Receipt) → IfSome last (IsReceipt given b k) → IfSome last (IsReceipt given b' k)
-  kept_receipt k last h =
-      if_some_map last _ _ (λ q r. (r.0, ap (λ l. slice_get l q.index) s.history ∙ slice_get_front b.history more q.index (k, q.outcome) r.1)) h
+  -- a receipt of the board before is one of the board after, where no step was the core's
+  kept_receipt : (k : ℕ) (last : Option Receipt) → count k more ≡ 0 → TellsLast given b k last → TellsLast given b' k last
+  kept_receipt k None none h = let all = counted k in omega arith
+  kept_receipt k (Some q) none r = (
+    r.0,
+    ap (λ l. slice_get l q.index) s.history ∙ slice_get_front b.history more q.index (k, q.outcome) r.1,
+    ap (λ l. count k (drop (q.index + 1) l)) s.history
+        ∙ behind_more k q.index b.history more (slice_get_within b.history q.index (k, q.outcome) r.1) r.2 none,
+  )
 
   others_steps : (k : ℕ) (m : Progress) → k ≢ c → Tells given b k m → Tells given b' k m
   others_steps k m apart t = record {
     steps = let all = counted k in let none = count_apart c k more (λ e. apart (sym e)) s.own in let was = t.steps in omega arith;
-    last = kept_receipt k m.last t.last;
+    last = kept_receipt k m.last (count_apart c k more (λ e. apart (sym e)) s.own) t.last;
     ended = λ e. ⊎_elim (λ (stopped : IsStopped b k). inl (s.stops k stopped)) (λ (full : IsFull b). inr (still_full full)) (t.ended e);
   }
 
@@ -193,16 +228,20 @@ module _ (given b b' : ShownBoard) (c n : ℕ) (g : GoesOn given b) (s : AreStep
       sym (slice_get_behind b.history more (n - 1)) ∙ ap (λ x. slice_get (b.history ++ more) x) (sym at) ∙ ap (λ x. slice_get x r.index) (sym s.history) ∙ is in
       let within : n - 1 < length more = slice_get_within more (n - 1) (core, r.outcome) step in
       let own : core ≡ c = ap (λ (x : ℕ × Outcome). x.0) (sym (get_or_from_slice_get more (n - 1) (core, r.outcome) (core, r.outcome) step)) ∙ (s.own (n - 1) (core, r.outcome) within).0 in
-      let old = ap length g.history in
-      (omega (arith, old, length-append given.history (new_part given b)), is ∙ ap (λ x. Some (x, r.outcome)) own)
+      let old = ap length g.history in (
+        omega (arith, old, length-append given.history (new_part given b)),
+        is ∙ ap (λ x. Some (x, r.outcome)) own,
+        behind_last c r.index b'.history index,
+      )
 
-  last_steps : (m : Progress) (last : Option Receipt) → Tells given b c m → (n ≡ 0 → last ≡ m.last) → (0 < n → 0 < length b'.history → IsLast b' last) → IfSome last (IsReceipt given b' c)
+  last_steps : (m : Progress) (last : Option Receipt) → Tells given b c m → (n ≡ 0 → last ≡ m.last) → (0 < n → 0 < length b'.history → IsLast b' last) → TellsLast given b' c last
   last_steps m last t none some =
       dite (ℕ_discrete n 0)
-      (λ (e : n ≡ 0). subst (λ (x : Option Receipt). IfSome x (IsReceipt given b' c)) (sym (none e)) (kept_receipt c m.last t.last))
+      (λ (e : n ≡ 0). subst (λ (x : Option Receipt). TellsLast given b' c x) (sym (none e))
+      (kept_receipt c m.last (let own = count_own c more s.own in let long = s.count in omega arith) t.last))
       (λ ne. let going : 0 < n = omega arith in let l = longer in
       let h : IsLast b' last = some going (omega arith) in
-      subst (λ (x : Option Receipt). IfSome x (IsReceipt given b' c)) (sym h.is) (last_own h.receipt h.core going h.index h.step))
+      subst (λ (x : Option Receipt). TellsLast given b' c x) (sym h.is) (last_own h.receipt h.core going h.index h.step))
 
   later_than : (was : Option Receipt) (r : Receipt) → IfSome was (IsReceipt given b c) → 0 < n → r.index + 1 ≡ length b'.history → IsLater was (Some r)
   later_than None r h some index = tt
@@ -212,7 +251,7 @@ module _ (given b b' : ShownBoard) (c n : ℕ) (g : GoesOn given b) (s : AreStep
   later_steps m last t some is =
       let l = longer in
       let h : IsLast b' last = is some (omega arith) in
-      subst (λ (x : Option Receipt). IsLater m.last x) (sym h.is) (later_than m.last h.receipt t.last some h.index)
+      subst (λ (x : Option Receipt). IsLater m.last x) (sym h.is) (later_than m.last h.receipt (receipt_of given b c m.last t.last) some h.index)
 
   fits_steps : (m : Progress) → Tells given b c m → length b'.history ≤ 16777216 → (m.steps + n) % 18446744073709551616 ≡ m.steps + n
   fits_steps m t few =
@@ -252,7 +291,8 @@ steps_made b b' c n m last ended s room few none some ends = record {
 }
 
 pub last_before : (given b : ShownBoard) (ledger : List Progress) (c : ℕ) (m : Progress) (n : ℕ) → LedgerAgrees given b ledger → slice_get ledger c ≡ Some m → n ≡ length b.history → IfSome m.last (λ q. q.index < n)
-last_before given b ledger c m n a was here = if_some_map m.last _ _ (λ q h. let k = slice_get_within b.history q.index (c, q.outcome) h.1 in omega arith) (a.lines c m was).last
+last_before given b ledger c m n a was here =
+    if_some_map m.last _ _ (λ q h. let k = slice_get_within b.history q.index (c, q.outcome) h.1 in omega arith) (receipt_of given b c m.last (a.lines c m was).last)
 
 -- the board given, where no seat had a turn
 pub fresh_agrees : (given b : ShownBoard) (ledger : List Progress) → b ≡ given → HaveNoProgress ledger → LedgerAgrees given b ledger
@@ -264,7 +304,7 @@ fresh_agrees given b ledger same fresh_all = subst (λ (y : ShownBoard). LedgerA
   };
   lines = λ c m is. subst (Tells given given c) (sym (fresh_all c m is)) record {
     steps = ap (λ l. count c l) (sym (drop-length given.history));
-    last = tt;
+    last = ap (λ l. count c l) (drop-length given.history);
     ended = λ e. absurd (cc);
   };
 }

@@ -1,7 +1,7 @@
 -- What seats know of a board, and when a ledger of that agrees with the board (docs/CLAIMS.md, "Histories and
 -- workers").
 use Rattle.std.specs.Prelude.{◌≡◌, ◌≢◌, ◌⊎◌, ⊤, ℕ, ◌+◌, ◌<◌, ◌≤◌, ◌==◌, Bool, true, false, List, [], ◌∷◌, ◌++◌, length}
-use Rattle.std.specs.Prelude.{All, count_by, drop, Option, Some, None, IfSome, slice_get, slice_set}
+use Rattle.std.specs.Prelude.{All, count_by, drop, Option, Some, None, slice_get, slice_set}
 use Rattle.tm_hist.specs.TmModel.Outcome.{Outcome}
 use Rattle.tm_hist.specs.TmModel.Outcome.TheVariants.{Idle}
 use Rattle.tm_hist.specs.Board.{ShownBoard, SameBoard, IsStopped, IsFull}
@@ -53,16 +53,22 @@ pub record GoesOn (given board : ShownBoard) : Type 0 where
 abbrev pub IsDisturbed : Events → ShownBoard → ShownBoard → Type 0
 IsDisturbed events given board = TellDrawn events (new_part given board)
 
--- the receipt is of a step of this core in the new part of the history
+-- the receipt is of this core's last step in the new part of the history: there is none of it behind that one
 abbrev pub IsReceipt : ShownBoard → ShownBoard → ℕ → Receipt → Type 0
 IsReceipt given board core receipt =
     (length given.history ≤ receipt.index) × (slice_get board.history receipt.index ≡ Some (core, receipt.outcome))
+    × (count core (drop (receipt.index + 1) board.history) ≡ 0)
 
--- what progress says of its core is so: it counts the core's steps in the new part of the history, its last receipt is
--- of one of them, and where it ended, the board shows the core stopped or the history full
+-- and without a receipt the core has no step there
+abbrev pub TellsLast : ShownBoard → ShownBoard → ℕ → Option Receipt → Type 0
+TellsLast given board core None = count core (new_part given board) ≡ 0
+TellsLast given board core (Some receipt) = IsReceipt given board core receipt
+
+-- what progress says of its core is so: it counts the core's steps in the new part of the history, its receipt is that
+-- of the last of them, and where it ended, the board shows the core stopped or the history full
 pub record Tells (given board : ShownBoard) (core : ℕ) (progress : Progress) : Type 0 where
   pub steps : progress.steps ≡ count core (new_part given board)
-  pub last : IfSome progress.last (IsReceipt given board core)
+  pub last : TellsLast given board core progress.last
   pub ended : progress.ended ≡ true → IsStopped board core ⊎ IsFull board
 
 -- what a seat says of its core is so

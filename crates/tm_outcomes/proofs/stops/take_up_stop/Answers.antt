@@ -5,7 +5,7 @@ use Rattle.std.proofs.lemmas.List.Elements.{All-append, All-cons, All-nil, All-w
 use Rattle.std.proofs.lemmas.List.Quantifiers.{Any-push, all_pairs_push}
 use Rattle.tm_model.specs.declared.outcome.Pick.{Pick}
 use Rattle.tm_outcomes.specs.Nodes.{IsPickOf, schedule_at}
-use Rattle.tm_outcomes.specs.Outcomes.{AreAllowed, IsAllowed, trial_opening, trial_setting}
+use Rattle.tm_outcomes.specs.Outcomes.{AreAllowed, IsAllowed, IsSparing, trial_opening, trial_setting}
 use Rattle.tm_outcomes.specs.Schedules.{after_schedule}
 use Rattle.tm_outcomes.specs.Searching.{AreStops}
 use Rattle.tm_outcomes.specs.Verdicts.{IsStop, IsStopTold}
@@ -39,6 +39,7 @@ returns-clause-stops c =
             (schedule_at schedules c.args.index) (tree.picks c.args.index c.requires.within));
         is_run = subst (λ (s : List Pick). after_schedule (trial_setting trial) (trial_opening trial) s ≡ Some at.now) (sym same) at.is_run;
       };
+      sparing = subst (λ (s : List Pick). IsSparing trial s) (sym same) (tree.runs c.args.index c.requires.within).3;
       stops = (c.stops_by.ensures at.now at.stands).0 c.if-not-stops_by.false;
     } in
     subst (λ (ss : List ReachedStop). AreStops trial ss) (sym c.in_ok-push.ensures.items)

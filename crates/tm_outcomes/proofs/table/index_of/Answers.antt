@@ -1,4 +1,5 @@
-use Rattle.std.proofs.Common.{◌∙◌, sym, subst, List, ℕ, false, take_all}
+use Rattle.std.proofs.Common.{◌∙◌, sym, ap, subst, List, ℕ, false, take_all}
+use Rattle.std.proofs.lemmas.Option.{get_or_from_slice_get}
 use Rattle.std.specs.Cmp.Lexicographic.{same_text, told_text}
 use Rattle.tm_outcomes.specs.Outcomes.{AreTold}
 use Rattle.tm_outcomes.specs.declared.table.Told.{Told}
@@ -11,6 +12,12 @@ returns-then-eq-clause-told c =
     subst (λ (v : List ℕ). AreTold table v)
     (sym c.as_slice.ensures.value ∙ same_text c.as_slice.result.now c.args.values.now c.if-eq.ensures)
     (told_at table c.loop-index.index c.index-table-index.result c.loop-index-test.true)
+
+pub returns-then-eq-clause-this : goal.returns-then-eq-clause-this
+returns-then-eq-clause-this c = λ told is.
+    ap (λ (t : Told). t.values.items)
+    (sym (get_or_from_slice_get c.args.table.now c.loop-index.index told c.index-table-index.result is))
+    ∙ (sym c.as_slice.ensures.value ∙ same_text c.as_slice.result.now c.args.values.now c.if-eq.ensures)
 
 pub loop-index-init : goal.loop-index-init
 loop-index-init c = λ none. elim none [ ]

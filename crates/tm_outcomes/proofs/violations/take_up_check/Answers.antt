@@ -8,7 +8,7 @@ use Rattle.tm_condition.specs.Conditions.{Violates}
 use Rattle.tm_condition.specs.declared.check.Check.{Check}
 use Rattle.tm_model.specs.declared.outcome.Pick.{Pick}
 use Rattle.tm_outcomes.specs.Nodes.{IsPickOf, schedule_at}
-use Rattle.tm_outcomes.specs.Outcomes.{AreAllowed, IsAllowed, trial_opening, trial_setting}
+use Rattle.tm_outcomes.specs.Outcomes.{AreAllowed, IsAllowed, IsSparing, trial_opening, trial_setting}
 use Rattle.tm_outcomes.specs.Schedules.{after_schedule}
 use Rattle.tm_outcomes.specs.Searching.{AreViolations}
 use Rattle.tm_outcomes.specs.Verdicts.{IsViolation, IsViolationTold, seen_at}
@@ -46,6 +46,7 @@ returns-clause-violations c =
             (schedule_at schedules c.args.index) (tree.picks c.args.index c.requires.within));
         is_run = subst (λ (s : List Pick). after_schedule (trial_setting trial) (trial_opening trial) s ≡ Some at.now) (sym same) at.is_run;
       };
+      sparing = subst (λ (s : List Pick). IsSparing trial s) (sym same) (tree.runs c.args.index c.requires.within).3;
       has_ended = c.requires.ended at.now at.stands;
       violates = (c.violates.ensures at.now at.stands).0 c.if-not-violates.false;
     } in

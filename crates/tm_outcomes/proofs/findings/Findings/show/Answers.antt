@@ -4,7 +4,7 @@ use Rattle.std.proofs.lemmas.Bool.{false≢true}
 use Rattle.std.proofs.lemmas.List.Elements.{All-append, All-cons, All-nil, All-weaker, Contains-append_left, Contains-push}
 use Rattle.tm_model.specs.declared.outcome.Pick.{Pick}
 use Rattle.tm_outcomes.specs.Nodes.{IsEnd, IsPickOf, schedule_at}
-use Rattle.tm_outcomes.specs.Outcomes.{AreAllowed, AreTold, IsAllowed, trial_opening, trial_setting}
+use Rattle.tm_outcomes.specs.Outcomes.{AreAllowed, AreTold, IsAllowed, IsSparing, trial_opening, trial_setting}
 use Rattle.tm_outcomes.specs.Places.{IsAt}
 use Rattle.tm_outcomes.specs.Schedules.{after_schedule}
 use Rattle.tm_outcomes.proofs.Leads.{leads_stands}
@@ -27,6 +27,13 @@ take_up-requires-clause-outcome c =
       has_ended = (c.has_ended.ensures at.now at.stands).0 c.if-not-has_ended.false;
       shown = c.in_ok-values.ensures at.now at.stands;
     }
+
+pub take_up-requires-clause-sparing : goal.take_up-requires-clause-sparing
+take_up-requires-clause-sparing c =
+    let trial = c.args.trial.now in
+    let tree = c.requires.tree.1 in
+    subst (λ (s : List Pick). IsSparing trial s) (sym (c.in_ok-schedule.ensures trial c.requires.tree.0 tree))
+    (tree.runs c.args.index c.requires.within).3
 
 pub returns-then-not-has_ended-clause-shows : goal.returns-then-not-has_ended-clause-shows
 returns-then-not-has_ended-clause-shows c = λ schedules tree.

@@ -1,7 +1,8 @@
 use Rattle.std.proofs.Common.{sym, ◌∙◌}
 use Rattle.tm_model.specs.declared.outcome.Pick.{Pick}
-use Rattle.tm_outcomes.specs.Nodes.{IsPickOf}
+use Rattle.tm_outcomes.specs.Nodes.{IsUsualPick}
 use Rattle.tm_outcomes.proofs.Resting.{by_none, by_one, rests_once}
+use Rattle.tm_outcomes.proofs.Sparing.{is_allowed}
 use Rattle.tm_outcomes.proofs.place.Place.rest_core.Goals as goal
 
 pub steps-init : goal.steps-init
@@ -15,7 +16,11 @@ steps-preserved c =
     let trial = c.args.trial.now in
     let so_far = c.steps.invariant in
     let pick : Pick = record { core = c.args.core; event = c.usual_event.result } in
-    let is_pick : IsPickOf trial pick = record { is_core = c.requires.core; allowed = c.usual_event.ensures } in
+    let usual = c.usual_event.ensures in
+    let is_pick : IsUsualPick trial pick = record {
+      is_pick = record { is_core = c.requires.core; allowed = is_allowed trial.events c.usual_event.result usual };
+      usual = usual;
+    } in
     let added = c.in_ok-push.ensures.items in
     record {
       place = c.step.ensures.place;

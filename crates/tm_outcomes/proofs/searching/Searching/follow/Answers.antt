@@ -1,4 +1,5 @@
 use Rattle.std.proofs.Common.{List, ◌∙◌, sym, ap, subst, arith}
+use Rattle.std.proofs.lemmas.Bool.{false≢true}
 use Rattle.tm_outcomes.specs.Nodes.{IsTree, schedule_at}
 use Rattle.tm_outcomes.specs.Places.{IsAt}
 use Rattle.tm_outcomes.specs.Written.{IsBenchOf}
@@ -61,6 +62,9 @@ returns-then-has_stopped-clause-untouched c = λ _ schedules tree.
     (c.in_ok-come_to.ensures.start schedules
     (subst (λ (ns : List Node). IsTree trial ns schedules) (sym c.as_slice.ensures.value) tree))
     (stopped_closed _ (sym c.has_stopped.ensures ∙ c.if-has_stopped.true))
+
+pub returns-then-has_stopped-clause-opened : goal.returns-then-has_stopped-clause-opened
+returns-then-has_stopped-clause-opened c = λ opened. absurd (false≢true opened)
 
 pub returns-then-has_stopped-clause-bench : goal.returns-then-has_stopped-clause-bench
 returns-then-has_stopped-clause-bench c =

@@ -1,10 +1,19 @@
-use Rattle.std.proofs.Common.{Some, None, sym, subst}
-use Rattle.tm_outcomes.specs.Outcomes.{IsAllowed, IsNoneOrOneOf}
+use Rattle.std.proofs.Common.{inl, Some, None, sym, ap, subst}
+use Rattle.tm_outcomes.specs.Outcomes.{IsAllowed, IsNoneOrOneOf, usual_event}
 use Rattle.tm_outcomes.specs.Searching.{IsFollowedIn, IsThis}
 use Rattle.tm_outcomes.specs.declared.trial.Events.{Events}
 use Rattle.tm_outcomes.specs.declared.trial.Events.TheVariants.{Never, Always}
 use Rattle.tm_outcomes.proofs.Grown.{does, under_fewer}
 use Rattle.tm_outcomes.proofs.searching.Searching.follow_core.Goals as goal
+
+pub follow-requires-clause-needed : goal.follow-requires-clause-needed
+follow-requires-clause-needed c = λ schedules tree. inl (sym (ap usual_event c.in-Never.is))
+
+pub follow_any-requires-clause-usual : goal.follow_any-requires-clause-usual
+follow_any-requires-clause-usual c = ap usual_event c.in-May.is
+
+pub follow-requires-in-Always-clause-needed : goal.follow-requires-in-Always-clause-needed
+follow-requires-in-Always-clause-needed c = λ schedules tree. inl (sym (ap usual_event c.in-Always.is))
 
 pub returns-in_ok-follow-in-Never-clause-followed : goal.returns-in_ok-follow-in-Never-clause-followed
 returns-in_ok-follow-in-Never-clause-followed c = λ on.

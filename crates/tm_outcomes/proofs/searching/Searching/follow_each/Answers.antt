@@ -1,8 +1,10 @@
-use Rattle.std.proofs.Common.{◌∙◌, List, Some, take_all, refl, subst}
+use Rattle.std.proofs.Common.{◌∙◌, inr, List, Some, take_all, refl, subst}
 use Rattle.std.proofs.lemmas.List.Elements.{Contains-get_or}
 use Rattle.tm_model.specs.declared.outcome.Event.{Event}
+use Rattle.tm_model.specs.declared.outcome.Pick.{Pick}
+use Rattle.tm_outcomes.specs.Nodes.{IsOpenBehind}
 use Rattle.tm_outcomes.specs.Searching.{IsFollowedIn, IsOneOf, IsThis}
-use Rattle.tm_outcomes.proofs.Grown.{has_node, has_tree, next_of, nothing_yet}
+use Rattle.tm_outcomes.proofs.Grown.{has_node, has_tree, holds_still, next_of, nothing_yet}
 use Rattle.tm_outcomes.proofs.searching.Searching.follow_each.Goals as goal
 
 pub loop-event-init : goal.loop-event-init
@@ -11,6 +13,7 @@ loop-event-init c = record {
   few = c.requires.few;
   tree = c.requires.tree;
   bench = c.requires.bench;
+  opened = c.requires.opened;
   found = refl;
   followed = nothing_yet c.args.trial.now c.args.most c.args.index c.args.core c.args.self.now c.requires.few;
 }
@@ -21,6 +24,9 @@ follow-requires-clause-is_pick c = record {
   allowed = c.requires.allowed (Some _)
       (Contains-get_or c.args.events.now c.loop-event.event-index _ c.loop-event-test.true);
 }
+
+pub follow-requires-clause-needed : goal.follow-requires-clause-needed
+follow-requires-clause-needed c = λ schedules tree. inr (c.loop-event.invariant.opened schedules tree)
 
 pub loop-event-preserved : goal.loop-event-preserved
 loop-event-preserved c =
@@ -37,6 +43,8 @@ loop-event-preserved c =
       few = next.few;
       tree = has_tree trial most index core middle after (IsThis _) next so_far.tree;
       bench = c.in_ok-followed.ensures.bench;
+      opened = holds_still trial most index core (λ (s : List Pick). IsOpenBehind trial s core) middle after (IsThis _) next
+          so_far.tree so_far.within so_far.opened;
       found = c.in_ok-followed.ensures.found ∙ so_far.found;
       followed = next_of trial most index core c.args.self.now middle after c.args.events.now
           c.loop-event.event-index _ c.requires.within c.loop-event-test.true so_far.followed next;

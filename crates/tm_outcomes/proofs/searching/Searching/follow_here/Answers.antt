@@ -11,7 +11,8 @@ use Rattle.tm_outcomes.specs.declared.written.Written.{Written}
 use Rattle.tm_outcomes.proofs.Benches.{bench_advanced, bench_grown, place_at, within_more, within_advanced}
 use Rattle.tm_outcomes.proofs.Follows.{follows}
 use Rattle.tm_outcomes.proofs.Joined.{to_known, to_new}
-use Rattle.tm_outcomes.proofs.Leads.{alike_stands, untouched_at}
+use Rattle.tm_outcomes.proofs.Leads.{alike_stands, opened_at, untouched_at}
+use Rattle.tm_outcomes.proofs.Sparing.{sparing_advanced}
 use Rattle.tm_outcomes.proofs.Trees.{schedule_new, schedule_old}
 use Rattle.tm_outcomes.proofs.searching.Searching.follow_here.Goals as goal
 
@@ -55,8 +56,13 @@ returns-clause-followed c = λ _.
     (λ schedules tree.
     let at : IsAt trial place (schedule_at schedules index) =
     c.requires.here schedules tree in
-    let after = c.in_ok-steps.ensures.at (schedule_at schedules index) at in
-    (after.now, after.is_run, sym after.stands.same_count ∙ after.count))
+    let after = c.in_ok-steps.ensures.at (schedule_at schedules index) at in (
+      after.now,
+      after.is_run,
+      sym after.stands.same_count ∙ after.count,
+      sparing_advanced trial (schedule_at schedules index) place c.advance.new.self pick c.in_ok-steps.steps.items at c.in_ok-steps.ensures
+          (tree.runs index c.requires.within).3 (c.requires.needed schedules tree),
+    ))
     (λ schedules tree.
     let after = c.advance.new.self in
     let at : IsAt trial place (schedule_at schedules index) =
@@ -103,6 +109,22 @@ returns-clause-untouched c = λ closed schedules tree.
     untouched_at trial schedules c.args.index c.args.bench.now.here c.args.pick.core c.requires.is_pick.is_core
     (c.requires.here schedules tree)
     (sym c.is_open-was_open.ensures ∙ closed)
+
+-- and where it was in one
+pub returns-in-Some-clause-opened : goal.returns-in-Some-clause-opened
+returns-in-Some-clause-opened c = λ opened schedules tree.
+    opened_at c.args.trial.now (schedule_at schedules c.args.index) c.args.bench.now.here c.args.pick.core c.requires.is_pick.is_core
+    (c.requires.here schedules tree) (sym c.is_open-was_open.ensures ∙ opened)
+
+pub returns-then-len-most-clause-opened : goal.returns-then-len-most-clause-opened
+returns-then-len-most-clause-opened c = λ opened schedules tree.
+    opened_at c.args.trial.now (schedule_at schedules c.args.index) c.args.bench.now.here c.args.pick.core c.requires.is_pick.is_core
+    (c.requires.here schedules tree) (sym c.is_open-was_open.ensures ∙ opened)
+
+pub returns-clause-opened : goal.returns-clause-opened
+returns-clause-opened c = λ opened schedules tree.
+    opened_at c.args.trial.now (schedule_at schedules c.args.index) c.args.bench.now.here c.args.pick.core c.requires.is_pick.is_core
+    (c.requires.here schedules tree) (sym c.is_open-was_open.ensures ∙ opened)
 
 pub advance-requires-clause-place : goal.advance-requires-clause-place
 advance-requires-clause-place c = c.requires.bench.here.place
@@ -165,7 +187,13 @@ returns-clause-bench c =
     let noted : bench.noted ≡ c.note.new.self = c.in_ok-known.ensures.noted in
     bench_grown trial nodes c.add.new.self.nodes.items node bench is
     (c.in_ok-add.ensures.nodes ∙ ap (λ v. v.items ++ node ∷ []) c.in_ok-join-2.ensures.nodes) c.requires.within
-    c.in_ok-steps.ensures.are_picks (after.now, after.is_run, sym after.stands.same_count ∙ after.count)
+    c.in_ok-steps.ensures.are_picks (
+      after.now,
+      after.is_run,
+      sym after.stands.same_count ∙ after.count,
+      sparing_advanced trial schedule before c.advance.new.self c.args.pick c.in_ok-steps.steps.items at c.in_ok-steps.ensures
+          (is.written.tree.runs c.args.index c.requires.within).3 (c.requires.needed is.written.schedules is.written.tree),
+    )
     (within_advanced trial bench.noted.lines.items schedule before c.advance.new.self c.args.pick c.in_ok-steps.steps.items at c.in_ok-steps.ensures
     (is.written.within c.args.index c.requires.within)
     (λ now stands. subst (λ (w : Written). StoresOn (machine_setting before.machine) w.lines.items now c.args.pick.core) (sym noted)
