@@ -1,10 +1,11 @@
 -- The checks that the options say.
-use Rattle.std.proofs.Common.{◌≡◌, ℕ, Bool, Bor, List, [], ◌++◌, append_assoc, ◌∙◌, ap, sym, subst}
+use Rattle.std.proofs.Common.{◌≡◌, ℕ, Bool, true, false, Bor, List, [], ◌∷◌, ◌++◌, append_assoc, ◌∙◌, ap, refl, subst}
+use Rattle.std.specs.List.{AllZip}
 use Rattle.elide_args.specs.declared.hunt_options.HuntOptions.{HuntOptions}
 use Rattle.elide_setup.specs.ElideProgram.ProgramFileType.{ProgramFile}
 use Rattle.ia_item.specs.declared.name.Name.{Name}
 use Rattle.tm_check.specs.declared.check.Check.{Check}
-use Rattle.elide_checks.specs.Checks.{AreChecks, AreChecksBy}
+use Rattle.elide_checks.specs.Checks.{AreChecks, AreChecksBy, halt_checks}
 use Rattle.elide_checks.specs.Constants.{is_among, is_constant}
 use Rattle.elide_checks.specs.Ends.{AreEndChecks, AreEndChecksBy}
 use Rattle.tm_condition.specs.declared.check.Check.{Check as EndCheck}
@@ -32,3 +33,18 @@ joined none one two three four a b c empty x y z last w =
     let first : one ≡ a = x ∙ ap (λ l. l ++ a) empty in
     w ∙ ap (λ l. l ++ last) (z ∙ ap (λ l. l ++ c) (y ∙ ap (λ l. l ++ b) first))
     ∙ ap (λ l. l ++ last) (append_assoc a b c) ∙ append_assoc a (b ++ c) last ∙ ap (λ l. a ++ l) (append_assoc b c last)
+
+-- ---- where nothing is asked for
+
+pub none_left : (a b : List Check) → a ++ b ≡ [] → (a ≡ []) × (b ≡ [])
+none_left [] b e = (refl, e)
+none_left (x ∷ a) b e = absurd (cc)
+
+pub no_pair : {A B : Type 0} (R : A → B → Type 0) (xs : List A) (ys : List B) → AllZip R xs ys → ys ≡ [] → xs ≡ []
+no_pair R [] ys all e = refl
+no_pair R (x ∷ xs) [] all e = absurd all
+no_pair R (x ∷ xs) (y ∷ ys) all e = absurd (cc)
+
+pub no_halt : (expects : Bool) → halt_checks expects ≡ [] → expects ≡ false
+no_halt true e = absurd (cc)
+no_halt false e = refl

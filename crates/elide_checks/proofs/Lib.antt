@@ -3,3 +3,5 @@ mod Named
 mod Asked
 mod Parts
 mod Words
+mod Cuts
+mod Reasons

@@ -1,5 +1,5 @@
 -- Items by the parts of their words.
-use Rattle.std.proofs.Common.{◌≡◌, ℕ, Bool, List}
+use Rattle.std.proofs.Common.{ℕ, Bool, List}
 use Rattle.elide_setup.specs.ElideProgram.ProgramFileType.{ProgramFile}
 use Rattle.tm_check.specs.declared.clause.Quantity.{Quantity}
 use Rattle.tm_check.specs.declared.clause.Quantity.TheVariants.{OfMachine, OfRun}

@@ -10,7 +10,6 @@ use Rattle.ia_lex.specs.Words.{register_of}
 use Rattle.ia_word.specs.declared.width.Width.TheVariants.{D}
 use Rattle.tm_check.specs.declared.clause.Quantity.{Quantity}
 use Rattle.tm_check.specs.declared.clause.Quantity.TheVariants.{OfMachine, OfRun}
-use Rattle.tm_condition.specs.declared.item.Item.{Item}
 use Rattle.tm_condition.specs.declared.item.Item.TheVariants.{Register, Memory, Number}
 use Rattle.elide_checks.specs.Counts.{IsCountOf}
 use Rattle.elide_checks.specs.declared.items.Side.{Side}

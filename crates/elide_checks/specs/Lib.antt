@@ -5,5 +5,6 @@ pub mod Items
 pub mod Conditions
 pub mod Checks
 pub mod Ends
+pub mod Reach
 pub mod Refused
 pub mod Runs

@@ -1,9 +1,9 @@
 -- The runs that `--runs` says, the events that `--events` says, how `--method` has the core of each step drawn, and the
 -- threads that `--jobs` says (docs/FORMATS.md, "Options of the command line").
-use Rattle.std.specs.Prelude.{◌≡◌, ◌≤◌, ◌⊎◌, ℕ, List, ◌++◌, codes, nat_eq, Option, Some, None}
+use Rattle.std.specs.Prelude.{◌≡◌, ◌≢◌, ◌<◌, ◌≤◌, ◌⊎◌, ℕ, List, ◌++◌, codes, nat_eq, Option, Some, None}
 use Rattle.std.specs.Prelude.{if◌then◌else◌}
 use Rattle.std.specs.Cmp.Lexicographic.{pointwise}
-use Rattle.elide_setup.specs.ElideProgram.Settings.{word32}
+use Rattle.elide_setup.specs.ElideProgram.Settings.{number_or, word32}
 use Rattle.elide_setup.specs.Events.{events_said}
 use Rattle.tm_pick.specs.declared.events.Events.{Events}
 use Rattle.tm_pick.specs.declared.events.Events.TheVariants.{Never, Draw}
@@ -42,3 +42,29 @@ pub record AreJobs (option : Option (List ℕ)) (jobs : ℕ) : Type 0 where
   pub some : 1 ≤ jobs
   pub few : jobs ≤ 1024
   pub said : (text : List ℕ) → option ≡ Some text → word32 text ≡ Some jobs
+
+-- ---- values that are none of these
+
+-- no runs: the option is not given; it is no number, and has no `..`; or it has one, and a number is wanting before it
+-- or behind it, or the first is above the second
+pub data AreNoRuns (option : Option (List ℕ)) : Type 0 where
+  not_given : option ≡ None → AreNoRuns option
+  no_count : (text : List ℕ) → option ≡ Some text → word32 text ≡ None
+      → ((low high : List ℕ) → text ≢ low ++ (codes ".." ++ high)) → AreNoRuns option
+  no_first : (low high : List ℕ) → option ≡ Some (low ++ (codes ".." ++ high)) → word32 low ≡ None → AreNoRuns option
+  no_end : (low high : List ℕ) → option ≡ Some (low ++ (codes ".." ++ high)) → word32 high ≡ None → AreNoRuns option
+  turned : (low high : List ℕ) (first end : ℕ) → option ≡ Some (low ++ (codes ".." ++ high)) → word32 low ≡ Some first
+      → word32 high ≡ Some end → end < first → AreNoRuns option
+
+-- the word of no method
+abbrev pub IsNoMethod : Option (List ℕ) → Type 0
+IsNoMethod option = (method : Method) → option ≢ Some (method_word method)
+
+-- no number from 1 on
+abbrev pub IsNoLimit : Option (List ℕ) → Type 0
+IsNoLimit option = (most : ℕ) → number_or 1000000 option ≡ Some most → most ≡ 0
+
+-- no number from 1 to 1024
+abbrev pub AreNoJobs : Option (List ℕ) → Type 0
+AreNoJobs None = ⊥
+AreNoJobs (Some text) = (jobs : ℕ) → word32 text ≡ Some jobs → (jobs ≡ 0) ⊎ (1024 < jobs)

@@ -1,12 +1,16 @@
 //! What is checked, as the options say it.
 
-ghost use Rattle.std.specs.Prelude.{◌≡◌, ◌++◌, IfOk, List, MatchResult, OnOk, codes};
+ghost use Rattle.std.specs.Prelude.{◌≡◌, ◌≢◌, ◌⊎◌, ◌↔◌, ◌<◌, ◌++◌, All, IsTrue, List, MatchOption, MatchResult, OnOk, codes, length};
 ghost use Rattle.std.specs.List.{AllZip};
 ghost use Rattle.elide_args.specs.declared.hunt_options.HuntOptions.{HuntOptions};
 ghost use Rattle.elide_setup.specs.Misuse.{IsMisuse};
 ghost use Rattle.elide_setup.specs.TmHist.Lines.{stop_word};
 ghost use Rattle.elide_checks.specs.Checks.{AreChecks, AreChecksBy, IsDemanded, IsForbidden, IsStopCheck, halt_checks};
 ghost use Rattle.elide_checks.specs.Constants.{is_among};
+ghost use Rattle.elide_checks.specs.Reach.{HasCheck};
+ghost use Rattle.elide_checks.specs.Refused.{AreNoDemands, IsNoCondition, IsNoStop};
+ghost use Rattle.elide_setup.specs.Faults.{want};
+ghost use Rattle.tm_rule.specs.declared.kinds.Stop.{Stop as StopOf};
 ghost use Rattle.tm_check.specs.declared.check.Check.{Check};
 
 use crate::conditions::condition_of;
@@ -34,7 +38,8 @@ impl Demands {
         text: &[u8],
         file: &ProgramFile<'_>,
     ) -> Result<Demands, Refusal>
-        ensures { IfOk result (λ demands. AreChecks text.now file.now options.now demands.checks.items) }
+        ensures { MatchResult result (λ demands. AreChecks text.now file.now options.now demands.checks.items)
+            (AreNoDemands options.now) }
     {
         let constants = Constants::read(alloc, text, file)?;
         let scope = Scope {
@@ -48,15 +53,27 @@ impl Demands {
 
     /// The checks, for a memory of this size and so many cores.
     pub fn checks(&self, size: u32, cores: u8) -> Result<&[Check], Refusal>
-        ensures { IfOk result (λ checks. checks.now ≡ self.now.checks.items) }
+        ensures { MatchResult result
+            (λ checks. (checks.now ≡ self.now.checks.items) × All (HasCheck size cores) checks.now)
+            (λ why. ¬ All (HasCheck size cores) self.now.checks.items × (why ≡ Refusal.Fault Fault.OutOfRange)) }
     {
-        for check in &self.checks {
-            if !is_there(check, size, cores) {
-                return Err(Refusal::Fault(Fault::OutOfRange));
-            }
+        if !are_there(self.checks.as_slice(), size, cores) {
+            return Err(Refusal::Fault(Fault::OutOfRange));
         }
         Ok(self.checks.as_slice())
     }
+}
+
+// Whether a machine with so many cores and a memory of this size has all that the checks look at.
+fn are_there(checks: &[Check], size: u32, cores: u8) -> bool
+    ensures { IsTrue result ↔ All (HasCheck size cores) checks.now }
+{
+    for check in checks {
+        if !is_there(check, size, cores) {
+            return false;
+        }
+    }
+    true
 }
 
 // What the options say.
@@ -65,8 +82,9 @@ fn checks_of(
     options: &HuntOptions<'_>,
     scope: &Scope<'_, '_, '_>,
 ) -> Result<Vec<Check>, Refusal>
-    ensures { IfOk result (λ checks. AreChecksBy scope.now.file.now (is_among scope.now.constants.now.names.items)
-        options.now checks.items) }
+    ensures { MatchResult result
+        (λ checks. AreChecksBy scope.now.file.now (is_among scope.now.constants.now.names.items) options.now checks.items)
+        (AreNoDemands options.now) }
 {
     let mut checks = Vec::new(alloc);
     add_demanded(alloc, &mut checks, options.checks.as_slice(), scope)?;
@@ -86,9 +104,11 @@ fn add_demanded(
     texts: &[&str],
     scope: &Scope<'_, '_, '_>,
 ) -> Result<(), Refusal>
-    ensures { OnOk result ((more : List Check) × (checks.new.items ≡ checks.old.items ++ more)
+    ensures { MatchResult result
+        (λ _. (more : List Check) × (checks.new.items ≡ checks.old.items ++ more)
         × AllZip (λ text check. IsDemanded scope.now.file.now (is_among scope.now.constants.now.names.items) text.now
-        check) texts.now more) }
+        check) texts.now more)
+        (λ why. (0 < length texts.now) × IsNoCondition (codes "--check") why) }
 {
     for text in texts {
         let clauses = condition_of(alloc, text, scope, "--check")?;
@@ -104,9 +124,11 @@ fn add_forbidden(
     texts: &[&str],
     scope: &Scope<'_, '_, '_>,
 ) -> Result<(), Refusal>
-    ensures { OnOk result ((more : List Check) × (checks.new.items ≡ checks.old.items ++ more)
+    ensures { MatchResult result
+        (λ _. (more : List Check) × (checks.new.items ≡ checks.old.items ++ more)
         × AllZip (λ text check. IsForbidden scope.now.file.now (is_among scope.now.constants.now.names.items) text.now
-        check) texts.now more) }
+        check) texts.now more)
+        (λ why. (0 < length texts.now) × IsNoCondition (codes "--forbid") why) }
 {
     for text in texts {
         let clauses = condition_of(alloc, text, scope, "--forbid")?;
@@ -117,8 +139,10 @@ fn add_forbidden(
 
 // Adds what each `--stop` says.
 fn add_stops(checks: &mut Vec<Check>, words: &[&str]) -> Result<(), Refusal>
-    ensures { OnOk result ((more : List Check) × (checks.new.items ≡ checks.old.items ++ more)
-        × AllZip (λ word check. IsStopCheck word.now check) words.now more) }
+    ensures { MatchResult result
+        (λ _. (more : List Check) × (checks.new.items ≡ checks.old.items ++ more)
+        × AllZip (λ word check. IsStopCheck word.now check) words.now more)
+        (λ why. IsNoStop words.now why ⊎ (why ≡ want)) }
 {
     for word in words {
         let why = stop_of(word)?;
@@ -139,18 +163,45 @@ fn add_halt(checks: &mut Vec<Check>, expects_halt: bool) -> Result<(), AllocErro
 
 /// A reason to stop by the word of `--stop`. Another word is a misuse.
 pub fn stop_of(word: &str) -> Result<Stop, Refusal>
-    ensures { MatchResult result (λ why. stop_word why ≡ word.now) (IsMisuse (codes "--stop")) }
+    ensures { MatchResult result (λ why. stop_word why ≡ word.now)
+        (λ refusal. ((why : StopOf) → stop_word why ≢ word.now) × IsMisuse (codes "--stop") refusal) }
 {
-    match word {
-        "#DE" => Ok(Stop::Divide),
-        "#BP" => Ok(Stop::Breakpoint),
-        "#UD" => Ok(Stop::Undefined),
-        "#GP" => Ok(Stop::Protection),
-        "HLT" => Ok(Stop::Halt),
-        "range" => Ok(Stop::Range),
-        "code-store" => Ok(Stop::CodeStore),
-        "fetch" => Ok(Stop::Fetch),
-        "not-in-subset" => Ok(Stop::NotInSubset),
-        _ => Err(Refusal::Usage("--stop")),
+    match stop_named(word) {
+        Some(why) => Ok(why),
+        None => Err(Refusal::Usage("--stop")),
     }
+}
+
+// The reason of a word.
+fn stop_named(word: &str) -> Option<Stop>
+    ensures { MatchOption result ((why : StopOf) → stop_word why ≢ word.now) (λ why. stop_word why ≡ word.now) }
+{
+    if word == "#DE" {
+        return Some(Stop::Divide);
+    }
+    if word == "#BP" {
+        return Some(Stop::Breakpoint);
+    }
+    if word == "#UD" {
+        return Some(Stop::Undefined);
+    }
+    if word == "#GP" {
+        return Some(Stop::Protection);
+    }
+    if word == "HLT" {
+        return Some(Stop::Halt);
+    }
+    if word == "range" {
+        return Some(Stop::Range);
+    }
+    if word == "code-store" {
+        return Some(Stop::CodeStore);
+    }
+    if word == "fetch" {
+        return Some(Stop::Fetch);
+    }
+    if word == "not-in-subset" {
+        return Some(Stop::NotInSubset);
+    }
+    None
 }

@@ -1,9 +1,10 @@
 //! What is checked at the ends of all schedules, as the options say it: conditions on the machine alone.
 
-ghost use Rattle.std.specs.Prelude.{◌≡◌, ◌<◌, ◌++◌, IfOk, IfSome, List, MatchResult, codes, length, map};
+ghost use Rattle.std.specs.Prelude.{◌≡◌, ◌↔◌, ◌<◌, ◌++◌, All, IfOk, IfSome, IsTrue, List, MatchResult, codes, length, map};
 ghost use Rattle.std.specs.List.{AllZip};
 ghost use Rattle.elide_checks.specs.Constants.{is_among};
 ghost use Rattle.elide_checks.specs.Ends.{AreEndChecks, AreEndChecksBy, IsEndDemanded, IsEndForbidden, IsOfMachine};
+ghost use Rattle.elide_checks.specs.Reach.{HasEndCheck};
 ghost use Rattle.elide_checks.specs.Refused.{AreNoChecks, IsNoCondition};
 ghost use Rattle.tm_check.specs.declared.clause.RunClause.TheVariants.{OfMachine};
 ghost use Rattle.tm_condition.specs.declared.check.Check.{Check as CheckOf};
@@ -11,7 +12,7 @@ ghost use Rattle.tm_condition.specs.declared.check.Check.{Check as CheckOf};
 use crate::conditions::condition_of;
 use crate::constants::Constants;
 use crate::items::Scope;
-use crate::reach::has_machine_clause;
+use crate::reach::has_machine_clauses;
 use crate::row::add;
 use elide_setup::{Fault, ProgramFile, Refusal};
 use std::alloc::{AllocError, Global};
@@ -49,24 +50,36 @@ impl EndChecks {
 
     /// The checks, for a memory of this size and so many cores.
     pub fn checks(&self, size: u32, cores: u8) -> Result<&[Check], Refusal>
-        ensures { MatchResult result (λ checks. checks.now ≡ self.now.checks.items)
-            (λ why. (0 < length self.now.checks.items) × (why ≡ Refusal.Fault Fault.OutOfRange)) }
+        ensures { MatchResult result
+            (λ checks. (checks.now ≡ self.now.checks.items) × All (HasEndCheck size cores) checks.now)
+            (λ why. ¬ All (HasEndCheck size cores) self.now.checks.items × (why ≡ Refusal.Fault Fault.OutOfRange)) }
     {
-        for check in &self.checks {
-            if !is_there(check, size, cores) {
-                return Err(Refusal::Fault(Fault::OutOfRange));
-            }
+        if !are_there(self.checks.as_slice(), size, cores) {
+            return Err(Refusal::Fault(Fault::OutOfRange));
         }
         Ok(self.checks.as_slice())
     }
 }
 
+// Whether a machine with so many cores and a memory of this size has all that the checks look at.
+fn are_there(checks: &[Check], size: u32, cores: u8) -> bool
+    ensures { IsTrue result ↔ All (HasEndCheck size cores) checks.now }
+{
+    for check in checks {
+        if !is_there(check, size, cores) {
+            return false;
+        }
+    }
+    true
+}
+
 // Whether a machine with so many cores and a memory of this size has all that a check looks at.
-fn is_there(check: &Check, size: u32, cores: u8) -> bool {
+fn is_there(check: &Check, size: u32, cores: u8) -> bool
+    ensures { IsTrue result ↔ HasEndCheck size cores check.now }
+{
     match check {
-        Check::Demanded(clauses) | Check::Forbidden(clauses) => clauses
-            .iter()
-            .all(|clause| has_machine_clause(clause, size, cores)),
+        Check::Demanded(clauses) => has_machine_clauses(clauses.as_slice(), size, cores),
+        Check::Forbidden(clauses) => has_machine_clauses(clauses.as_slice(), size, cores),
     }
 }
 

@@ -1,9 +1,13 @@
 //! What is asked of a search.
 
-ghost use Rattle.std.specs.Prelude.{◌≡◌, ◌≤◌, IfOk, Some};
+ghost use Rattle.std.specs.Prelude.{◌≡◌, ◌≢◌, ◌≤◌, IfErr, IfOk, MatchOption, MatchResult, None, Some, codes};
 ghost use Rattle.std.specs.Option.{option_copied};
 ghost use Rattle.elide_setup.specs.ElideProgram.Settings.{number_or, number_said};
-ghost use Rattle.elide_checks.specs.Runs.{AreJobs, AreRuns, events_asked, method_word};
+ghost use Rattle.elide_setup.specs.Misuse.{IsMisuse};
+ghost use Rattle.elide_checks.specs.Refused.{AreNoOrders};
+ghost use Rattle.elide_checks.specs.Runs.{AreJobs, AreNoJobs, AreNoRuns, AreRuns, IsNoLimit, IsNoMethod, events_asked};
+ghost use Rattle.elide_checks.specs.Runs.{method_word};
+ghost use Rattle.tm_pick.specs.declared.method.Method.{Method as MethodOf};
 
 use crate::cut::cut;
 use elide_args::HuntOptions;
@@ -44,7 +48,9 @@ impl Orders {
         ensures seed { IfOk result (λ orders. number_said (option_copied options.now.seed) ≡ Some orders.seed) }
         ensures method { IfOk result (λ orders. option_copied options.now.method ≡ Some (method_word orders.method)) }
         ensures most { IfOk result (λ orders. number_or 1000000 (option_copied options.now.limit) ≡ Some orders.most) }
+        ensures some { IfOk result (λ orders. 1 ≤ orders.most) }
         ensures jobs { IfOk result (λ orders. AreJobs (option_copied options.now.jobs) orders.jobs) }
+        ensures err { IfErr result (AreNoOrders options.now) }
     {
         let (first, end) = runs_of(options.runs)?;
         let seed = number_of(options.seed, "--seed")?;
@@ -66,7 +72,8 @@ impl Orders {
 
 // A count of runs, or the numbers from the first one up to the end.
 fn runs_of(text: Option<&str>) -> Result<(u32, u32), Refusal>
-    ensures { IfOk result (λ runs. AreRuns (option_copied text.entry) runs.0 runs.1) }
+    ensures ok { IfOk result (λ runs. AreRuns (option_copied text.entry) runs.0 runs.1) }
+    ensures err { IfErr result (λ why. AreNoRuns (option_copied text.entry) × IsMisuse (codes "--runs") why) }
 {
     let Some(text) = text else {
         return Err(Refusal::Usage("--runs"));
@@ -85,21 +92,46 @@ fn runs_of(text: Option<&str>) -> Result<(u32, u32), Refusal>
 }
 
 fn method_of(text: Option<&str>) -> Result<Method, Refusal>
-    ensures { IfOk result (λ method. option_copied text.entry ≡ Some (method_word method)) }
+    ensures ok { IfOk result (λ method. option_copied text.entry ≡ Some (method_word method)) }
+    ensures err { IfErr result (λ why. IsNoMethod (option_copied text.entry) × IsMisuse (codes "--method") why) }
 {
-    match text {
-        Some("mix") => Ok(Method::Mix),
-        Some("uniform") => Ok(Method::Uniform),
-        Some("bursts") => Ok(Method::Bursts),
-        Some("pct") => Ok(Method::Priorities),
-        Some("seen") => Ok(Method::Seen),
-        _ => Err(Refusal::Usage("--method")),
+    let Some(word) = text else {
+        return Err(Refusal::Usage("--method"));
+    };
+    match method_named(word) {
+        Some(method) => Ok(method),
+        None => Err(Refusal::Usage("--method")),
     }
+}
+
+// The method of a word.
+fn method_named(word: &str) -> Option<Method>
+    ensures { MatchOption result ((method : MethodOf) → word.now ≢ method_word method)
+        (λ method. word.now ≡ method_word method) }
+{
+    if word == "mix" {
+        return Some(Method::Mix);
+    }
+    if word == "uniform" {
+        return Some(Method::Uniform);
+    }
+    if word == "bursts" {
+        return Some(Method::Bursts);
+    }
+    if word == "pct" {
+        return Some(Method::Priorities);
+    }
+    if word == "seen" {
+        return Some(Method::Seen);
+    }
+    None
 }
 
 // No events, those that each run draws, or those of a rate.
 fn events_of(text: Option<&str>) -> Result<Events, Refusal>
-    ensures { IfOk result (λ events. events_asked (option_copied text.entry) ≡ Some events) }
+    ensures ok { IfOk result (λ events. events_asked (option_copied text.entry) ≡ Some events) }
+    ensures err { IfErr result (λ why. (events_asked (option_copied text.entry) ≡ None)
+        × IsMisuse (codes "--events") why) }
 {
     let Some(text) = text else {
         return Ok(Events::Never);
@@ -113,12 +145,13 @@ fn events_of(text: Option<&str>) -> Result<Events, Refusal>
 
 // The most steps of a run, 1 or more.
 fn most_of(text: Option<&str>) -> Result<u32, Refusal>
-    ensures { IfOk result (λ most. number_or 1000000 (option_copied text.entry) ≡ Some most) }
+    ensures ok { IfOk result (λ most. (number_or 1000000 (option_copied text.entry) ≡ Some most) × (1 ≤ most)) }
+    ensures err { IfErr result (λ why. IsNoLimit (option_copied text.entry) × IsMisuse (codes "--limit") why) }
 {
-    if text.is_none() {
+    let Some(text) = text else {
         return Ok(MOST_STEPS);
-    }
-    match number_of(text, "--limit")? {
+    };
+    match number_of(Some(text), "--limit")? {
         0 => Err(Refusal::Usage("--limit")),
         most => Ok(most),
     }
@@ -126,19 +159,21 @@ fn most_of(text: Option<&str>) -> Result<u32, Refusal>
 
 // The threads that are asked for, or one a processor.
 fn jobs_of<R: Threads>(rt: &R, text: Option<&str>) -> Result<usize, Refusal>
-    ensures { IfOk result (AreJobs (option_copied text.entry)) }
+    ensures ok { IfOk result (AreJobs (option_copied text.entry)) }
+    ensures err { IfErr result (λ why. AreNoJobs (option_copied text.entry) × IsMisuse (codes "--jobs") why) }
 {
-    if text.is_some() {
-        return jobs_said(text);
+    match text {
+        Some(text) => jobs_said(text),
+        None => Ok(processors(rt)),
     }
-    Ok(processors(rt))
 }
 
 // As many as the option says.
-fn jobs_said(text: Option<&str>) -> Result<usize, Refusal>
-    ensures { IfOk result (AreJobs (option_copied text.entry)) }
+fn jobs_said(text: &str) -> Result<usize, Refusal>
+    ensures ok { IfOk result (AreJobs (Some text.now)) }
+    ensures err { IfErr result (λ why. AreNoJobs (Some text.now) × IsMisuse (codes "--jobs") why) }
 {
-    match number_of(text, "--jobs")? {
+    match number_of(Some(text), "--jobs")? {
         0 => Err(Refusal::Usage("--jobs")),
         jobs if jobs > MOST_JOBS => Err(Refusal::Usage("--jobs")),
         jobs => Ok(jobs as usize),

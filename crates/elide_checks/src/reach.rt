@@ -1,18 +1,37 @@
 //! Whether what a check looks at is there.
 
+ghost use Rattle.std.specs.Prelude.{◌↔◌, ◌+◌, ◌≤◌, All, IsTrue};
+ghost use Rattle.elide_checks.specs.Reach.{HasCheck, HasClause, HasCores, HasCount, HasItem, HasQuantity, HasRunClause};
+
 use tm_check::{Check, Clause, Cores, Count, Item, Quantity, RunClause};
 
 /// Whether a machine with so many cores and a memory of this size has all that a check looks at.
-pub fn is_there(check: &Check, size: u32, cores: u8) -> bool {
+pub fn is_there(check: &Check, size: u32, cores: u8) -> bool
+    ensures { IsTrue result ↔ HasCheck size cores check.now }
+{
     match check {
-        Check::Demanded(clauses) | Check::Forbidden(clauses) => clauses
-            .iter()
-            .all(|clause| has_clause(clause, size, cores)),
-        Check::NoStop(_) | Check::AllStop => true,
+        Check::Demanded(clauses) => has_clauses(clauses.as_slice(), size, cores),
+        Check::Forbidden(clauses) => has_clauses(clauses.as_slice(), size, cores),
+        Check::NoStop(_) => true,
+        Check::AllStop => true,
     }
 }
 
-fn has_clause(clause: &RunClause, size: u32, cores: u8) -> bool {
+// The same of each of some conditions.
+fn has_clauses(clauses: &[RunClause], size: u32, cores: u8) -> bool
+    ensures { IsTrue result ↔ All (HasRunClause size cores) clauses.now }
+{
+    for clause in clauses {
+        if !has_clause(clause, size, cores) {
+            return false;
+        }
+    }
+    true
+}
+
+fn has_clause(clause: &RunClause, size: u32, cores: u8) -> bool
+    ensures { IsTrue result ↔ HasRunClause size cores clause.now }
+{
     match clause {
         RunClause::OfMachine(clause) => has_machine_clause(clause, size, cores),
         RunClause::Compare(left, _, right) => {
@@ -21,24 +40,50 @@ fn has_clause(clause: &RunClause, size: u32, cores: u8) -> bool {
     }
 }
 
-/// Whether a machine with so many cores and a memory of this size has all that a condition on it looks at.
-pub fn has_machine_clause(clause: &Clause, size: u32, cores: u8) -> bool {
+/// The same of each of some conditions on a machine alone.
+pub fn has_machine_clauses(clauses: &[Clause], size: u32, cores: u8) -> bool
+    ensures { IsTrue result ↔ All (HasClause size cores) clauses.now }
+{
+    for clause in clauses {
+        if !has_machine_clause(clause, size, cores) {
+            return false;
+        }
+    }
+    true
+}
+
+fn has_machine_clause(clause: &Clause, size: u32, cores: u8) -> bool
+    ensures { IsTrue result ↔ HasClause size cores clause.now }
+{
     match clause {
         Clause::Compare(left, _, right) => {
             has_item(*left, size, cores) && has_item(*right, size, cores)
         }
-        Clause::Bytes(address, bytes) => has_bytes(*address, bytes.len() as u64, size),
+        Clause::Bytes(address, bytes) => has_bytes(*address, bytes.as_slice().len() as u64, size),
     }
 }
 
-fn has_quantity(quantity: Quantity, size: u32, cores: u8) -> bool {
+fn has_quantity(quantity: Quantity, size: u32, cores: u8) -> bool
+    ensures { IsTrue result ↔ HasQuantity size cores quantity }
+{
     match quantity {
         Quantity::OfMachine(item) => has_item(item, size, cores),
-        Quantity::OfRun(Count::Commits(whose) | Count::Aborts(_, whose)) => has_cores(whose, cores),
+        Quantity::OfRun(count) => has_count(count, cores),
     }
 }
 
-fn has_item(item: Item, size: u32, cores: u8) -> bool {
+fn has_count(count: Count, cores: u8) -> bool
+    ensures { IsTrue result ↔ HasCount cores count }
+{
+    match count {
+        Count::Commits(whose) => has_cores(whose, cores),
+        Count::Aborts(_kind, whose) => has_cores(whose, cores),
+    }
+}
+
+fn has_item(item: Item, size: u32, cores: u8) -> bool
+    ensures { IsTrue result ↔ HasItem size cores item }
+{
     match item {
         Item::Register(core, _register) => core < cores,
         Item::Memory(address) => has_bytes(address, 4, size),
@@ -46,7 +91,9 @@ fn has_item(item: Item, size: u32, cores: u8) -> bool {
     }
 }
 
-fn has_cores(whose: Cores, cores: u8) -> bool {
+fn has_cores(whose: Cores, cores: u8) -> bool
+    ensures { IsTrue result ↔ HasCores cores whose }
+{
     match whose {
         Cores::All => true,
         Cores::One(core) => core < cores,
@@ -54,6 +101,8 @@ fn has_cores(whose: Cores, cores: u8) -> bool {
 }
 
 // Whether so many bytes at an address are in memory.
-fn has_bytes(address: u32, length: u64, size: u32) -> bool {
+fn has_bytes(address: u32, length: u64, size: u32) -> bool
+    ensures { IsTrue result ↔ (address + length ≤ size) }
+{
     length <= u64::from(size) && u64::from(address) <= u64::from(size) - length
 }

@@ -2,3 +2,4 @@ mod Hunted
 mod Objects
 mod Shares
 mod Texts
+mod Refusals

@@ -5,3 +5,4 @@ pub mod Lines
 pub mod Object
 pub mod Sent
 pub mod Printed
+pub mod Refused

@@ -10,6 +10,7 @@ use Rattle.elide_object.specs.Object.{object_text}
 use Rattle.elide_setup.specs.ElideProgram.ProgramFileType.{ProgramFile}
 use Rattle.elide_setup.specs.ElideProgram.Settings.{number_or, number_said}
 use Rattle.elide_setup.specs.Recorded.{IsRecorded}
+use Rattle.tm_schedule.specs.Schedule.{schedule_text}
 use Rattle.elide_setup.specs.Setup.{IsAsked}
 use Rattle.elide_setup.specs.declared.machine.Setup.{Setup}
 use Rattle.tm_pick.specs.declared.method.Plan.{Plan}
@@ -107,4 +108,4 @@ pub record IsPrinted (content left : List ℕ → Option (List ℕ)) (options : 
   pub search : Search
   pub hunted : IsHunted trial orders beside search
   pub told : IsTold options beside search answer before after
-  pub recorded : IfSome search.found (λ found. IsRecorded left options.record (deciding found.failure))
+  pub recorded : IfSome search.found (λ found. IsRecorded left options.record (schedule_text (deciding found.failure)))

@@ -1,8 +1,10 @@
 //! Runs that are made side by side.
 
-ghost use Rattle.std.specs.Prelude.{◌≡◌, ℕ, ◌+◌, ◌^◌, ◌<◌, ◌≤◌, IfOk, length, option_map};
+ghost use Rattle.std.specs.Prelude.{◌≡◌, ℕ, ◌+◌, ◌^◌, ◌<◌, ◌≤◌, IfErr, IfOk, length, option_map};
 ghost use Rattle.std.specs.List.{slice_index_or};
+ghost use Rattle.tm_hunt.specs.Attempts.{IsRefusal};
 ghost use Rattle.tm_hunt.specs.Sources.{IsPlannedRun};
+ghost use Rattle.elide_hunt.specs.Refused.{IsNotHunted};
 ghost use Rattle.elide_hunt.specs.Shares.{IsShare, share_start};
 
 use crate::fault::fault_of;
@@ -61,7 +63,8 @@ impl Block<'_> {
         requires some { 0 < self.now.jobs }
         requires ordered { self.now.first ≤ self.now.end }
         requires short { self.now.end < 2 ^ 32 }
-        ensures { IfOk result (IsShare self.now.trial (IsPlannedRun self.now.plan) self.now.first self.now.end) }
+        ensures made { IfOk result (IsShare self.now.trial (IsPlannedRun self.now.plan) self.now.first self.now.end) }
+        ensures refused { IfErr result (IsNotHunted self.now.trial) }
     {
         let alloc = rt.alloc();
         let shares = thread::map_indices(
@@ -80,9 +83,10 @@ impl Block<'_> {
     fn share(&self, alloc: Global, job: usize) -> Result<Share, HuntFault>
         requires within { job < self.now.jobs }
         requires ordered { self.now.first ≤ self.now.end }
-        ensures { IfOk result (IsShare self.now.trial (IsPlannedRun self.now.plan)
+        ensures made { IfOk result (IsShare self.now.trial (IsPlannedRun self.now.plan)
             (share_start self.now.first self.now.end self.now.jobs job)
             (share_start self.now.first self.now.end self.now.jobs (job + 1))) }
+        ensures refused { IfErr result (IsRefusal self.now.trial) }
     {
         let first = self.start_of(job);
         let end = self.start_of(job + 1);
@@ -115,7 +119,10 @@ impl Block<'_> {
             (IsShare self.now.trial (IsPlannedRun self.now.plan)
             (share_start self.now.first self.now.end self.now.jobs job)
             (share_start self.now.first self.now.end self.now.jobs (job + 1))) }
-        ensures { IfOk result (IsShare self.now.trial (IsPlannedRun self.now.plan) self.now.first self.now.end) }
+        requires refused { (job : ℕ) (other : _) → job < self.now.jobs → IfErr (slice_index_or shares.now job other)
+            (IsRefusal self.now.trial) }
+        ensures made { IfOk result (IsShare self.now.trial (IsPlannedRun self.now.plan) self.now.first self.now.end) }
+        ensures refused { IfErr result (IsNotHunted self.now.trial) }
     {
         let mut all = Share {
             failed: None,

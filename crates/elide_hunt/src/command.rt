@@ -1,12 +1,17 @@
 //! The command.
 
-ghost use Rattle.std.specs.Prelude.{◌≡◌, ◌≤◌, ℕ, IfOk, IfSome, List, OnOk};
+ghost use Rattle.std.specs.Prelude.{◌≡◌, ◌≤◌, ℕ, Bool, IfErr, IfOk, IfSome, List, OnOk, Option, Some};
+ghost use Rattle.std.specs.Borrow.{Bor};
 ghost use Rattle.std.specs.Io.KnownBytes.{Appends};
 ghost use Rattle.elide_args.specs.declared.hunt_options.HuntOptions.{HuntOptions};
 ghost use Rattle.elide_checks.specs.Checks.{AreChecks};
+ghost use Rattle.elide_setup.specs.ElideProgram.Files.{Gives, most_bytes};
 ghost use Rattle.elide_setup.specs.ElideProgram.ProgramFile.{IsFile};
 ghost use Rattle.elide_setup.specs.ElideProgram.ProgramFileType.{ProgramFile};
+ghost use Rattle.elide_setup.specs.ElideProgram.Settings.{AreSettings};
 ghost use Rattle.elide_setup.specs.Recorded.{IsRecorded};
+ghost use Rattle.elide_setup.specs.Refused.{IsUnrecorded};
+ghost use Rattle.tm_schedule.specs.Schedule.{schedule_text};
 ghost use Rattle.elide_setup.specs.Setup.{IsSetup};
 ghost use Rattle.elide_setup.specs.declared.machine.Setup.{Setup};
 ghost use Rattle.tm_hunt.specs.Attempts.{IsFailure, IsSearch};
@@ -14,12 +19,14 @@ ghost use Rattle.tm_hunt.specs.Cycle.{IsCycle};
 ghost use Rattle.tm_hunt.specs.Deciding.{cost_told, deciding};
 ghost use Rattle.tm_hunt.specs.Kept.{KeepsKinds};
 ghost use Rattle.tm_hunt.specs.Sources.{IsPlannedRun};
+ghost use Rattle.tm_hunt.specs.declared.searching.Found.{Found};
 ghost use Rattle.tm_hunt.specs.declared.trial.Trial.{Trial};
 ghost use Rattle.tm_pick.specs.declared.method.Plan.{Plan};
 ghost use Rattle.elide_object.specs.Object.{object_text};
 ghost use Rattle.elide_hunt.specs.Lines.{search_text};
 ghost use Rattle.elide_hunt.specs.Object.{search_value};
-ghost use Rattle.elide_hunt.specs.Printed.{IsHunted, IsPlanOf, IsPrinted, IsTold, IsTrialOf, answer_of};
+ghost use Rattle.elide_hunt.specs.Refused.{IsNoSearch, IsNotHunted, IsNotTold, IsRefused};
+ghost use Rattle.elide_hunt.specs.Printed.{AreOrders, IsHunted, IsPlanOf, IsPrinted, IsTold, IsTrialOf, answer_of};
 
 use crate::fault::fault_of;
 use crate::object::tell_object;
@@ -69,8 +76,9 @@ pub fn hunt<R: Threads + Sync + AllocGlobal, P: Paths, O: Out + Drop, G: Progres
     out: O,
     progress: &mut G,
 ) -> Result<(Answer, Paged, O), Refusal>
-    ensures { IfOk result (λ r. IsPrinted (P.content paths.old) (P.content paths.new) options.now r.0
+    ensures printed { IfOk result (λ r. IsPrinted (P.content paths.old) (P.content paths.new) options.now r.0
         (O.device out).contents (O.device r.2).contents) }
+    ensures refused { IfErr result (IsRefused (P.content paths.old) (P.are_one paths.old) options.now) }
 {
     let settings = Settings::read(&options.machine)?;
     let orders = Orders::read(rt, options)?;
@@ -104,7 +112,10 @@ fn write_page<P: Paths, W: Pages>(
     page: Option<&str>,
     pages: &W,
     paths: &mut P,
-) -> Result<Paged, Refusal> {
+) -> Result<Paged, Refusal>
+    ensures { IfErr result (λ _. (given : Bor (List ℕ)) × (found : Found) × (page.entry ≡ Some given)
+        × (search.now.found ≡ Some found)) }
+{
     match (page, &search.found) {
         (Some(page), Some(found)) => {
             let picks = found.failure.deciding();
@@ -116,8 +127,9 @@ fn write_page<P: Paths, W: Pages>(
 
 // Writes what decides of the run that failed, if one did, where there is a path.
 fn write_record<P: Paths>(search: &Search, path: Option<&str>, paths: &mut P) -> Result<(), Refusal>
-    ensures { OnOk result (IfSome search.now.found (λ found.
-        IsRecorded (P.content paths.new) path.entry (deciding found.failure))) }
+    ensures written { OnOk result (IfSome search.now.found (λ found.
+        IsRecorded (P.content paths.new) path.entry (schedule_text (deciding found.failure)))) }
+    ensures refused { IfErr result (IsUnrecorded path.entry) }
 {
     match &search.found {
         Some(found) => record(path, found.failure.deciding(), paths),
@@ -133,8 +145,9 @@ fn tell<O: Out + Drop>(
     beside: Beside,
     out: O,
 ) -> Result<(Answer, O), Refusal>
-    ensures { IfOk result (λ r. IsTold options.now beside search.now r.0
+    ensures told { IfOk result (λ r. IsTold options.now beside search.now r.0
         (O.device out).contents (O.device r.1).contents) }
+    ensures refused { IfErr result IsNotTold }
 {
     if options.is_json {
         let out = put_object(alloc, options, search, beside, out)?;
@@ -153,8 +166,9 @@ fn put_object<O: Out + Drop>(
     beside: Beside,
     out: O,
 ) -> Result<O, Refusal>
-    ensures { IfOk result (λ given. Appends (O.device out).contents (O.device given).contents
+    ensures told { IfOk result (λ given. Appends (O.device out).contents (O.device given).contents
         (object_text (search_value options.now beside search.now))) }
+    ensures refused { IfErr result IsNotTold }
 {
     let mut page = Gathered::new(out);
     tell_object(alloc, options, search, beside, &mut page)?;
@@ -169,8 +183,9 @@ fn put_lines<O: Out + Drop>(
     beside: Beside,
     out: O,
 ) -> Result<O, Refusal>
-    ensures { IfOk result (λ given. Appends (O.device out).contents (O.device given).contents
+    ensures told { IfOk result (λ given. Appends (O.device out).contents (O.device given).contents
         (search_text options.now beside search.now)) }
+    ensures refused { IfErr result IsNotTold }
 {
     let mut page = Gathered::new(out);
     tell_lines(options, search, beside, &mut page)?;
@@ -187,9 +202,12 @@ fn hunted<R: Threads + Sync + AllocGlobal, G: Progress>(
     text: &[u8],
     progress: &mut G,
 ) -> Result<(Search, Beside), Refusal>
-    ensures { IfOk result (λ made. (file : ProgramFile) × (setup : Setup) × (trial : Trial) × IsFile text.now file
+    ensures hunted { IfOk result (λ made. (file : ProgramFile) × (setup : Setup) × (trial : Trial) × IsFile text.now file
         × IsSetup file settings.now setup × IsTrialOf text.now file options.now setup orders.now trial
         × IsHunted trial orders.now made.1 made.0) }
+    ensures refused { (content : List ℕ → Option (List ℕ)) (are_one : List ℕ → List ℕ → Option Bool) →
+        Gives (content options.now.machine.file.now) most_bytes text.now → AreSettings options.now.machine settings.now →
+        AreOrders options.now orders.now → IfErr result (IsRefused content are_one options.now) }
 {
     let alloc = rt.alloc();
     let file = ProgramFile::read(alloc, text)?;
@@ -210,10 +228,13 @@ fn hunted_in<R: Threads + Sync + AllocGlobal, G: Progress>(
     orders: &Orders,
     progress: &mut G,
 ) -> Result<(Search, Beside), Refusal>
-    ensures { (text : List ℕ) (file : ProgramFile) (options : HuntOptions) →
+    ensures hunted { (text : List ℕ) (file : ProgramFile) (options : HuntOptions) →
         AreChecks text file options demands.now.checks.items →
         IfOk result (λ made. (trial : Trial) × IsTrialOf text file options setup.now orders.now trial
         × IsHunted trial orders.now made.1 made.0) }
+    ensures refused { (text : List ℕ) (file : ProgramFile) (options : HuntOptions) →
+        AreChecks text file options demands.now.checks.items →
+        IfErr result (IsNoSearch text file options setup.now orders.now) }
 {
     let checks = demands.checks(setup.program.mem_size(), setup.program.cores())?;
     let trial = Trial {
@@ -232,7 +253,8 @@ fn shortest<R: Threads + Sync + AllocGlobal, G: Progress>(
     orders: &Orders,
     progress: &mut G,
 ) -> Result<(Search, Beside), Refusal>
-    ensures { IfOk result (λ made. IsHunted trial.now orders.now made.1 made.0) }
+    ensures hunted { IfOk result (λ made. IsHunted trial.now orders.now made.1 made.0) }
+    ensures refused { IfErr result (IsNotHunted trial.now) }
 {
     let Search { found, ended, cut } = tried(rt, trial, orders, progress)?;
     let Some(Found { run, mut failure }) = found else {
@@ -257,8 +279,9 @@ fn tried<R: Threads + Sync + AllocGlobal, G: Progress>(
     orders: &Orders,
     progress: &mut G,
 ) -> Result<Search, Refusal>
-    ensures { IfOk result (λ search. (plan : Plan) × IsPlanOf orders.now trial.now plan
+    ensures searched { IfOk result (λ search. (plan : Plan) × IsPlanOf orders.now trial.now plan
         × IsSearch trial.now (IsPlannedRun plan) orders.now.first orders.now.end search) }
+    ensures refused { IfErr result (IsNotHunted trial.now) }
 {
     let length = match usual_length(rt.alloc(), trial) {
         Ok(length) => length,
@@ -280,6 +303,7 @@ fn shortened(alloc: Global, trial: &Trial<'_>, failure: &mut Failure) -> Result<
     ensures same { failure.new.check ≡ failure.old.check }
     ensures simpler { cost_told failure.new ≤ cost_told failure.old }
     ensures kinds { KeepsKinds failure.old.picks.items failure.new.picks.items }
+    ensures refused { IfErr result (IsNotHunted trial.now) }
 {
     match shorten(alloc, trial, failure) {
         Ok(()) => Ok(()),
@@ -289,7 +313,8 @@ fn shortened(alloc: Global, trial: &Trial<'_>, failure: &mut Failure) -> Result<
 
 // Looks for the loop that a run comes to.
 fn cycle_of(alloc: Global, trial: &Trial<'_>, failure: &Failure) -> Result<Option<Cycle>, Refusal>
-    ensures { IfOk result (λ found. IfSome found (IsCycle trial.now failure.now)) }
+    ensures found { IfOk result (λ found. IfSome found (IsCycle trial.now failure.now)) }
+    ensures refused { IfErr result (IsNotHunted trial.now) }
 {
     match find_cycle(alloc, trial, failure) {
         Ok(found) => Ok(found),

@@ -1,10 +1,15 @@
 //! The fault that a search is refused with.
 
+ghost use Rattle.elide_setup.specs.declared.fault.Refusal.TheVariants as refusal;
+ghost use Rattle.elide_hunt.specs.Refused.{IsHuntFault};
+
 use elide_checks::{Fault, RunFault};
 use tm_hunt::HuntFault;
 
 /// The fault that is told.
-pub fn fault_of(fault: HuntFault) -> Fault {
+pub fn fault_of(fault: HuntFault) -> Fault
+    ensures { IsHuntFault fault (refusal.Fault result) }
+{
     match fault {
         HuntFault::Board(fault) => Fault::Board(fault),
         HuntFault::NoMemory => Fault::Run(RunFault::NoMemory),

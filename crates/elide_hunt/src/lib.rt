@@ -8,8 +8,12 @@
 //! of the check that it violates, how long its schedule was and is, the loop that it comes to for ever, where one is told,
 //! and the command that replays a schedule which violates that check, or with `--json` the object of the same
 //! (`specs/Object.antt`); and that the file that the schedule is recorded in, where its content is told, is left with just
-//! the steps of it that decide, which are all of them where it did not reach the limit. Which step a plan draws next is
-//! compared by `doc_tests`. Stands on `elide_checks` for what is asked, and on `tm_hunt`.
+//! the steps of it that decide, which are all of them where it did not reach the limit. Each run is the one of its number: its
+//! cores and its events are drawn by the method that the number gives, from the generators of the seed and the number
+//! (`tm_pick`), but for which core of those by priorities steps. A refusal is for the reason that it names
+//! (`specs/Refused.antt`): an option that is misread, the program, its machine or what is checked that is not had, a search
+//! that is not made, or what it came to that is not written; where the page of a run that failed is asked for, what
+//! refuses it is its writer's to say. Stands on `elide_checks` for what is asked, and on `tm_hunt`.
 #![tactic(auto)]
 
 mod again;

@@ -2,10 +2,11 @@
 //!
 //! [`tell_object`] is the one call. The whole text is made, and then it is written.
 
-ghost use Rattle.std.specs.Prelude.{◌≡◌, IfOk, OnOk, Some, string_bytes};
+ghost use Rattle.std.specs.Prelude.{◌≡◌, IfErr, IfOk, OnOk, Some, string_bytes};
 ghost use Rattle.std.specs.Io.KnownBytes.{Appends};
 ghost use Rattle.elide_object.specs.Object.{object_text};
 ghost use Rattle.elide_hunt.specs.Object.{found_value, hunt_value, search_value};
+ghost use Rattle.elide_hunt.specs.Refused.{IsNotTold};
 ghost use Rattle.elide_hunt.specs.Sent.{object_value};
 
 use crate::replay::command_bytes;
@@ -27,8 +28,9 @@ pub fn tell_object<O: Out>(
     beside: Beside,
     out: &mut O,
 ) -> Result<(), Refusal>
-    ensures { OnOk result (Appends (O.device out.old).contents (O.device out.new).contents
+    ensures written { OnOk result (Appends (O.device out.old).contents (O.device out.new).contents
         (object_text (search_value options.now beside search.now))) }
+    ensures refused { IfErr result IsNotTold }
 {
     match search_line(alloc, options, search, beside) {
         Ok(line) => {

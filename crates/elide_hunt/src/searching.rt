@@ -1,8 +1,9 @@
 //! Runs on several threads, until one fails.
 
-ghost use Rattle.std.specs.Prelude.{◌^◌, ◌<◌, ◌≤◌, IfOk};
+ghost use Rattle.std.specs.Prelude.{◌^◌, ◌<◌, ◌≤◌, IfErr, IfOk};
 ghost use Rattle.tm_hunt.specs.Attempts.{IsSearch};
 ghost use Rattle.tm_hunt.specs.Sources.{IsPlannedRun};
+ghost use Rattle.elide_hunt.specs.Refused.{IsNotHunted};
 
 use crate::block::Block;
 use crate::fault::fault_of;
@@ -26,8 +27,9 @@ pub fn searched<R: Threads + Sync + AllocGlobal, G: Progress>(
     orders: &Orders,
     progress: &mut G,
 ) -> Result<Search, Refusal>
-    ensures { IfOk result (IsSearch trial.now (IsPlannedRun plan)
+    ensures made { IfOk result (IsSearch trial.now (IsPlannedRun plan)
         orders.now.first orders.now.end) }
+    ensures refused { IfErr result (IsNotHunted trial.now) }
 {
     let mut ended: u32 = 0;
     let mut cut: u32 = 0;
@@ -90,8 +92,9 @@ fn searched_in<R: Threads + Sync + AllocGlobal>(
     requires some { 0 < block.now.jobs }
     requires ordered { block.now.first ≤ block.now.end }
     requires short { block.now.end < 2 ^ 32 }
-    ensures { IfOk result (IsSearch block.now.trial (IsPlannedRun block.now.plan)
+    ensures made { IfOk result (IsSearch block.now.trial (IsPlannedRun block.now.plan)
         block.now.first block.now.end) }
+    ensures refused { IfErr result (IsNotHunted block.now.trial) }
 {
     let share = block.made(rt)?;
     let Some(failing) = share.failed else {

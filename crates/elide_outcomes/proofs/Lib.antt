@@ -4,3 +4,4 @@ mod Printed
 mod Trials
 mod Words
 mod Zips
+mod Refusing

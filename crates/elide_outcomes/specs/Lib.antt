@@ -9,3 +9,4 @@ pub mod Under
 pub mod Stops
 pub mod Verdict
 pub mod Printed
+pub mod Refused

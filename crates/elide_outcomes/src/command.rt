@@ -1,17 +1,20 @@
 //! The command.
 
-ghost use Rattle.std.specs.Prelude.{◌≡◌, ◌≤◌, IfOk, OnOk};
+ghost use Rattle.std.specs.Prelude.{◌≡◌, ◌≤◌, IfErr, IfOk, MatchResult, OnOk, codes};
 ghost use Rattle.std.specs.Option.{option_copied};
 ghost use Rattle.elide_program.specs.ProgramFile.{IsFile};
 ghost use Rattle.elide_program.specs.declared.file.ProgramFile.{ProgramFile};
+ghost use Rattle.elide_setup.specs.Misuse.{IsMisuse};
 ghost use Rattle.elide_setup.specs.Setup.{IsSetup};
 ghost use Rattle.elide_setup.specs.declared.machine.Setup.{Setup};
 ghost use Rattle.tm_outcomes.specs.Outcomes.{AreThere, IsSearch};
 ghost use Rattle.tm_outcomes.specs.declared.trial.Trial.{Trial};
 ghost use Rattle.tm_outcomes.specs.Verdicts.{IsVerdict};
 ghost use Rattle.elide_args.specs.Asked.{texts_of};
+ghost use Rattle.elide_checks.specs.Runs.{IsNoLimit};
 ghost use Rattle.elide_outcomes.specs.Printed.{AreWritten, IsFound, IsLimit, IsMade, IsPrinted, IsSorted, IsTrialOf};
 ghost use Rattle.elide_outcomes.specs.Printed.{IsWritten, asks_more};
+ghost use Rattle.elide_outcomes.specs.Refused.{IsNotFound, IsNotFoundIn, IsNotSearched, IsNotSearchedBy, IsRefused, IsUntold};
 ghost use Rattle.elide_outcomes.specs.Stops.{AreStops};
 ghost use Rattle.elide_outcomes.specs.Under.{AreUnder};
 
@@ -63,8 +66,9 @@ pub fn outcomes<P: Paths, O: Out + Drop, G: Progress, W: Pages>(
     out: O,
     progress: &mut G,
 ) -> Result<(Answer, Paged, O), Refusal>
-    ensures { IfOk result (λ r. IsPrinted (P.content paths.old) options.now r.0
-        (O.device out).contents (O.device r.2).contents) }
+    ensures { MatchResult result
+        (λ r. IsPrinted (P.content paths.old) options.now r.0 (O.device out).contents (O.device r.2).contents)
+        (IsRefused (P.content paths.old) (P.are_one paths.old) options.now) }
 {
     let mut page = Gathered::new(out);
     let (answer, paged) = outcomes_of_options(alloc, options, paths, pages, &mut page, progress)?;
@@ -81,8 +85,12 @@ fn outcomes_of_options<P: Paths, O: Out, G: Progress, W: Pages>(
     out: &mut O,
     progress: &mut G,
 ) -> Result<(Answer, Result<Paged, Refusal>), Refusal>
-    ensures { IfOk result (λ r. IsPrinted (P.content paths.old) options.now r.0
+    ensures ok { IfOk result (λ r. IsPrinted (P.content paths.old) options.now r.0
         (O.device out.old).contents (O.device out.new).contents) }
+    ensures page { IfOk result (λ r. IfErr r.1
+        (IsRefused (P.content paths.old) (P.are_one paths.old) options.now)) }
+    ensures err { IfErr result
+        (IsRefused (P.content paths.old) (P.are_one paths.old) options.now) }
 {
     let stops = stops_of(alloc, options.stops.as_slice())?;
     let answer = outcomes_with_stops(
@@ -109,8 +117,12 @@ fn outcomes_with_stops<P: Paths, O: Out, G: Progress, W: Pages>(
     progress: &mut G,
 ) -> Result<(Answer, Result<Paged, Refusal>), Refusal>
     requires { AreStops options.now.stops.items stops.now }
-    ensures { IfOk result (λ r. IsPrinted (P.content paths.old) options.now r.0
+    ensures ok { IfOk result (λ r. IsPrinted (P.content paths.old) options.now r.0
         (O.device out.old).contents (O.device out.new).contents) }
+    ensures page { IfOk result (λ r. IfErr r.1
+        (IsRefused (P.content paths.old) (P.are_one paths.old) options.now)) }
+    ensures err { IfErr result
+        (IsRefused (P.content paths.old) (P.are_one paths.old) options.now) }
 {
     let settings = Settings::read(&options.machine)?;
     let under = Under::read(options.events)?;
@@ -140,7 +152,8 @@ fn write<O: Out>(
     found: &Found,
     out: &mut O,
 ) -> Result<(), Refusal>
-    ensures { OnOk result (IsWritten options.now found.now (O.device out.old).contents (O.device out.new).contents) }
+    ensures ok { OnOk result (IsWritten options.now found.now (O.device out.old).contents (O.device out.new).contents) }
+    ensures err { IfErr result IsUntold }
 {
     let words = words_of(alloc, options.show)?;
     write_words(alloc, options, words.as_slice(), found, out)
@@ -154,8 +167,9 @@ fn write_words<O: Out>(
     found: &Found,
     out: &mut O,
 ) -> Result<(), Refusal>
-    ensures { OnOk result (AreWritten options.now (texts_of words.now) found.now
+    ensures ok { OnOk result (AreWritten options.now (texts_of words.now) found.now
         (O.device out.old).contents (O.device out.new).contents) }
+    ensures err { IfErr result IsUntold }
 {
     if options.is_json {
         tell_object(alloc, options, words, &found.search, out)
@@ -174,10 +188,12 @@ fn search_of_text<G: Progress>(
     progress: &mut G,
 ) -> Result<Found, Refusal>
     requires { 1 ≤ asked.now.most }
-    ensures { IfOk result (λ found. (file : ProgramFile) × IsFile text.now file × (trial : Trial)
+    ensures { MatchResult result
+        (λ found. (file : ProgramFile) × IsFile text.now file × (trial : Trial)
         × (setup : Setup) × IsSetup file settings.now setup
         × IsTrialOf text.now file setup asked.now.options.now asked.now.under asked.now.stops.now trial
-        × IsFound file trial asked.now.most found) }
+        × IsFound file trial asked.now.most found)
+        (IsNotFound text.now settings.now asked.now.options.now asked.now.under asked.now.stops.now) }
 {
     let file = ProgramFile::read(alloc, text)?;
     let found = search_of_file(alloc, asked, settings, text, &file, progress);
@@ -195,9 +211,11 @@ fn search_of_file<G: Progress>(
     progress: &mut G,
 ) -> Result<Found, Refusal>
     requires { 1 ≤ asked.now.most }
-    ensures { IfOk result (λ found. (trial : Trial) × (setup : Setup) × IsSetup file.now settings.now setup
+    ensures { MatchResult result
+        (λ found. (trial : Trial) × (setup : Setup) × IsSetup file.now settings.now setup
         × IsTrialOf text.now file.now setup asked.now.options.now asked.now.under asked.now.stops.now trial
-        × IsFound file.now trial asked.now.most found) }
+        × IsFound file.now trial asked.now.most found)
+        (IsNotFoundIn text.now file.now settings.now asked.now.options.now asked.now.under asked.now.stops.now) }
 {
     let options = asked.options;
     let items = items_of(alloc, options.show, !asks_more(options), file)?;
@@ -246,8 +264,10 @@ fn search_of_setup<'x, G: Progress>(
 ) -> Result<Search, Refusal>
     requires most { 1 ≤ asked.now.most }
     requires under { AreUnder asked.now.under events }
-    ensures { IfOk result (λ search. (trial : Trial) × IsMade setup.now items.now ends.now.checks.items
-        asked.now.under asked.now.stops.now trial × IsSorted trial asked.now.most search) }
+    ensures { MatchResult result
+        (λ search. (trial : Trial) × IsMade setup.now items.now ends.now.checks.items asked.now.under asked.now.stops.now
+        trial × IsSorted trial asked.now.most search)
+        (IsNotSearchedBy setup.now items.now ends.now.checks.items asked.now.under asked.now.stops.now) }
 {
     let checks = ends.checks(setup.program.mem_size(), setup.program.cores())?;
     let trial = Trial {
@@ -269,7 +289,7 @@ fn sorted<G: Progress>(
     progress: &mut G,
 ) -> Result<Search, Refusal>
     requires { 1 ≤ most }
-    ensures { IfOk result (IsSorted trial.now most) }
+    ensures { MatchResult result (IsSorted trial.now most) (IsNotSearched trial.now) }
 {
     let mut search = search(alloc, trial, most, progress)?;
     sort(&mut search.outcomes);
@@ -278,12 +298,13 @@ fn sorted<G: Progress>(
 
 // The most states, 1 or more.
 fn limit_of(text: Option<&str>) -> Result<u32, Refusal>
-    ensures { IfOk result (IsLimit (option_copied text.entry)) }
+    ensures ok { IfOk result (IsLimit (option_copied text.entry)) }
+    ensures err { IfErr result (λ why. IsNoLimit (option_copied text.entry) × IsMisuse (codes "--limit") why) }
 {
-    if text.is_none() {
+    let Some(text) = text else {
         return Ok(USUAL_LIMIT);
-    }
-    match number_of(text, "--limit")? {
+    };
+    match number_of(Some(text), "--limit")? {
         0 => Err(Refusal::Usage("--limit")),
         most => Ok(most),
     }
@@ -300,6 +321,7 @@ fn search<G: Progress>(
     ensures there { OnOk result (AreThere trial.now) }
     ensures found { IfOk result (IsSearch trial.now most) }
     ensures verdict { IfOk result (IsVerdict trial.now) }
+    ensures none { IfErr result (IsNotSearched trial.now) }
 {
     if !trial.has_all() {
         return Err(Refusal::Fault(Fault::OutOfRange));

@@ -1,11 +1,14 @@
 //! What an outcome shows, as the option says it.
 
-ghost use Rattle.std.specs.Prelude.{◌≡◌, ◌++◌, ◌∷◌, [], IfOk, IfSome, OnOk, Some, false};
+ghost use Rattle.std.specs.Prelude.{◌≡◌, ◌⊎◌, ◌++◌, ◌∷◌, [], IfSome, MatchResult, OnOk, Some, codes, false, true};
 ghost use Rattle.std.specs.Option.{option_copied};
 ghost use Rattle.ia_lex.specs.Words.{register_of};
 ghost use Rattle.ia_word.specs.declared.width.Width.TheVariants.{D};
 ghost use Rattle.elide_program.specs.Settings.{word32};
+ghost use Rattle.elide_setup.specs.Faults.{want};
+ghost use Rattle.elide_setup.specs.Misuse.{IsMisuse};
 ghost use Rattle.elide_outcomes.specs.Items.{AreItems, IsItem, SaysItems};
+ghost use Rattle.elide_outcomes.specs.Refused.{AreNoItems};
 
 use elide_program::{ProgramFile, number_of, sum_of};
 use elide_setup::Refusal;
@@ -22,7 +25,8 @@ pub fn items_of(
     is_wanted: bool,
     file: &ProgramFile<'_>,
 ) -> Result<Vec<Item>, Refusal>
-    ensures { IfOk result (λ items. AreItems file.now is_wanted (option_copied text.entry) items.items) }
+    ensures { MatchResult result (λ items. AreItems file.now is_wanted (option_copied text.entry) items.items)
+        (AreNoItems is_wanted (option_copied text.entry)) }
 {
     let Some(text) = text else {
         return no_items(alloc, is_wanted);
@@ -36,7 +40,8 @@ pub fn items_of(
 
 // No items, where none is wanted.
 fn no_items(alloc: Global, is_wanted: bool) -> Result<Vec<Item>, Refusal>
-    ensures { IfOk result (λ items. (is_wanted ≡ false) × (items.items ≡ [])) }
+    ensures { MatchResult result (λ items. (is_wanted ≡ false) × (items.items ≡ []))
+        (λ why. (is_wanted ≡ true) × IsMisuse (codes "--show") why) }
 {
     if is_wanted {
         return Err(Refusal::Usage("--show"));
@@ -46,7 +51,8 @@ fn no_items(alloc: Global, is_wanted: bool) -> Result<Vec<Item>, Refusal>
 
 // The items that the words of a text say.
 fn items_in(alloc: Global, text: &str, file: &ProgramFile<'_>) -> Result<Vec<Item>, Refusal>
-    ensures { IfOk result (λ items. SaysItems file.now text.now items.items) }
+    ensures { MatchResult result (λ items. SaysItems file.now text.now items.items)
+        (λ why. IsMisuse (codes "--show") why ⊎ (why ≡ want)) }
 {
     let mut items = Vec::new(alloc);
     for word in text.split_whitespace() {

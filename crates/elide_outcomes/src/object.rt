@@ -2,7 +2,8 @@
 //!
 //! [`tell_object`] is the one call. The whole text is made, and then it is written.
 
-ghost use Rattle.std.specs.Prelude.{◌≡◌, IfOk, OnOk, Some, codes, string_bytes};
+ghost use Rattle.std.specs.Prelude.{◌≡◌, IfErr, IfOk, OnOk, Some, codes, string_bytes};
+ghost use Rattle.elide_outcomes.specs.Refused.{IsUntold};
 ghost use Rattle.elide_args.specs.Asked.{texts_of};
 ghost use Rattle.elide_object.specs.Object.{SendsMember, list_value, object_text};
 ghost use Rattle.serde_json.specs.Events.{SendsValue};
@@ -31,8 +32,9 @@ pub fn tell_object<O: Out>(
     search: &Search,
     out: &mut O,
 ) -> Result<(), Refusal>
-    ensures { OnOk result (IsObjectWritten options.now (texts_of words.now) search.now
+    ensures ok { OnOk result (IsObjectWritten options.now (texts_of words.now) search.now
         (O.device out.old).contents (O.device out.new).contents) }
+    ensures err { IfErr result IsUntold }
 {
     let status = Answer::of(options.asks_stuck, search).status();
     match line_of(alloc, options, words, status, search) {

@@ -1,6 +1,7 @@
 //! The page of an outcome.
 
-ghost use Rattle.std.specs.Prelude.{◌≡◌, ℕ, List};
+ghost use Rattle.std.specs.Prelude.{◌≡◌, ◌⊎◌, ℕ, IfErr, IfOk, List};
+ghost use Rattle.elide_outcomes.specs.Refused.{IsNoPage, IsOverProgram, IsAPage, IsPageOf};
 
 use elide_args::{MachineOptions, OutcomesOptions};
 use elide_program::{Paths, number_of};
@@ -28,7 +29,10 @@ impl<'a> PageAsked<'a> {
         options: &OutcomesOptions<'a>,
         paths: &mut P,
     ) -> Result<PageAsked<'a>, Refusal>
-        ensures { (other : List ℕ) → P.content paths.new other ≡ P.content paths.old other }
+        ensures kept { (other : List ℕ) → P.content paths.new other ≡ P.content paths.old other }
+        ensures ok { IfOk result (IsPageOf options.now.page.items) }
+        ensures err { IfErr result (λ why. IsNoPage options.now.page.items why
+            ⊎ IsOverProgram (P.are_one paths.old) options.now.page.items options.now.machine.file.now why) }
     {
         let [number, path] = options.page.as_slice() else {
             return Ok(PageAsked::Nothing);
@@ -52,7 +56,9 @@ impl<'a> PageAsked<'a> {
         told: &[Told],
         pages: &W,
         paths: &mut P,
-    ) -> Result<Paged, Refusal> {
+    ) -> Result<Paged, Refusal>
+        ensures { IfErr result (λ _. IsAPage self.entry) }
+    {
         let PageAsked::Of { index, path } = self else {
             return Ok(Paged::AsAsked);
         };

@@ -1,6 +1,8 @@
 //! The reasons to stop that are looked for, as the option says them.
 
-ghost use Rattle.std.specs.Prelude.{◌≡◌, ◌++◌, ◌∷◌, [], IfOk, OnOk};
+ghost use Rattle.std.specs.Prelude.{◌≡◌, ◌⊎◌, ◌++◌, ◌∷◌, [], MatchResult, OnOk};
+ghost use Rattle.elide_checks.specs.Refused.{IsNoStop};
+ghost use Rattle.elide_setup.specs.Faults.{want};
 ghost use Rattle.elide_outcomes.specs.Stops.{AreStops};
 
 use elide_checks::stop_of;
@@ -10,7 +12,8 @@ use tm_outcomes::Stop;
 
 /// One for each word of `--stop`.
 pub fn stops_of(alloc: Global, words: &[&str]) -> Result<Vec<Stop>, Refusal>
-    ensures { IfOk result (λ stops. AreStops words.now stops.items) }
+    ensures { MatchResult result (λ stops. AreStops words.now stops.items)
+        (λ why. IsNoStop words.now why ⊎ (why ≡ want)) }
 {
     let mut stops = Vec::new(alloc);
     for word in words {

@@ -1,7 +1,8 @@
 //! What the steps come under, as the option says it.
 
-ghost use Rattle.std.specs.Prelude.{◌≡◌, ◌++◌, IfOk, OnOk};
+ghost use Rattle.std.specs.Prelude.{◌≡◌, ◌++◌, IfErr, IfOk, OnOk};
 ghost use Rattle.std.specs.Option.{option_copied};
+ghost use Rattle.elide_outcomes.specs.Refused.{IsNoUnder};
 ghost use Rattle.elide_outcomes.specs.Under.{AreUnder, IsUnder, event_if, listed_by};
 
 use elide_setup::{Refusal, kinds_of};
@@ -23,7 +24,8 @@ pub enum Under {
 impl Under {
     /// What the option says: `always`, or kinds with commas between. Anything else is a misuse.
     pub fn read(text: Option<&str>) -> Result<Under, Refusal>
-        ensures { IfOk result (IsUnder (option_copied text.entry)) }
+        ensures ok { IfOk result (IsUnder (option_copied text.entry)) }
+        ensures err { IfErr result (IsNoUnder (option_copied text.entry)) }
     {
         let Some(text) = text else {
             return Ok(Under::Nothing);

@@ -5,10 +5,10 @@ use Rattle.elide_checks.proofs.conditions.condition_of.Goals as goal
 pub clauses-preserved : goal.clauses-preserved
 clauses-preserved c =
     let one = c.in_ok-add_clause.ensures in
-    (search rules, goes_on _ _ _ _ _ _ _ _ one.0 c.clauses.invariant.1 c.in-Some.ensures one.2 one.1)
+    (search rules, goes_on _ _ _ _ _ _ _ _ one.0 c.clauses.invariant.1 c.in-Some.ensures.some one.2 one.1)
 
 pub clauses-smaller : goal.clauses-smaller
-clauses-smaller c = shorter _ _ _ c.in-Some.ensures
+clauses-smaller c = shorter _ _ _ c.in-Some.ensures.some
 
 pub returns : goal.returns
 returns c =

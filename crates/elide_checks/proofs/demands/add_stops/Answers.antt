@@ -1,4 +1,6 @@
-use Rattle.std.proofs.Common.{ℕ, List, [], ◌∷◌, ◌++◌, ◌∙◌, ap, append_assoc, refl, Bor}
+use Rattle.std.proofs.Common.{ℕ, List, [], ◌∷◌, ◌++◌, ◌∙◌, ap, append_assoc, inl, refl, Bor, get_or}
+use Rattle.std.proofs.lemmas.List.Elements.{Contains-get_or}
+use Rattle.std.proofs.lemmas.Result.{err_from_is_err_and}
 use Rattle.tm_check.specs.declared.check.Check.{Check}
 use Rattle.tm_check.specs.declared.check.Check.TheVariants.{NoStop}
 use Rattle.elide_checks.specs.Checks.{IsStopCheck}
@@ -15,3 +17,14 @@ loop-word-preserved c =
           (before.0 ++ one) c.loop-word.word-index no_text (NoStop c.in_ok-why.why) c.loop-word-test.true before.2
           (c.in_ok-why.why, refl, c.in_ok-why.ensures) refl,
     )
+
+pub returns-in_err-why : goal.returns-in_err-why
+returns-in_err-why c =
+    let p = err_from_is_err_and c.from_residual.result c.from_residual.ensures.1 in
+    let words = c.args.words.now in
+    rw (p.1, p.2) (inl (record {
+      word = get_or words c.loop-word.word-index no_text;
+      among = Contains-get_or words c.loop-word.word-index no_text c.loop-word-test.true;
+      other = c.in_err-why.ensures.0;
+      named = c.in_err-why.ensures.1;
+    }))

@@ -4,11 +4,11 @@ use Rattle.elide_hunt.specs.Lines.{counts_of}
 use Rattle.elide_hunt.proofs.Hunted.{shortened_hunt}
 use Rattle.elide_hunt.proofs.command.shortest.Goals as goal
 
-pub returns : goal.returns
-returns g c =
+pub returns-clause-hunted : goal.returns-clause-hunted
+returns-clause-hunted g c =
     shortened_hunt c.args.trial.now c.args.orders.now
     (record { before = c.counts_of-before.result; cycle = c.in_ok-cycle.cycle })
-    c.in_ok-found.field-0 c.in-Some.field-0 c.shortened.new.failure c.in-Some.is c.in_ok-found.ensures
+    c.in_ok-found.field-0 c.in-Some.field-0 c.shortened.new.failure c.in-Some.is c.in_ok-found.ensures.searched
     (subst (λ (picks : List Pick). c.counts_of-before.result ≡ counts_of picks) c.as_slice.ensures.value c.counts_of-before.ensures)
     c.in_ok-shortened.ensures.fails c.in_ok-shortened.ensures.same c.in_ok-shortened.ensures.simpler c.in_ok-shortened.ensures.kinds
-    c.in_ok-cycle.ensures
+    c.in_ok-cycle.ensures.found

@@ -1,10 +1,11 @@
 use Rattle.std.proofs.Common.{refl}
-use Rattle.std.proofs.lemmas.Result.{IfOk-weaker}
+use Rattle.elide_outcomes.specs.Refused.{not_searched}
+use Rattle.elide_outcomes.proofs.Refusing.{either_weaker}
 use Rattle.elide_outcomes.proofs.command.search_of_setup.Goals as goal
 
 pub returns : goal.returns
 returns g c =
-    IfOk-weaker c.sorted.result _ _
+    either_weaker c.sorted.result _ _ _ _
     (λ search is. (
       _,
       record {
@@ -13,8 +14,18 @@ returns g c =
         items = refl;
         events = c.requires.under;
         stops = refl;
-        checks = c.in_ok-checks.ensures;
+        checks = c.in_ok-checks.ensures.0;
       },
       is,
     ))
+    (λ why none. not_searched _
+    (record {
+      program = refl;
+      limits = refl;
+      items = refl;
+      events = c.requires.under;
+      stops = refl;
+      checks = c.in_ok-checks.ensures.0;
+    })
+    none)
     c.sorted.ensures

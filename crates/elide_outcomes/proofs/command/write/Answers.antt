@@ -4,8 +4,8 @@ use Rattle.elide_args.specs.Asked.{texts_of}
 use Rattle.elide_outcomes.specs.Printed.{AreWritten}
 use Rattle.elide_outcomes.proofs.command.write.Goals as goal
 
-pub returns : goal.returns
-returns g c =
+pub returns-clause-ok : goal.returns-clause-ok
+returns-clause-ok g c =
     let device = g.O.Out.device in
     on_ok_weaker c.write_words.result
     (λ written. record {
@@ -17,4 +17,4 @@ returns g c =
           (device c.args.out.now).contents (device c.write_words.new.out).contents)
           c.as_slice.ensures.value written;
     })
-    c.write_words.ensures
+    c.write_words.ensures.ok

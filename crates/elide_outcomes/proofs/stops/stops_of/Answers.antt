@@ -1,4 +1,6 @@
-use Rattle.std.proofs.Common.{◌≡◌, ℕ, List, Bor}
+use Rattle.std.proofs.Common.{◌≡◌, inl, ℕ, List, Bor, get_or}
+use Rattle.std.proofs.lemmas.List.Elements.{Contains-get_or}
+use Rattle.std.proofs.lemmas.Result.{err_from_is_err_and}
 use Rattle.elide_setup.specs.TmHist.Lines.{stop_word}
 use Rattle.tm_rule.specs.declared.kinds.Stop.{Stop}
 use Rattle.elide_outcomes.proofs.Zips.{no_text, zip_added}
@@ -9,3 +11,14 @@ loop-word-preserved c =
     zip_added (λ (word : Bor (List ℕ)) (why : Stop). stop_word why ≡ word.now) c.args.words.now c.loop-word.stops.items
     c.add.new.stops.items c.loop-word.word-index no_text c.in_ok-why.why c.loop-word-test.true c.loop-word.invariant
     c.in_ok-why.ensures c.in_ok-add.ensures
+
+pub returns-in_err-why : goal.returns-in_err-why
+returns-in_err-why c =
+    let p = err_from_is_err_and c.from_residual.result c.from_residual.ensures.1 in
+    let words = c.args.words.now in
+    rw (p.1, p.2) (inl (record {
+      word = get_or words c.loop-word.word-index no_text;
+      among = Contains-get_or words c.loop-word.word-index no_text c.loop-word-test.true;
+      other = c.in_err-why.ensures.0;
+      named = c.in_err-why.ensures.1;
+    }))

@@ -1,4 +1,4 @@
-use Rattle.std.proofs.Common.{◌≡◌, List, [], ◌∷◌, ◌++◌, ◌∙◌, ap, sym, take}
+use Rattle.std.proofs.Common.{List, [], ◌∷◌, ◌++◌, ◌∙◌, ap, sym, take}
 use Rattle.std.proofs.lemmas.List.{take_more, take_all}
 use Rattle.ia_item.specs.declared.item.Entry.{Entry}
 use Rattle.elide_checks.specs.EquNames.{names_in}

@@ -6,8 +6,8 @@ use Rattle.elide_hunt.specs.Shares.{share_start}
 use Rattle.elide_hunt.proofs.Shares.{share_of_search}
 use Rattle.elide_hunt.proofs.block.Block.share.Goals as goal
 
-pub returns-in-Ok : goal.returns-in-Ok
-returns-in-Ok c =
+pub returns-in-Ok-clause-made : goal.returns-in-Ok-clause-made
+returns-in-Ok-clause-made c =
     let block = c.args.self.now in
     let made : ℕ → Board → Type 0 = IsPlannedRun block.plan in
     let search = c.in-Ok.search in
