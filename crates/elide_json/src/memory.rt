@@ -1,12 +1,13 @@
 //! What is shown of a memory.
 
-ghost use Rattle.std.specs.Prelude.{◌≡◌, ◌+◌, ◌≤◌, ◌++◌, ◌∷◌, [], IfOk, OnOk, codes, length, map, slice_range, string_bytes};
-ghost use Rattle.std.specs.List.{zip};
+ghost use Rattle.std.specs.Prelude.{◌≡◌, ◌+◌, ◌≤◌, ◌++◌, ◌∷◌, [], IfErr, IfOk, OnOk, codes, false, length, map, slice_range, string_bytes};
+ghost use Rattle.std.specs.List.{list_all, zip};
 ghost use Rattle.elide_object.specs.Object.{SendsMember, list_value};
-ghost use Rattle.elide_setup.specs.Shown.{doubleword};
+ghost use Rattle.elide_setup.specs.Shown.{are_held, doubleword, is_dump_held, is_value_held};
 ghost use Rattle.hex.specs.Hex.{encode_lower};
 ghost use Rattle.serde_json.specs.Events.{SendsValue};
 ghost use Rattle.elide_json.specs.Memory.{AreRowsOf, dump_at, dump_row, show_at, show_row, show_value};
+ghost use Rattle.elide_json.specs.Refused.{IsNoRow};
 
 use elide_object::{send_number, send_text};
 use elide_program::{Dump, MemoryParts};
@@ -54,7 +55,8 @@ impl Rows {
         parts: &MemoryParts,
         texts: &[&str],
     ) -> Result<Rows, Refusal>
-        ensures { IfOk result (AreRowsOf memory.now parts.now texts.now) }
+        ensures rows { IfOk result (AreRowsOf memory.now parts.now texts.now) }
+        ensures refused { IfErr result (IsNoRow (are_held (length memory.now) parts.now)) }
     {
         let dumps = dump_rows(alloc, memory, parts.dumps.as_slice())?;
         let shows = show_rows(alloc, memory, texts, parts.values.as_slice())?;
@@ -63,7 +65,8 @@ impl Rows {
 }
 
 fn dump_rows(alloc: Global, memory: &[u8], dumps: &[Dump]) -> Result<Vec<DumpRow>, Refusal>
-    ensures { IfOk result (λ rows. map dump_row rows.items ≡ map (dump_at memory.now) dumps.now) }
+    ensures rows { IfOk result (λ rows. map dump_row rows.items ≡ map (dump_at memory.now) dumps.now) }
+    ensures refused { IfErr result (IsNoRow (list_all (is_dump_held (length memory.now)) dumps.now)) }
 {
     let mut rows = Vec::new(alloc);
     for dump in dumps {
@@ -74,7 +77,8 @@ fn dump_rows(alloc: Global, memory: &[u8], dumps: &[Dump]) -> Result<Vec<DumpRow
 }
 
 fn row_of_dump(alloc: Global, memory: &[u8], dump: Dump) -> Result<DumpRow, Refusal>
-    ensures { IfOk result (λ row. dump_row row ≡ dump_at memory.now dump) }
+    ensures row { IfOk result (λ row. dump_row row ≡ dump_at memory.now dump) }
+    ensures refused { IfErr result (IsNoRow (is_dump_held (length memory.now) dump)) }
 {
     let start = dump.address as usize;
     let end = start + dump.length as usize;
@@ -94,7 +98,8 @@ fn show_rows(
     texts: &[&str],
     addresses: &[u32],
 ) -> Result<Vec<ShowRow>, Refusal>
-    ensures { IfOk result (λ rows. map show_row rows.items ≡ map (show_at memory.now) (zip texts.now addresses.now)) }
+    ensures rows { IfOk result (λ rows. map show_row rows.items ≡ map (show_at memory.now) (zip texts.now addresses.now)) }
+    ensures refused { IfErr result (IsNoRow (list_all (is_value_held (length memory.now)) addresses.now)) }
 {
     let mut rows = Vec::new(alloc);
     for index in 0..texts.len().min(addresses.len()) {
@@ -105,7 +110,8 @@ fn show_rows(
 }
 
 fn row_of_show(alloc: Global, memory: &[u8], text: &str, address: u32) -> Result<ShowRow, Refusal>
-    ensures { IfOk result (λ row. show_row row ≡ show_value text.now address (doubleword memory.now address)) }
+    ensures row { IfOk result (λ row. show_row row ≡ show_value text.now address (doubleword memory.now address)) }
+    ensures refused { IfErr result (IsNoRow (is_value_held (length memory.now) address)) }
 {
     let at = String::from_str(alloc, text)?;
     let value = value_at(memory, address)?;
@@ -123,7 +129,9 @@ fn add<T: Drop>(rows: &mut Vec<T>, row: T) -> Result<(), AllocError>
 }
 
 fn value_at(memory: &[u8], address: u32) -> Result<u32, Refusal>
-    ensures { IfOk result (λ value. value ≡ doubleword memory.now address) }
+    ensures value { IfOk result (λ value. value ≡ doubleword memory.now address) }
+    ensures refused { IfErr result (λ why. (why ≡ Refusal.Fault Fault.OutOfRange)
+        × (is_value_held (length memory.now) address ≡ false)) }
 {
     if address as usize + 4 > memory.len() {
         return Err(Refusal::Fault(Fault::OutOfRange));

@@ -1,12 +1,14 @@
 //! The objects of commands, and the end of a run's.
 
-ghost use Rattle.std.specs.Prelude.{◌≡◌, ◌≤◌, IfOk, OnOk, codes, drop, if◌then◌else◌, length, string_bytes};
+ghost use Rattle.std.specs.Prelude.{◌≡◌, ◌≤◌, IfErr, IfOk, OnOk, codes, drop, if◌then◌else◌, length, string_bytes};
 ghost use Rattle.std.specs.Option.{option_copied};
 ghost use Rattle.ia_text.specs.Writing.{Wrote};
 ghost use Rattle.elide_object.specs.Object.{SendsMember, object_text};
 ghost use Rattle.serde_json.specs.Events.{SendsValue};
 ghost use Rattle.elide_json.specs.Objects.{replay_value, run_members, running_value, threads_value};
 ghost use Rattle.elide_json.specs.Outcomes.{run_back};
+ghost use Rattle.elide_json.specs.Refused.{IsUnsaid, IsUnsent};
+ghost use Rattle.elide_setup.specs.Faults.{want};
 ghost use Rattle.elide_json.specs.Shown.{sent_members, sent_replay, sent_run, sent_threads};
 ghost use Rattle.elide_json.specs.Sent.{SendsFront};
 
@@ -140,7 +142,8 @@ pub fn put_replay<O: Out>(
     status: u8,
     out: &mut O,
 ) -> Result<(), Refusal>
-    ensures { OnOk result (Wrote (O.device out.old) (O.device out.new)
+    ensures unsent { IfErr result (IsUnsent machine.now.memory parts.now) }
+    ensures wrote { OnOk result (Wrote (O.device out.old) (O.device out.new)
         (object_text (replay_value machine.now parts.now texts.now agrees status))) }
 {
     let rows = Rows::of_memory(alloc, machine.view(), parts, texts)?;
@@ -164,7 +167,8 @@ pub fn put_threads<O: Out>(
     texts: &[&str],
     out: &mut O,
 ) -> Result<(), Refusal>
-    ensures { OnOk result (Wrote (O.device out.old) (O.device out.new)
+    ensures unsent { IfErr result (IsUnsent machine.now.memory parts.now) }
+    ensures wrote { OnOk result (Wrote (O.device out.old) (O.device out.new)
         (object_text (threads_value machine.now parts.now texts.now))) }
 {
     let rows = Rows::of_memory(alloc, machine.view(), parts, texts)?;
@@ -185,7 +189,8 @@ pub fn put_back<O: Out>(
     status: u8,
     out: &mut O,
 ) -> Result<(), Refusal>
-    ensures { OnOk result (Wrote (O.device out.old) (O.device out.new)
+    ensures unsent { IfErr result (IsUnsent machine.now.memory parts.now) }
+    ensures wrote { OnOk result (Wrote (O.device out.old) (O.device out.new)
         (run_back traces (run_members machine.now parts.now texts.now (option_copied running.entry) status))) }
 {
     let rows = Rows::of_memory(alloc, machine.view(), parts, texts)?;
@@ -211,25 +216,29 @@ fn closing(traces: bool) -> &'static [u8]
 // Writes the bytes behind the first.
 fn put_others<O: Out>(line: &[u8], out: &mut O) -> Result<(), Refusal>
     requires { 1 ≤ length line.now }
-    ensures { OnOk result (Wrote (O.device out.old) (O.device out.new) (drop 1 line.now)) }
+    ensures wrote { OnOk result (Wrote (O.device out.old) (O.device out.new) (drop 1 line.now)) }
+    ensures unsaid { IfErr result IsUnsaid }
 {
     put(&line[1..], out)
 }
 
 fn line_of_replay(alloc: Global, object: ReplayObject<'_>) -> Result<String, Refusal>
-    ensures { IfOk result (λ line. string_bytes line ≡ object_text (sent_replay object.entry)) }
+    ensures text { IfOk result (λ line. string_bytes line ≡ object_text (sent_replay object.entry)) }
+    ensures want { IfErr result (λ why. why ≡ want) }
 {
     Ok(object_line(alloc, &object)?)
 }
 
 fn line_of_threads(alloc: Global, object: ThreadsObject<'_>) -> Result<String, Refusal>
-    ensures { IfOk result (λ line. string_bytes line ≡ object_text (sent_threads object.entry)) }
+    ensures text { IfOk result (λ line. string_bytes line ≡ object_text (sent_threads object.entry)) }
+    ensures want { IfErr result (λ why. why ≡ want) }
 {
     Ok(object_line(alloc, &object)?)
 }
 
 fn line_of_run(alloc: Global, object: RunEnd<'_>) -> Result<String, Refusal>
-    ensures { IfOk result (λ line. string_bytes line ≡ object_text (sent_run object.entry)) }
+    ensures text { IfOk result (λ line. string_bytes line ≡ object_text (sent_run object.entry)) }
+    ensures want { IfErr result (λ why. why ≡ want) }
 {
     Ok(object_line(alloc, &object)?)
 }

@@ -1,10 +1,11 @@
 //! The beginning of a run's object: the outcomes of its steps, written as they are made.
 
-ghost use Rattle.std.specs.Prelude.{◌≡◌, ◌++◌, IfOk, OnOk, codes, if◌then◌else◌, nat_lt, string_bytes};
+ghost use Rattle.std.specs.Prelude.{◌≡◌, ◌++◌, IfErr, IfOk, OnOk, codes, if◌then◌else◌, nat_lt, string_bytes};
 ghost use Rattle.ia_text.specs.Writing.{Wrote};
 ghost use Rattle.serde_json.specs.Events.{SendsValue};
 ghost use Rattle.serde_json.specs.Written.{comma_if, compact_text};
 ghost use Rattle.elide_json.specs.Outcomes.{outcome_value, row_text, run_front};
+ghost use Rattle.elide_json.specs.Refused.{IsUnsaid};
 
 use crate::text::text_of;
 use crate::words::{
@@ -46,7 +47,8 @@ impl Serialize for OutcomeRow {
 
 /// Writes what stands before the outcomes, which are a list where they are asked for, and null where they are not.
 pub fn put_front<O: Out>(traces: bool, out: &mut O) -> Result<(), Refusal>
-    ensures { OnOk result (Wrote (O.device out.old) (O.device out.new) (run_front traces)) }
+    ensures wrote { OnOk result (Wrote (O.device out.old) (O.device out.new) (run_front traces)) }
+    ensures unsaid { IfErr result IsUnsaid }
 {
     put(b"{\"format\":1,\"command\":\"run\",\"outcomes\":", out)?;
     put(opening(traces), out)
@@ -66,7 +68,8 @@ pub fn put_outcome<O: Out>(
     outcome: Outcome,
     out: &mut O,
 ) -> Result<(), Refusal>
-    ensures { OnOk result (Wrote (O.device out.old) (O.device out.new) (row_text step core outcome)) }
+    ensures wrote { OnOk result (Wrote (O.device out.old) (O.device out.new) (row_text step core outcome)) }
+    ensures unsaid { IfErr result IsUnsaid }
 {
     let row = OutcomeRow {
         step,
@@ -84,7 +87,8 @@ fn text_of_row(alloc: Global, row: OutcomeRow) -> Result<String, AllocError>
 }
 
 fn put_row<O: Out>(step: u64, text: &[u8], out: &mut O) -> Result<(), Refusal>
-    ensures { OnOk result (Wrote (O.device out.old) (O.device out.new) (comma_if (nat_lt 1 step) ++ text.now)) }
+    ensures wrote { OnOk result (Wrote (O.device out.old) (O.device out.new) (comma_if (nat_lt 1 step) ++ text.now)) }
+    ensures unsaid { IfErr result IsUnsaid }
 {
     put(comma(step), out)?;
     put(text, out)
@@ -99,7 +103,8 @@ fn comma(step: u64) -> &'static [u8]
 
 /// Writes bytes.
 pub fn put<O: Out>(bytes: &[u8], out: &mut O) -> Result<(), Refusal>
-    ensures { OnOk result (Wrote (O.device out.old) (O.device out.new) bytes.now) }
+    ensures wrote { OnOk result (Wrote (O.device out.old) (O.device out.new) bytes.now) }
+    ensures unsaid { IfErr result IsUnsaid }
 {
     out.put(bytes)?;
     Ok(())

@@ -6,6 +6,7 @@ use Rattle.elide_args.specs.declared.subcommand.ReplayOptions.{ReplayOptions}
 use Rattle.tm_model.specs.declared.outcome.Outcome.{Outcome}
 use Rattle.tm_model.specs.declared.outcome.Pick.{Pick}
 use Rattle.elide_setup.specs.Recorded.{IsRecorded}
+use Rattle.elide_setup.specs.TmSchedule.Schedule.{schedule_text}
 use Rattle.elide_setup.specs.Schedules.{AreAsked, picks_made, picks_told}
 use Rattle.elide_setup.specs.Setup.{IsAsked}
 use Rattle.elide_setup.specs.Shown.{IsShownOf, shown_text}
@@ -44,5 +45,5 @@ pub record IsPrinted (content left : List ℕ → Option (List ℕ)) (options : 
   pub steps : List (Pick × Outcome)
   pub stepped : HasMade board steps
   pub scheduled : AreAsked content options.schedule (picks_made steps)
-  pub recorded : IsRecorded left options.record (picks_told steps)
+  pub recorded : IsRecorded left options.record (schedule_text (picks_told steps))
   pub told : IsTold setup options board before after

@@ -4,7 +4,7 @@
 //! prints, where the device tells its bytes, is the state and what is asked for of memory, of a board of the options and of FILE's
 //! program that made the schedule's steps, and that both runs agree; and the file that the schedule is recorded in, where its content
 //! is told, is left with the one that the outcomes of these steps tell (`specs/Printed.antt`). With `--json` that is one object in place
-//! of the lines; where lines are asked for, a replay is refused for the reason that it names alone (`specs/Refused.antt`). The texts of
+//! of the lines. A replay is refused for the reason that it names alone (`specs/Refused.antt`). The texts of
 //! reasons are compared by `doc_tests`. Stands on `elide_setup` and on `tm_hist`, whose histories replay.
 #![tactic(auto)]
 

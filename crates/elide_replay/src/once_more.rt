@@ -8,6 +8,8 @@ ghost use Rattle.tm_model.specs.Runs.{picks_of};
 ghost use Rattle.elide_setup.specs.Faults.{want};
 ghost use Rattle.elide_setup.specs.Recorded.{IsRecorded};
 ghost use Rattle.elide_setup.specs.Refused.{IsAnyWant, IsNoBoard, IsNotScheduled, IsUnrecorded};
+ghost use Rattle.elide_why.specs.Refused.{IsUnwritten};
+ghost use Rattle.elide_json.specs.Refused.{IsUnsent};
 ghost use Rattle.elide_setup.specs.Schedules.{AreAsked, AreOf, picks_made};
 ghost use Rattle.elide_setup.specs.Setup.{IsAsked};
 ghost use Rattle.elide_setup.specs.Shown.{shown_text};
@@ -15,9 +17,9 @@ ghost use Rattle.elide_replay.specs.Printed.{IsPrinted, IsTold};
 ghost use Rattle.elide_replay.specs.Refused.{HasNoSerial, IsNotCompared, IsNotMade, IsRefused};
 ghost use Rattle.elide_replay.specs.Replayed.{IsBoardOf};
 ghost use Rattle.elide_setup.specs.Runs.{HasMade};
+ghost use Rattle.elide_setup.specs.TmSchedule.Schedule.{schedule_text};
 ghost use Rattle.elide_replay.specs.Told.{agreement_object, agreement_text};
 ghost use Rattle.elide_why.specs.ElideSetup.Shown.{IsWhole};
-ghost use Rattle.elide_why.specs.Refused.{IsUnwritten};
 ghost use Rattle.elide_why.specs.TmHist.Board.{IsNew};
 ghost use Rattle.elide_why.specs.TmHist.Replay.{Replays};
 
@@ -50,8 +52,7 @@ pub fn replay<P: Paths, O: Out + Drop, G: Progress>(
     ensures agrees { IfOk result (λ r. r.0 ≡ Agreement.Agrees) }
     ensures printed { IfOk result (λ r. IsPrinted (P.content paths.old) (P.content paths.new) options.now
         (O.device out).contents (O.device r.1).contents) }
-    ensures refused { options.now.is_json ≡ false →
-        IfErr result (IsRefused (P.content paths.old) (P.are_one paths.old) options.now) }
+    ensures refused { IfErr result (IsRefused (P.content paths.old) (P.are_one paths.old) options.now) }
 {
     if options.is_json && options.explains {
         return Err(Refusal::Usage("--json"));
@@ -117,8 +118,9 @@ fn compared<P: Paths, O: Out + Drop, G: Progress>(
     requires { options.now.explains ≡ false → places ≡ None }
     ensures agrees { IfOk result (λ r. r.0 ≡ Agreement.Agrees) }
     ensures told { IfOk result (λ r. IsTold setup.now options.now board.now (O.device out).contents (O.device r.1).contents) }
-    ensures recorded { IfOk result (λ _. IsRecorded (P.content paths.new) path.entry (picks_of board.now.history)) }
-    ensures refused { options.now.is_json ≡ false → IfErr result (IsNotCompared setup.now board.now path.entry) }
+    ensures recorded { IfOk result (λ _. IsRecorded (P.content paths.new) path.entry
+        (schedule_text (picks_of board.now.history))) }
+    ensures refused { IfErr result (IsNotCompared setup.now board.now path.entry) }
 {
     board.is_run();
     let sums = options.machine.shows.as_slice();
@@ -148,7 +150,7 @@ fn write_record<P: Paths>(
     path: Option<&str>,
     paths: &mut P,
 ) -> Result<(), Refusal>
-    ensures written { OnOk result (IsRecorded (P.content paths.new) path.entry (picks_of board.now.history)) }
+    ensures written { OnOk result (IsRecorded (P.content paths.new) path.entry (schedule_text (picks_of board.now.history))) }
     ensures failed { IfErr result (λ why. IsUnrecorded path.entry why ⊎ IsAnyWant why) }
 {
     if path.is_none() {
@@ -211,7 +213,7 @@ fn tell_asked<O: Out>(
 ) -> Result<Agreement, Refusal>
     requires { IsWhole memory }
     ensures agrees { IfOk result (λ agreement. agreement ≡ Agreement.Agrees ↔ Replays board.now serial.now) }
-    ensures unwritten { options.now.is_json ≡ false → IfErr result IsUnwritten }
+    ensures unsent { IfErr result (IsUnsent board.now.machine.memory setup.now.parts) }
     ensures lines { IfOk result (λ agreement. options.now.is_json ≡ false → Wrote (O.device out.old) (O.device out.new)
         (shown_text board.now.machine memory.entry ++ agreement_text agreement)) }
     ensures object { IfOk result (λ agreement. options.now.is_json ≡ true → Wrote (O.device out.old) (O.device out.new)
@@ -234,6 +236,7 @@ fn tell_object<O: Out>(
     out: &mut O,
 ) -> Result<Agreement, Refusal>
     ensures agrees { IfOk result (λ agreement. agreement ≡ Agreement.Agrees ↔ Replays board.now serial.now) }
+    ensures unsent { IfErr result (IsUnsent board.now.machine.memory setup.now.parts) }
     ensures told { IfOk result (λ agreement. Wrote (O.device out.old) (O.device out.new)
         (agreement_object board.now.machine setup.now options.now agreement)) }
 {

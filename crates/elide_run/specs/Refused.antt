@@ -49,8 +49,8 @@ pub data IsRefused (content : List ℕ → Option (List ℕ)) (are_one : List �
     (options : RunOptions) (why : Refusal) : Type 0 where
   code_alone : options.shows_code ≡ true → options.traces ≡ false → IsMisuse (codes "--code") why
       → IsRefused content are_one options why
-  reasons_in_json : (options.explains || options.shows_code) ≡ true → IsMisuse (codes "--json") why
-      → IsRefused content are_one options why
+  reasons_in_json : options.is_json ≡ true → (options.explains || options.shows_code) ≡ true
+      → IsMisuse (codes "--json") why → IsRefused content are_one options why
   over_program : IsOverProgram are_one options.record options.machine.file.now why
       → IsRefused content are_one options why
   unscheduled : IsNotScheduled content options.machine options.schedule why → IsRefused content are_one options why

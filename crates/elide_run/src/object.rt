@@ -1,12 +1,15 @@
 //! Runs that are printed as one object. Its outcomes are written as they are made, so that no memory grows with the run.
 
-ghost use Rattle.std.specs.Prelude.{◌≡◌, ◌≤◌, ◌<◌, ◌+◌, ◌++◌, ◌^◌, [], ◌∷◌, cond, false, length, not, true, IfOk, List, OnErr, OnOk, if◌then◌else◌};
+ghost use Rattle.std.specs.Prelude.{◌≡◌, ◌≤◌, ◌<◌, ◌+◌, ◌++◌, ◌^◌, ◌⊎◌, [], ◌∷◌, cond, false, length, not, true, IfErr, IfOk, List, OnErr, OnOk, if◌then◌else◌};
 ghost use Rattle.std.specs.Option.{option_copied};
 ghost use Rattle.arrayvec.specs.ArrayVec.{array_vec_len};
 ghost use Rattle.ia_text.specs.Writing.{Wrote};
 ghost use Rattle.elide_json.specs.Objects.{run_members};
 ghost use Rattle.elide_json.specs.Outcomes.{rows_text, run_back, run_front, run_rows};
+ghost use Rattle.elide_json.specs.Refused.{IsUnsaid, IsUnsent};
 ghost use Rattle.elide_setup.specs.Recorded.{IsRecorded};
+ghost use Rattle.elide_setup.specs.Refused.{IsAnyWant};
+ghost use Rattle.elide_why.specs.Refused.{IsUntold};
 ghost use Rattle.elide_setup.specs.Rounds.{IsOut};
 ghost use Rattle.elide_setup.specs.Runs.{AreMachineSteps, IsRunOf};
 ghost use Rattle.elide_setup.specs.Schedules.{AreOf, picks_made, picks_told, schedule_made};
@@ -14,6 +17,7 @@ ghost use Rattle.tm_model.specs.declared.outcome.Outcome.{Outcome};
 ghost use Rattle.tm_model.specs.declared.outcome.Pick.{Pick};
 ghost use Rattle.elide_run.specs.Object.{IsEnd, IsObjectPrinted, asked_running, cores_ending, ending_status};
 ghost use Rattle.elide_run.specs.Object.{running_cores};
+ghost use Rattle.elide_run.specs.Refused.{IsNoRun, IsRefused};
 
 use crate::halting::{Ending, has_stopped};
 use crate::opening::machine_of;
@@ -42,8 +46,10 @@ pub fn run_object<P: Paths, O: Out + Drop, G: Progress>(
     out: O,
     progress: &mut G,
 ) -> Result<(Ending, O), Refusal>
-    ensures { IfOk result (λ r. IsObjectPrinted (P.content paths.old) (P.content paths.new) options.now r.0
+    requires { options.now.is_json ≡ true }
+    ensures printed { IfOk result (λ r. IsObjectPrinted (P.content paths.old) (P.content paths.new) options.now r.0
         (O.device out).contents (O.device r.1).contents) }
+    ensures refused { IfErr result (IsRefused (P.content paths.old) (P.are_one paths.old) options.now) }
 {
     if options.explains || options.shows_code {
         return Err(Refusal::Usage("--json"));
@@ -80,7 +86,8 @@ fn stepped<P: Paths, O: Out + Drop, G: Progress>(
     page: Gathered<O>,
     progress: &mut G,
 ) -> Result<(Machine, Gathered<O>), Refusal>
-    ensures { IfOk result (λ r. (made : List (Pick × Outcome)) × AreOf course.now (picks_made made)
+    ensures refused { IfErr result (IsNoRun setup.now course.now path.entry) }
+    ensures made { IfOk result (λ r. (made : List (Pick × Outcome)) × AreOf course.now (picks_made made)
         × IsRunOf setup.now.program setup.now.limits made r.0
         × Wrote (⟦<Gathered<O> as Out>⟧.device page) (⟦<Gathered<O> as Out>⟧.device r.1)
         (run_front traces ++ run_rows traces made)
@@ -107,8 +114,9 @@ fn stepped<P: Paths, O: Out + Drop, G: Progress>(
 
 // What stands before the outcomes is written.
 fn begun<O: Out + Drop>(traces: bool, page: Gathered<O>) -> Result<Gathered<O>, Refusal>
-    ensures { IfOk result (λ begun. Wrote (⟦<Gathered<O> as Out>⟧.device page) (⟦<Gathered<O> as Out>⟧.device begun)
+    ensures wrote { IfOk result (λ begun. Wrote (⟦<Gathered<O> as Out>⟧.device page) (⟦<Gathered<O> as Out>⟧.device begun)
         (run_front traces)) }
+    ensures unsaid { IfErr result IsUnsaid }
 {
     let mut page = page;
     put_front(traces, &mut page)?;
@@ -131,6 +139,8 @@ impl<O: Out> StepMaker for Sending<O> {
         (rows_text before.made steps)
         × (after.made ≡ before.made + length steps) };
 
+    ghost refuses = { λ why. IsUntold why ⊎ IsAnyWant why };
+
     fn make_step(&mut self, pick: Pick) -> Result<Outcome, Refusal> {
         let outcome = self.machine.make_step(pick)?;
         let step = number_behind(self.made)?;
@@ -144,6 +154,7 @@ impl<O: Out> StepMaker for Sending<O> {
 fn number_behind(made: u64) -> Result<u64, Refusal>
     ensures number { IfOk result (λ step. step ≡ made + 1) }
     ensures none { OnErr result (made + 1 ≡ 2 ^ 64) }
+    ensures want { IfErr result IsAnyWant }
 {
     match made.checked_add(1) {
         Some(step) => Ok(step),
@@ -159,8 +170,9 @@ fn tell_end<O: Out + Drop>(
     options: &RunOptions<'_>,
     page: Gathered<O>,
 ) -> Result<(Ending, O), Refusal>
-    ensures { IfOk result (λ r. IsEnd options.now setup.now machine.now r.0
+    ensures told { IfOk result (λ r. IsEnd options.now setup.now machine.now r.0
         (⟦<Gathered<O> as Out>⟧.device page).contents (O.device r.1).contents) }
+    ensures unsent { IfErr result (IsUnsent machine.now.memory setup.now.parts) }
 {
     let mut page = page;
     let cores = running_of(machine);
@@ -187,9 +199,10 @@ fn put_end<O: Out>(
     status: u8,
     out: &mut O,
 ) -> Result<(), Refusal>
-    ensures { OnOk result (Wrote (O.device out.old) (O.device out.new) (run_back options.now.traces
+    ensures wrote { OnOk result (Wrote (O.device out.old) (O.device out.new) (run_back options.now.traces
         (run_members machine.now setup.now.parts options.now.machine.shows.items
         (asked_running options.now.expects_halt cores.now) status))) }
+    ensures unsent { IfErr result (IsUnsent machine.now.memory setup.now.parts) }
 {
     put_back(
         alloc,

@@ -45,8 +45,7 @@ pub fn run<P: Paths, O: Out + Drop, G: Progress>(
         options.now r.0 (O.device out).contents (O.device r.1).contents) }
     ensures object { IfOk result (λ r. options.now.is_json ≡ true → IsObjectPrinted (P.content paths.old)
         (P.content paths.new) options.now r.0 (O.device out).contents (O.device r.1).contents) }
-    ensures refused { options.now.is_json ≡ false →
-        IfErr result (IsRefused (P.content paths.old) (P.are_one paths.old) options.now) }
+    ensures refused { IfErr result (IsRefused (P.content paths.old) (P.are_one paths.old) options.now) }
 {
     if options.shows_code && !options.traces {
         return Err(Refusal::Usage("--code"));

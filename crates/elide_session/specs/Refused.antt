@@ -2,7 +2,8 @@
 use Rattle.std.specs.Prelude.{◌≡◌, ℕ, ◌⊎◌, true, List, Option, length}
 use Rattle.elide_args.specs.declared.subcommand.MachineOptions.{MachineOptions}
 use Rattle.elide_args.specs.declared.subcommand.ScheduleOptions.{ScheduleOptions}
-use Rattle.elide_setup.specs.Refused.{IsAnyWant, IsNoBoard, IsNoCore, IsNoMachine, IsNoWalk, IsNotScheduled, NamesNoCore}
+use Rattle.elide_setup.specs.Refused.{HasNoSetup, IsAnyWant, IsNoBoard, IsNoCore, IsNoMachine, IsNoWalk}
+use Rattle.elide_setup.specs.Refused.{IsNotScheduled, NamesNoCore}
 use Rattle.elide_setup.specs.Schedules.{AreAsked, AreOf, listed_in}
 use Rattle.elide_setup.specs.Setup.{IsAsked}
 use Rattle.elide_setup.specs.declared.fault.Fault.{Fault}
@@ -12,10 +13,6 @@ use Rattle.elide_setup.specs.declared.machine.Setup.{Setup}
 use Rattle.elide_setup.specs.declared.plan.Course.{Course}
 use Rattle.tm_model.specs.declared.outcome.Pick.{Pick}
 use Rattle.elide_session.specs.Opened.{is_scheduled}
-
--- there is no program by the options, whichever schedule is asked for
-abbrev pub HasNoSetup : (List ℕ → Option (List ℕ)) → MachineOptions → Refusal → Type 0
-HasNoSetup content machine why = (any : ScheduleOptions) → IsNotScheduled content machine any why
 
 -- a schedule is not drawn on a machine with these limits
 abbrev pub IsUndrawn : Setup → Refusal → Type 0

@@ -1,2 +1,3 @@
 mod Recording
+mod Refusing
 mod Steps

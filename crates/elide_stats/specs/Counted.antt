@@ -14,7 +14,6 @@ use Rattle.tm_model.specs.declared.outcome.Outcome.{Outcome}
 use Rattle.tm_model.specs.declared.outcome.Pick.{Pick}
 use Rattle.tm_stats.specs.Counts.{AreCounts}
 use Rattle.tm_stats.specs.declared.cause.AbortCause.{AbortCause}
-use Rattle.tm_stats.specs.declared.counts.RunCounts.{RunCounts}
 use Rattle.tm_stats.specs.declared.step.Step.{Step}
 use Rattle.elide_stats.specs.Causes.{cause_for}
 use Rattle.elide_stats.specs.declared.asked.Asked.{Asked}

@@ -1,3 +1,4 @@
 pub mod Causes
 pub mod Counted
 pub mod Hits
+pub mod Refused

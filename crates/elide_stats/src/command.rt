@@ -1,6 +1,7 @@
 //! The command.
 
-ghost use Rattle.std.specs.Prelude.{◌≡◌, [], ℕ, List, OnOk, Option};
+ghost use Rattle.std.specs.Prelude.{◌≡◌, [], ℕ, IfErr, List, OnOk, Option, length};
+ghost use Rattle.elide_setup.specs.ElideProgram.Files.{Gives, most_bytes};
 ghost use Rattle.elide_setup.specs.ElideProgram.ProgramFile.{IsFile, IsRead};
 ghost use Rattle.elide_setup.specs.ElideProgram.ProgramFileType.{ProgramFile};
 ghost use Rattle.elide_setup.specs.Made.{HasRun, HasRunCourse, HasRunPlan};
@@ -12,6 +13,7 @@ ghost use Rattle.elide_setup.specs.Walks.{Leads};
 ghost use Rattle.tm_model.specs.declared.outcome.Outcome.{Outcome};
 ghost use Rattle.tm_model.specs.declared.outcome.Pick.{Pick};
 ghost use Rattle.tm_stats.specs.Counts.{AreCounts};
+ghost use Rattle.elide_stats.specs.Refused.{AreOfOptions, IsNoCount, IsNotCounted, IsRefused};
 
 use crate::counting::Counting;
 use crate::told::{CountedRun, tell_counting};
@@ -27,10 +29,10 @@ use tm_stats::AbortCause;
 // What is asked for beside the program and its schedule.
 #[derive(Clone, Copy)]
 struct Asked<'a> {
+    options: &'a StatsOptions<'a>,
     settings: Settings<'a>,
     // Where the schedule that came about is written.
     path: Option<&'a str>,
-    is_json: bool,
 }
 
 /// Runs a schedule of core steps, writes the schedule that came about where there is a path, and prints what its
@@ -42,43 +44,41 @@ pub fn stats<P: Paths, O: Out, G: Progress>(
     out: &mut O,
     progress: &mut G,
 ) -> Result<(), Refusal>
-    ensures { OnOk result (HasRun (P.content paths.old) (P.content paths.new) options.now.machine
+    ensures ran { OnOk result (HasRun (P.content paths.old) (P.content paths.new) options.now.machine
         options.now.schedule options.now.«record») }
+    ensures refused { IfErr result (IsRefused (P.content paths.old) (P.are_one paths.old) options.now) }
 {
     let path = record_path(options.record, options.machine.file, paths)?;
     let settings = Settings::read(&options.machine)?;
     let plan = Plan::read(alloc, &options.schedule)?;
     let asked = Asked {
+        options,
         settings,
         path,
-        is_json: options.is_json,
     };
-    stats_of_path(
-        alloc,
-        options.machine.file,
-        plan,
-        &asked,
-        paths,
-        out,
-        progress,
-    )
+    stats_of_path(alloc, plan, &asked, paths, out, progress)
 }
 
-// The same of a program's path. What is made in one of these functions is lent to the next, so that each has little to drop.
+// The same of what was read of the options. What is made in one of these functions is lent to the next, so that each has
+// little to drop.
 fn stats_of_path<P: Paths, O: Out, G: Progress>(
     alloc: Global,
-    path: &str,
     plan: Plan<'_>,
     asked: &Asked<'_>,
     paths: &mut P,
     out: &mut O,
     progress: &mut G,
 ) -> Result<(), Refusal>
-    ensures { OnOk result ((file : ProgramFile) × (given : List ℕ → Option (List ℕ))
-        × IsRead (P.content paths.old path.now) file × ((other : List ℕ) → given other ≡ P.content paths.old other)
+    requires { AreOfOptions asked.now plan }
+    ensures ran { OnOk result ((file : ProgramFile) × (given : List ℕ → Option (List ℕ))
+        × IsRead (P.content paths.old asked.now.options.now.machine.file.now) file
+        × ((other : List ℕ) → given other ≡ P.content paths.old other)
         × HasRunPlan given (P.content paths.new) file asked.now.settings plan.entry asked.now.path) }
+    ensures refused { (content : List ℕ → Option (List ℕ)) → ((other : List ℕ) → P.content paths.old other ≡ content other)
+        → IfErr result (IsNotCounted content asked.now.options.now) }
 {
-    let text = read_file(path, paths)?;
+    let options = asked.options;
+    let text = read_file(options.machine.file, paths)?;
     stats_of_text(alloc, text.as_slice(), plan, asked, paths, out, progress)
 }
 
@@ -92,8 +92,12 @@ fn stats_of_text<P: Paths, O: Out, G: Progress>(
     out: &mut O,
     progress: &mut G,
 ) -> Result<(), Refusal>
-    ensures { OnOk result ((file : ProgramFile) × IsFile text.now file
+    requires { AreOfOptions asked.now plan }
+    ensures ran { OnOk result ((file : ProgramFile) × IsFile text.now file
         × HasRunPlan (P.content paths.old) (P.content paths.new) file asked.now.settings plan.entry asked.now.path) }
+    ensures refused { (content : List ℕ → Option (List ℕ)) → ((other : List ℕ) → P.content paths.old other ≡ content other)
+        → Gives (content asked.now.options.now.machine.file.now) most_bytes text.now
+        → IfErr result (IsNotCounted content asked.now.options.now) }
 {
     let file = ProgramFile::read(alloc, text)?;
     let told = stats_of_file(alloc, &file, plan, asked, paths, out, progress);
@@ -111,8 +115,12 @@ fn stats_of_file<P: Paths, O: Out, G: Progress>(
     out: &mut O,
     progress: &mut G,
 ) -> Result<(), Refusal>
-    ensures { OnOk result (HasRunPlan (P.content paths.old) (P.content paths.new) file.now asked.now.settings
+    requires { AreOfOptions asked.now plan }
+    ensures ran { OnOk result (HasRunPlan (P.content paths.old) (P.content paths.new) file.now asked.now.settings
         plan.entry asked.now.path) }
+    ensures refused { (content : List ℕ → Option (List ℕ)) → ((other : List ℕ) → P.content paths.old other ≡ content other)
+        → IsRead (content asked.now.options.now.machine.file.now) file.now
+        → IfErr result (IsNotCounted content asked.now.options.now) }
 {
     let (setup, course) = planned(alloc, &asked.settings, plan, file, paths)?;
     stats_of_setup(alloc, &setup, &course, file, asked, paths, out, progress)
@@ -129,7 +137,8 @@ fn stats_of_setup<P: Paths, O: Out, G: Progress>(
     out: &mut O,
     progress: &mut G,
 ) -> Result<(), Refusal>
-    ensures { OnOk result (HasRunCourse (P.content paths.new) setup.now course.now asked.now.path) }
+    ensures ran { OnOk result (HasRunCourse (P.content paths.new) setup.now course.now asked.now.path) }
+    ensures refused { IfErr result (IsNoCount setup.now course.now asked.now.path) }
 {
     let machine = new_machine(alloc, setup)?;
     let mut counting = Counting::new(alloc, machine)?;
@@ -162,12 +171,14 @@ fn stats_of_course<P: Paths, O: Out, G: Progress>(
     progress: &mut G,
 ) -> Result<(), Refusal>
     requires first { IsRunOf setup.now.program setup.now.limits [] counting.old.machine }
+    requires cores { length counting.old.machine.views ≡ length setup.now.program.entries }
     requires none { AreCounts ⟦<AbortCause as PartialEq>⟧.eq counting.old.counts [] }
-    ensures { OnOk result ((made : List (Pick × Outcome)) × (after : ShownMachine)
+    ensures refused { IfErr result (IsNoCount setup.now course.now asked.now.path) }
+    ensures ran { OnOk result ((made : List (Pick × Outcome)) × (after : ShownMachine)
         × AreOf course.now (picks_made made) × Leads AreMachineSteps counting.old.machine made after
         × IsRecorded (P.content paths.new) asked.now.path (schedule_made course.now (picks_told made))) }
 {
     counting.run_course(alloc, course, asked.path, paths, progress)?;
     let run = CountedRun::Planned(setup, course);
-    tell_counting(alloc, run, counting, file, asked.is_json, out)
+    tell_counting(alloc, run, counting, file, asked.options.is_json, out)
 }

@@ -1,6 +1,6 @@
 //! A run whose steps are counted.
 
-ghost use Rattle.std.specs.Prelude.{◌≡◌, [], IfOk, List};
+ghost use Rattle.std.specs.Prelude.{◌≡◌, [], IfErr, IfOk, List, length};
 ghost use Rattle.elide_setup.specs.Recorded.{IsRecorded};
 ghost use Rattle.elide_setup.specs.Runs.{AreMachineSteps};
 ghost use Rattle.elide_setup.specs.Schedules.{AreOf, picks_made, picks_told, schedule_made};
@@ -10,7 +10,9 @@ ghost use Rattle.tm_model.specs.declared.outcome.Pick.{Pick};
 ghost use Rattle.tm_model.specs.Runs.{picks_of};
 ghost use Rattle.tm_stats.specs.Counts.{AreCounts};
 ghost use Rattle.tm_stats.specs.declared.step.Step.{Step};
+ghost use Rattle.elide_setup.specs.Refused.{IsAnyWant};
 ghost use Rattle.elide_stats.specs.Counted.{GoOn};
+ghost use Rattle.elide_stats.specs.Refused.{IsUncounted, IsUncountedStep};
 
 use crate::asked::Asked;
 use crate::hits::{CoreBytes, Hits};
@@ -36,6 +38,8 @@ impl StepMaker for Counting {
     ghost takes = { λ before steps after. AreMachineSteps before.machine steps after.machine
         × GoOn ⟦<AbortCause as PartialEq>⟧.eq before steps after };
 
+    ghost refuses = { IsUncountedStep };
+
     // Makes a step, and counts it with the transactions that it hits.
     fn make_step(&mut self, pick: Pick) -> Result<Outcome, Refusal> {
         let core = pick.core;
@@ -55,6 +59,7 @@ impl Counting {
     pub fn new(alloc: Global, machine: Machine) -> Result<Counting, Refusal>
         ensures machine { IfOk result (λ counting. counting.machine ≡ machine) }
         ensures counts { IfOk result (λ counting. AreCounts ⟦<AbortCause as PartialEq>⟧.eq counting.counts []) }
+        ensures none { IfErr result IsAnyWant }
     {
         let Ok(bytes) = CoreBytes::new(alloc, machine.cores()) else {
             return Err(no_memory());
@@ -76,7 +81,8 @@ impl Counting {
         paths: &mut P,
         progress: &mut G,
     ) -> Result<(), Refusal>
-        ensures { IfOk result (λ _. (made : List (Pick × Outcome)) × AreOf course.now (picks_made made)
+        ensures refused { IfErr result (IsUncounted course.now (length self.old.machine.views) path.entry) }
+        ensures ran { IfOk result (λ _. (made : List (Pick × Outcome)) × AreOf course.now (picks_made made)
             × Leads AreMachineSteps self.old.machine made self.new.machine
             × GoOn ⟦<AbortCause as PartialEq>⟧.eq self.old made self.new
             × IsRecorded (P.content paths.new) path.entry (schedule_made course.now (picks_told made))) }
@@ -92,7 +98,8 @@ impl Counting {
         board: &Board,
         progress: &mut G,
     ) -> Result<(), Refusal>
-        ensures { IfOk result (λ _. (made : List (Pick × Outcome)) × (picks_made made ≡ picks_of board.now.history)
+        ensures refused { IfErr result IsUncountedStep }
+        ensures ran { IfOk result (λ _. (made : List (Pick × Outcome)) × (picks_made made ≡ picks_of board.now.history)
             × GoOn ⟦<AbortCause as PartialEq>⟧.eq self.old made self.new) }
     {
         let history = board.history();
@@ -137,7 +144,9 @@ fn count_hits(
     core: u8,
     hits: &Hits,
     outcome: Outcome,
-) -> Result<(), Refusal> {
+) -> Result<(), Refusal>
+    ensures { IfErr result IsAnyWant }
+{
     let step = hits.step(outcome);
     for (victim, conflict) in hits.conflicts_by(outcome) {
         let mut conflict = *conflict;

@@ -1,8 +1,11 @@
 //! What is printed of a run that was counted.
 
-ghost use Rattle.std.specs.Prelude.{[], IfOk};
+ghost use Rattle.std.specs.Prelude.{◌⊎◌, [], IfErr, IfOk};
 ghost use Rattle.elide_setup.specs.Runs.{IsRunOf};
+ghost use Rattle.elide_setup.specs.Refused.{IsNoMachine};
 ghost use Rattle.elide_stats.specs.Counted.{HasCounted};
+ghost use Rattle.elide_stats.specs.Refused.{AreUntold, AreUnwritten, IsUncountedStep};
+ghost use Rattle.tm_stats.specs.Counts.{AreCounts};
 
 use crate::counting::{Counting, no_memory};
 use elide_report::{Labels, Naming, Report, json_line, put_columns};
@@ -32,6 +35,7 @@ pub fn tell_counting<O: Out>(
     out: &mut O,
 ) -> Result<(), Refusal>
     requires { HasCounted ⟦<AbortCause as PartialEq>⟧.eq run counting.old }
+    ensures { IfErr result AreUnwritten }
 {
     if counting.sort().is_err() {
         return Err(no_memory());
@@ -55,6 +59,7 @@ fn tell_labelled<O: Out>(
     out: &mut O,
 ) -> Result<(), Refusal>
     requires { HasCounted ⟦<AbortCause as PartialEq>⟧.eq _run counting.now }
+    ensures { IfErr result AreUnwritten }
 {
     match Report::of(alloc, counting.counts(), counting.conflicts(), labels) {
         Ok(report) => tell_report(alloc, &report, is_json, out),
@@ -68,7 +73,9 @@ fn tell_report<O: Out>(
     report: &Report,
     is_json: bool,
     out: &mut O,
-) -> Result<(), Refusal> {
+) -> Result<(), Refusal>
+    ensures { IfErr result AreUnwritten }
+{
     let mut page = Gathered::new(Lent::new(out));
     if is_json {
         put_json(alloc, report, &mut page)?;
@@ -80,7 +87,9 @@ fn tell_report<O: Out>(
 }
 
 // Prints a report as JSON.
-fn put_json<O: Out>(alloc: Global, report: &Report, out: &mut O) -> Result<(), Refusal> {
+fn put_json<O: Out>(alloc: Global, report: &Report, out: &mut O) -> Result<(), Refusal>
+    ensures { IfErr result AreUnwritten }
+{
     match json_line(alloc, report) {
         Ok(line) => {
             out.put(line.as_bytes())?;
@@ -92,7 +101,8 @@ fn put_json<O: Out>(alloc: Global, report: &Report, out: &mut O) -> Result<(), R
 
 // The machine of a board's program, before its first step.
 fn machine_of(alloc: Global, board: &Board) -> Result<Machine, Refusal>
-    ensures { IfOk result (IsRunOf board.now.program board.now.limits []) }
+    ensures made { IfOk result (IsRunOf board.now.program board.now.limits []) }
+    ensures none { IfErr result (IsNoMachine board.now.limits) }
 {
     match Machine::new(alloc, board.program(), board.limits()) {
         Ok(machine) => Ok(machine),
@@ -109,19 +119,33 @@ pub fn tell_counts<O: Out, G: Progress>(
     is_json: bool,
     out: &mut O,
     progress: &mut G,
-) -> Result<(), Refusal> {
+) -> Result<(), Refusal>
+    ensures { IfErr result (AreUntold board.now.limits) }
+{
     let machine = machine_of(alloc, board)?;
     let mut counting = Counting::new(alloc, machine)?;
-    let counted = counting.run_history(board, progress);
-    progress.end();
-    let told = match counted {
-        Ok(()) => {
-            let run = CountedRun::Made(board);
-            tell_counting(alloc, run, &mut counting, file, is_json, out)
-        }
-        Err(refusal) => Err(refusal),
-    };
+    let told = tell_made(alloc, board, &mut counting, file, is_json, out, progress);
     // Dropped by a call: what a machine and its counts own is much.
     drop(counting);
     told
+}
+
+// The same with a machine before its first step.
+fn tell_made<O: Out, G: Progress>(
+    alloc: Global,
+    board: &Board,
+    counting: &mut Counting,
+    file: &ProgramFile<'_>,
+    is_json: bool,
+    out: &mut O,
+    progress: &mut G,
+) -> Result<(), Refusal>
+    requires first { IsRunOf board.now.program board.now.limits [] counting.old.machine }
+    requires none { AreCounts ⟦<AbortCause as PartialEq>⟧.eq counting.old.counts [] }
+    ensures { IfErr result (λ why. IsUncountedStep why ⊎ AreUnwritten why) }
+{
+    let counted = counting.run_history(board, progress);
+    progress.end();
+    counted?;
+    tell_counting(alloc, CountedRun::Made(board), counting, file, is_json, out)
 }

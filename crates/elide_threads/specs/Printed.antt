@@ -8,6 +8,7 @@ use Rattle.elide_json.specs.Objects.{threads_value}
 use Rattle.elide_object.specs.Object.{object_text}
 use Rattle.elide_setup.specs.ElideProgram.Settings.{number_said}
 use Rattle.elide_setup.specs.Recorded.{IsRecorded}
+use Rattle.elide_setup.specs.TmSchedule.Schedule.{schedule_text}
 use Rattle.elide_setup.specs.Setup.{IsAsked}
 use Rattle.elide_setup.specs.Shown.{IsShownOf, shown_text}
 use Rattle.elide_setup.specs.TmHist.Board.{IsNew, ShownBoard as Board}
@@ -60,5 +61,5 @@ pub record IsPrinted (content left : List ℕ → Option (List ℕ)) (options : 
   pub planned : plan_said (option_copied options.events) (option_copied options.seed) ≡ Some plan
   pub board : Board
   pub worked : IsWorked setup budget plan board
-  pub recorded : IsRecorded left options.record (picks_of board.history)
+  pub recorded : IsRecorded left options.record (schedule_text (picks_of board.history))
   pub told : IsTold options setup board before after

@@ -2,12 +2,10 @@
 use Rattle.std.specs.Prelude.{◌≡◌, ◌*◌, ℕ, ◌⊎◌, Bool, true, false, List, Option, Some, None, length, codes}
 use Rattle.std.specs.Borrow.{Bor}
 use Rattle.std.specs.Option.{option_copied}
-use Rattle.elide_args.specs.declared.subcommand.MachineOptions.{MachineOptions}
-use Rattle.elide_args.specs.declared.subcommand.ScheduleOptions.{ScheduleOptions}
 use Rattle.elide_args.specs.declared.subcommand.ThreadsOptions.{ThreadsOptions}
 use Rattle.elide_setup.specs.ElideProgram.Settings.{number_said}
 use Rattle.elide_setup.specs.Misuse.{IsMisuse}
-use Rattle.elide_setup.specs.Refused.{IsAnyWant, IsNoBoard, IsNotScheduled, IsOverProgram, IsUnrecorded}
+use Rattle.elide_setup.specs.Refused.{HasNoSetup, IsAnyWant, IsNoBoard, IsOverProgram, IsUnrecorded}
 use Rattle.elide_setup.specs.Setup.{IsAsked}
 use Rattle.elide_setup.specs.Shown.{are_held}
 use Rattle.elide_setup.specs.TmHist.Board.{ShownBoard as Board}
@@ -20,10 +18,6 @@ use Rattle.tm_work.specs.declared.plan.EventPlan.{EventPlan}
 use Rattle.elide_threads.specs.Burst.{burst_said}
 use Rattle.elide_threads.specs.Plans.{plan_said}
 use Rattle.elide_threads.specs.Printed.{IsWorked}
-
--- there is no program by the options, whichever schedule is asked for
-abbrev pub HasNoSetup : (List ℕ → Option (List ℕ)) → MachineOptions → Refusal → Type 0
-HasNoSetup content machine why = (any : ScheduleOptions) → IsNotScheduled content machine any why
 
 -- what is said of the events is misused
 abbrev pub IsNoPlan : Refusal → Type 0
@@ -44,13 +38,14 @@ pub data IsMisworked (are_one : List ℕ → List ℕ → Option Bool) (options 
 abbrev pub IsNotWorked : Refusal → Type 0
 IsNotWorked why = (why ≡ refusal.Fault fault.SpawnRefused) ⊎ (why ≡ refusal.Fault fault.NoWorkers)
 
--- the schedule of a board that was worked on is not written, or what is asked for of it not told: the reasons of its
--- aborts, or what is to be printed of memory, which is not there
+-- what is asked for of a board that was worked on is not told: the reasons of its aborts or the counts of its
+-- transactions, what is to be printed of memory, which is not there, or there is no memory for it
 pub data IsNotTold (setup : Setup) (board : Board) (why : Refusal) : Type 0 where
   untold : IsNotRetold board.limits why → IsNotTold setup board why
   unheld : are_held (length board.machine.memory) setup.parts ≡ false → why ≡ refusal.Fault fault.OutOfRange
       → IsNotTold setup board why
   unwritten : IsUnwritten why → IsNotTold setup board why
+  no_room_to_tell : IsAnyWant why → IsNotTold setup board why
 
 -- a board with room for the budget of each core is not made, not worked on, or not told
 pub data IsNoWork (setup : Setup) (budget : ℕ) (plan : EventPlan) (path : Option (Bor (List ℕ))) (why : Refusal)
@@ -62,9 +57,11 @@ pub data IsNoWork (setup : Setup) (budget : ℕ) (plan : EventPlan) (path : Opti
       → IsNoWork setup budget plan path why
   unroomed : IsAnyWant why → IsNoWork setup budget plan path why
 
--- an option is misused, there is no program by the options, or no work on it
+-- reasons are asked for in an object, an option is misused, there is no program by the options, or no work on it
 pub data IsRefused (content : List ℕ → Option (List ℕ)) (are_one : List ℕ → List ℕ → Option Bool)
     (options : ThreadsOptions) (why : Refusal) : Type 0 where
+  reasons_in_json : options.is_json ≡ true → options.counts ≡ false → options.explains ≡ true
+      → IsMisuse (codes "--json") why → IsRefused content are_one options why
   misworked : IsMisworked are_one options why → IsRefused content are_one options why
   without_program : HasNoSetup content options.machine why → IsRefused content are_one options why
   no_work : (setup : Setup) (budget : ℕ) (plan : EventPlan)

@@ -6,8 +6,7 @@
 //! (`specs/Printed.antt`), as lines or as one object; that their history is a run of the machine is proved of
 //! `tm_work`; and that the file of `--record`, where its content is told, is left with the schedule of this history.
 //! What reads `--burst`, `--events` and `--seed` answers what they say, and refuses them only where they say nothing;
-//! where lines of the state are asked for, the command is refused for the reason that it names alone
-//! (`specs/Refused.antt`).
+//! the command is refused for the reason that it names alone (`specs/Refused.antt`).
 //! The texts of reasons and counts are compared by `doc_tests`. Stands on `elide_setup` and `tm_work`.
 #![tactic(auto)]
 

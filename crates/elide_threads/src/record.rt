@@ -4,6 +4,7 @@ ghost use Rattle.std.specs.Prelude.{◌≡◌, ◌⊎◌, [], IfErr, IfOk, OnOk}
 ghost use Rattle.tm_model.specs.Runs.{picks_of};
 ghost use Rattle.elide_setup.specs.Recorded.{IsRecorded};
 ghost use Rattle.elide_setup.specs.Refused.{IsAnyWant, IsUnrecorded};
+ghost use Rattle.elide_setup.specs.TmSchedule.Schedule.{schedule_text};
 
 use elide_setup::{Board, Paths, Refusal, record};
 use std::alloc::{AllocError, Global};
@@ -36,7 +37,8 @@ impl<'a> Record<'a> {
     pub fn write<P: Paths>(mut self, board: &Board, paths: &mut P) -> Result<(), Refusal>
         requires { self.picks.items ≡ [] }
         ensures failed { IfErr result (λ why. IsUnrecorded self.entry.path why ⊎ IsAnyWant why) }
-        ensures written { OnOk result (IsRecorded (P.content paths.new) self.entry.path (picks_of board.now.history)) }
+        ensures written { OnOk result (IsRecorded (P.content paths.new) self.entry.path
+            (schedule_text (picks_of board.now.history))) }
     {
         if self.path.is_none() {
             return Ok(());

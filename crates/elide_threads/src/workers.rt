@@ -17,6 +17,7 @@ ghost use Rattle.elide_setup.specs.Shown.{IsShownOf, shown_text};
 ghost use Rattle.elide_setup.specs.TmHist.Board.{IsNew, ShownBoard as Board};
 ghost use Rattle.elide_setup.specs.declared.machine.Setup.{Setup};
 ghost use Rattle.elide_setup.specs.declared.shown.ShownMemory.{ShownMemory};
+ghost use Rattle.elide_setup.specs.TmSchedule.Schedule.{schedule_text};
 ghost use Rattle.elide_threads.specs.Burst.{burst_said};
 ghost use Rattle.elide_threads.specs.Plans.{plan_said};
 ghost use Rattle.elide_threads.specs.Printed.{IsPrinted, IsTold, IsWorked, board_object};
@@ -65,8 +66,7 @@ pub fn threads<R: Threads + Wait + Sync + AllocGlobal, P: Paths, O: Out + Drop, 
 ) -> Result<O, Refusal>
     ensures printed { IfOk result (λ given. IsPrinted (P.content paths.old) (P.content paths.new) options.now
         (O.device out).contents (O.device given).contents) }
-    ensures refused { options.now.counts ≡ false → options.now.is_json ≡ false →
-        IfErr result (IsRefused (P.content paths.old) (P.are_one paths.old) options.now) }
+    ensures refused { IfErr result (IsRefused (P.content paths.old) (P.are_one paths.old) options.now) }
 {
     if options.is_json && !options.counts && options.explains {
         return Err(Refusal::Usage("--json"));
@@ -147,8 +147,7 @@ fn threads_of_text<
     out: O,
     progress: &mut G,
 ) -> Result<O, Refusal>
-    ensures refused { options.now.counts ≡ false → options.now.is_json ≡ false →
-        (content : List ℕ → Option (List ℕ)) (are_one : List ℕ → List ℕ → Option Bool) →
+    ensures refused { (content : List ℕ → Option (List ℕ)) (are_one : List ℕ → List ℕ → Option Bool) →
         Gives (content options.now.machine.file.now) most_bytes text.now → AreSettings options.now.machine settings.now →
         number_said (option_copied options.now.budget) ≡ Some work.entry.budget →
         plan_said (option_copied options.now.events) (option_copied options.now.seed) ≡ Some work.entry.plan →
@@ -156,7 +155,7 @@ fn threads_of_text<
     ensures told { IfOk result (λ given. (file : ProgramFile) × (setup : Setup) × (board : Board) × IsFile text.now file
         × IsSetup file settings.now setup × IsWorked setup work.entry.budget work.entry.plan board
         × IsTold options.now setup board (O.device out).contents (O.device given).contents
-        × IsRecorded (P.content paths.new) work.entry.path (picks_of board.history)) }
+        × IsRecorded (P.content paths.new) work.entry.path (schedule_text (picks_of board.history))) }
 {
     let alloc = rt.alloc();
     let file = ProgramFile::read(alloc, text)?;
@@ -197,11 +196,10 @@ fn run_and_tell<
     progress: &mut G,
 ) -> Result<O, Refusal>
     requires { options.now.explains ≡ false → places ≡ None }
-    ensures refused { options.now.counts ≡ false → options.now.is_json ≡ false →
-        IfErr result (IsNoWork setup.now work.entry.budget work.entry.plan work.entry.path) }
+    ensures refused { IfErr result (IsNoWork setup.now work.entry.budget work.entry.plan work.entry.path) }
     ensures told { IfOk result (λ given. (board : Board) × IsWorked setup.now work.entry.budget work.entry.plan board
         × IsTold options.now setup.now board (O.device out).contents (O.device given).contents
-        × IsRecorded (P.content paths.new) work.entry.path (picks_of board.history)) }
+        × IsRecorded (P.content paths.new) work.entry.path (schedule_text (picks_of board.history))) }
 {
     let alloc = rt.alloc();
     let board = opened(alloc, setup, work.budget)?;
@@ -222,7 +220,8 @@ fn recorded<R: Threads + Wait + Sync + AllocGlobal, P: Paths, G: Progress + Send
     ensures report { IfOk result (λ last. (steps : List ℕ)
         × IsReport board (replicate (length board.program.entries) work.entry.budget) last steps) }
     ensures events { IfOk result (λ last. TellDrawn work.entry.plan.events (new_part board last)) }
-    ensures recorded { IfOk result (λ last. IsRecorded (P.content paths.new) work.entry.path (picks_of last.history)) }
+    ensures recorded { IfOk result (λ last. IsRecorded (P.content paths.new) work.entry.path
+        (schedule_text (picks_of last.history))) }
     ensures refused { IfErr result (λ why. IsNotWorked why ⊎ (IsUnrecorded work.entry.path why ⊎ IsAnyWant why)) }
 {
     let record = record_of(rt.alloc(), work.path, &board)?;
@@ -244,8 +243,7 @@ fn tell_run<O: Out + Drop, G: Progress>(
 ) -> Result<O, Refusal>
     requires { options.now.explains ≡ false → places ≡ None }
     ensures told { IfOk result (λ given. IsTold options.now setup.now board.now (O.device out).contents (O.device given).contents) }
-    ensures refused { options.now.counts ≡ false → options.now.is_json ≡ false →
-        IfErr result (IsNotTold setup.now board.now) }
+    ensures refused { IfErr result (IsNotTold setup.now board.now) }
 {
     let mut page = Gathered::new(out);
     if let Some(places) = places {
@@ -413,7 +411,7 @@ fn tell_asked<O: Out>(
     setup: &Setup,
     out: &mut O,
 ) -> Result<(), Refusal>
-    ensures refused { options.now.is_json ≡ false → IfErr result (IsNotTold setup.now board.now) }
+    ensures refused { IfErr result (IsNotTold setup.now board.now) }
     ensures lines { IfOk result (λ _. options.now.is_json ≡ false → (memory : ShownMemory)
         × IsShownOf board.now.machine.memory setup.now.parts options.now.machine.shows.items memory
         × Wrote (O.device out.old) (O.device out.new) (shown_text board.now.machine memory)) }

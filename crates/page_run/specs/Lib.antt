@@ -1,2 +1,3 @@
 pub mod Plain
+pub mod Refused
 pub mod Windows

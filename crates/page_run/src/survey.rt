@@ -65,7 +65,8 @@ fn finished(surveyor: Surveyor, walked: Result<Vec<Pick>, Refusal>) -> Result<Su
         extent,
         mut survey,
     } = surveyor;
-    if extent.reaches(survey.made) {
+    // The machine behind the last step stands in the page where that step does.
+    if extent.reaches(survey.made.saturating_sub(1)) {
         survey.note_next(&machine, base);
     }
     match walked {

@@ -1,9 +1,10 @@
 //! Which steps of a run stand in its page.
 
-ghost use Rattle.std.specs.Prelude.{◌≡◌, ◌+◌, ◌-◌, ◌<◌, ◌≤◌, ◌&&◌, IfOk, MatchOption, OnErr, OnOk, min, nat_eq, nat_le, nat_lt};
+ghost use Rattle.std.specs.Prelude.{◌≡◌, ◌+◌, ◌-◌, ◌<◌, ◌≤◌, ◌&&◌, ◌⊎◌, codes, IfErr, IfOk, MatchOption, OnErr, OnOk, min, nat_eq, nat_le, nat_lt};
 ghost use Rattle.std.specs.Option.{option_copied};
 ghost use Rattle.elide_setup.specs.ElideProgram.Settings.{number_said};
-ghost use Rattle.page_run.specs.Windows.{IsWindow};
+ghost use Rattle.page_run.specs.Refused.{HasNoFirst, HasNoWindow, IsLastBefore, IsNoNumber};
+ghost use Rattle.page_run.specs.Windows.{ComeBefore, IsWindow};
 
 use elide_setup::{Fault, Refusal, number_of};
 
@@ -39,6 +40,8 @@ impl Extent {
     pub fn read(from: Option<&str>, to: Option<&str>) -> Result<Extent, Refusal>
         ensures from { IfOk result (λ extent. extent.from ≡ number_said (option_copied from.entry)) }
         ensures to { IfOk result (λ extent. extent.to ≡ number_said (option_copied to.entry)) }
+        ensures misread { IfErr result (λ why. IsNoNumber (codes "--from") (option_copied from.entry) why
+            ⊎ IsNoNumber (codes "--to") (option_copied to.entry) why) }
     {
         let from = number_given(from, "--from")?;
         let to = number_given(to, "--to")?;
@@ -48,7 +51,8 @@ impl Extent {
     /// The steps of a run of this length: those that are there, where more are asked for. It is a misuse to begin before the
     /// first step or behind the last, and to end before the first that stands there.
     pub fn window(&self, total: u64) -> Result<Window, Refusal>
-        ensures { IfOk result (IsWindow self.now.from self.now.to total) }
+        ensures window { IfOk result (IsWindow self.now.from self.now.to total) }
+        ensures none { IfErr result (HasNoWindow self.now.from self.now.to total) }
     {
         let from = self.start(total)?;
         let to = self.end(from, total)?;
@@ -57,8 +61,8 @@ impl Extent {
 
     // How many steps come before the first.
     fn start(&self, total: u64) -> Result<u64, Refusal>
-        ensures { IfOk result (λ from. MatchOption self.now.from (from ≡ 0) (λ number. (from + 1 ≡ number)
-            × (number ≤ total))) }
+        ensures from { IfOk result (ComeBefore self.now.from total) }
+        ensures none { IfErr result (HasNoFirst self.now.from total) }
     {
         match self.from {
             None => Ok(0),
@@ -70,8 +74,9 @@ impl Extent {
 
     // The number of the last.
     fn end(&self, from: u64, total: u64) -> Result<u64, Refusal>
-        ensures { IfOk result (λ last. MatchOption self.now.to (last ≡ total) (λ number. (from < number)
+        ensures last { IfOk result (λ last. MatchOption self.now.to (last ≡ total) (λ number. (from < number)
             × (last ≡ min number total))) }
+        ensures none { IfErr result (IsLastBefore self.now.to from) }
     {
         match self.to {
             None => Ok(total),
@@ -127,7 +132,8 @@ impl Window {
 
 // The value of an option that need not be given.
 fn number_given(text: Option<&str>, name: &'static str) -> Result<Option<u32>, Refusal>
-    ensures { IfOk result (λ number. number ≡ number_said (option_copied text.entry)) }
+    ensures number { IfOk result (λ number. number ≡ number_said (option_copied text.entry)) }
+    ensures none { IfErr result (IsNoNumber name.entry.now (option_copied text.entry)) }
 {
     match text {
         Some(_) => Ok(Some(number_of(text, name)?)),

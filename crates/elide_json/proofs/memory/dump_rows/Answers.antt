@@ -6,5 +6,5 @@ use Rattle.elide_json.proofs.memory.dump_rows.Goals as goal
 pub loop-dump-preserved : goal.loop-dump-preserved
 loop-dump-preserved c =
     ap (map dump_row) c.in_ok-add.ensures
-    ∙ rows_more dump_row (dump_at c.args.memory.now) _ _ _ _ _ (search rules) (search rules) c.in_ok-row.ensures
+    ∙ rows_more dump_row (dump_at c.args.memory.now) _ _ _ _ _ (search rules) (search rules) c.in_ok-row.ensures.row
     c.loop-dump.invariant

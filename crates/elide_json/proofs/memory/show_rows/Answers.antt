@@ -15,10 +15,10 @@ loop-index-preserved c =
     let addresses = c.args.addresses.now in
     ap (map show_row) c.in_ok-add.ensures
     ∙ rows_zip show_row (show_at c.args.memory.now) c.loop-index.rows.items c.in_ok-row.row texts addresses index none 0
-    (search rules) (search rules) c.in_ok-row.ensures c.loop-index.invariant
+    (search rules) (search rules) c.in_ok-row.ensures.row c.loop-index.invariant
 
-pub returns : goal.returns
-returns c =
+pub returns-clause-rows : goal.returns-clause-rows
+returns-clause-rows c =
     let texts = c.args.texts.now in
     let addresses = c.args.addresses.now in
     let count = length-zip texts addresses in

@@ -2,7 +2,7 @@ use Rattle.elide_json.proofs.Floats.{no_float_threads}
 use Rattle.elide_json.specs.Shown.{sent_threads}
 use Rattle.elide_json.proofs.objects.line_of_threads.Goals as goal
 
-pub returns : goal.returns
-returns c =
+pub returns-clause-text : goal.returns-clause-text
+returns-clause-text c =
     let o = c.args.object in
     c.in_ok-object_line.ensures (sent_threads o) (λ log sent. sent) (no_float_threads o)

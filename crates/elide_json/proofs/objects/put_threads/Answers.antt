@@ -9,19 +9,19 @@ use Rattle.elide_json.specs.Objects.{threads_value, status_member}
 use Rattle.elide_json.specs.Outcomes.{command_value}
 use Rattle.elide_json.proofs.objects.put_threads.Goals as goal
 
-pub returns : goal.returns
-returns g c =
+pub returns-clause-wrote : goal.returns-clause-wrote
+returns-clause-wrote g c =
     let device = g.O.Out.device in
     let machine = c.args.machine.now in
     let parts = c.args.parts.now in
     let texts = c.args.texts.now in
     let rows = c.in_ok-rows.rows in
     let are : AreRowsOf machine.memory parts texts rows =
-    subst (λ (memory : List ℕ). AreRowsOf memory parts texts rows) c.view.ensures c.in_ok-rows.ensures in
+    subst (λ (memory : List ℕ). AreRowsOf memory parts texts rows) c.view.ensures c.in_ok-rows.ensures.rows in
     let same = shown_same c.shown_of-shown.result machine parts texts rows c.shown_of-shown.ensures.machine
     c.shown_of-shown.ensures.dumps c.shown_of-shown.ensures.shows are in
     let text : c.as_bytes.result.now ≡ object_text (threads_value machine parts texts) =
-    c.as_bytes.ensures.value ∙ c.in_ok-line.ensures
+    c.as_bytes.ensures.value ∙ c.in_ok-line.ensures.text
     ∙ ap (λ (members : Members). object_text (command_value (codes "threads") members)) (same (status_member 0)) in
     on_ok_weaker c.put.result
-    (λ h. subst (λ (l : List ℕ). Wrote (device c.args.out.now) (device c.put.new.out) l) text h) c.put.ensures
+    (λ h. subst (λ (l : List ℕ). Wrote (device c.args.out.now) (device c.put.new.out) l) text h) c.put.ensures.wrote

@@ -10,6 +10,8 @@ use Rattle.elide_replay.specs.Told.{agreement_object, agreement_text}
 use Rattle.elide_replay.specs.declared.agreement.Agreement.{Agreement}
 use Rattle.elide_replay.specs.declared.agreement.Agreement.TheVariants.{Agrees}
 use Rattle.elide_why.proofs.Passing.{both_passed_on}
+use Rattle.std.proofs.lemmas.Result.{err_from_is_err_and}
+use Rattle.elide_replay.proofs.Refusing.{of_telling}
 use Rattle.elide_replay.proofs.once_more.compared.Goals.{in-Some+in_ok-tell_history, in_default}
 use Rattle.elide_replay.proofs.once_more.compared.Goals as goal
 
@@ -56,3 +58,8 @@ returns-clause-told g c =
           (passed _ (subst (λ (a : Agreement). Appends (held page).contents page-end (agreement_object machine c.args.setup.now c.args.options.now a)) agrees
           (c.in_ok-agreement.ensures.object is).bytes));
     }
+
+pub returns-in_err-agreement-clause-refused : goal.returns-in_err-agreement-clause-refused
+returns-in_err-agreement-clause-refused g c =
+    let p = err_from_is_err_and c.from_residual-in_err-agreement.result c.from_residual-in_err-agreement.ensures.1 in
+    rw (p.1, p.2) (of_telling c.args.setup.now c.args.board.now c.args.path c.in_err-agreement.field-0.0 c.in_err-agreement.ensures.unsent)

@@ -8,6 +8,7 @@ use Rattle.elide_setup.proofs.Schedules.{asked_before}
 use Rattle.elide_setup.specs.Setup.{IsAsked}
 use Rattle.elide_replay.specs.Printed.{IsPrinted, IsTold}
 use Rattle.elide_setup.specs.Recorded.{IsRecorded}
+use Rattle.elide_setup.specs.TmSchedule.Schedule.{schedule_text}
 use Rattle.elide_setup.specs.Schedules.{picks_made, picks_told}
 use Rattle.elide_replay.specs.declared.agreement.Agreement.{Agreement}
 use Rattle.std.proofs.lemmas.Result.{IfErr-weaker, err_from_is_err_and}
@@ -28,14 +29,14 @@ returns-clause-printed g c =
     let setup = c.in_ok-setup.setup in
     let board = c.in_ok-board.board in
     let stepped = c.in_ok-board.ensures.steps in
-    let recorded : IfOk c.compared.result (λ _. IsRecorded left options.record (picks_told stepped.0)) =
-    IfOk-weaker c.compared.result (λ _. IsRecorded left c.in_ok-path.path (picks_of board.history)) (λ _. IsRecorded left options.record (picks_told stepped.0))
-    (λ _ h. subst (λ (path : Option (Bor (List ℕ))). IsRecorded left path (picks_told stepped.0)) c.in_ok-path.ensures.given
-    (subst (λ (history : List (ℕ × Outcome)). IsRecorded left c.in_ok-path.path (picks_of history)) stepped.1.history h))
+    let recorded : IfOk c.compared.result (λ _. IsRecorded left options.record (schedule_text (picks_told stepped.0))) =
+    IfOk-weaker c.compared.result (λ _. IsRecorded left c.in_ok-path.path (schedule_text (picks_of board.history))) (λ _. IsRecorded left options.record (schedule_text (picks_told stepped.0)))
+    (λ _ h. subst (λ (path : Option (Bor (List ℕ))). IsRecorded left path (schedule_text (picks_told stepped.0))) c.in_ok-path.ensures.given
+    (subst (λ (history : List (ℕ × Outcome)). IsRecorded left c.in_ok-path.path (schedule_text (picks_of history))) stepped.1.history h))
     c.compared.ensures.recorded in
     both c.compared.result
     (λ (r : Agreement × g.row.O.Denot). IsTold setup options board (g.O.Out.device c.args.out).contents (g.O.Out.device r.1).contents)
-    (λ (r : Agreement × g.row.O.Denot). IsRecorded left options.record (picks_told stepped.0))
+    (λ (r : Agreement × g.row.O.Denot). IsRecorded left options.record (schedule_text (picks_told stepped.0)))
     (λ (r : Agreement × g.row.O.Denot). IsPrinted content left options (g.O.Out.device c.args.out).contents (g.O.Out.device r.1).contents)
     (λ r told recorded. record {
       setup = setup;
@@ -51,14 +52,14 @@ returns-clause-printed g c =
     c.compared.ensures.told recorded
 
 pub returns-in_err-setup-clause-refused : goal.returns-in_err-setup-clause-refused
-returns-in_err-setup-clause-refused g c json =
+returns-in_err-setup-clause-refused g c =
     let p = err_from_is_err_and c.from_residual-in_err-setup.result c.from_residual-in_err-setup.ensures.1 in
     rw (p.1, p.2)
     (of_opening (g.P.Paths.content c.args.paths.now) (g.P.Paths.content c.record_path.new.paths) (g.P.Paths.are_one c.args.paths.now) c.args.options.now c.in_err-setup.field-0.0
     c.record_path.ensures.kept c.in_err-setup.ensures.none)
 
 pub returns-in_err-board-clause-refused : goal.returns-in_err-board-clause-refused
-returns-in_err-board-clause-refused g c json =
+returns-in_err-board-clause-refused g c =
     let content : List ℕ → Option (List ℕ) = g.P.Paths.content c.args.paths.now in
     let options = c.args.options.now in
     let setup = c.in_ok-setup.setup in
@@ -70,11 +71,11 @@ returns-in_err-board-clause-refused g c json =
     c.in_err-board.ensures.none)
 
 pub returns-clause-refused : goal.returns-clause-refused
-returns-clause-refused g c json =
+returns-clause-refused g c =
     let options = c.args.options.now in
     let setup = c.in_ok-setup.setup in
     let board = c.in_ok-board.board in
     let is = subst (λ (text : Option (List ℕ)). IsAsked text options.machine setup) (c.record_path.ensures.kept options.machine.file.now) c.in_ok-setup.ensures.setup in
     IfErr-weaker c.compared.result (IsNotCompared setup board c.in_ok-path.path) (IsRefused (g.P.Paths.content c.args.paths.now) (g.P.Paths.are_one c.args.paths.now) options)
     (λ why h. not_compared setup board is c.in_ok-board.ensures.made (subst (λ (path : Option (Bor (List ℕ))). IsNotCompared setup board path why) c.in_ok-path.ensures.given h))
-    (c.compared.ensures.refused json)
+    c.compared.ensures.refused

@@ -4,7 +4,7 @@ use Rattle.elide_setup.specs.Rounds.{IsOut}
 use Rattle.elide_setup.proofs.Runs.{run_of_all}
 use Rattle.elide_setup.specs.Gathering.{told as told_contents}
 use Rattle.elide_run.proofs.Steps.{told}
-use Rattle.elide_run.proofs.Refusing.{of_walk}
+use Rattle.elide_run.proofs.Refusing.{of_unexplained, of_walk}
 use Rattle.elide_run.specs.Refused.{IsUnexplained, unready}
 use Rattle.elide_run.proofs.explained.stepped.Goals as goal
 
@@ -20,7 +20,7 @@ pub returns-in_err-walk_recorded-clause-refused : goal.returns-in_err-walk_recor
 returns-in_err-walk_recorded-clause-refused g c =
     let p = err_from_is_err_and c.from_residual-in_err-walk_recorded.result c.from_residual-in_err-walk_recorded.ensures.1 in
     rw (p.1, p.2)
-    (of_walk IsUnexplained c.args.setup.now c.args.course.now c.args.path c.in_err-walk_recorded.field-0.0 (λ h. h)
+    (of_walk IsUnexplained c.args.setup.now c.args.course.now c.args.path c.in_err-walk_recorded.field-0.0 (of_unexplained c.in_err-walk_recorded.field-0.0)
     c.in_err-walk_recorded.ensures.refused)
 
 pub returns-in_err-machine-clause-refused : goal.returns-in_err-machine-clause-refused

@@ -6,8 +6,8 @@ use Rattle.elide_json.specs.Objects.{run_members}
 use Rattle.elide_json.specs.Outcomes.{run_back}
 use Rattle.elide_run.proofs.object.put_end.Goals as goal
 
-pub returns : goal.returns
-returns g c =
+pub returns-clause-wrote : goal.returns-clause-wrote
+returns-clause-wrote g c =
     let machine = c.args.machine.now in
     let options = c.args.options.now in
     let parts = c.args.setup.now.parts in
@@ -18,4 +18,4 @@ returns g c =
     on_ok_weaker c.put_back.result
     (λ wrote. subst (λ (running : Option (List ℕ)). Wrote old new (back options.machine.shows.items running)) c.asked_cores.ensures
     (subst (λ (texts : List (Bor (List ℕ))). Wrote old new (back texts asked)) c.as_slice.ensures.value wrote))
-    c.put_back.ensures
+    c.put_back.ensures.wrote

@@ -1,5 +1,5 @@
 use Rattle.std.proofs.Common.{◌∙◌, ◌++◌, ℕ, List, Option, append_assoc, length, subst}
-use Rattle.std.proofs.lemmas.Result.{IfOk-weaker}
+use Rattle.std.proofs.lemmas.Result.{IfErr-weaker, IfOk-weaker, err_from_is_err_and}
 use Rattle.std.specs.Borrow.{Bor}
 use Rattle.std.specs.Io.KnownBytes.{Appends}
 use Rattle.ia_text.proofs.Writing.{appends_then}
@@ -13,19 +13,24 @@ use Rattle.elide_setup.specs.Schedules.{picks_made, picks_told, schedule_made}
 use Rattle.elide_setup.specs.Setup.{IsAsked}
 use Rattle.elide_setup.specs.declared.gathered.Gathered.{Gathered}
 use Rattle.elide_why.proofs.Passing.{kept_first}
+use Rattle.elide_json.specs.Refused.{IsUnsent}
+use Rattle.elide_setup.specs.declared.fault.Refusal.{Refusal}
+use Rattle.elide_why.proofs.Refusing.{scheduled_before}
+use Rattle.elide_run.proofs.Refusing.{of_object, of_run}
+use Rattle.elide_run.specs.Refused.{IsRefused, unscheduled}
 use Rattle.elide_run.specs.Object.{IsEnd, IsObjectPrinted, end_members}
 use Rattle.elide_run.specs.declared.halting.Ending.{Ending}
 use Rattle.elide_run.proofs.object.run_object.Goals as goal
 
-pub returns : goal.returns
-returns g c =
+pub returns-clause-printed : goal.returns-clause-printed
+returns-clause-printed g c =
     let content : List ℕ → Option (List ℕ) = g.P.Paths.content c.args.paths.now in
     let left : List ℕ → Option (List ℕ) = g.P.Paths.content c.stepped-made.new.paths in
     let held : Gathered g.row.O.Denot → Option (List ℕ) = λ m. told (g.O.Out.device m.out).contents (g.O.Out.device m.before.value).contents m.failures m.row.items in
     let options = c.args.options.now in
     let setup = c.in_ok-setup.setup in
     let machine = c.in_ok-machine.machine in
-    let made = c.in_ok-machine.ensures in
+    let made = c.in_ok-machine.ensures.made in
     let first : Option (List ℕ) = (g.O.Out.device c.args.out).contents in
     let begun : Option (List ℕ) = held c.new-page.result in
     let between : Option (List ℕ) = held c.in_ok-machine.page in
@@ -52,4 +57,36 @@ returns g c =
           (append_assoc (run_front options.traces) (run_rows options.traces made.0) back ∙ run_text options.traces made.0 _ _ _)
           (kept_first first begun last (above ++ back) c.new-page.ensures.kept (appends_then begun between last above back made.3.bytes end.wrote));
     })
-    c.tell_end-told.ensures
+    c.tell_end-told.ensures.told
+
+pub returns-in_err-setup-clause-refused : goal.returns-in_err-setup-clause-refused
+returns-in_err-setup-clause-refused g c =
+    let p = err_from_is_err_and c.from_residual-in_err-setup.result c.from_residual-in_err-setup.ensures.1 in
+    rw (p.1, p.2)
+    (unscheduled (scheduled_before (g.P.Paths.content c.args.paths.now) (g.P.Paths.content c.record_path.new.paths) c.args.options.now.machine c.args.options.now.schedule c.in_err-setup.field-0.0
+    c.record_path.ensures.kept c.in_err-setup.ensures.none))
+
+pub returns-in_err-machine-clause-refused : goal.returns-in_err-machine-clause-refused
+returns-in_err-machine-clause-refused g c =
+    let content : List ℕ → Option (List ℕ) = g.P.Paths.content c.args.paths.now in
+    let after : List ℕ → Option (List ℕ) = g.P.Paths.content c.record_path.new.paths in
+    let options = c.args.options.now in
+    let setup = c.in_ok-setup.setup in
+    let p = err_from_is_err_and c.from_residual-in_err-machine.result c.from_residual-in_err-machine.ensures.1 in
+    rw (p.1, p.2)
+    (of_run content (g.P.Paths.are_one c.args.paths.now) options setup c.in_ok-setup.course c.in_ok-path.path c.in_err-machine.field-0.0
+    (subst (λ (text : Option (List ℕ)). IsAsked text options.machine setup) (c.record_path.ensures.kept options.machine.file.now) c.in_ok-setup.ensures.setup)
+    (λ picks are. asked_before content after options.schedule picks c.record_path.ensures.kept (c.in_ok-setup.ensures.course picks are))
+    c.in_ok-path.ensures.given c.in_err-machine.ensures.refused)
+
+pub returns-clause-refused : goal.returns-clause-refused
+returns-clause-refused g c =
+    let content : List ℕ → Option (List ℕ) = g.P.Paths.content c.args.paths.now in
+    let options = c.args.options.now in
+    let setup = c.in_ok-setup.setup in
+    let machine = c.in_ok-machine.machine in
+    let made = c.in_ok-machine.ensures.made in
+    let is : IsAsked (content options.machine.file.now) options.machine setup =
+    subst (λ (text : Option (List ℕ)). IsAsked text options.machine setup) (c.record_path.ensures.kept options.machine.file.now) c.in_ok-setup.ensures.setup in
+    IfErr-weaker c.tell_end-told.result (IsUnsent machine.memory setup.parts) (IsRefused content (g.P.Paths.are_one c.args.paths.now) options)
+    (λ why h. of_object content (g.P.Paths.are_one c.args.paths.now) options setup machine made.0 why is made.2 h) c.tell_end-told.ensures.unsent

@@ -1,24 +1,31 @@
-use Rattle.std.proofs.Common.{◌∙◌, ℕ, subst}
+use Rattle.std.proofs.Common.{◌∙◌, ℕ, subst, inl}
+use Rattle.std.proofs.lemmas.Result.{err_from_is_err_and}
 use Rattle.elide_setup.specs.Rounds.{IsOut}
 use Rattle.elide_setup.proofs.Runs.{run_of_all}
 use Rattle.elide_setup.specs.Gathering.{told}
+use Rattle.elide_run.proofs.Refusing.{of_front, of_walk}
+use Rattle.elide_run.specs.Refused.{unready}
+use Rattle.elide_setup.specs.Refused.{IsAnyWant, IsNoCore}
+use Rattle.elide_why.specs.Refused.{IsUntold}
+use Rattle.elide_setup.specs.declared.fault.Refusal.{Refusal}
+use Rattle.std.specs.Prelude.{◌⊎◌}
 use Rattle.elide_run.proofs.Rows.{rowed, wrote_no_rows, wrote_rows}
 use Rattle.elide_run.proofs.object.stepped.Goals as goal
 
-pub returns-then-not-traces : goal.returns-then-not-traces
-returns-then-not-traces g c =
+pub returns-then-not-traces-clause-made : goal.returns-then-not-traces-clause-made
+returns-then-not-traces-clause-made g c =
     let made = c.in_ok-walk_recorded.ensures.walked in (
       made.0,
       made.1,
       run_of_all c.args.setup.now.program c.args.setup.now.limits made.0 c.in_ok-machine.machine c.walk_recorded.new.maker
           c.in_ok-machine.ensures.made made.2,
-      wrote_no_rows _ _ c.args.traces made.0 c.if-not-traces.true c.in_ok-page.ensures,
+      wrote_no_rows _ _ c.args.traces made.0 c.if-not-traces.true c.in_ok-page.ensures.wrote,
       made.3,
       subst (λ (n : ℕ). IsOut c.args.course.now n made.0) (c.cores-cores.ensures.count ∙ c.in_ok-machine.ensures.cores) made.4,
     )
 
-pub returns : goal.returns
-returns g c =
+pub returns-clause-made : goal.returns-clause-made
+returns-clause-made g c =
     let made = c.in_ok-walk_recorded-2.ensures.walked in
     let all = rowed made.0 _ _ made.2 (λ m. m.machine)
     (λ m. record { contents = told (g.O.Out.device m.page.out).contents (g.O.Out.device m.page.before.value).contents m.page.failures m.page.row.items; failures = m.page.failures })
@@ -27,7 +34,31 @@ returns g c =
       made.1,
       run_of_all c.args.setup.now.program c.args.setup.now.limits made.0 c.in_ok-machine.machine c.walk_recorded-2.new.maker.machine
           c.in_ok-machine.ensures.made all.leads,
-      wrote_rows _ _ _ c.args.traces made.0 c.if-not-traces.false c.in_ok-page.ensures all.wrote,
+      wrote_rows _ _ _ c.args.traces made.0 c.if-not-traces.false c.in_ok-page.ensures.wrote all.wrote,
       made.3,
       subst (λ (n : ℕ). IsOut c.args.course.now n made.0) (c.cores-cores.ensures.count ∙ c.in_ok-machine.ensures.cores) made.4,
     )
+
+pub returns-in_err-walk_recorded-clause-refused : goal.returns-in_err-walk_recorded-clause-refused
+returns-in_err-walk_recorded-clause-refused g c =
+    let p = err_from_is_err_and c.from_residual-in_err-walk_recorded.result c.from_residual-in_err-walk_recorded.ensures.1 in
+    rw (p.1, p.2)
+    (of_walk IsNoCore c.args.setup.now c.args.course.now c.args.path c.in_err-walk_recorded.field-0.0 (λ h. inl (inl h))
+    c.in_err-walk_recorded.ensures.refused)
+
+pub returns-in_err-walk_recorded-2-clause-refused : goal.returns-in_err-walk_recorded-2-clause-refused
+returns-in_err-walk_recorded-2-clause-refused g c =
+    let p = err_from_is_err_and c.from_residual-in_err-walk_recorded-2.result c.from_residual-in_err-walk_recorded-2.ensures.1 in
+    rw (p.1, p.2)
+    (of_walk (λ (why : Refusal). IsUntold why ⊎ IsAnyWant why) c.args.setup.now c.args.course.now c.args.path c.in_err-walk_recorded-2.field-0.0 (λ h. h)
+    c.in_err-walk_recorded-2.ensures.refused)
+
+pub returns-in_err-machine-clause-refused : goal.returns-in_err-machine-clause-refused
+returns-in_err-machine-clause-refused g c =
+    let p = err_from_is_err_and c.from_residual.result c.from_residual.ensures.1 in
+    rw (p.1, p.2) (unready c.in_err-machine.ensures.none)
+
+pub returns-in_err-page-clause-refused : goal.returns-in_err-page-clause-refused
+returns-in_err-page-clause-refused g c =
+    let p = err_from_is_err_and c.from_residual-in_err-page.result c.from_residual-in_err-page.ensures.1 in
+    rw (p.1, p.2) (of_front c.args.setup.now c.args.course.now c.args.path c.in_err-page.field-0.0 c.in_err-page.ensures.unsaid)

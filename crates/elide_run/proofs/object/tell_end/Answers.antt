@@ -8,8 +8,8 @@ use Rattle.elide_run.proofs.Ends.{ending_by, kept_last}
 use Rattle.elide_run.specs.Object.{asked_running, ending_status, running_cores}
 use Rattle.elide_run.proofs.object.tell_end.Goals as goal
 
-pub returns : goal.returns
-returns g c =
+pub returns-clause-told : goal.returns-clause-told
+returns-clause-told g c =
     let held : Gathered g.row.O.Denot → Option (List ℕ) = λ m. told (g.O.Out.device m.out).contents (g.O.Out.device m.before.value).contents m.failures m.row.items in
     let machine = c.args.machine.now in
     let options = c.args.options.now in
@@ -24,6 +24,6 @@ returns g c =
     record {
       came_to = c.ending_of_cores-ending.ensures ∙ ending_by options.expects_halt machine c.as_slice.result.now cores;
       wrote = kept_last (held c.args.page) (held c.put_end.new.out) (g.O.Out.device c.in_ok-out.out).contents _
-          (subst (λ (l : List ℕ). Appends (held c.args.page) (held c.put_end.new.out) l) text c.in_ok-put_end.ensures.bytes)
+          (subst (λ (l : List ℕ). Appends (held c.args.page) (held c.put_end.new.out) l) text c.in_ok-put_end.ensures.wrote.bytes)
           c.in_ok-out.ensures.kept;
     }

@@ -1,14 +1,16 @@
-use Rattle.std.proofs.Common.{◌≡◌, ◌∙◌, ℕ, List, Option, subst}
-use Rattle.std.proofs.lemmas.Result.{on_ok_weaker}
+use Rattle.std.proofs.Common.{◌≡◌, ◌∙◌, ℕ, List, Option, inl, inr, subst}
+use Rattle.std.proofs.lemmas.Result.{IfErr-weaker, err_from_is_err_and, on_ok_weaker}
 use Rattle.std.specs.Borrow.{Bor}
 use Rattle.elide_setup.proofs.Made.{of_plan}
 use Rattle.elide_setup.specs.ElideProgram.ProgramFile.{IsRead}
 use Rattle.elide_setup.specs.ElideProgram.ProgramFileType.{ProgramFile}
 use Rattle.elide_setup.specs.Made.{HasRun, HasRunPlan}
+use Rattle.elide_setup.specs.Refused.{misplanned, misread, no_setup}
+use Rattle.elide_stats.specs.Refused.{IsNotCounted, IsRefused, unscheduled}
 use Rattle.elide_stats.proofs.command.stats.Goals as goal
 
-pub returns : goal.returns
-returns g c =
+pub returns-clause-ran : goal.returns-clause-ran
+returns-clause-ran g c =
     let content = g.P.Paths.content c.args.paths.now in
     let next = g.P.Paths.content c.record_path.new.paths in
     let left = g.P.Paths.content c.stats_of_path.new.paths in
@@ -25,4 +27,34 @@ returns g c =
     c.in_ok-settings.ensures.settings
     (λ picks. c.in_ok-plan.ensures.steps content picks)
     c.in_ok-plan.ensures.listed made.4))
-    c.stats_of_path.ensures
+    c.stats_of_path.ensures.ran
+
+pub stats_of_path-requires : goal.stats_of_path-requires
+stats_of_path-requires g c = record {
+  settings = c.in_ok-settings.ensures.settings;
+  planned = c.in_ok-plan.ensures.steps;
+  named = c.in_ok-plan.ensures.path;
+  recorded = c.in_ok-path.ensures.given;
+}
+
+pub returns-clause-refused : goal.returns-clause-refused
+returns-clause-refused g c =
+    let content : List ℕ → Option (List ℕ) = g.P.Paths.content c.args.paths.now in
+    let options = c.args.options.now in
+    IfErr-weaker c.stats_of_path.result (IsNotCounted content options) (IsRefused content (g.P.Paths.are_one c.args.paths.now) options)
+    (λ why h. inr h) (c.stats_of_path.ensures.refused content c.record_path.ensures.kept)
+
+pub returns-in_err-path-clause-refused : goal.returns-in_err-path-clause-refused
+returns-in_err-path-clause-refused g c =
+    let p = err_from_is_err_and c.from_residual.result c.from_residual.ensures.1 in
+    rw (p.1, p.2) (inl c.in_err-path.ensures.over)
+
+pub returns-in_err-settings-clause-refused : goal.returns-in_err-settings-clause-refused
+returns-in_err-settings-clause-refused g c =
+    let p = err_from_is_err_and c.from_residual-in_err-settings.result c.from_residual-in_err-settings.ensures.1 in
+    rw p.1 (inr (unscheduled (no_setup c.in_err-settings.field-0.0 (misread c.in_err-settings.ensures.misread) p.2)))
+
+pub returns-in_err-plan-clause-refused : goal.returns-in_err-plan-clause-refused
+returns-in_err-plan-clause-refused g c =
+    let p = err_from_is_err_and c.from_residual-in_err-plan.result c.from_residual-in_err-plan.ensures.1 in
+    rw (p.1, p.2) (inr (unscheduled (misplanned c.in_err-plan.ensures.none)))

@@ -1,16 +1,28 @@
-use Rattle.std.proofs.Common.{[], subst, sym}
+use Rattle.std.proofs.Common.{[], ◌⊎◌, inl, inr, subst, sym}
+use Rattle.std.proofs.lemmas.Result.{IfErr-weaker, err_from_is_err_and}
 use Rattle.elide_setup.specs.Runs.{IsRunOf}
 use Rattle.elide_setup.specs.TmCore.Theorem.{ShownMachine as Machine}
-use Rattle.tm_stats.specs.contracts.cause.AbortCausePartialEq.TheImpl as causes
-use Rattle.elide_stats.proofs.Steps.{counted_since}
+use Rattle.elide_setup.specs.declared.fault.Refusal.{Refusal}
+use Rattle.elide_stats.specs.Refused.{AreUntold, AreUnwritten, IsUncountedStep}
 use Rattle.elide_stats.proofs.told.tell_counts.Goals as goal
 
-pub tell_counting-told-requires : goal.tell_counting-told-requires
-tell_counting-told-requires g c =
-    let made = c.in-Ok.ensures in
+pub tell_made-told-requires-clause-first : goal.tell_made-told-requires-clause-first
+tell_made-told-requires-clause-first g c =
     let board = c.args.board.now in
-    let first =
     subst (λ (m : Machine). IsRunOf board.program board.limits [] m) (sym c.in_ok-counting.ensures.machine)
-    c.in_ok-machine.ensures in
-    counted_since (causes.ghosts).eq _ c.in_ok-counting.counting c.run_history-counted.new.self made.0 first made.1
-    c.in_ok-counting.ensures.counts made.2
+    c.in_ok-machine.ensures.made
+
+pub returns : goal.returns
+returns g c =
+    IfErr-weaker c.tell_made-told.result (λ (why : Refusal). IsUncountedStep why ⊎ AreUnwritten why)
+    (AreUntold c.args.board.now.limits) (λ why h. inr h) c.tell_made-told.ensures
+
+pub returns-in_err-machine : goal.returns-in_err-machine
+returns-in_err-machine g c =
+    let p = err_from_is_err_and c.from_residual.result c.from_residual.ensures.1 in
+    rw (p.1, p.2) (inl c.in_err-machine.ensures.none)
+
+pub returns-in_err-counting : goal.returns-in_err-counting
+returns-in_err-counting g c =
+    let p = err_from_is_err_and c.from_residual-in_err-counting.result c.from_residual-in_err-counting.ensures.1 in
+    rw (p.1, p.2) (inr (inl (inr c.in_err-counting.ensures.none)))

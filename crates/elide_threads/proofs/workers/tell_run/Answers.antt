@@ -6,6 +6,8 @@ use Rattle.elide_setup.specs.Gathering.{told}
 use Rattle.elide_setup.specs.Shown.{shown_text}
 use Rattle.elide_setup.specs.declared.gathered.Gathered.{Gathered}
 use Rattle.elide_why.proofs.Passing.{both_passed_on}
+use Rattle.std.proofs.lemmas.Result.{err_from_is_err_and}
+use Rattle.elide_threads.proofs.Refusing.{of_counts}
 use Rattle.elide_threads.specs.Printed.{board_object}
 use Rattle.elide_threads.proofs.workers.tell_run.Goals.{in-Some+in_ok-tell_history, in_default, then-options+in_ok-tell_counts, else-options+in_ok-tell_asked}
 use Rattle.elide_threads.proofs.workers.tell_run.Goals as goal
@@ -53,3 +55,8 @@ returns-clause-told g c =
             (w.in_ok-tell_asked.ensures.object is).bytes))
       ];
     }
+
+pub returns-in_err-tell_counts-clause-refused : goal.returns-in_err-tell_counts-clause-refused
+returns-in_err-tell_counts-clause-refused g c =
+    let p = err_from_is_err_and c.from_residual-in_err-tell_counts.result c.from_residual-in_err-tell_counts.ensures.1 in
+    rw (p.1, p.2) (of_counts c.args.setup.now c.args.board.now c.in_err-tell_counts.field-0.0 c.in_err-tell_counts.ensures)

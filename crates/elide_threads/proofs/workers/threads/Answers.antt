@@ -5,6 +5,7 @@ use Rattle.elide_setup.specs.ElideProgram.Files.{Gives, most_bytes}
 use Rattle.elide_setup.specs.ElideProgram.ProgramFile.{IsFile}
 use Rattle.elide_setup.specs.ElideProgram.ProgramFileType.{ProgramFile}
 use Rattle.elide_setup.specs.Recorded.{IsRecorded}
+use Rattle.elide_setup.specs.TmSchedule.Schedule.{schedule_text}
 use Rattle.elide_setup.specs.Setup.{IsSetup}
 use Rattle.elide_setup.specs.TmHist.Board.{ShownBoard as Board}
 use Rattle.elide_setup.specs.declared.machine.Setup.{Setup}
@@ -31,7 +32,7 @@ returns-clause-printed g c =
     (λ (device : g.row.O.Denot). (file : ProgramFile) × (setup : Setup) × (board : Board) × IsFile c.as_slice.result.now file × IsSetup file settings setup
     × IsWorked setup budget plan board
     × IsTold options setup board (g.O.Out.device c.args.out).contents (g.O.Out.device device).contents
-    × IsRecorded left c.in_ok-work.work.path (picks_of board.history))
+    × IsRecorded left c.in_ok-work.work.path (schedule_text (picks_of board.history)))
     (λ (device : g.row.O.Denot).
     IsPrinted content left options (g.O.Out.device c.args.out).contents (g.O.Out.device device).contents)
     (λ device t. record {
@@ -43,33 +44,33 @@ returns-clause-printed g c =
       planned = c.in_ok-work.ensures.plan;
       board = t.2;
       worked = t.5;
-      recorded = subst (λ (path : Option (Bor (List ℕ))). IsRecorded left path (picks_of t.2.history))
+      recorded = subst (λ (path : Option (Bor (List ℕ))). IsRecorded left path (schedule_text (picks_of t.2.history)))
           c.in_ok-work.ensures.path t.7;
       told = t.6;
     })
     c.threads_of_text-end.ensures.told
 
 pub returns-in_err-settings-clause-refused : goal.returns-in_err-settings-clause-refused
-returns-in_err-settings-clause-refused g c counts json =
+returns-in_err-settings-clause-refused g c =
     let p = err_from_is_err_and c.from_residual.result c.from_residual.ensures.1 in
     rw (p.1, p.2) (without_program (λ any. no_setup c.in_err-settings.field-0.0 (misread c.in_err-settings.ensures.misread) refl))
 
 pub returns-in_err-text-clause-refused : goal.returns-in_err-text-clause-refused
-returns-in_err-text-clause-refused g c counts json =
+returns-in_err-text-clause-refused g c =
     let p = err_from_is_err_and c.from_residual-in_err-text.result c.from_residual-in_err-text.ensures.1 in
     rw (p.1, p.2) (without_program (λ any. no_setup c.in_err-text.field-0.0 (not_read (rw (c.read-2.ensures.kept c.args.options.now.machine.file.now) at c.in_err-text.ensures.given)) refl))
 
 pub returns-clause-refused : goal.returns-clause-refused
-returns-clause-refused g c counts json =
+returns-clause-refused g c =
     let content : List ℕ → Option (List ℕ) = g.P.Paths.content c.args.paths.now in
     let file = c.args.options.now.machine.file.now in
     let given : Gives (content file) most_bytes c.as_slice.result.now =
     subst (Gives (content file) most_bytes) (sym c.as_slice.ensures.value)
     (subst (λ (known : Option (List ℕ)). Gives known most_bytes c.in_ok-text.text.items) (c.read-2.ensures.kept file) c.in_ok-text.ensures.given) in
-    c.threads_of_text-end.ensures.refused counts json content (g.P.Paths.are_one c.args.paths.now) given c.in_ok-settings.ensures.settings
+    c.threads_of_text-end.ensures.refused content (g.P.Paths.are_one c.args.paths.now) given c.in_ok-settings.ensures.settings
     c.in_ok-work.ensures.budget c.in_ok-work.ensures.plan c.in_ok-work.ensures.path
 
 pub returns-in_err-work-clause-refused : goal.returns-in_err-work-clause-refused
-returns-in_err-work-clause-refused g c counts json =
+returns-in_err-work-clause-refused g c =
     let p = err_from_is_err_and c.from_residual-in_err-work.result c.from_residual-in_err-work.ensures.1 in
     rw (p.1, p.2) (misworked c.in_err-work.ensures.refused)

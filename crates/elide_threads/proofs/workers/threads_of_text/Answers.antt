@@ -5,6 +5,7 @@ use Rattle.std.proofs.lemmas.Result.{IfOk-weaker}
 use Rattle.elide_setup.specs.ElideProgram.ProgramFile.{IsFile}
 use Rattle.elide_setup.specs.ElideProgram.ProgramFileType.{ProgramFile}
 use Rattle.elide_setup.specs.Recorded.{IsRecorded}
+use Rattle.elide_setup.specs.TmSchedule.Schedule.{schedule_text}
 use Rattle.elide_setup.specs.Setup.{IsSetup}
 use Rattle.elide_setup.specs.TmHist.Board.{ShownBoard as Board}
 use Rattle.elide_setup.specs.declared.machine.Setup.{Setup}
@@ -21,31 +22,31 @@ returns-clause-told g c =
     IfOk-weaker c.run_and_tell-end.result
     (λ (given : g.row.O.Denot). (board : Board) × IsWorked made c.args.work.budget c.args.work.plan board
     × IsTold c.args.options.now made board (g.O.Out.device c.args.out).contents (g.O.Out.device given).contents
-    × IsRecorded left c.args.work.path (picks_of board.history))
+    × IsRecorded left c.args.work.path (schedule_text (picks_of board.history)))
     (λ (given : g.row.O.Denot). (file : ProgramFile) × (setup : Setup) × (board : Board) × IsFile c.args.text.now file
     × IsSetup file c.args.settings.now setup × IsWorked setup c.args.work.budget c.args.work.plan board
     × IsTold c.args.options.now setup board (g.O.Out.device c.args.out).contents (g.O.Out.device given).contents
-    × IsRecorded left c.args.work.path (picks_of board.history))
+    × IsRecorded left c.args.work.path (schedule_text (picks_of board.history)))
     (λ given t. (c.in_ok-file.file, made, t.0, c.in_ok-file.ensures.file, c.in_ok-setup.ensures.setup, t.1, t.2, t.3))
     c.run_and_tell-end.ensures.told
 
 pub returns-in_err-file-clause-refused : goal.returns-in_err-file-clause-refused
-returns-in_err-file-clause-refused g c counts json content are_one given said budget plan path =
+returns-in_err-file-clause-refused g c content are_one given said budget plan path =
     let p = err_from_is_err_and c.from_residual.result c.from_residual.ensures.1 in
     rw (p.1, p.2) (without_program (λ any. no_setup c.in_err-file.field-0.0 (no_program c.args.text.now given c.in_err-file.ensures.none) refl))
 
 pub returns-in_err-setup-clause-refused : goal.returns-in_err-setup-clause-refused
-returns-in_err-setup-clause-refused g c counts json content are_one given said budget plan path =
+returns-in_err-setup-clause-refused g c content are_one given said budget plan path =
     let none = c.in_err-setup.ensures.none in
     let p = err_from_is_err_and c.from_residual-in_err-setup.result c.from_residual-in_err-setup.ensures.1 in
     rw (p.1, p.2) (without_program (λ any. no_setup none.0 (not_loaded c.in_ok-file.file c.args.settings.now (record { text = c.args.text.now; given = given; read = c.in_ok-file.ensures.file }) said none.2) none.1))
 
 pub returns-clause-refused : goal.returns-clause-refused
-returns-clause-refused g c counts json content are_one given said budget plan path =
+returns-clause-refused g c content are_one given said budget plan path =
     let setup = c.in_ok-setup.setup in
     let work = c.args.work in
     IfErr-weaker c.run_and_tell-end.result (IsNoWork setup work.budget work.plan work.path) (IsRefused content are_one c.args.options.now)
     (λ why h. no_work setup work.budget work.plan
     (record { file = c.in_ok-file.file; read = record { text = c.args.text.now; given = given; read = c.in_ok-file.ensures.file }; settings = c.args.settings.now; said = said; made = c.in_ok-setup.ensures.setup })
     budget plan (subst (λ (recorded : Option (Bor (List ℕ))). IsNoWork setup work.budget work.plan recorded why) path h))
-    (c.run_and_tell-end.ensures.refused counts json)
+    (c.run_and_tell-end.ensures.refused)

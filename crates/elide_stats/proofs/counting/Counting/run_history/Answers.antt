@@ -45,8 +45,8 @@ loop-index-preserved g c =
           ((pick, outcome) ∷ []) made.2 c.in_ok-make_step.ensures.made.1,
     )
 
-pub returns : goal.returns
-returns g c =
+pub returns-clause-ran : goal.returns-clause-ran
+returns-clause-ran g c =
     let made = c.loop-index.invariant in
     let history : List (ℕ × Outcome) = c.args.board.now.history in
     let same : c.len-index-end.result ≡ length history =
