@@ -12,7 +12,7 @@ WANT = {17, 26, 41, 43, 51, 54, 60, 61, 78, 83, 97}
 UNTOLD = {1, 2, 3, 50, 53, 70, 71, 72, 74, 75}
 
 FAULT = re.compile(rb"fault (\d+) (\w+)(?: line (\d+))?\n")
-USAGE = re.compile(rb"usage: (--[a-z-]+|FAULT)\n")
+USAGE = re.compile(rb"usage: (--[a-z-]+|FAULT|FILE)\n")
 # A run that a search found is too long for its page.
 UNPAGED = b"fault 85 PageTooLong\n"
 MISUSE = re.compile(rb"error: .*\n", re.DOTALL)
@@ -28,6 +28,11 @@ STATE = re.compile(
 OUTCOME = re.compile(
     rb"\d+ (?:plain|loaded|stopped (?:" + WORDS + rb")(?:: .+)?|idle|begun|inside|committed"
     rb"|aborted [0-9a-f]{8}(?: .+)?)", re.DOTALL,
+)
+# The same with `--code`: the address, and what stood and was done there.
+TOLD = re.compile(
+    rb"\d+ (?:plain|loaded|stopped (?:" + WORDS + rb")|idle|begun|inside|committed"
+    rb"|aborted [0-9a-f]{8}(?: (?:interrupt|eviction|snoop))?) [0-9a-f]{8}(?: .+)?", re.DOTALL,
 )
 DUMP = re.compile(rb"[0-9a-f]{8} (?:[0-9a-f]{2}){1,16}")
 SHOWN = re.compile(rb".+=[0-9a-f]{8} \d+")
@@ -45,13 +50,14 @@ COUNTS = re.compile(
 # A line of `outcomes`.
 OUTCOMES = re.compile(
     rb"(?:[0-9a-f]{8} )+ \d+ (?: \d+[ies]?)*"
-    rb"|stop  (?:" + WORDS + rb") (?: \d+[ies]?)*|stuck  \d+ (?: \d+[ies]?)*"
-    rb"|\d+ outcomes? in \d+ states(?:: cut at the limit, there may be more|, \d+ of them without a way to an end)?"
+    rb"|stop  (?:" + WORDS + rb") (?: \d+[ies]?)*|stuck  \d+ (?: \d+[ies]?)*|(?:check|forbid)  .+ (?: \d+[ies]?)*"
+    rb"|cycle  \d+ (?: \d+[ies]?)* \|(?: \d+[ies]?)+"
+    rb"|(?:\d+ outcomes? in )?\d+ states(?:: cut at the limit, there may be more|, \d+ of them without a way to an end)?"
 )
 CONTROL = re.compile(rb"[\x00-\x09\x0b-\x1f\x7f]")
 NOT_STOPPED = re.compile(rb"core \d+ has not stopped: eip=[0-9a-f]{8}")
 # What `run` and `replay` print.
-RAN = (STATE, OUTCOME, DUMP, SHOWN, NOT_STOPPED, re.compile(rb"agree"))
+RAN = (STATE, OUTCOME, TOLD, DUMP, SHOWN, NOT_STOPPED, re.compile(rb"agree"))
 
 
 def names_of_faults():
@@ -70,8 +76,16 @@ def without_warnings(err):
     return err[at:]
 
 
-def fault_in(err):
-    found = FAULT.fullmatch(without_warnings(PAINT.sub(b"", err)))
+def without_words(words, told):
+    """The line that tells what is refused, where words behind it are asked for."""
+    if not any(b"--words" in os.fsencode(word) for word in words):
+        return told
+    line = told[:told.find(b"\n") + 1]
+    return line if FAULT.fullmatch(line) or USAGE.fullmatch(line) else told
+
+
+def fault_in(words, err):
+    found = FAULT.fullmatch(without_words(words, without_warnings(PAINT.sub(b"", err))))
     return (int(found[1]), int(found[3]) if found[3] else None) if found else None
 
 
@@ -90,7 +104,7 @@ def what_is_wrong(answer):
     kept = out.replace(b"\x7f", b"") if {"--json", b"--json"} & set(answer.words) else out
     if CONTROL.search(kept) and answer.words[0] not in ("gdb", b"gdb"):
         return "control characters on standard output"
-    told = without_warnings(err)
+    told = without_words(answer.words, without_warnings(err))
     if answer.status in (0, 3):
         return "words on standard error beside a status of 0 or 3" if told and told != UNPAGED else None
     if answer.status == 2:
@@ -112,14 +126,14 @@ def what_is_wrong_with_a_fault(answer, told):
         return f"fault {number} of the library"
     if (found[3] is not None) != (number in WITH_LINE):
         return f"fault {number} with or without a line"
-    if answer.out and answer.words[0] not in ("debug", "gdb", b"debug", b"gdb") and number not in (5, 77, 81):
+    if answer.out and os.fsencode(answer.words[0]) not in (b"debug", b"gdb", b"test") and number not in (5, 77, 81):
         return "standard output beside a fault"
     return None
 
 
 # ---- kinds: what is new in an answer
 
-COMMANDS = b"asm dis run threads replay debug gdb hunt outcomes stats draw page explain help".split()
+COMMANDS = b"asm dis run threads replay debug gdb hunt outcomes stats draw page test explain help".split()
 NUMBER = re.compile(rb"0x[0-9a-fA-F]+|\b[0-9a-f]{8,}\b|\d+")
 REGISTER = re.compile(rb"\b(?:e?(?:ax|cx|dx|bx)|e(?:sp|bp|si|di)|[abcd][lh])\b")
 

@@ -43,7 +43,7 @@ class Answer:
 
     def fault(self):
         """The number and the line of the fault that was told, None where there is none."""
-        return forms.fault_in(self.err)
+        return forms.fault_in(self.words, self.err)
 
 
 def bound_memory():

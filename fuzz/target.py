@@ -170,6 +170,10 @@ ASKED = [
     ("outcomes", "--cores", "2", "--limit", "200", "--show", "eax@0 0x100"),
     ("threads", "--cores", "2", "--budget", "200", "--why"),
     ("threads", "--cores", "2", "--budget", "200", "--stats", "--json"),
+    ("outcomes", "--cores", "2", "--limit", "200", "--check", "eax@0 == 1", "--stuck", "--events", "interrupt,snoop"),
+    ("page", "--cores", "2", "--random", "6", "--limit", "100", "--show", "0x100"),
+    ("run", "--cores", "2", "--random", "2", "--limit", "200", "--trace", "--code", "--why"),
+    ("run", "--cores", "2", "--random", "2", "--limit", "200", "--json", "--trace"),
     ("debug", "--cores", "2", "--random", "4", "--limit", "90"),
     ("gdb", "--cores", "2", "--in-turn", "--limit", "90"),
 ]
@@ -189,6 +193,9 @@ def expect_commands(starter, name, case):
     lines = answer.out.split(b"\n")[:-1]
     if "--json" in words:
         expect(is_read(lambda text: json.loads(text.decode()), answer.out), "no JSON")
+    elif words[0] == "page":
+        found = re.search(rb'<script type="application/json" id="run">(.*?)</script>', answer.out, re.DOTALL)
+        expect(found and is_read(lambda text: json.loads(text.decode()), found[1]), "a page without its run as JSON")
     elif words[0] == "draw":
         expect(is_read(xml.etree.ElementTree.fromstring, answer.out), "no XML")
     elif words[0] == "stats":
@@ -197,7 +204,8 @@ def expect_commands(starter, name, case):
         expect(steps[0] == sum(steps[1:]), "counts of steps that are not all of them")
     elif words[0] == "outcomes":
         expect(all(forms.OUTCOMES.fullmatch(line) for line in lines), "an outcome of no known form")
-        expect_outcome(starter, name, lines)
+        if "--show" in words:
+            expect_outcome(starter, name, lines)
 
 
 def expect_outcome(starter, name, lines):

@@ -1,5 +1,6 @@
 """Command lines: each command's words. A case has a word a line."""
 
+import json
 import os
 import random
 import re
@@ -9,7 +10,7 @@ import zlib
 import forms
 import mutations
 import readers
-from target import Target, cases_of, expect, words_of
+from target import Target, cases_of, expect, is_read, words_of
 from targets.elf import codes, elf, segment
 from targets.schedule import PROGRAM
 
@@ -20,12 +21,18 @@ FILES = {
     "bad.asm": b"start: mov eax, [cuont]\nxned\n",
     "<&>'\".asm": PROGRAM,
     "s.txt": b"schedule 3\n0*4 1*3 0i 1e*2 0 1*9\n",
+    "t.asm": PROGRAM + b"; elide: run --in-turn --show count\n; expect: line count=00000003 3\n; elide: hunt --cores 2"
+                       b" --check 'count == 6' --runs 9\n; expect: no failure\n",
+    # What stands where records and pages go.
+    "out.txt": b"what stood there\n",
 }
-FLAGS = {b"--list", b"--labels", b"--trace", b"--why", b"--expect-halt", b"--in-turn", b"--stats", b"--json"}
+FLAGS = {b"--list", b"--labels", b"--trace", b"--why", b"--expect-halt", b"--in-turn", b"--stats", b"--json", b"--code"}
+FLAGS |= {b"--names", b"--stuck"}
 OPTIONS = """--list --labels --cores --mem --entry --reads --writes --dump --show --steps --schedule --trace --why
     --expect-halt --in-turn --random --events --seed --limit --record --budget --burst --stats --json --check --stop
-    --runs --method --jobs --from --to --core --color --help --version -h -V -- - --x -x""".split()
-COMMANDS = "asm dis run threads replay debug gdb hunt outcomes stats draw explain help".split()
+    --runs --method --jobs --from --to --core --color --code --words --forbid --names --stuck --page --output --note --title
+    --help --version -h -V -- - --x -x""".split()
+COMMANDS = "asm dis run threads replay debug gdb hunt outcomes stats draw page test explain help".split()
 VALUES = words_of("options.words")
 PIECES = [b"=", b"--cores=2", b"--", b"", b"\x80", b"\xff\xfe", b",", b":", b"+", b"@"]
 # Words with a slash that may stand: no other file than those of the folder is written to or read.
@@ -34,6 +41,11 @@ PLACES = {b"1/4", b"1/2:snoop", b"/dev/full", b"/dev/null", b"/nofolder/x"}
 BOUNDS = {b"--runs": 200, b"--limit": 3000, b"--budget": 3000, b"--jobs": 40}
 # What is asked of commands that go on for long where it is not said how far.
 WANTED = {b"outcomes": [b"--limit=2000"], b"hunt": [b"--runs=50", b"--limit=3000"]}
+# What the end of a run is told by.
+END = (forms.STATE, forms.DUMP, forms.SHOWN)
+# What a machine is told by, and the commands that record what they ran.
+MACHINE = {b"--cores", b"--mem", b"--entry", b"--reads", b"--writes", b"--dump", b"--show"}
+RECORDING = {b"run", b"replay", b"threads", b"stats"}
 # Above these the program refuses, so that they may stand.
 REFUSED_ABOVE = 2**32 - 1
 
@@ -107,6 +119,7 @@ class Options(Target):
         given = b"step 0\nregs 0\n" if b"debug" in words else b"$?#3f$s#73"
         answer = starter.start(*words, given=given)
         expect(not any(".part" in name for name in os.listdir(starter.folder)), "a part of a record is left behind")
+        look_at_written(words, answer, starter)
         if words[:1] == [b"threads"] or len(words) > 60:
             return
         if self.is_turn(case, 0, 3):
@@ -114,7 +127,9 @@ class Options(Target):
             starter.again(answer)
         if words[:1] == [b"hunt"] and answer.status == 3:
             look_at_replay(answer, starter)
-        if words[:1] in ([b"run"], [b"replay"]) and not answer.out.startswith(b"Runs "):
+        if b"--json" in words and answer.out.startswith(b"{"):
+            expect(is_read(lambda text: json.loads(text.decode()), answer.out), "no JSON")
+        elif words[:1] in ([b"run"], [b"replay"]) and not answer.out.startswith(b"Runs "):
             lines = answer.out.split(b"\n")[:-1]
             expect(all(any(form.fullmatch(line) for form in forms.RAN) for line in lines), "a line of no known form")
         if answer.err and self.is_turn(case, 2, 3) and b"hunt" not in words:
@@ -138,6 +153,25 @@ class Options(Target):
         clear(starter)
         again = starter.start(words[0], *[word for group in others for word in group], given=given)
         expect(again.said() == answer.said(), "another answer where the options stand in another order")
+
+
+def look_at_written(words, answer, starter):
+    """What stood where a record goes stays where a command is refused; a record is read back, and the same run is made of it."""
+    written, told = starter.read("out.txt"), answer.fault()
+    if written == FILES["out.txt"]:
+        return
+    # What was to be printed may fail behind the record; of a page the outcome that it shows is found first.
+    expect(answer.status in (0, 3) or told and told[0] == 5, "something is written beside a refusal")
+    if words[0] not in RECORDING or answer.status != 0 or written.startswith(b"<!DOCTYPE"):
+        return
+    steps = readers.read_schedule(written)
+    runs = [group for group in groups_of(words[1:]) if not group[0].startswith(b"-") or group[0].split(b"=")[0] in MACHINE]
+    again = starter.start(b"run", *[word for group in runs for word in group], b"--schedule", b"out.txt", b"--record", b"again.txt")
+    expect(again.status == 0, "a record that is not run")
+    expect(readers.read_schedule(starter.read("again.txt")) == steps, "a record of a record that has other steps")
+    if words[0] != b"stats" and not {b"--stats", b"--json"} & set(words):
+        ends = [[line for line in it.out.split(b"\n") if any(form.fullmatch(line) for form in END)] for it in (answer, again)]
+        expect(ends[0] == ends[1], "another end of a record's run")
 
 
 def look_at_replay(answer, starter):

@@ -54,14 +54,17 @@ impl Paths for Memory {
         self.read_shared(path, most)
     }
 
-    fn write<T: Text>(&mut self, path: &str, text: &T) -> Result<(), Failed> {
+    fn write<T: Text>(&mut self, path: &str, text: &mut T) -> Result<(), Failed> {
         if let Some(Content::Folder) = self.files.get(path) {
             return Err(Failed);
         }
-        let empty = ToVec::new(Vec::new(self.alloc));
-        let content = text.write_to(empty).map_err(|_| Failed)?;
-        self.put(path, Content::Bytes(content.bytes))
-            .map_err(|_| Failed)
+        match text.write_to(ToVec::new(Vec::new(self.alloc))) {
+            Ok(content) => match self.put(path, Content::Bytes(content.bytes)) {
+                Ok(()) => Ok(()),
+                Err(_) => Err(Failed),
+            },
+            Err(_) => Err(Failed),
+        }
     }
 
     fn is_same_file(&mut self, path: &str, other: &str) -> bool {
