@@ -30,3 +30,10 @@ Tells told content refusal =
 -- a text was told, and it is what a file holds, where its content is known
 abbrev pub IsWritten : (List ℕ → Type 0) → Option (List ℕ) → Type 0
 IsWritten tells held = (text : List ℕ) × tells text × IfSome held (λ bytes. bytes ≡ text)
+
+-- a text is not written: nothing of it was told, it broke off, or it was told whole and lost
+pub data IsNotWritten {Text : Type 0} (tells : Text → Text → List ℕ → Type 0) (breaks : Text → Text → Type 0)
+    (before after : Text) : Type 0 where
+  untold : after ≡ before → IsNotWritten tells breaks before after
+  broken : breaks before after → IsNotWritten tells breaks before after
+  lost : (text : List ℕ) → tells before after text → IsNotWritten tells breaks before after

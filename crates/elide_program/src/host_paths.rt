@@ -1,8 +1,8 @@
 //! The files of the system.
 
 ghost use Rattle.std.specs.Io.KnownBytes.{Appends};
-ghost use Rattle.std.specs.Prelude.{◌≤◌, ℕ, IfOk, List, None, OnOk, length};
-ghost use Rattle.elide_program.specs.Files.{IsWritten};
+ghost use Rattle.std.specs.Prelude.{◌≤◌, ℕ, IfOk, List, None, OnErr, OnOk, length};
+ghost use Rattle.elide_program.specs.Files.{IsNotWritten, IsWritten};
 
 use crate::again::Again;
 use crate::paths::{Obstacle, Paths, ReadFault, Text};
@@ -107,6 +107,7 @@ fn can_write<R: Files>(rt: &R, path: &str) -> bool {
 pub fn write_in_place<R: Files, T: Text>(rt: &R, path: &str, text: &mut T) -> Result<(), Failed>
     requires { T.keeps text.old }
     ensures written { OnOk result (IsWritten (T.tells text.old text.new) None) }
+    ensures failed { OnErr result (IsNotWritten T.tells T.breaks text.old text.new) }
     ensures kept { T.keeps text.new }
 {
     match File::create(rt, path) {
@@ -123,6 +124,7 @@ pub fn write_all<F: io::Write + Drop, T: Text>(file: F, text: &mut T) -> Result<
     requires { T.keeps text.old }
     ensures written { IfOk result (λ given. (bytes : List ℕ) × T.tells text.old text.new bytes
         × Appends (F.contents file) (F.contents given) bytes) }
+    ensures broken { OnErr result (T.breaks text.old text.new) }
     ensures kept { T.keeps text.new }
 {
     match text.write_to(ToWriter::new(Again::new(file))) {

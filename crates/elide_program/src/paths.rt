@@ -1,8 +1,9 @@
 //! Files by their paths.
 
 ghost use Rattle.std.specs.Io.KnownBytes.{Appends};
-ghost use Rattle.std.specs.Prelude.{◌≡◌, ◌≤◌, ℕ, ⊤, Bool, IfOk, IfSome, List, MatchResult, OnOk, Option, length};
-ghost use Rattle.elide_program.specs.Files.{Gives, IsWritten, Refuses};
+ghost use Rattle.std.specs.Prelude.{◌≡◌, ◌≤◌, ℕ, ⊤, Bool, IfOk, IfSome, List, MatchResult, OnErr, OnOk, Option};
+ghost use Rattle.std.specs.Prelude.{length};
+ghost use Rattle.elide_program.specs.Files.{Gives, IsNotWritten, IsWritten, Refuses};
 
 use ia_text::{Failed, Out, WriteFault};
 use thiserror::Error;
@@ -43,12 +44,16 @@ pub trait Text {
     // What is true of it, however far it was written.
     ghost keeps: { Self → Type 0 } = { λ _. ⊤ };
 
+    // How it may stand, from before it, where it was not made to its end or its device failed.
+    ghost breaks: { Self → Self → Type 0 } = { λ _ _. ⊤ };
+
     /// Writes the text, and gives the device back. A beginning of the text, where it is not made to its end or the device
     /// fails.
     fn write_to<O: Out + Drop>(&mut self, out: O) -> Result<O, WriteFault>
         requires { keeps self.old }
         ensures written { IfOk result (λ given. (bytes : List ℕ) × tells self.old self.new bytes
             × Appends (O.device out).contents (O.device given).contents bytes) }
+        ensures broken { OnErr result (breaks self.old self.new) }
         ensures kept { keeps self.new };
 }
 
@@ -75,6 +80,7 @@ pub trait Paths {
     fn write<T: Text>(&mut self, path: &str, text: &mut T) -> Result<(), Failed>
         requires { T.keeps text.old }
         ensures written { OnOk result (IsWritten (T.tells text.old text.new) (content self.new path.now)) }
+        ensures failed { OnErr result (IsNotWritten T.tells T.breaks text.old text.new) }
         ensures kept { T.keeps text.new };
 
     /// Whether both paths lead to one regular file. No file is changed.

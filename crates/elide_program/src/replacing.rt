@@ -1,7 +1,7 @@
 //! A file that is replaced as a whole.
 
-ghost use Rattle.std.specs.Prelude.{None, OnOk};
-ghost use Rattle.elide_program.specs.Files.{IsWritten};
+ghost use Rattle.std.specs.Prelude.{None, OnErr, OnOk};
+ghost use Rattle.elide_program.specs.Files.{IsNotWritten, IsWritten};
 
 use crate::host_paths::{write_all, write_in_place};
 use crate::paths::Text;
@@ -36,6 +36,7 @@ pub fn replace<R: Files<File = File>, T: Text>(
 ) -> Result<(), Failed>
     requires { T.keeps text.old }
     ensures written { OnOk result (IsWritten (T.tells text.old text.new) None) }
+    ensures failed { OnErr result (IsNotWritten T.tells T.breaks text.old text.new) }
     ensures kept { T.keeps text.new }
 {
     match held_beside(rt, path) {
@@ -63,6 +64,7 @@ fn write_part<R: Files, T: Text>(
 ) -> Result<(), Failed>
     requires { T.keeps text.old }
     ensures written { OnOk result (IsWritten (T.tells text.old text.new) None) }
+    ensures failed { OnErr result (IsNotWritten T.tells T.breaks text.old text.new) }
     ensures kept { T.keeps text.new }
 {
     match write_all(&part.file, text) {

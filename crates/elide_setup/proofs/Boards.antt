@@ -1,5 +1,5 @@
 -- Steps of one core side by side that a board makes at once.
-use Rattle.std.proofs.Common.{◌≡◌, ◌≢◌, ℕ, List, [], ◌∷◌, ◌++◌, length, replicate, Option, None, Some, refl, sym, ap, ◌∙◌, subst, append-nil, arith}
+use Rattle.std.proofs.Common.{◌≡◌, ◌≢◌, ℕ, List, [], ◌∷◌, ◌++◌, replicate, None, Some, refl, sym, ap, ◌∙◌, subst, append-nil}
 use Rattle.std.specs.Prelude.{All, MatchOption, option_and_then}
 use Rattle.std.proofs.lemmas.List.Elements.{All-weaker}
 use Rattle.std.proofs.lemmas.Option.{same_Some}
@@ -85,13 +85,18 @@ none_made : (steps : List (Pick × Outcome)) (pick : Pick) → picks_made steps 
 none_made [] pick h = refl
 none_made (made ∷ steps) pick h = absurd (cc)
 
+-- none changes the history
+pub same_behind_none : (before between : Board) (core count : ℕ) (none : List (Pick × Outcome)) → picks_made none ≡ replicate count (lone_pick core) → count ≡ 0 →
+    AreBoardSteps before none between → between.history ≡ before.history
+same_behind_none before between core count none picks zero first =
+    let empty : none ≡ [] = none_made none (lone_pick core) (picks ∙ ap (λ n. replicate n (lone_pick core)) zero) in
+    first.history ∙ ap (λ l. before.history ++ history_made l) empty ∙ append-nil before.history
+
 -- steps behind none
 pub behind_none : (before between after : Board) (core count : ℕ) (none others : List (Pick × Outcome)) → picks_made none ≡ replicate count (lone_pick core) → count ≡ 0 →
     AreBoardSteps before none between → AreBoardSteps between others after → AreBoardSteps before others after
 behind_none before between after core count none others picks zero first then =
-    let empty : none ≡ [] = none_made none (lone_pick core) (picks ∙ ap (λ n. replicate n (lone_pick core)) zero) in
-    let history : between.history ≡ before.history =
-    first.history ∙ ap (λ l. before.history ++ history_made l) empty ∙ append-nil before.history in
+    let history : between.history ≡ before.history = same_behind_none before between core count none picks zero first in
     let start : Doomed = λ _. None in
     record {
       same = record {

@@ -28,12 +28,18 @@ is_under Never kinds event drawn of never = never drawn
 is_under (Rate many asked) kinds event drawn of never = subst (λ (k : Kinds). IsOfKinds k event) drawn of
 is_under Draw kinds event drawn of never = tt
 
+pub under_one : (events : Events) (kinds : Kinds) (pick : Pick) → AreDrawn events kinds → IsOfKinds kinds pick.event → (kinds ≡ no_kinds → pick.event ≡ None) →
+    AreUnder events (pick ∷ [])
+under_one events kinds pick drawn of never =
+    let P : Pick → Type 0 = λ p. IsUnder events p.event in
+    All-cons P pick [] (is_under events kinds pick.event drawn of never) (All-nil P)
+
 pub under_more : (events : Events) (kinds : Kinds) (steps : List (Pick × Outcome)) (pick : Pick) (outcome : Outcome) →
     AreDrawn events kinds → IsOfKinds kinds pick.event → (kinds ≡ no_kinds → pick.event ≡ None) → AreUnder events (picks_made steps) →
     AreUnder events (picks_made (steps ++ (pick, outcome) ∷ []))
 under_more events kinds steps pick outcome drawn of never under =
     subst (λ (picks : List Pick). AreUnder events picks) (sym (picks_on steps ((pick, outcome) ∷ [])))
-    (All-append (λ (p : Pick). IsUnder events p.event) (picks_made steps) (pick ∷ []) under (All-cons (λ (p : Pick). IsUnder events p.event) pick [] (is_under events kinds pick.event drawn of never) (All-nil (λ (p : Pick). IsUnder events p.event))))
+    (All-append (λ (p : Pick). IsUnder events p.event) (picks_made steps) (pick ∷ []) under (under_one events kinds pick drawn of never))
 
 -- ---- the events that their outcomes tell
 

@@ -7,6 +7,7 @@ mod Forms
 mod Held
 pub mod Made
 pub mod Misread
+pub mod NoSteps
 pub mod Owing
 pub mod OneFile
 pub mod Records
@@ -16,5 +17,6 @@ pub mod Runs
 pub mod Schedules
 mod ShownTexts
 pub mod StepsKept
+pub mod StepsRefused
 pub mod Walks
 pub mod AlikeChunks

@@ -1,6 +1,7 @@
 -- What is kept of steps: their picks in a list, and their schedule on a device.
-use Rattle.std.proofs.Common.{◌≡◌, ◌∙◌, ℕ, Bool, true, false, List, [], ◌++◌, Option, ap, append-nil, append_assoc, inl, inr, refl, subst, sym}
-use Rattle.std.specs.Prelude.{◌⊎◌, IfErr, IfOk, Result, Vec, if◌then◌else◌}
+use Rattle.std.proofs.Common.{◌≡◌, ◌∙◌, ℕ, Bool, true, false, List, [], ◌++◌, Option, None, Some, ap, append-nil, append_assoc, inl, inr, refl, subst, sym}
+use Rattle.std.specs.Prelude.{◌⊎◌, Err, IfErr, IfOk, IfSome, Ok, OnErr, Result, Vec, if◌then◌else◌}
+use Rattle.elide_program.specs.Files.{IsNotWritten, broken, lost, untold}
 use Rattle.std.proofs.lemmas.Result.{IfErr-weaker, IfOk-weaker}
 use Rattle.std.specs.Io.KnownBytes.{Appends, Keeps}
 use Rattle.ia_text.proofs.Writing.{appends_none, appends_then}
@@ -60,6 +61,32 @@ with_other keeps a b U L D Other r other h =
 pub never_fails : {T E : Type 0} (refuses others : E → Type 0) (r : Result T E) → IfErr r (λ why. refuses why ⊎ ⊥) → IfErr r (λ why. refuses why ⊎ others why)
 never_fails refuses others r h =
     IfErr-weaker r (λ why. refuses why ⊎ ⊥) (λ why. refuses why ⊎ others why) (λ why. elim [ inl refused ↦ inl refused | inr none ↦ absurd none ]) h
+
+-- ---- a text that is not written
+
+-- what is owed of a failure alone
+pub when_err : {T E : Type 0} (r : Result T E) (P : Type 0) → P → OnErr r P
+when_err (Ok x) P h = tt
+when_err (Err y) P h = h
+
+not_refused : {Why : Type 0} (now before : Option Why) (why : Why) → now ≡ before → before ≡ None → now ≡ Some why → ⊥
+not_refused now before why same none some =
+    let never : None ≡ Some why = sym none ∙ sym same ∙ some in cc
+
+-- what refused it, which nothing had before, is what it broke off by
+pub why_broken : {Text Why : Type 0} (tells : Text → Text → List ℕ → Type 0) (breaks : Text → Text → Type 0) (refused : Text → Option Why) (P : Why → Type 0)
+    (before after : Text) (why : Why) → IsNotWritten tells breaks before after → refused before ≡ None → refused after ≡ Some why →
+    ((text : List ℕ) → tells before after text → refused after ≡ refused before) →
+    (breaks before after → (refused after ≡ refused before) ⊎ IfSome (refused after) P) → P why
+why_broken tells breaks refused P before after why (untold same) none some kept gone =
+    absurd (not_refused (refused after) (refused before) why (ap refused same) none some)
+why_broken tells breaks refused P before after why (lost text told) none some kept gone =
+    absurd (not_refused (refused after) (refused before) why (kept text told) none some)
+why_broken {Text} {Why} tells breaks refused P before after why (broken h) none some kept gone =
+    elim (gone h) [
+      | inl same ↦ absurd (not_refused (refused after) (refused before) why same none some)
+      | inr is ↦ subst (λ (r : Option Why). IfSome r P) some is
+    ]
 
 -- ---- a schedule
 

@@ -1,7 +1,7 @@
 -- Why a program, its machine or its schedule is not had (docs/FAULTS.md). Want of memory is a reason wherever memory is
 -- taken.
 use Rattle.std.specs.Prelude.{◌≡◌, ◌≤◌, ℕ, ◌<◌, ◌⊎◌, ◌||◌, Bool, true, false, not, if◌then◌else◌}
-use Rattle.std.specs.Prelude.{List, length, Contains, Option, Some, None, Err, IfSome, IsSome, codes, is_some}
+use Rattle.std.specs.Prelude.{List, [], ◌∷◌, ◌++◌, length, Contains, Option, Some, None, Err, IfSome, IsSome, codes, is_some}
 use Rattle.std.specs.Borrow.{Bor}
 use Rattle.std.specs.Option.{option_copied}
 use Rattle.elide_args.specs.declared.subcommand.MachineOptions.{MachineOptions}
@@ -9,7 +9,7 @@ use Rattle.elide_args.specs.declared.subcommand.ScheduleOptions.{ScheduleOptions
 use Rattle.elide_program.specs.Entries.{AreStarts}
 use Rattle.elide_program.specs.Faults.{unread}
 use Rattle.elide_program.specs.Files.{Gives, Refuses, Tells, most_bytes}
-use Rattle.elide_program.specs.ProgramFile.{IsRead, TellsLoad}
+use Rattle.elide_program.specs.ProgramFile.{IsFile, IsRead, TellsLoad}
 use Rattle.elide_program.specs.Refusals.{HasNoPart, HasNoStarts, IsMisread, IsNoProgram}
 use Rattle.elide_program.specs.Settings.{AreSettings, word32}
 use Rattle.elide_program.specs.declared.fault.ProgramRefusal.{ProgramRefusal}
@@ -25,14 +25,16 @@ use Rattle.tm_schedule.specs.declared.schedule.ScheduleFault.TheVariants as no_s
 use Rattle.elide_setup.specs.Events.{events_said}
 use Rattle.elide_setup.specs.Faults.{not_written, refusal_of, want}
 use Rattle.elide_setup.specs.Misuse.{IsMisuse}
-use Rattle.elide_setup.specs.Drawing.{limit_said}
+use Rattle.elide_setup.specs.Drawing.{AreUnder, limit_said}
+use Rattle.elide_setup.specs.Rounds.{has_stopped}
 use Rattle.elide_setup.specs.Runs.{IsRunOf}
-use Rattle.elide_setup.specs.Schedules.{AreAsked, are_listed}
-use Rattle.elide_setup.specs.Setup.{IsAsked}
+use Rattle.elide_setup.specs.Schedules.{AreAsked, AreOf, are_listed, picks_made}
+use Rattle.elide_setup.specs.Setup.{IsSetup}
 use Rattle.elide_setup.specs.Shown.{are_held}
 use Rattle.elide_setup.specs.TmCore.Limits.{Limits}
 use Rattle.elide_setup.specs.TmCore.Theorem.{ShownMachine as Machine}
-use Rattle.elide_setup.specs.TmHist.Board.{IsNew, ShownBoard as Board, bad_limit as is_bad_limit}
+use Rattle.elide_setup.specs.TmHist.Board.{IsFull, IsNew, ShownBoard as Board, bad_limit as is_bad_limit}
+use Rattle.elide_setup.specs.Walks.{Leads}
 use Rattle.ia_text.specs.declared.out.WriteFault.{WriteFault}
 use Rattle.tm_core.specs.Machine.{bad_limits}
 use Rattle.tm_core.specs.declared.fault.MachineFault.{MachineFault}
@@ -40,11 +42,14 @@ use Rattle.tm_core.specs.declared.fault.MachineFault.TheVariants as machine
 use Rattle.tm_core.specs.declared.fault.RunFault.TheVariants as run
 use Rattle.tm_hist.specs.declared.board.BoardFault.{BoardFault}
 use Rattle.tm_hist.specs.declared.board.BoardFault.TheVariants as board
-use Rattle.tm_hist.specs.declared.board.StepFault.{StepFault}
+use Rattle.tm_hist.specs.declared.board.StepFault.TheVariants as step
 use Rattle.elide_setup.specs.declared.fault.Fault.TheVariants as fault
 use Rattle.elide_setup.specs.declared.fault.Refusal.{Refusal}
 use Rattle.elide_setup.specs.declared.fault.Refusal.TheVariants as refusal
 use Rattle.elide_setup.specs.declared.machine.Setup.{Setup}
+use Rattle.elide_setup.specs.declared.plan.Course.{Course}
+use Rattle.elide_setup.specs.declared.plan.Course.TheVariants as course
+use Rattle.elide_setup.specs.declared.plan.Drawn.{Drawn}
 use Rattle.elide_setup.specs.declared.plan.Plan.{Plan}
 use Rattle.elide_setup.specs.declared.plan.Plan.TheVariants as plan
 
@@ -177,6 +182,10 @@ pub record NamesNoCore (listed : List Pick) (cores : ℕ) (why : Refusal) : Type
 abbrev pub IsAnyWant : Refusal → Type 0
 IsAnyWant why = (why ≡ want) ⊎ (why ≡ refusal.Fault (fault.Run run.NoMemory))
 
+-- the course is that of the schedule that the options ask for
+abbrev pub IsCourseOf : (List ℕ → Option (List ℕ)) → ScheduleOptions → Course → Type 0
+IsCourseOf content schedule asked = (picks : List Pick) → AreOf asked picks → AreAsked content schedule picks
+
 -- ---- the machine
 
 -- no machine with these limits is made: a limit is none, or memory was wanting
@@ -221,43 +230,84 @@ pub record IsPageOver (are_one : List ℕ → List ℕ → Option Bool) (path : 
 
 -- ---- steps
 
--- there is no core of the step's number
-abbrev pub IsNoCore : Refusal → Type 0
-IsNoCore why = why ≡ refusal.Fault (fault.Run run.NoSuchCore)
+-- a machine makes no step of a pick: it has no core of this number
+pub record IsNoCore (machine : Machine) (pick : Pick) (why : Refusal) : Type 0 where
+  pub tells : why ≡ refusal.Fault (fault.Run run.NoSuchCore)
+  pub beyond : length machine.views ≤ pick.core
 
--- a board makes no step
-abbrev pub IsNoStep : Refusal → Type 0
-IsNoStep why = (cause : StepFault) × (why ≡ refusal.Fault (fault.Step cause))
+-- a board makes no step of a pick: its program has no core of this number, or its history is full
+pub data IsNoStep (board : Board) (pick : Pick) (why : Refusal) : Type 0 where
+  no_core : length board.program.entries ≤ pick.core → why ≡ refusal.Fault (fault.Step step.NoSuchCore)
+      → IsNoStep board pick why
+  full : IsFull board → why ≡ refusal.Fault (fault.Step step.LimitReached) → IsNoStep board pick why
 
--- steps are not made: one is refused so, or there is no memory for the schedule that comes about
-abbrev pub IsNoWalk : (Refusal → Type 0) → Refusal → Type 0
-IsNoWalk refuses why = refuses why ⊎ (why ≡ refusal.Fault (fault.Run run.NoMemory))
+-- behind these steps a step of a list is due: the next one
+abbrev pub IsNextOf : List Pick → List (Pick × Outcome) → Pick → Type 0
+IsNextOf listed made pick = (later : List Pick) × (listed ≡ picks_made made ++ pick ∷ later)
+
+-- one that is drawn on so many cores: of a core that has not stopped, where fewer steps were made than may be drawn
+pub record IsNextDrawn (drawn : Drawn) (cores : ℕ) (made : List (Pick × Outcome)) (pick : Pick) : Type 0 where
+  pub few : length made < drawn.most
+  pub core : pick.core < cores
+  pub going : has_stopped made pick.core ≡ false
+  pub under : AreUnder drawn.events (pick ∷ [])
+
+-- one of a course
+abbrev pub IsDue : Course → ℕ → List (Pick × Outcome) → Pick → Type 0
+IsDue (course.Listed listed) cores made pick = IsNextOf listed.items made pick
+IsDue (course.Drawn drawn) cores made pick = IsNextDrawn drawn cores made pick
+
+-- a step that is due is refused, behind steps that were made
+pub record IsStepRefused {Maker : Type 0} (takes : Maker → List (Pick × Outcome) → Maker → Type 0)
+    (refuses : Maker → Pick → Refusal → Type 0) (is_due : List (Pick × Outcome) → Pick → Type 0) (before : Maker)
+    (why : Refusal) : Type 0 where
+  pub made : List (Pick × Outcome)
+  pub after : Maker
+  pub lead : Leads takes before made after
+  pub pick : Pick
+  pub due : is_due made pick
+  pub refused : refuses after pick why
+
+-- steps are not made: one that is due is refused, or there is no memory for the schedule that comes about
+abbrev pub IsNoWalk : {Maker : Type 0} → (Maker → List (Pick × Outcome) → Maker → Type 0)
+    → (Maker → Pick → Refusal → Type 0) → Course → ℕ → Maker → Refusal → Type 0
+IsNoWalk takes refuses asked cores before why =
+    IsStepRefused takes refuses (IsDue asked cores) before why ⊎ (why ≡ refusal.Fault (fault.Run run.NoMemory))
 
 -- the schedule is not written, where there is a path
 abbrev pub IsUnrecorded : Option (Bor (List ℕ)) → Refusal → Type 0
 IsUnrecorded path why = (why ≡ refusal.Fault fault.Output) × IsSome path
 
--- ---- a run
+-- a text is not written
+abbrev pub IsUnwritten : Refusal → Type 0
+IsUnwritten why = (cause : WriteFault) × (why ≡ not_written cause)
 
--- Why a command makes no run by its options, of what the files hold: there is no program or no schedule, no machine is
--- made, a listed step is of a core that the machine has not, what is to be printed of memory is not there, or the
--- schedule cannot be written. Besides, memory may be wanting, or an output fail.
-pub data RefusedFor (content : List ℕ → Option (List ℕ)) (options : MachineOptions) (schedule : ScheduleOptions)
-    (path : Option (Bor (List ℕ))) (why : Refusal) : Type 0 where
-  not_scheduled : IsNotScheduled content options schedule why → RefusedFor content options schedule path why
-  no_machine : (setup : Setup) → IsAsked (content options.file.now) options setup → IsNoMachine setup.limits why
-      → RefusedFor content options schedule path why
-  no_board : (setup : Setup) (limit : ℕ) → IsAsked (content options.file.now) options setup → IsNoBoard setup limit why
-      → RefusedFor content options schedule path why
-  no_core : (setup : Setup) → IsAsked (content options.file.now) options setup → (listed : List Pick)
-      → AreAsked content schedule listed → NamesNoCore listed (length setup.program.entries) why
-      → RefusedFor content options schedule path why
-  no_part : (setup : Setup) → IsAsked (content options.file.now) options setup → (made : List (Pick × Outcome))
-      → (machine : Machine) → IsRunOf setup.program setup.limits made machine
-      → are_held (length machine.memory) setup.parts ≡ false
-      → why ≡ refusal.Fault fault.OutOfRange → RefusedFor content options schedule path why
-  no_step : (setup : Setup) → IsAsked (content options.file.now) options setup → IsNoCore why ⊎ IsNoStep why
-      → RefusedFor content options schedule path why
-  not_recorded : IsUnrecorded path why → RefusedFor content options schedule path why
-  not_printed : (cause : WriteFault) → why ≡ not_written cause → RefusedFor content options schedule path why
-  no_memory : IsAnyWant why → RefusedFor content options schedule path why
+-- nor told, where there is no memory for it
+abbrev pub IsUntold : Refusal → Type 0
+IsUntold why = IsUnwritten why ⊎ IsAnyWant why
+
+-- ---- pages
+
+-- The page of a run is not written, of the program whose text FILE has and by the options of its machine: an option is
+-- misread, the text is no program or is not loaded, no machine is made, a step is of a core that it has not, what is to
+-- be printed of its memory is not there, the file cannot be written, or there is no memory.
+pub data IsNotPaged (text : List ℕ) (options : MachineOptions) (picks : List Pick) (why : Refusal) : Type 0 where
+  misread : (cause : ProgramRefusal) → IsMisread options cause → why ≡ refusal_of cause
+      → IsNotPaged text options picks why
+  no_program : (cause : ProgramRefusal) → IsNoProgram text cause → why ≡ refusal_of cause
+      → IsNotPaged text options picks why
+  not_loaded : (file : ProgramFile) (settings : Settings) (cause : ProgramRefusal) → IsFile text file
+      → AreSettings options settings → IsNotLoaded file settings cause → why ≡ refusal_of cause
+      → IsNotPaged text options picks why
+  no_machine : (file : ProgramFile) (settings : Settings) (setup : Setup) → IsFile text file
+      → AreSettings options settings → IsSetup file settings setup → IsNoMachine setup.limits why
+      → IsNotPaged text options picks why
+  no_core : (file : ProgramFile) (settings : Settings) (setup : Setup) → IsFile text file
+      → AreSettings options settings → IsSetup file settings setup
+      → NamesNoCore picks (length setup.program.entries) why → IsNotPaged text options picks why
+  not_held : (file : ProgramFile) (settings : Settings) (setup : Setup) (machine : Machine) → IsFile text file
+      → AreSettings options settings → IsSetup file settings setup → IsRunOf setup.program setup.limits [] machine
+      → are_held (length machine.memory) setup.parts ≡ false → why ≡ refusal.Fault fault.OutOfRange
+      → IsNotPaged text options picks why
+  no_file : why ≡ refusal.Fault fault.Output → IsNotPaged text options picks why
+  no_room : IsAnyWant why → IsNotPaged text options picks why

@@ -2,7 +2,7 @@
 
 ghost use Rattle.std.specs.Prelude.{◌≡◌, ◌⊎◌, ℕ, IfErr, IfOk, List, Some, true};
 ghost use Rattle.std.specs.Option.{option_copied};
-ghost use Rattle.elide_setup.specs.Refused.{AreOne, IsPageOver};
+ghost use Rattle.elide_setup.specs.Refused.{AreOne, IsNotPaged, IsPageOver};
 ghost use Rattle.elide_args.specs.declared.subcommand.MachineOptions.{MachineOptions};
 ghost use Rattle.elide_setup.specs.Paging.{IsPaged};
 ghost use Rattle.tm_model.specs.declared.outcome.Pick.{Pick};
@@ -40,8 +40,9 @@ pub trait Pages {
         path: &str,
         paths: &mut P,
     ) -> Result<Paged, Refusal>
-        ensures { IfOk result (IsPaged (shows self.now machine.now text.now picks.now)
-            (P.content paths.old) (P.content paths.new) path.now picks.now) };
+        ensures paged { IfOk result (IsPaged (shows self.now machine.now text.now picks.now)
+            (P.content paths.old) (P.content paths.new) path.now picks.now) }
+        ensures refused { IfErr result (IsNotPaged text.now machine.now picks.now) };
 }
 
 /// The path that `--page` gives, which is neither that of the program nor that of the record.

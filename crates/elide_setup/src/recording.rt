@@ -8,7 +8,7 @@ ghost use Rattle.tm_schedule.specs.Schedule.{drawn_text};
 ghost use Rattle.tm_schedule.specs.ScheduleWriting.{left_text};
 ghost use Rattle.elide_setup.specs.Drawing.{AreUnder, may_come};
 ghost use Rattle.elide_setup.specs.Recorded.{IsRecorded};
-ghost use Rattle.elide_setup.specs.Refused.{IsNoWalk, IsUnrecorded};
+ghost use Rattle.elide_setup.specs.Refused.{IsNextDrawn, IsStepRefused, IsUnrecorded};
 ghost use Rattle.elide_setup.specs.Rounds.{IsDrawnOut};
 ghost use Rattle.elide_setup.specs.Schedules.{picks_made, picks_told};
 ghost use Rattle.elide_setup.specs.Walks.{Leads};
@@ -38,7 +38,8 @@ pub fn walk_written<S: StepMaker, P: Paths, G: Progress>(
     progress: &mut G,
 ) -> Result<(), Refusal>
     requires { cores ≤ 64 }
-    ensures refused { IfErr result (λ why. IsNoWalk S.refuses why ⊎ IsUnrecorded path.entry why) }
+    ensures refused { IfErr result (λ why. IsStepRefused S.takes S.refuses (IsNextDrawn drawn cores) maker.old why
+        ⊎ IsUnrecorded path.entry why) }
     ensures walked { IfOk result (λ _. (steps : List (Pick × Outcome)) × AreUnder drawn.events (picks_made steps)
         × Leads S.takes maker.old steps maker.new
         × IsRecorded (P.content paths.new) path.entry (drawn_text (may_come drawn.events) (picks_told steps))
@@ -60,7 +61,8 @@ fn walk_to_file<S: StepMaker, P: Paths, G: Progress>(
     progress: &mut G,
 ) -> Result<(), Refusal>
     requires { cores ≤ 64 }
-    ensures refused { IfErr result (λ why. S.refuses why ⊎ (why ≡ refusal.Fault fault.Output)) }
+    ensures refused { IfErr result (λ why. IsStepRefused S.takes S.refuses (IsNextDrawn drawn cores) maker.old why
+        ⊎ (why ≡ refusal.Fault fault.Output)) }
     ensures walked { IfOk result (λ _. (steps : List (Pick × Outcome)) × AreUnder drawn.events (picks_made steps)
         × Leads S.takes maker.old steps maker.new
         × IfSome (P.content paths.new path.now) (λ held. held ≡ drawn_text (may_come drawn.events) (picks_told steps))
@@ -98,15 +100,20 @@ struct DrawnText<'a, 'b, S, G> {
 }
 
 impl<S: StepMaker, G: Progress> Text for DrawnText<'_, '_, S, G> {
-    // The maker stays the one that was lent.
+    // The maker stays the one that was lent, and nothing refused it.
     ghost tells = { λ before after bytes. (after.maker.ghost_name ≡ before.maker.ghost_name)
+        × (after.refused ≡ before.refused)
         × (steps : List (Pick × Outcome)) × AreUnder before.drawn.events (picks_made steps)
         × Leads S.takes before.maker.now steps after.maker.now
         × (bytes ≡ drawn_text (may_come before.drawn.events) (picks_told steps))
         × IsDrawnOut (not (is_some before.drawn.seed)) before.cores before.drawn.most steps };
 
-    ghost keeps = { λ text. (text.cores ≤ 64)
-        × IfSome text.refused (λ why. S.refuses why ⊎ (why ≡ refusal.Fault fault.Output)) };
+    ghost keeps = { λ text. text.cores ≤ 64 };
+
+    // Nothing more refused it, or a step or the device did.
+    ghost breaks = { λ before after. (after.refused ≡ before.refused) ⊎ IfSome after.refused (λ why.
+        IsStepRefused S.takes S.refuses (IsNextDrawn before.drawn before.cores) before.maker.now why
+        ⊎ (why ≡ refusal.Fault fault.Output)) };
 
     fn write_to<O: Out + Drop>(&mut self, out: O) -> Result<O, WriteFault> {
         let mut page = Gathered::new(out);

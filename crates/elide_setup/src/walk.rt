@@ -1,14 +1,19 @@
 //! Runs over a schedule, listed or drawn.
 
 ghost use Rattle.std.specs.Prelude.{◌≡◌, ◌≤◌, ◌++◌, ◌∷◌, [], if◌then◌else◌, length, replicate, take, true};
-ghost use Rattle.std.specs.Prelude.{◌<◌, ◌⊎◌, ℕ, ⊤, All, IfErr, IfOk, List, Ok, OnOk, is_some, not};
+ghost use Rattle.std.specs.Prelude.{◌<◌, ◌⊎◌, ℕ, ⊤, All, Err, IfErr, IfOk, IsErr, List, Ok, OnOk, is_some, not};
+ghost use Rattle.tm_core.specs.declared.fault.RunFault.TheVariants as run;
+ghost use Rattle.tm_hist.specs.declared.board.StepFault.{StepFault};
 ghost use Rattle.tm_model.specs.declared.outcome.Outcome.{Outcome};
 ghost use Rattle.tm_model.specs.declared.outcome.Pick.{Pick};
 ghost use Rattle.elide_setup.specs.Drawing.{AreUnder};
 ghost use Rattle.elide_setup.specs.Recorded.{IsRecorded};
-ghost use Rattle.elide_setup.specs.Refused.{IsNoCore, IsNoStep, IsNoWalk, IsUnrecorded, NamesNoCore};
+ghost use Rattle.elide_setup.specs.Refused.{IsNextDrawn, IsNextOf, IsNoCore, IsNoStep, IsNoWalk};
+ghost use Rattle.elide_setup.specs.Refused.{IsStepRefused, IsUnrecorded, NamesNoCore};
 ghost use Rattle.elide_setup.specs.Rounds.{AreGoing, IsDrawnOut, IsOut, is_stop};
+ghost use Rattle.elide_setup.specs.declared.fault.Fault.TheVariants as fault;
 ghost use Rattle.elide_setup.specs.declared.fault.Refusal.{Refusal};
+ghost use Rattle.elide_setup.specs.declared.fault.Refusal.TheVariants as refusal;
 ghost use Rattle.elide_setup.specs.Runs.{AreBoardSteps, AreMachineSteps};
 ghost use Rattle.elide_setup.specs.Schedules.{AreOf, kept_of, listed_in, lone_pick, most_of, picks_made, picks_told, schedule_made};
 ghost use Rattle.elide_setup.specs.TmHist.Board.{IsOwedNext, SameBoard};
@@ -39,13 +44,13 @@ pub trait StepMaker {
     // What steps do, each a pick with its outcome.
     ghost takes: { Self → List (Pick × Outcome) → Self → Type 0 };
 
-    // Why a step may be refused.
-    ghost refuses: { Refusal → Type 0 } = { λ _. ⊤ };
+    // Why a step of a pick may be refused.
+    ghost refuses: { Self → Pick → Refusal → Type 0 } = { λ _ _ _. ⊤ };
 
     /// Makes one step of a pick's core, under its event where it has one.
     fn make_step(&mut self, pick: Pick) -> Result<Outcome, Refusal>
         ensures made { IfOk result (λ outcome. takes self.old ((pick, outcome) ∷ []) self.new) }
-        ensures refused { IfErr result refuses };
+        ensures refused { IfErr result (refuses self.old pick) };
 
     /// Makes steps of a core side by side, under no event: one at least, and at most so many, 1 or more. Answers how many.
     fn make_run(&mut self, core: u8, most: u32) -> Result<u32, Refusal>
@@ -54,7 +59,7 @@ pub trait StepMaker {
             × (picks_made steps ≡ replicate count (lone_pick core)) × takes self.old steps self.new) }
         ensures some { IfOk result (λ count. 1 ≤ count) }
         ensures most { IfOk result (λ count. count ≤ most) }
-        ensures refused { IfErr result refuses }
+        ensures refused { IfErr result (refuses self.old (lone_pick core)) }
     {
         self.make_step(Pick { core, event: None })?;
         Ok(1)
@@ -127,7 +132,7 @@ fn board_step(board: &mut Board, pick: Pick) -> Result<Outcome, Refusal>
     ensures same { SameBoard board.old board.new }
     ensures ok { IfOk result (λ outcome. board.new.history ≡ board.old.history ++ (pick.core, outcome) ∷ []) }
     ensures under { IfOk result (λ outcome. IsOwedNext pick.event board.old pick.core outcome) }
-    ensures refused { IfErr result IsNoStep }
+    ensures refused { IfErr result (IsNoStep board.old pick) }
 {
     match pick.event {
         None => board_told(board.step(pick.core)),
@@ -139,7 +144,8 @@ fn board_step(board: &mut Board, pick: Pick) -> Result<Outcome, Refusal>
 #[inline(always)]
 fn board_told(made: Result<Outcome, StepFault>) -> Result<Outcome, Refusal>
     ensures made { IfOk result (λ outcome. made ≡ Ok outcome) }
-    ensures refused { IfErr result IsNoStep }
+    ensures refused { IfErr result (λ why. (cause : StepFault) × (made ≡ Err cause)
+        × (why ≡ refusal.Fault (fault.Step cause))) }
 {
     match made {
         Ok(outcome) => Ok(outcome),
@@ -151,7 +157,7 @@ fn board_told(made: Result<Outcome, StepFault>) -> Result<Outcome, Refusal>
 #[inline(always)]
 fn told(made: Result<Outcome, NoSuchCore>) -> Result<Outcome, Refusal>
     ensures made { IfOk result (λ outcome. made ≡ Ok outcome) }
-    ensures refused { IfErr result IsNoCore }
+    ensures refused { IfErr result (λ why. IsErr made × (why ≡ refusal.Fault (fault.Run run.NoSuchCore))) }
 {
     match made {
         Ok(outcome) => Ok(outcome),
@@ -162,7 +168,7 @@ fn told(made: Result<Outcome, NoSuchCore>) -> Result<Outcome, Refusal>
 // The same of an answer to steps of one core.
 fn ran(made: Result<u32, NoSuchCore>) -> Result<u32, Refusal>
     ensures made { IfOk result (λ count. made ≡ Ok count) }
-    ensures refused { IfErr result IsNoCore }
+    ensures refused { IfErr result (λ why. IsErr made × (why ≡ refusal.Fault (fault.Run run.NoSuchCore))) }
 {
     match made {
         Ok(count) => Ok(count),
@@ -205,7 +211,7 @@ impl Course {
         progress: &mut G,
     ) -> Result<Vec<Pick>, Refusal>
         requires { cores ≤ 64 }
-        ensures refused { IfErr result (IsNoWalk S.refuses) }
+        ensures refused { IfErr result (IsNoWalk S.takes S.refuses self.now cores maker.old) }
         ensures walked { IfOk result (λ kept. (steps : List (Pick × Outcome)) × AreOf self.now (picks_made steps)
             × Leads S.takes maker.old steps maker.new × (kept.items ≡ kept_of self.now keeps steps)
             × IsOut self.now cores steps) }
@@ -228,7 +234,7 @@ impl Course {
     ) -> Result<(), Refusal>
         requires cores { cores ≤ 64 }
         requires none { kept.old.items ≡ [] }
-        ensures refused { IfErr result (IsNoWalk S.refuses) }
+        ensures refused { IfErr result (IsNoWalk S.takes S.refuses self.now cores maker.old) }
         ensures walked { IfOk result (λ _. (steps : List (Pick × Outcome)) × AreOf self.now (picks_made steps)
             × Leads S.takes maker.old steps maker.new × (kept.new.items ≡ kept_of self.now keeps steps)
             × IsOut self.now cores steps) }
@@ -251,7 +257,8 @@ impl Course {
         progress: &mut G,
     ) -> Result<(), Refusal>
         requires { cores ≤ 64 }
-        ensures refused { IfErr result (λ why. IsNoWalk S.refuses why ⊎ IsUnrecorded path.entry why) }
+        ensures refused { IfErr result (λ why. IsNoWalk S.takes S.refuses self.now cores maker.old why
+            ⊎ IsUnrecorded path.entry why) }
         ensures walked { IfOk result (λ _. (steps : List (Pick × Outcome)) × AreOf self.now (picks_made steps)
             × Leads S.takes maker.old steps maker.new
             × IsRecorded (P.content paths.new) path.entry (schedule_made self.now (picks_told steps))
@@ -308,7 +315,7 @@ fn walk_list<S: StepMaker, G: Progress>(
     maker: &mut S,
     progress: &mut G,
 ) -> Result<(), Refusal>
-    ensures refused { IfErr result S.refuses }
+    ensures refused { IfErr result (IsStepRefused S.takes S.refuses (IsNextOf steps.now) maker.old) }
     ensures walked { IfOk result (λ _. (made : List (Pick × Outcome)) × (picks_made made ≡ steps.now)
         × Leads S.takes maker.old made maker.new) }
 {
@@ -325,7 +332,7 @@ fn walk_list<S: StepMaker, G: Progress>(
 // The same of one portion: steps of one core side by side are made as a run.
 fn walk_portion<S: StepMaker>(steps: &[Pick], maker: &mut S) -> Result<(), Refusal>
     requires { length steps.now ≤ 65536 }
-    ensures refused { IfErr result S.refuses }
+    ensures refused { IfErr result (IsStepRefused S.takes S.refuses (IsNextOf steps.now) maker.old) }
     ensures walked { IfOk result (λ _. (made : List (Pick × Outcome)) × (picks_made made ≡ steps.now)
         × Leads S.takes maker.old made maker.new) }
 {
@@ -346,7 +353,7 @@ fn walk_front<S: StepMaker>(steps: &[Pick], maker: &mut S) -> Result<usize, Refu
         × Leads S.takes maker.old made maker.new) }
     ensures some { IfOk result (λ count. 1 ≤ count) }
     ensures most { IfOk result (λ count. count ≤ length steps.now) }
-    ensures refused { IfErr result S.refuses }
+    ensures refused { IfErr result (IsStepRefused S.takes S.refuses (IsNextOf steps.now) maker.old) }
 {
     let first = steps[0];
     let count = run_length(first.core, steps);
@@ -373,7 +380,8 @@ fn run_length(core: u8, steps: &[Pick]) -> usize
 
 // Makes so many steps of a core under no event.
 fn walk_run<S: StepMaker>(core: u8, count: u32, maker: &mut S) -> Result<(), Refusal>
-    ensures refused { IfErr result S.refuses }
+    ensures refused { IfErr result
+        (IsStepRefused S.takes S.refuses (IsNextOf (replicate count (lone_pick core))) maker.old) }
     ensures walked { IfOk result (λ _. (made : List (Pick × Outcome))
         × (picks_made made ≡ replicate count (lone_pick core)) × Leads S.takes maker.old made maker.new) }
 {
@@ -396,7 +404,8 @@ fn walk_asked<S: StepMaker, G: Progress>(
     progress: &mut G,
 ) -> Result<(), Refusal>
     requires { cores ≤ 64 }
-    ensures refused { IfErr result (IsNoWalk S.refuses) }
+    ensures refused { IfErr result (λ why. IsStepRefused S.takes S.refuses (IsNextDrawn drawn cores) maker.old why
+        ⊎ (why ≡ refusal.Fault (fault.Run run.NoMemory))) }
     ensures walked { IfOk result (λ _. (steps : List (Pick × Outcome)) × AreUnder drawn.events (picks_made steps)
         × Leads S.takes maker.old steps maker.new
         × (kept.new.items ≡ kept.old.items ++ (if keeps then picks_told steps else []))
@@ -417,7 +426,8 @@ pub fn walk_drawn<S: StepMaker, K: Keeper, G: Progress>(
     progress: &mut G,
 ) -> Result<(), Refusal>
     requires { cores ≤ 64 }
-    ensures refused { IfErr result (λ why. S.refuses why ⊎ K.fails why) }
+    ensures refused { IfErr result (λ why. IsStepRefused S.takes S.refuses (IsNextDrawn drawn cores) maker.old why
+        ⊎ K.fails why) }
     ensures walked { IfOk result (λ _. (steps : List (Pick × Outcome)) × AreUnder drawn.events (picks_made steps)
         × Leads S.takes maker.old steps maker.new × Leads K.keeps keeper.old steps keeper.new
         × IsDrawnOut (not (is_some drawn.seed)) cores drawn.most steps) }

@@ -11,9 +11,9 @@ returns-in-Ok-clause-walked g c =
     let whole = c.in-Ok.ensures.written in
     let made = whole.1 in
     let lent = made.0 in (
-      made.1,
       made.2,
-      subst (λ (last : g.row.S.Denot). Leads g.S.StepMaker.takes c.args.maker.now made.1 last) (grind (arith, lent)) made.3,
-      held_same (g.P.Paths.content c.write-written.new.self c.args.path.now) whole.0 (drawn_text (may_come c.args.drawn.events) (picks_told made.1)) made.4 whole.2,
-      made.5,
+      made.3,
+      subst (λ (last : g.row.S.Denot). Leads g.S.StepMaker.takes c.args.maker.now made.2 last) (grind (arith, lent)) made.4,
+      held_same (g.P.Paths.content c.write-written.new.self c.args.path.now) whole.0 (drawn_text (may_come c.args.drawn.events) (picks_told made.2)) made.5 whole.2,
+      made.6,
     )

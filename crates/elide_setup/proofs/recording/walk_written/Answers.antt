@@ -1,14 +1,14 @@
-use Rattle.std.proofs.Common.{◌≡◌, List, ℕ, Option, None, Some, inl, inr, refl, subst, sym}
+use Rattle.std.proofs.Common.{◌≡◌, List, ℕ, Option, inl, inr, refl, subst, sym}
 use Rattle.std.proofs.lemmas.Result.{IfErr-weaker, IfOk-weaker}
 use Rattle.std.specs.Borrow.{Bor}
 use Rattle.std.specs.Prelude.{◌⊎◌, IfSome, is_some, not}
 use Rattle.tm_model.specs.declared.outcome.Outcome.{Outcome}
 use Rattle.tm_model.specs.declared.outcome.Pick.{Pick}
 use Rattle.tm_schedule.specs.Schedule.{drawn_text}
-use Rattle.elide_setup.proofs.StepsKept.{with_other}
+use Rattle.elide_setup.proofs.StepsKept.{never_fails, with_other}
 use Rattle.elide_setup.specs.Drawing.{AreUnder, may_come}
 use Rattle.elide_setup.specs.Recorded.{IsRecorded}
-use Rattle.elide_setup.specs.Refused.{IsNoWalk, IsUnrecorded}
+use Rattle.elide_setup.specs.Refused.{IsNextDrawn, IsStepRefused, IsUnrecorded}
 use Rattle.elide_setup.specs.Rounds.{IsDrawnOut}
 use Rattle.elide_setup.specs.Schedules.{picks_made, picks_told}
 use Rattle.elide_setup.specs.Walks.{Leads}
@@ -19,10 +19,8 @@ use Rattle.elide_setup.proofs.recording.walk_written.Goals as goal
 
 pub returns-in-None-clause-refused : goal.returns-in-None-clause-refused
 returns-in-None-clause-refused g c =
-    IfErr-weaker c.walk_drawn.result (λ (why : Refusal). g.S.StepMaker.refuses why ⊎ ⊥)
-    (λ (why : Refusal). IsNoWalk g.S.StepMaker.refuses why ⊎ IsUnrecorded c.args.path why)
-    (λ why. elim [ inl refused ↦ inl (inl refused) | inr none ↦ absurd none ])
-    c.walk_drawn.ensures.refused
+    never_fails (IsStepRefused g.S.StepMaker.takes g.S.StepMaker.refuses (IsNextDrawn c.args.drawn c.args.cores) c.args.maker.now)
+    (IsUnrecorded c.args.path) c.walk_drawn.result c.walk_drawn.ensures.refused
 
 pub returns-in-None-clause-walked : goal.returns-in-None-clause-walked
 returns-in-None-clause-walked g c =
@@ -38,10 +36,12 @@ returns-in-None-clause-walked g c =
 
 pub returns-in-Some-clause-refused : goal.returns-in-Some-clause-refused
 returns-in-Some-clause-refused g c =
-    IfErr-weaker c.walk_to_file.result (λ (why : Refusal). g.S.StepMaker.refuses why ⊎ (why ≡ refusal.Fault fault.Output))
-    (λ (why : Refusal). IsNoWalk g.S.StepMaker.refuses why ⊎ IsUnrecorded c.args.path why)
+    let Step : Refusal → Type 0 =
+    IsStepRefused g.S.StepMaker.takes g.S.StepMaker.refuses (IsNextDrawn c.args.drawn c.args.cores) c.args.maker.now in
+    IfErr-weaker c.walk_to_file.result (λ (why : Refusal). Step why ⊎ (why ≡ refusal.Fault fault.Output))
+    (λ (why : Refusal). Step why ⊎ IsUnrecorded c.args.path why)
     (λ why. elim [
-      | inl refused ↦ inl (inl refused)
+      | inl refused ↦ inl refused
       | inr output ↦ inr (subst (λ (path : Option (Bor (List ℕ))). IsUnrecorded path why) (sym c.in-Some.is) (output, refl))
     ])
     c.walk_to_file.ensures.refused

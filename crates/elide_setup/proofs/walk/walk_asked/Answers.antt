@@ -5,6 +5,7 @@ use Rattle.tm_model.specs.declared.outcome.Outcome.{Outcome}
 use Rattle.tm_model.specs.declared.outcome.Pick.{Pick}
 use Rattle.elide_setup.proofs.StepsKept.{listed_if_asked, never_fails, none_listed, with_other}
 use Rattle.elide_setup.specs.Drawing.{AreUnder}
+use Rattle.elide_setup.specs.Refused.{IsNextDrawn, IsStepRefused}
 use Rattle.elide_setup.specs.Rounds.{IsDrawnOut}
 use Rattle.elide_setup.specs.Schedules.{picks_made, picks_told}
 use Rattle.elide_setup.specs.Walks.{Leads}
@@ -23,7 +24,8 @@ returns-then-keeps-clause-walked g c =
 
 pub returns-clause-refused : goal.returns-clause-refused
 returns-clause-refused g c =
-    never_fails g.S.StepMaker.refuses (λ (why : Refusal). why ≡ refusal.Fault (fault.Run run.NoMemory)) c.walk_drawn-2.result c.walk_drawn-2.ensures.refused
+    never_fails (IsStepRefused g.S.StepMaker.takes g.S.StepMaker.refuses (IsNextDrawn c.args.drawn c.args.cores) c.args.maker.now)
+    (λ (why : Refusal). why ≡ refusal.Fault (fault.Run run.NoMemory)) c.walk_drawn-2.result c.walk_drawn-2.ensures.refused
 
 pub returns-clause-walked : goal.returns-clause-walked
 returns-clause-walked g c =

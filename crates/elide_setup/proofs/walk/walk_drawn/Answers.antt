@@ -1,9 +1,10 @@
-use Rattle.std.proofs.Common.{◌≡◌, ◌≤◌, [], ◌∷◌, ◌++◌, List, arith, length, refl, rules, subst, sym}
+use Rattle.std.proofs.Common.{◌≡◌, ◌≤◌, [], ◌∷◌, ◌++◌, List, arith, inl, length, refl, rules, subst, sym}
+use Rattle.std.proofs.lemmas.Result.{err_from_is_err_and}
 use Rattle.tm_model.specs.declared.outcome.Outcome.{Outcome}
 use Rattle.tm_model.specs.declared.outcome.Pick.{Pick}
 use Rattle.tm_pick.specs.Drawn.{AreDrawn}
 use Rattle.tm_pick.specs.declared.kinds.Kinds.{Kinds}
-use Rattle.elide_setup.proofs.Drawing.{under_more}
+use Rattle.elide_setup.proofs.Drawing.{under_more, under_one}
 use Rattle.elide_setup.proofs.Rounds.{at_end, at_limit, begun, more_under_way, no_seed}
 use Rattle.std.specs.Prelude.{is_some, not}
 use Rattle.elide_setup.proofs.Walks.{leads_more}
@@ -64,3 +65,26 @@ returns-clause-walked g c =
       made.3,
       at_limit (not (is_some c.args.drawn.seed)) c.args.cores c.args.drawn.most c.loop-number.number c.loop-number.going c.loop-number.picker.turn made.0 made.4 all,
     )
+
+-- a step that is due is refused
+pub returns-in_err-outcome-clause-refused : goal.returns-in_err-outcome-clause-refused
+returns-in_err-outcome-clause-refused g c =
+    let made = c.loop-number.invariant.made in
+    let pick : Pick = c.next-pick.result in
+    let among = (made.4.left pick.core).0 c.next-pick.ensures.core in
+    let count = made.4.count in
+    let p = err_from_is_err_and c.from_residual.result c.from_residual.ensures.1 in
+    rw (p.1, p.2)
+    (inl (record {
+      made = made.0;
+      after = c.loop-number.maker;
+      lead = made.2;
+      pick = pick;
+      due = record {
+        few = omega (arith, count);
+        core = among.0;
+        going = among.1;
+        under = under_one c.args.drawn.events c.loop-number.picker.kinds pick c.loop-number.invariant.kinds c.next-pick.ensures.event c.next-pick.ensures.never;
+      };
+      refused = c.in_err-outcome.ensures.refused;
+    }))

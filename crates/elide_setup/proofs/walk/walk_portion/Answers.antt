@@ -1,5 +1,8 @@
-use Rattle.std.proofs.Common.{◌∙◌, ◌≤◌, ℕ, List, ◌++◌, ap, arith, length, subst, take}
+use Rattle.std.proofs.Common.{◌∙◌, ◌-◌, ◌≤◌, ℕ, List, ◌++◌, ap, arith, drop, length, subst, take}
 use Rattle.std.proofs.lemmas.Grind.{common_steps}
+use Rattle.std.proofs.lemmas.Result.{err_from_is_err_and}
+use Rattle.elide_setup.specs.Refused.{IsNextOf}
+use Rattle.elide_setup.proofs.StepsRefused.{next_behind, refused_behind}
 use Rattle.tm_model.specs.declared.outcome.Pick.{Pick}
 use Rattle.elide_setup.proofs.Walks.{leads_on, picks_behind, rest_all}
 use Rattle.elide_setup.proofs.walk.walk_portion.Goals as goal
@@ -19,3 +22,16 @@ loop-index-preserved g c =
         leads_on g.S.StepMaker.takes made.0 others.0 c.args.maker.now c.loop-index.maker c.walk_front.new.maker made.2 others.2,
       );
     }
+
+pub returns-in_err-count-clause-refused : goal.returns-in_err-count-clause-refused
+returns-in_err-count-clause-refused g c =
+    let i : ℕ = c.loop-index.index in
+    let listed = c.args.steps.now in
+    let made = c.loop-index.invariant.made in
+    let rest = rest_all listed i (omega arith) in
+    let p = err_from_is_err_and c.from_residual.result c.from_residual.ensures.1 in
+    rw (p.1, p.2)
+    (refused_behind g.S.StepMaker.takes g.S.StepMaker.refuses (IsNextOf listed) (IsNextOf (take (length listed - i) (drop i listed)))
+    made.0 c.args.maker.now c.loop-index.maker c.in_err-count.field-0.0 made.2
+    (λ others pick h. next_behind listed (take (length listed - i) (drop i listed)) i made.0 others pick made.1 rest h)
+    c.in_err-count.ensures.refused)

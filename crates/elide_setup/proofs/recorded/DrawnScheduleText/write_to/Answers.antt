@@ -15,5 +15,6 @@ returns g c =
         passed_on (g.O.Out.device c.args.out).contents (held c.new-page.result) (held c.write_drawn.new.out) (g.O.Out.device c.in_ok-out.out).contents
             (drawn_text c.args.self.now.has_events c.args.self.now.picks.now) c.new-page.ensures.kept c.in_ok-write_drawn.ensures.bytes c.in_ok-out.ensures.kept,
       );
+      broken = tt;
       kept = tt;
     }

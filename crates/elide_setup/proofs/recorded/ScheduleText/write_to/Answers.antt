@@ -15,5 +15,6 @@ returns g c =
         passed_on (g.O.Out.device c.args.out).contents (held c.new-page.result) (held c.write_schedule.new.out) (g.O.Out.device c.in_ok-out.out).contents
             (schedule_text c.args.self.now.0.now) c.new-page.ensures.kept c.in_ok-write_schedule.ensures.written.bytes c.in_ok-out.ensures.kept,
       );
+      broken = tt;
       kept = tt;
     }
