@@ -23,7 +23,7 @@ pub record IsServed (content : List ℕ → Option (List ℕ)) (options : Sessio
   pub first : Board
   pub last : Board
   pub plan : List Pick
-  pub planned : IsPlan content options.schedule plan
+  pub planned : IsPlan content options.schedule first plan
   pub symbols : List Symbol
   pub opened : IsOpened (content options.machine.file.now) options.machine first symbols
   pub labels : List Symbol

@@ -17,6 +17,6 @@ pub record IsServed (content : List ℕ → Option (List ℕ)) (options : Sessio
   pub symbols : List Symbol
   pub opened : IsOpened (content options.machine.file.now) options.machine first symbols
   pub plan : List Pick
-  pub planned : IsPlan content options.schedule plan
+  pub planned : IsPlan content options.schedule first plan
   pub answers :
       ServesInput input left (start first (if is_scheduled options.schedule then Some plan else None)) old new last

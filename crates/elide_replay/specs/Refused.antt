@@ -4,8 +4,8 @@ use Rattle.std.specs.Borrow.{Bor}
 use Rattle.elide_args.specs.declared.subcommand.ReplayOptions.{ReplayOptions}
 use Rattle.elide_setup.specs.Faults.{fault_number}
 use Rattle.elide_setup.specs.Misuse.{IsMisuse}
-use Rattle.elide_setup.specs.Refused.{IsAnyWant, IsNoBoard, IsNoStep, IsNotScheduled, IsOverProgram, IsUnrecorded}
-use Rattle.elide_setup.specs.Refused.{NamesNoCore}
+use Rattle.elide_setup.specs.Refused.{IsAnyWant, IsCourseOf, IsNoBoard, IsNotScheduled, IsOverProgram, IsUnrecorded}
+use Rattle.elide_setup.specs.Refused.{IsUnwritten, NamesNoCore}
 use Rattle.elide_setup.specs.Schedules.{listed_in, most_of}
 use Rattle.elide_setup.specs.Setup.{IsAsked}
 use Rattle.elide_setup.specs.Shown.{are_held}
@@ -16,7 +16,7 @@ use Rattle.elide_setup.specs.declared.fault.Refusal.{Refusal}
 use Rattle.elide_setup.specs.declared.fault.Refusal.TheVariants as refusal
 use Rattle.elide_setup.specs.declared.machine.Setup.{Setup}
 use Rattle.elide_setup.specs.declared.plan.Course.{Course}
-use Rattle.elide_why.specs.Refused.{IsCourseOf, IsNotRetold, IsUnwritten}
+use Rattle.elide_why.specs.Refused.{IsNotRetold}
 use Rattle.elide_replay.specs.Replayed.{IsBoardOf}
 
 -- there is no memory for the serial run: fault 54
@@ -25,11 +25,11 @@ pub record HasNoSerial (why : Refusal) : Type 0 where
   pub tells : why ≡ refusal.Fault cause
   pub number : fault_number cause ≡ 54
 
--- a board with room for the steps of a course, and for one at least, is not made, or does not make them
+-- a board with room for the steps of a course, and for one at least, is not made, or a listed step is of a core that it
+-- has not; it makes each step that is due
 pub data IsNotMade (setup : Setup) (asked : Course) (why : Refusal) : Type 0 where
   no_board : IsNoBoard setup (max (most_of asked) 1) why → IsNotMade setup asked why
   beyond : NamesNoCore (listed_in asked) (length setup.program.entries) why → IsNotMade setup asked why
-  unstepped : IsNoStep why → IsNotMade setup asked why
   unroomed : IsAnyWant why → IsNotMade setup asked why
 
 -- a board and its serial run are not compared and told: what is to be printed of memory is not there, there is no

@@ -7,10 +7,9 @@ ghost use Rattle.tm_model.specs.declared.outcome.Pick.{Pick};
 ghost use Rattle.tm_model.specs.Runs.{picks_of};
 ghost use Rattle.elide_setup.specs.Faults.{want};
 ghost use Rattle.elide_setup.specs.Recorded.{IsRecorded};
-ghost use Rattle.elide_setup.specs.Refused.{IsAnyWant, IsNoBoard, IsNotScheduled, IsUnrecorded};
-ghost use Rattle.elide_why.specs.Refused.{IsUnwritten};
+ghost use Rattle.elide_setup.specs.Refused.{IsAnyWant, IsCourseOf, IsNoBoard, IsNotScheduled, IsUnrecorded, IsUnwritten};
 ghost use Rattle.elide_json.specs.Refused.{IsUnsent};
-ghost use Rattle.elide_setup.specs.Schedules.{AreAsked, AreOf, picks_made};
+ghost use Rattle.elide_setup.specs.Schedules.{AreOf, picks_made};
 ghost use Rattle.elide_setup.specs.Setup.{IsAsked};
 ghost use Rattle.elide_setup.specs.Shown.{shown_text};
 ghost use Rattle.elide_replay.specs.Printed.{IsPrinted, IsTold};
@@ -86,8 +85,8 @@ fn board_of<G: Progress>(
     ensures none { IfErr result (IsNotMade setup.now course.now) }
 {
     let mut board = opened(alloc, setup, course.most())?;
-    course.check_cores(board.cores())?;
     let cores = board.cores();
+    course.check_cores(cores)?;
     course.walk(alloc, cores, false, &mut board, progress)?;
     Ok(board)
 }
@@ -170,8 +169,7 @@ fn begun<P: Paths>(
     paths: &mut P,
 ) -> Result<(Setup, Course, Option<NamedPlaces>), Refusal>
     ensures setup { IfOk result (λ r. IsAsked (P.content paths.old options.now.machine.file.now) options.now.machine r.0) }
-    ensures course { IfOk result (λ r. (picks : List Pick) → AreOf r.1 picks →
-        AreAsked (P.content paths.old) options.now.schedule picks) }
+    ensures course { IfOk result (λ r. IsCourseOf (P.content paths.old) options.now.schedule r.1) }
     ensures places { IfOk result (λ r. options.now.explains ≡ false → r.2 ≡ None) }
     ensures none { IfErr result (λ why. IsNotScheduled (P.content paths.old) options.now.machine options.now.schedule why
         ⊎ (why ≡ want)) }

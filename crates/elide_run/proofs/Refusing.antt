@@ -1,42 +1,57 @@
 -- Why a run is refused, from what one call tells up to what the command is asked.
-use Rattle.std.proofs.Common.{◌≡◌, ℕ, Bool, List, Option, ◌⊎◌, subst, inl, inr}
+use Rattle.std.proofs.Common.{◌≡◌, ◌<◌, ℕ, Bool, List, Option, length, ◌⊎◌, subst, inl, inr}
 use Rattle.std.specs.Borrow.{Bor}
+use Rattle.std.specs.Prelude.{All}
 use Rattle.elide_args.specs.declared.subcommand.RunOptions.{RunOptions}
 use Rattle.tm_model.specs.declared.outcome.Outcome.{Outcome}
 use Rattle.tm_model.specs.declared.outcome.Pick.{Pick}
 use Rattle.elide_json.specs.Refused.{IsUnsaid, IsUnsent}
 use Rattle.elide_setup.specs.Faults.{want}
-use Rattle.elide_setup.specs.Refused.{IsAnyWant, IsNoWalk, IsNotScheduled, IsUnrecorded}
-use Rattle.elide_why.specs.Refused.{IsCourseOf, IsUntold, IsUnwritten}
+use Rattle.elide_setup.specs.Refused.{IsCourseOf, IsDue, IsNoWalk, IsNotScheduled, IsUnrecorded, IsUnwritten}
 use Rattle.elide_setup.specs.Runs.{IsRunOf}
+use Rattle.elide_setup.specs.Schedules.{listed_in}
 use Rattle.elide_setup.specs.Setup.{IsAsked}
 use Rattle.elide_setup.specs.TmCore.Theorem.{ShownMachine as Machine}
+use Rattle.elide_setup.specs.Walks.{Leads}
 use Rattle.elide_setup.specs.declared.fault.Refusal.{Refusal}
 use Rattle.elide_setup.specs.declared.machine.Setup.{Setup}
 use Rattle.elide_setup.specs.declared.plan.Course.{Course}
+use Rattle.elide_why.proofs.Due.{due_core, has_core}
 use Rattle.elide_why.proofs.Refusing.{scheduled_before}
-use Rattle.elide_run.specs.Refused.{HasNotAll, IsNoRun, IsRefused, IsUnexplained, no_room, not_run, not_shown, unrecorded, unroomed, unscheduled, unstepped, unwritten}
+use Rattle.elide_why.specs.Refused.{IsUntoldStep}
+use Rattle.elide_run.specs.Refused.{HasNotAll, IsNoRun, IsRefused, IsUnexplained, no_room, not_run, not_shown, unrecorded, unscheduled, untold, unwritten}
 
--- a step is not made, or not told
-of_step : (setup : Setup) (asked : Course) (path : Option (Bor (List ℕ))) (why : Refusal) → IsUntold why ⊎ IsAnyWant why → IsNoRun setup asked path why
-of_step setup asked path why (inl h) = unstepped h
-of_step setup asked path why (inr none) = unroomed none
+-- a step whose line is written is refused
+pub of_told : (machine : Machine) (pick : Pick) (why : Refusal) → IsUntoldStep machine pick why → IsUnexplained machine pick why
+of_told machine pick why (inl none) = inl none
+of_told machine pick why (inr h) = inr (inl h)
 
 -- the text that a run's object begins with is not written
 pub of_front : (setup : Setup) (asked : Course) (path : Option (Bor (List ℕ))) (why : Refusal) → IsUnsaid why → IsNoRun setup asked path why
-of_front setup asked path why (inl h) = unstepped (inr h)
-of_front setup asked path why (inr none) = unroomed (inl none)
+of_front setup asked path why (inl h) = untold (inl h)
+of_front setup asked path why (inr none) = untold (inr (inl none))
 
-pub of_unexplained : (why : Refusal) → IsUnexplained why → IsUntold why ⊎ IsAnyWant why
-of_unexplained why (inl h) = inl h
-of_unexplained why (inr none) = inr (inl none)
+-- a step of a core of the program is not told
+of_step : (setup : Setup) (asked : Course) (path : Option (Bor (List ℕ))) (made : List (Pick × Outcome)) (machine : Machine) (pick : Pick) (why : Refusal) →
+    IsRunOf setup.program setup.limits made machine → pick.core < length setup.program.entries → IsUnexplained machine pick why →
+    IsNoRun setup asked path why
+of_step setup asked path made machine pick why ran below (inl none) =
+    absurd (has_core setup.program setup.limits made machine pick why ran below none)
+of_step setup asked path made machine pick why ran below (inr h) = untold h
 
 -- the steps of a walk are not made, or its schedule is not written
-pub of_walk : (refuses : Refusal → Type 0) (setup : Setup) (asked : Course) (path : Option (Bor (List ℕ))) (why : Refusal) →
-    (refuses why → IsUntold why ⊎ IsAnyWant why) → IsNoWalk refuses why ⊎ IsUnrecorded path why → IsNoRun setup asked path why
-of_walk refuses setup asked path why step (inl (inl h)) = of_step setup asked path why (step h)
-of_walk refuses setup asked path why step (inl (inr none)) = unroomed (inr none)
-of_walk refuses setup asked path why step (inr h) = unrecorded h
+pub of_walk : {Maker : Type 0} (takes : Maker → List (Pick × Outcome) → Maker → Type 0) (refuses : Maker → Pick → Refusal → Type 0)
+    (machine : Maker → Machine) (setup : Setup) (asked : Course) (cores : ℕ) (path : Option (Bor (List ℕ))) (before : Maker) (why : Refusal) →
+    cores ≡ length setup.program.entries → All (λ (pick : Pick). pick.core < length setup.program.entries) (listed_in asked) →
+    ((made : List (Pick × Outcome)) (after : Maker) → Leads takes before made after → IsRunOf setup.program setup.limits made (machine after)) →
+    ((after : Maker) (pick : Pick) → refuses after pick why → IsUnexplained (machine after) pick why) →
+    IsNoWalk takes refuses asked cores before why ⊎ IsUnrecorded path why → IsNoRun setup asked path why
+of_walk takes refuses machine setup asked cores path before why same fit ran told (inl (inl h)) =
+    let due : IsDue asked (length setup.program.entries) h.made h.pick = subst (λ (n : ℕ). IsDue asked n h.made h.pick) same h.due in
+    of_step setup asked path h.made (machine h.after) h.pick why (ran h.made h.after h.lead)
+    (due_core asked (length setup.program.entries) h.made h.pick fit due) (told h.after h.pick h.refused)
+of_walk takes refuses machine setup asked cores path before why same fit ran told (inl (inr none)) = untold (inr (inr none))
+of_walk takes refuses machine setup asked cores path before why same fit ran told (inr h) = unrecorded h
 
 -- there is no program, no schedule or no memory for what is told of the program
 pub of_opening : (content after : List ℕ → Option (List ℕ)) (are_one : List ℕ → List ℕ → Option Bool) (options : RunOptions) (why : Refusal) →

@@ -2,9 +2,9 @@
 use Rattle.std.specs.Prelude.{◌≡◌, ℕ, ◌||◌, ◌⊎◌, Bool, true, false, List, [], Option, length, codes}
 use Rattle.std.specs.Borrow.{Bor}
 use Rattle.elide_args.specs.declared.subcommand.RunOptions.{RunOptions}
-use Rattle.elide_setup.specs.Faults.{want}
 use Rattle.elide_setup.specs.Misuse.{IsMisuse}
-use Rattle.elide_setup.specs.Refused.{IsAnyWant, IsNoMachine, IsNotScheduled, IsOverProgram, IsUnrecorded, NamesNoCore}
+use Rattle.elide_setup.specs.Refused.{IsAnyWant, IsCourseOf, IsNoCore, IsNoMachine, IsNotScheduled, IsOverProgram}
+use Rattle.elide_setup.specs.Refused.{IsUnrecorded, IsUntold, IsUnwritten, NamesNoCore}
 use Rattle.elide_setup.specs.Runs.{IsRunOf}
 use Rattle.elide_setup.specs.Schedules.{listed_in}
 use Rattle.elide_setup.specs.Setup.{IsAsked}
@@ -15,7 +15,6 @@ use Rattle.elide_setup.specs.declared.fault.Refusal.{Refusal}
 use Rattle.elide_setup.specs.declared.fault.Refusal.TheVariants as refusal
 use Rattle.elide_setup.specs.declared.machine.Setup.{Setup}
 use Rattle.elide_setup.specs.declared.plan.Course.{Course}
-use Rattle.elide_why.specs.Refused.{IsCourseOf, IsUntold, IsUnwritten}
 use Rattle.tm_model.specs.declared.outcome.Outcome.{Outcome}
 use Rattle.tm_model.specs.declared.outcome.Pick.{Pick}
 
@@ -32,16 +31,17 @@ pub data IsNotReady (setup : Setup) (asked : Course) (why : Refusal) : Type 0 wh
   unheld : (machine : Machine) → IsRunOf setup.program setup.limits [] machine → HasNotAll setup machine why
       → IsNotReady setup asked why
 
--- a step that is told with its instruction or its reason is refused: besides, there may be no memory for its line
-abbrev pub IsUnexplained : Refusal → Type 0
-IsUnexplained why = IsUntold why ⊎ (why ≡ want)
+-- a step that is told with its instruction or its reason is refused: the machine has no core of its pick, its line is
+-- not written, or there is no memory for it
+abbrev pub IsUnexplained : Machine → Pick → Refusal → Type 0
+IsUnexplained machine pick why = IsNoCore machine pick why ⊎ IsUntold why
 
--- a run along a course is not begun, or not made to its end
+-- a run along a course is not begun, or not made to its end: its schedule, or the line of a step, is not written, or
+-- there is no memory for it
 pub data IsNoRun (setup : Setup) (asked : Course) (path : Option (Bor (List ℕ))) (why : Refusal) : Type 0 where
   unready : IsNotReady setup asked why → IsNoRun setup asked path why
-  unstepped : IsUntold why → IsNoRun setup asked path why
   unrecorded : IsUnrecorded path why → IsNoRun setup asked path why
-  unroomed : IsAnyWant why → IsNoRun setup asked path why
+  untold : IsUntold why → IsNoRun setup asked path why
 
 -- options are asked for that do not go together, the path of `--record` is that of the program, there is no program or
 -- no schedule by the options, no run of it, or what is to be printed below its steps is not there or not written

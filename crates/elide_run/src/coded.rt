@@ -101,30 +101,35 @@ impl StepTeller for CodeTeller<'_> {
         pick: Pick,
         out: &mut O,
     ) -> Result<Outcome, Refusal> {
-        let before = before(machine, self.program, pick.core)?;
+        let before = before(machine, self.program, pick)?;
         let outcome = machine.make_step(pick)?;
-        let deed = deed_of(&before, machine, pick.core, &outcome)?;
+        let deed = deed_of(&before, machine, pick, &outcome)?;
         write_step(self.labels, pick.core, &outcome, &deed, out)?;
         Ok(outcome)
     }
 }
 
 // What a machine tells of a step before it.
-fn before(machine: &Machine, program: &Program, core: u8) -> Result<Before, Refusal>
-    ensures { IfErr result IsNoCore }
+fn before(machine: &Machine, program: &Program, pick: Pick) -> Result<Before, Refusal>
+    ensures { IfErr result (IsNoCore machine.now pick) }
 {
-    match Before::of(machine, program, core) {
+    match Before::of(machine, program, pick.core) {
         Some(before) => Ok(before),
         None => Err(Refusal::Fault(Fault::Run(RunFault::NoSuchCore))),
     }
 }
 
 // What a step did, by the machine behind it.
-fn deed_of(before: &Before, machine: &Machine, core: u8, outcome: &Outcome) -> Result<Deed, Refusal>
-    ensures { IfErr result IsNoCore }
+fn deed_of(
+    before: &Before,
+    machine: &Machine,
+    pick: Pick,
+    outcome: &Outcome,
+) -> Result<Deed, Refusal>
+    ensures { IfErr result (IsNoCore machine.now pick) }
 {
-    if core < machine.cores() {
-        Ok(before.deed(machine, core, outcome))
+    if pick.core < machine.cores() {
+        Ok(before.deed(machine, pick.core, outcome))
     } else {
         Err(Refusal::Fault(Fault::Run(RunFault::NoSuchCore)))
     }
@@ -146,7 +151,7 @@ impl StepTeller for ReasonTeller<'_> {
         pick: Pick,
         out: &mut O,
     ) -> Result<Outcome, Refusal> {
-        let before = before(machine, self.program, pick.core)?;
+        let before = before(machine, self.program, pick)?;
         // The line without the instruction, which ends with the reason.
         let mut line = ToVec::new(Vec::new(self.alloc));
         let told = self.teller.step(machine, pick, &mut line);
@@ -158,7 +163,7 @@ impl StepTeller for ReasonTeller<'_> {
         if write_outcome(pick.core, &outcome, &mut front).is_err() {
             return Err(Refusal::from(AllocError));
         }
-        let deed = deed_of(&before, machine, pick.core, &outcome)?;
+        let deed = deed_of(&before, machine, pick, &outcome)?;
         let reason = reason_in(line.bytes.as_slice(), front.bytes.as_slice());
         write_explained(self.labels, pick.core, &outcome, &deed, reason, out)?;
         Ok(outcome)

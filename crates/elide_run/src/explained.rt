@@ -99,7 +99,7 @@ pub trait StepTeller {
     ) -> Result<Outcome, Refusal>
         ensures step { IfOk result (λ outcome. IsMachineStep machine.old pick outcome machine.new) }
         ensures told { IfOk result (λ _. (text : List ℕ) × Wrote (O.device out.old) (O.device out.new) text) }
-        ensures refused { IfErr result IsUnexplained };
+        ensures refused { IfErr result (IsUnexplained machine.old pick) };
 }
 
 impl StepTeller for Teller<'_> {
@@ -126,7 +126,7 @@ impl<T: StepTeller, O: Out> StepMaker for Telling<T, O> {
         × (text : List ℕ)
         × Wrote (⟦<Gathered<O> as Out>⟧.device before.page) (⟦<Gathered<O> as Out>⟧.device after.page) text };
 
-    ghost refuses = { IsUnexplained };
+    ghost refuses = { λ before pick why. IsUnexplained before.machine pick why };
 
     fn make_step(&mut self, pick: Pick) -> Result<Outcome, Refusal> {
         self.teller

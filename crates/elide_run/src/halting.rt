@@ -3,8 +3,8 @@
 ghost use Rattle.std.specs.Prelude.{◌≡◌, ◌++◌, ◌<◌, IfErr, IfOk, length};
 ghost use Rattle.arrayvec.specs.ArrayVec.{array_vec_len};
 ghost use Rattle.ia_text.specs.Writing.{Wrote, Writes};
+ghost use Rattle.elide_setup.specs.Refused.{IsUnwritten};
 ghost use Rattle.elide_setup.specs.TmCore.Theorem.{view_at};
-ghost use Rattle.elide_why.specs.Refused.{IsUnwritten};
 ghost use Rattle.elide_run.specs.Halting.{halt_ending, halt_lines, is_stopped, running_line};
 
 use elide_why::{CoreState, Machine, Refusal};

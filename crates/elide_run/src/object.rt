@@ -1,6 +1,6 @@
 //! Runs that are printed as one object. Its outcomes are written as they are made, so that no memory grows with the run.
 
-ghost use Rattle.std.specs.Prelude.{◌≡◌, ◌≤◌, ◌<◌, ◌+◌, ◌++◌, ◌^◌, ◌⊎◌, [], ◌∷◌, cond, false, length, not, true, IfErr, IfOk, List, OnErr, OnOk, if◌then◌else◌};
+ghost use Rattle.std.specs.Prelude.{◌≡◌, ◌≤◌, ◌<◌, ◌+◌, ◌++◌, ◌^◌, [], ◌∷◌, cond, length, not, true, IfErr, IfOk, List, OnErr, OnOk, if◌then◌else◌};
 ghost use Rattle.std.specs.Option.{option_copied};
 ghost use Rattle.arrayvec.specs.ArrayVec.{array_vec_len};
 ghost use Rattle.ia_text.specs.Writing.{Wrote};
@@ -9,7 +9,6 @@ ghost use Rattle.elide_json.specs.Outcomes.{rows_text, run_back, run_front, run_
 ghost use Rattle.elide_json.specs.Refused.{IsUnsaid, IsUnsent};
 ghost use Rattle.elide_setup.specs.Recorded.{IsRecorded};
 ghost use Rattle.elide_setup.specs.Refused.{IsAnyWant};
-ghost use Rattle.elide_why.specs.Refused.{IsUntold};
 ghost use Rattle.elide_setup.specs.Rounds.{IsOut};
 ghost use Rattle.elide_setup.specs.Runs.{AreMachineSteps, IsRunOf};
 ghost use Rattle.elide_setup.specs.Schedules.{AreOf, picks_made, picks_told, schedule_made};
@@ -17,7 +16,7 @@ ghost use Rattle.tm_model.specs.declared.outcome.Outcome.{Outcome};
 ghost use Rattle.tm_model.specs.declared.outcome.Pick.{Pick};
 ghost use Rattle.elide_run.specs.Object.{IsEnd, IsObjectPrinted, asked_running, cores_ending, ending_status};
 ghost use Rattle.elide_run.specs.Object.{running_cores};
-ghost use Rattle.elide_run.specs.Refused.{IsNoRun, IsRefused};
+ghost use Rattle.elide_run.specs.Refused.{IsNoRun, IsRefused, IsUnexplained};
 
 use crate::halting::{Ending, has_stopped};
 use crate::opening::machine_of;
@@ -139,7 +138,7 @@ impl<O: Out> StepMaker for Sending<O> {
         (rows_text before.made steps)
         × (after.made ≡ before.made + length steps) };
 
-    ghost refuses = { λ why. IsUntold why ⊎ IsAnyWant why };
+    ghost refuses = { λ before pick why. IsUnexplained before.machine pick why };
 
     fn make_step(&mut self, pick: Pick) -> Result<Outcome, Refusal> {
         let outcome = self.machine.make_step(pick)?;

@@ -1,8 +1,10 @@
 //! What a run begins with.
 
-ghost use Rattle.std.specs.Prelude.{◌≡◌, [], IfErr, IfOk, length};
+ghost use Rattle.std.specs.Prelude.{◌≡◌, ◌<◌, [], All, IfErr, IfOk, length};
 ghost use Rattle.elide_run.specs.Refused.{IsNotReady};
 ghost use Rattle.elide_setup.specs.Runs.{IsRunOf};
+ghost use Rattle.elide_setup.specs.Schedules.{listed_in};
+ghost use Rattle.tm_model.specs.declared.outcome.Pick.{Pick};
 
 use elide_why::{Course, Machine, Refusal, Setup, new_machine, shown_memory};
 use std::alloc::Global;
@@ -12,6 +14,7 @@ use std::alloc::Global;
 pub fn machine_of(alloc: Global, setup: &Setup, course: &Course) -> Result<Machine, Refusal>
     ensures made { IfOk result (IsRunOf setup.now.program setup.now.limits []) }
     ensures cores { IfOk result (λ machine. length machine.views ≡ length setup.now.program.entries) }
+    ensures fit { IfOk result (λ _. All (λ (pick : Pick). pick.core < length setup.now.program.entries) (listed_in course.now)) }
     ensures none { IfErr result (IsNotReady setup.now course.now) }
 {
     let machine = new_machine(alloc, setup)?;

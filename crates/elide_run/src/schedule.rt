@@ -1,8 +1,9 @@
 //! `elide run`.
 
-ghost use Rattle.std.specs.Prelude.{◌≡◌, ◌⊎◌, ℕ, IfErr, IfOk, List, false, length, true};
+ghost use Rattle.std.specs.Prelude.{◌≡◌, ◌⊎◌, IfErr, IfOk, List, false, length, true};
 ghost use Rattle.ia_text.specs.Writing.{Wrote};
 ghost use Rattle.elide_setup.specs.Recorded.{IsRecorded};
+ghost use Rattle.elide_setup.specs.Refused.{IsUnwritten};
 ghost use Rattle.elide_setup.specs.Rounds.{IsOut};
 ghost use Rattle.elide_setup.specs.Runs.{AreMachineSteps, IsRunOf};
 ghost use Rattle.elide_setup.specs.Schedules.{AreOf, picks_made, picks_told, schedule_made};
@@ -11,7 +12,7 @@ ghost use Rattle.tm_model.specs.declared.outcome.Pick.{Pick};
 ghost use Rattle.elide_run.specs.Object.{IsObjectPrinted};
 ghost use Rattle.elide_run.specs.Printed.{IsPrinted, IsRunAsAsked, IsTold, outcome_lines, trace_text};
 ghost use Rattle.elide_run.specs.Refused.{HasNotAll, IsNoRun, IsRefused};
-ghost use Rattle.elide_why.specs.Refused.{IsUntold, IsUnwritten};
+ghost use Rattle.elide_why.specs.Refused.{IsUntoldStep};
 
 use crate::coded::{run_coded, run_coded_explained};
 use crate::explained::run_explained;
@@ -163,7 +164,7 @@ impl<O: Out> StepMaker for Tracing<O> {
         × Wrote (⟦<Gathered<O> as Out>⟧.device before.page) (⟦<Gathered<O> as Out>⟧.device after.page)
         (outcome_lines steps) };
 
-    ghost refuses = { IsUntold };
+    ghost refuses = { λ before pick why. IsUntoldStep before.machine pick why };
 
     fn make_step(&mut self, pick: Pick) -> Result<Outcome, Refusal> {
         let outcome = self.machine.make_step(pick)?;

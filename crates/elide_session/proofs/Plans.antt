@@ -1,27 +1,126 @@
 -- The plan of a schedule that is drawn.
-use Rattle.std.proofs.Common.{◌≡◌, List, [], subst, sym}
-use Rattle.std.specs.Prelude.{IfOk, Option, None, Result, Ok, Err, Vec, ℕ}
+use Rattle.std.proofs.Common.{◌≡◌, ◌<◌, ◌≤◌, ◌∙◌, ℕ, Bool, false, true, List, [], Option, None, Some, length, arith, ap, refl, subst, sym, inl, inr}
+use Rattle.std.specs.Borrow.{Bor}
+use Rattle.std.specs.Prelude.{is_some, min, not}
+use Rattle.std.specs.Option.{option_copied}
+use Rattle.elide_args.specs.declared.subcommand.ScheduleOptions.{ScheduleOptions}
 use Rattle.elide_setup.proofs.Drawing.{all_told_under}
 use Rattle.elide_setup.proofs.Runs.{run_of_all}
-use Rattle.elide_setup.specs.Drawing.{AreUnder}
-use Rattle.elide_setup.specs.IaImage.Program.{ProgramValue as Program}
+use Rattle.elide_setup.specs.Drawing.{AreUnder, IsAskedDraw, IsSeed}
+use Rattle.elide_setup.specs.Refused.{IsNoCore, IsNoWalk, plan_path}
+use Rattle.elide_setup.specs.Rounds.{IsDrawnOut, IsOut, IsPlannedOut}
 use Rattle.elide_setup.specs.Runs.{AreMachineSteps, IsRunOf}
-use Rattle.elide_setup.specs.Schedules.{picks_made, picks_told}
-use Rattle.elide_setup.specs.TmCore.Limits.{Limits}
+use Rattle.elide_setup.specs.Schedules.{ArePlanned, are_listed, form_asked, form_of, picks_made, picks_told, plan_form}
 use Rattle.elide_setup.specs.TmCore.Theorem.{ShownMachine as Machine, machine_setting}
 use Rattle.elide_setup.specs.TmModel.State.{opening_state}
 use Rattle.elide_setup.specs.Walks.{Leads}
+use Rattle.elide_setup.specs.declared.fault.Refusal.{Refusal}
+use Rattle.elide_setup.specs.declared.machine.Setup.{Setup}
+use Rattle.elide_setup.specs.declared.plan.Course.{Course}
+use Rattle.elide_setup.specs.declared.plan.Course.TheVariants as course
 use Rattle.elide_setup.specs.declared.plan.Drawn.{Drawn}
+use Rattle.elide_setup.specs.declared.plan.Plan.{Plan}
+use Rattle.elide_setup.specs.declared.plan.Plan.TheVariants as plan
+use Rattle.tm_debug.specs.TmHist.Board.{IsNew, ShownBoard as Board}
 use Rattle.tm_model.specs.declared.outcome.Outcome.{Outcome}
 use Rattle.tm_model.specs.declared.outcome.Pick.{Pick}
+use Rattle.elide_session.specs.Opened.{AreDrawn, IsLimitedOut, limited_plan, most_drawn}
+use Rattle.elide_session.specs.Refused.{IsUndrawn}
 
--- the picks that are told of a run whose steps are drawn come under the events that may be drawn, too
-pub plan_under : {Z F : Type 0} (More : List (Pick × Outcome) → Type 0) (drawn : Drawn) (program : Program) (limits : Limits) (before after : Machine) (made : Result (Vec Pick Z) F) →
-    IsRunOf program limits [] before →
-    IfOk made (λ kept. (steps : List (Pick × Outcome)) × AreUnder drawn.events (picks_made steps) × Leads AreMachineSteps before steps after × (kept.items ≡ picks_told steps) × More steps) →
-    IfOk made (λ plan. AreUnder drawn.events plan.items)
-plan_under More drawn program limits before after (Err fault) new walked = tt
-plan_under More drawn program limits before after (Ok kept) new walked =
-    let ran = run_of_all program limits walked.0 before after new walked.2 in
-    subst (λ (picks : List Pick). AreUnder drawn.events picks) (sym walked.3)
-    (all_told_under drawn.events (machine_setting ran.start) (opening_state program) (λ _. None) walked.0 ran.under walked.1)
+-- ---- of a run whose steps are drawn
+
+-- what a walk that keeps its picks comes to
+abbrev pub Walked : Drawn → ℕ → Machine → Machine → List Pick → Type 0
+Walked drawn cores before after picks =
+    (steps : List (Pick × Outcome)) × AreUnder drawn.events (picks_made steps) × Leads AreMachineSteps before steps after
+    × (picks ≡ picks_told steps) × IsOut (course.Drawn drawn) cores steps
+
+-- the picks that are told come under the events that may be drawn, too
+pub plan_under : (drawn : Drawn) (setup : Setup) (cores : ℕ) (before after : Machine) (picks : List Pick) → IsRunOf setup.program setup.limits [] before →
+    Walked drawn cores before after picks → AreUnder drawn.events picks
+plan_under drawn setup cores before after picks new walked =
+    let ran = run_of_all setup.program setup.limits walked.0 before after new walked.2 in
+    subst (λ (l : List Pick). AreUnder drawn.events l) (sym walked.3)
+    (all_told_under drawn.events (machine_setting ran.start) (opening_state setup.program) (λ _. None) walked.0 ran.under walked.1)
+
+pub plan_run : (drawn : Drawn) (setup : Setup) (cores : ℕ) (before after : Machine) (picks : List Pick) → IsRunOf setup.program setup.limits [] before →
+    cores ≡ length setup.program.entries → Walked drawn cores before after picks →
+    AreDrawn setup.program setup.limits (IsOut (course.Drawn drawn)) picks
+plan_run drawn setup cores before after picks new same walked = record {
+  steps = walked.0;
+  last = after;
+  ran = run_of_all setup.program setup.limits walked.0 before after new walked.2;
+  out = subst (λ (n : ℕ). IsOut (course.Drawn drawn) n walked.0) same walked.4;
+  told = walked.3;
+}
+
+-- a machine of the program makes each step that is drawn
+pub of_walk : (drawn : Drawn) (setup : Setup) (cores : ℕ) (before : Machine) (why : Refusal) → IsRunOf setup.program setup.limits [] before →
+    cores ≡ length setup.program.entries → IsNoWalk AreMachineSteps IsNoCore (course.Drawn drawn) cores before why → IsUndrawn setup why
+of_walk drawn setup cores before why new same (inl h) =
+    let ran = run_of_all setup.program setup.limits h.made before h.after new h.lead in
+    let kept : length h.after.views ≡ length ran.start.views = ran.is_run.same.cores in
+    let first : length ran.start.views ≡ length setup.program.entries = ran.cores in
+    let below : h.pick.core < cores = h.due.core in
+    let beyond : length h.after.views ≤ h.pick.core = h.refused.beyond in
+    absurd (omega arith)
+of_walk drawn setup cores before why new same (inr none) = inr (inr none)
+
+-- ---- of the options
+
+-- a plan of which no more are drawn is of the same steps
+pub limited_steps : (content : List ℕ → Option (List ℕ)) (asked : Plan) (picks : List Pick) → ArePlanned content (limited_plan asked) picks →
+    ArePlanned content asked picks
+limited_steps content (plan.Steps listed) picks h = h
+limited_steps content (plan.File path) picks h = h
+limited_steps content (plan.Drawn drawn) picks h = h
+
+pub limited_form : (asked : Plan) → plan_form (limited_plan asked) ≡ plan_form asked
+limited_form (plan.Steps listed) = refl
+limited_form (plan.File path) = refl
+limited_form (plan.Drawn drawn) = refl
+
+pub limited_path : (asked : Plan) → plan_path (limited_plan asked) ≡ plan_path asked
+limited_path (plan.Steps listed) = refl
+limited_path (plan.File path) = refl
+limited_path (plan.Drawn drawn) = refl
+
+seeded : (random : Option (Bor (List ℕ))) (seed : Option ℕ) → IsSeed (option_copied random) seed → is_some seed ≡ is_some random
+seeded None seed h = ap is_some h
+seeded (Some text) None h = absurd (h.1 refl)
+seeded (Some text) (Some number) h = refl
+
+listed_form : (options : ScheduleOptions) → are_listed options ≡ false → form_asked options ≡ Some (is_some options.events)
+listed_form options unlisted = rw unlisted refl
+
+pub limited_out : (options : ScheduleOptions) (asked : Plan) (cores : ℕ) (steps : List (Pick × Outcome)) → IsAskedDraw options asked →
+    plan_form asked ≡ form_asked options → are_listed options ≡ false → IsPlannedOut (limited_plan asked) cores steps →
+    IsLimitedOut options cores steps
+limited_out options (plan.Steps listed) cores steps draw form unlisted h = let some = listed_form options unlisted in cc
+limited_out options (plan.File path) cores steps draw form unlisted h = let some = listed_form options unlisted in cc
+limited_out options (plan.Drawn drawn) cores steps draw form unlisted h = (
+  drawn.most,
+  draw.most,
+  subst (λ (b : Bool). IsDrawnOut (not b) cores (min drawn.most most_drawn) steps) (seeded options.random drawn.seed draw.seed) h,
+)
+
+-- ---- of a session
+
+-- the picks of a schedule that is drawn are those of a run of its board's program
+pub drawn_for : (options : ScheduleOptions) (setup : Setup) (board : Board) (made : Course) (asked : Plan) (picks : List Pick) →
+    IsNew setup.program setup.limits 1000000 board → form_of made ≡ plan_form asked → plan_form asked ≡ form_asked options →
+    ((cores : ℕ) (steps : List (Pick × Outcome)) → IsOut made cores steps → IsPlannedOut asked cores steps) →
+    (are_listed options ≡ false → (cores : ℕ) (steps : List (Pick × Outcome)) → IsPlannedOut asked cores steps → IsLimitedOut options cores steps) →
+    (is_some (form_of made) ≡ true → AreDrawn setup.program setup.limits (IsOut made) picks) → are_listed options ≡ false →
+    AreDrawn board.program board.limits (IsLimitedOut options) picks
+drawn_for options setup board made asked picks new form said out limited ran unlisted =
+    let run = ran (ap is_some (form ∙ said ∙ listed_form options unlisted)) in
+    let of_setup : AreDrawn setup.program setup.limits (IsLimitedOut options) picks = record {
+      steps = run.steps;
+      last = run.last;
+      ran = run.ran;
+      out = limited unlisted (length setup.program.entries) run.steps (out (length setup.program.entries) run.steps run.out);
+      told = run.told;
+    } in
+    subst (λ p. AreDrawn p board.limits (IsLimitedOut options) picks) (sym new.program)
+    (subst (λ l. AreDrawn setup.program l (IsLimitedOut options) picks) (sym new.limits) of_setup)

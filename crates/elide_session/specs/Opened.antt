@@ -1,13 +1,23 @@
 -- The board that a session begins with, and the plan that it goes along (docs/FORMATS.md, "Debugger").
-use Rattle.std.specs.Prelude.{◌≡◌, ℕ, Bool, true, false, ◌||◌, List, [], Option, is_some}
+use Rattle.std.specs.Prelude.{◌≡◌, ℕ, Bool, true, false, not, ◌||◌, List, [], Option, Some, is_some, length, min}
+use Rattle.std.specs.Option.{option_copied}
 use Rattle.debug_command.specs.declared.symbol.Symbol.{Symbol}
 use Rattle.elide_args.specs.declared.subcommand.MachineOptions.{MachineOptions}
 use Rattle.elide_args.specs.declared.subcommand.ScheduleOptions.{ScheduleOptions}
-use Rattle.elide_setup.specs.Schedules.{AreAsked}
+use Rattle.elide_setup.specs.Drawing.{limit_said}
+use Rattle.elide_setup.specs.IaImage.Program.{ProgramValue as Program}
+use Rattle.elide_setup.specs.Rounds.{IsDrawnOut}
+use Rattle.elide_setup.specs.Runs.{IsRunOf}
+use Rattle.elide_setup.specs.Schedules.{AreAsked, are_listed, picks_told}
 use Rattle.elide_setup.specs.Setup.{IsAsked}
+use Rattle.elide_setup.specs.TmCore.Limits.{Limits}
+use Rattle.elide_setup.specs.TmCore.Theorem.{ShownMachine as Machine}
 use Rattle.elide_setup.specs.declared.machine.Setup.{Setup}
+use Rattle.elide_setup.specs.declared.plan.Plan.{Plan}
+use Rattle.elide_setup.specs.declared.plan.Plan.TheVariants as plan
 use Rattle.elide_session.specs.Symbols.{AreSymbolsOf}
 use Rattle.tm_debug.specs.TmHist.Board.{IsNew, ShownBoard as Board}
+use Rattle.tm_model.specs.declared.outcome.Outcome.{Outcome}
 use Rattle.tm_model.specs.declared.outcome.Pick.{Pick}
 
 -- the board of the options and of the program that the content of FILE is read as, before its first step and with room
@@ -28,7 +38,37 @@ abbrev pub is_scheduled : ScheduleOptions → Bool
 is_scheduled schedule = is_some schedule.steps || is_some schedule.path || schedule.in_turn || is_some schedule.random
     || says_draw schedule
 
--- the picks are those of the schedule that the options ask for, and there are none where they ask for none
-pub record IsPlan (content : List ℕ → Option (List ℕ)) (options : ScheduleOptions) (picks : List Pick) : Type 0 where
+-- the most steps of a schedule that is drawn which a session can ask for: those that it makes, and the one that it has
+-- no room for
+abbrev pub most_drawn : ℕ
+most_drawn = 1000001
+
+-- a plan of which no more are drawn
+abbrev pub limited_plan : Plan → Plan
+limited_plan (plan.Steps listed) = plan.Steps listed
+limited_plan (plan.File path) = plan.File path
+limited_plan (plan.Drawn drawn) = plan.Drawn (record drawn { most = min drawn.most most_drawn })
+
+-- these steps are drawn as the options ask, to the end or until there are so many
+abbrev pub IsLimitedOut : ScheduleOptions → ℕ → List (Pick × Outcome) → Type 0
+IsLimitedOut options cores steps =
+    (most : ℕ) × (limit_said (option_copied options.limit) ≡ Some most)
+    × IsDrawnOut (not (is_some options.random)) cores (min most most_drawn) steps
+
+-- the picks are those that the outcomes of a run from the program's first state tell, whose steps end so
+pub record AreDrawn (program : Program) (limits : Limits) (ends : ℕ → List (Pick × Outcome) → Type 0)
+    (picks : List Pick) : Type 0 where
+  pub steps : List (Pick × Outcome)
+  pub last : Machine
+  pub ran : IsRunOf program limits steps last
+  pub out : ends (length program.entries) steps
+  pub told : picks ≡ picks_told steps
+
+-- the picks are those of the schedule that the options ask for, where they are drawn those of a run of the board's
+-- program, and there are none where they ask for none
+pub record IsPlan (content : List ℕ → Option (List ℕ)) (options : ScheduleOptions) (board : Board) (picks : List Pick)
+    : Type 0 where
   pub asked : is_scheduled options ≡ true → AreAsked content options picks
+  pub drawn : is_scheduled options ≡ true → are_listed options ≡ false →
+      AreDrawn board.program board.limits (IsLimitedOut options) picks
   pub unasked : is_scheduled options ≡ false → picks ≡ []

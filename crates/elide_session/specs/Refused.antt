@@ -2,21 +2,20 @@
 use Rattle.std.specs.Prelude.{◌≡◌, ℕ, ◌⊎◌, true, List, Option, length}
 use Rattle.elide_args.specs.declared.subcommand.MachineOptions.{MachineOptions}
 use Rattle.elide_args.specs.declared.subcommand.ScheduleOptions.{ScheduleOptions}
-use Rattle.elide_setup.specs.Refused.{HasNoSetup, IsAnyWant, IsNoBoard, IsNoCore, IsNoMachine, IsNoWalk}
-use Rattle.elide_setup.specs.Refused.{IsNotScheduled, NamesNoCore}
-use Rattle.elide_setup.specs.Schedules.{AreAsked, AreOf, listed_in}
+use Rattle.elide_setup.specs.Refused.{HasNoSetup, IsAnyWant, IsCourseOf, IsNoBoard, IsNoMachine, IsNotScheduled}
+use Rattle.elide_setup.specs.Refused.{NamesNoCore}
+use Rattle.elide_setup.specs.Schedules.{listed_in}
 use Rattle.elide_setup.specs.Setup.{IsAsked}
 use Rattle.elide_setup.specs.declared.fault.Fault.{Fault}
 use Rattle.elide_setup.specs.declared.fault.Fault.TheVariants as fault
 use Rattle.elide_setup.specs.declared.fault.Refusal.{Refusal}
 use Rattle.elide_setup.specs.declared.machine.Setup.{Setup}
 use Rattle.elide_setup.specs.declared.plan.Course.{Course}
-use Rattle.tm_model.specs.declared.outcome.Pick.{Pick}
 use Rattle.elide_session.specs.Opened.{is_scheduled}
 
--- a schedule is not drawn on a machine with these limits
+-- a schedule is not drawn: no machine with the program's limits is made, or there is no memory for its picks
 abbrev pub IsUndrawn : Setup → Refusal → Type 0
-IsUndrawn setup why = IsNoMachine setup.limits why ⊎ IsNoWalk IsNoCore why
+IsUndrawn setup why = IsNoMachine setup.limits why ⊎ IsAnyWant why
 
 -- there is no program, no schedule where one is asked for, no board with room for 1,000,000 steps, or no memory; a
 -- listed step is of a core that the machine has not, or the schedule is not drawn
@@ -26,7 +25,7 @@ pub data IsNotOpened (content : List ℕ → Option (List ℕ)) (machine : Machi
   unscheduled : is_scheduled schedule ≡ true → IsNotScheduled content machine schedule why
       → IsNotOpened content machine schedule why
   beyond : (setup : Setup) (asked : Course) → IsAsked (content machine.file.now) machine setup
-      → ((picks : List Pick) → AreOf asked picks → AreAsked content schedule picks)
+      → IsCourseOf content schedule asked
       → NamesNoCore (listed_in asked) (length setup.program.entries) why → IsNotOpened content machine schedule why
   boardless : (setup : Setup) → IsAsked (content machine.file.now) machine setup → IsNoBoard setup 1000000 why
       → IsNotOpened content machine schedule why

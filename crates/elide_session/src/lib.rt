@@ -1,21 +1,25 @@
 //! What `elide debug` and `elide gdb` begin with: a board, the schedule that a session goes along, and the program's symbols.
 //!
 //! Promised: the board is that of the options and of the program in FILE before its first step, with room for 1,000,000 steps; the
-//! plan is the schedule that the options ask for, in the words of `elide_setup`, and there is none where they ask for none; each name
-//! stands for what it stands for in that program; that a session is not opened for the reason that it names alone
-//! (`specs/Refused.antt`); and the number of the fault that ends a session early. Which cores a schedule that
-//! is drawn picks, and which labels a program has, is compared by `doc_tests`. Stands on `elide_setup` and, for sessions, on
-//! `tm_debug`.
+//! plan is the schedule that the options ask for, in the words of `elide_setup`, where it is drawn that of a run of the program to its
+//! end, its limit or 1,000,001 steps, and there is none where they ask for none; each name stands for what it stands for in that
+//! program; that a session is not opened for the reason that it names alone (`specs/Refused.antt`); and the number of the fault that
+//! ends a session early. Which cores a seed draws, and which labels a program has, is compared by `doc_tests`. Stands on `elide_setup`
+//! and, for sessions, on `tm_debug`.
 #![tactic(auto)]
 
-ghost use Rattle.std.specs.Prelude.{◌≡◌, IfErr, IfOk, true};
-ghost use Rattle.elide_session.specs.Opened.{IsOpened, IsPlan, is_scheduled, says_draw};
+ghost use Rattle.std.specs.Prelude.{◌≡◌, ℕ, IfErr, IfOk, IfSome, List, Option, Some, false, is_some, true};
+ghost use Rattle.elide_session.specs.Opened.{AreDrawn, IsLimitedOut, IsOpened, IsPlan, is_scheduled, limited_plan, says_draw};
 ghost use Rattle.elide_session.specs.Refused.{IsEndBy, IsNotOpened, IsUndrawn};
 ghost use Rattle.elide_session.specs.Symbols.{AreSymbolsOf};
 ghost use Rattle.elide_setup.specs.Drawing.{AreUnder};
 ghost use Rattle.elide_setup.specs.Faults.{fault_number};
-ghost use Rattle.elide_setup.specs.Schedules.{AreOf};
+ghost use Rattle.elide_setup.specs.Refused.{IsMisplanned, plan_path};
+ghost use Rattle.elide_setup.specs.Rounds.{IsOut, IsPlannedOut};
+ghost use Rattle.elide_setup.specs.Schedules.{AreAsked, AreOf, ArePlanned, are_listed, form_asked, form_of, plan_form};
 ghost use Rattle.tm_debug.specs.Faults.{session_code};
+ghost use Rattle.tm_model.specs.declared.outcome.Outcome.{Outcome};
+ghost use Rattle.tm_model.specs.declared.outcome.Pick.{Pick};
 
 mod symbols;
 
@@ -59,7 +63,7 @@ pub fn opened<P: Paths>(
     paths: &mut P,
 ) -> Result<Opening, Refusal>
     ensures opened { IfOk result (λ r. IsOpened (P.content paths.old machine.now.file.now) machine.now r.board r.names.symbols.items) }
-    ensures plan { IfOk result (λ r. IsPlan (P.content paths.old) schedule.now r.plan.items) }
+    ensures plan { IfOk result (λ r. IsPlan (P.content paths.old) schedule.now r.board r.plan.items) }
     ensures none { IfErr result (IsNotOpened (P.content paths.old) machine.now schedule.now) }
 {
     if is_scheduled(schedule) {
@@ -119,11 +123,11 @@ fn opened_scheduled<P: Paths>(
 ) -> Result<Opening, Refusal>
     requires { is_scheduled schedule.now ≡ true }
     ensures opened { IfOk result (λ r. IsOpened (P.content paths.old machine.now.file.now) machine.now r.board r.names.symbols.items) }
-    ensures plan { IfOk result (λ r. IsPlan (P.content paths.old) schedule.now r.plan.items) }
+    ensures plan { IfOk result (λ r. IsPlan (P.content paths.old) schedule.now r.board r.plan.items) }
     ensures none { IfErr result (IsNotOpened (P.content paths.old) machine.now schedule.now) }
 {
     let settings = Settings::read(machine)?;
-    let asked = Plan::read(alloc, schedule)?;
+    let asked = plan_read(alloc, schedule)?;
     let text = read_file(machine.file, paths)?;
     let file = ProgramFile::read(alloc, text.as_slice())?;
     let (setup, course) = planned(alloc, &settings, asked, &file, paths)?;
@@ -152,9 +156,39 @@ fn names_of(
     Ok(Names { symbols, labels })
 }
 
+// Reads the schedule, of which no more steps are drawn than a session can ask for.
+fn plan_read<'a>(alloc: Global, schedule: &ScheduleOptions<'a>) -> Result<Plan<'a>, Refusal>
+    ensures steps { IfOk result (λ plan. (content : List ℕ → Option (List ℕ)) (picks : List Pick) →
+        ArePlanned content plan picks → AreAsked content schedule.now picks) }
+    ensures listed { IfOk result (λ plan. plan_form plan ≡ form_asked schedule.now) }
+    ensures path { IfOk result (λ plan. IfSome (plan_path plan) (λ path. schedule.now.path ≡ Some path)) }
+    ensures out { IfOk result (λ plan. are_listed schedule.now ≡ false → (cores : ℕ) (steps : List (Pick × Outcome)) →
+        IsPlannedOut plan cores steps → IsLimitedOut schedule.now cores steps) }
+    ensures none { IfErr result (IsMisplanned schedule.now) }
+{
+    let plan = Plan::read(alloc, schedule)?;
+    Ok(limited(plan))
+}
+
+// A plan of which no more are drawn.
+fn limited(plan: Plan<'_>) -> Plan<'_>
+    ensures { result ≡ limited_plan plan.entry }
+{
+    match plan {
+        Plan::Steps(steps) => Plan::Steps(steps),
+        Plan::File(path) => Plan::File(path),
+        Plan::Drawn(drawn) => Plan::Drawn(Drawn {
+            most: drawn.most.min(MOST_DRAWN),
+            ..drawn
+        }),
+    }
+}
+
 // The picks of a schedule.
 fn plan_of(alloc: Global, setup: &Setup, course: Course) -> Result<Vec<Pick>, Refusal>
     ensures picks { IfOk result (λ plan. AreOf course plan.items) }
+    ensures drawn { IfOk result (λ plan. is_some (form_of course) ≡ true →
+        AreDrawn setup.now.program setup.now.limits (IsOut course) plan.items) }
     ensures none { IfErr result (IsUndrawn setup.now) }
 {
     match course {
@@ -163,14 +197,14 @@ fn plan_of(alloc: Global, setup: &Setup, course: Course) -> Result<Vec<Pick>, Re
     }
 }
 
-// Those of one that is drawn, as a run on a machine of its own draws it, and no more of them than a session can ask for.
+// Those of one that is drawn, as a run on a machine of its own draws it.
 fn drawn_plan(alloc: Global, setup: &Setup, drawn: Drawn) -> Result<Vec<Pick>, Refusal>
     ensures under { IfOk result (λ plan. AreUnder drawn.events plan.items) }
+    ensures run { IfOk result (λ plan. AreDrawn setup.now.program setup.now.limits (IsOut (Course.Drawn drawn)) plan.items) }
     ensures none { IfErr result (IsUndrawn setup.now) }
 {
     let mut machine = new_machine(alloc, setup)?;
-    let most = drawn.most.min(MOST_DRAWN);
-    let course = Course::Drawn(Drawn { most, ..drawn });
+    let course = Course::Drawn(drawn);
     course.walk(
         alloc,
         setup.program.cores(),

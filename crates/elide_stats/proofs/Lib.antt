@@ -1,3 +1,4 @@
+mod Cores
 mod Recording
 mod Refusing
 mod Steps

@@ -3,51 +3,46 @@ use Rattle.std.specs.Prelude.{◌≡◌, ℕ, ◌⊎◌, Bool, List, Option, Som
 use Rattle.std.specs.Borrow.{Bor}
 use Rattle.elide_args.specs.declared.subcommand.StatsOptions.{StatsOptions}
 use Rattle.elide_setup.specs.ElideProgram.Settings.{AreSettings}
-use Rattle.elide_setup.specs.Faults.{not_written}
-use Rattle.elide_setup.specs.Refused.{IsAnyWant, IsNoCore, IsNoMachine, IsNotScheduled, IsOverProgram}
-use Rattle.elide_setup.specs.Refused.{IsUnrecorded, NamesNoCore, plan_path}
-use Rattle.elide_setup.specs.Schedules.{AreAsked, AreOf, ArePlanned, listed_in}
+use Rattle.elide_setup.specs.Refused.{IsAnyWant, IsCourseOf, IsNoCore, IsNoMachine, IsNotScheduled, IsOverProgram}
+use Rattle.elide_setup.specs.Refused.{IsUnrecorded, IsUntold, NamesNoCore, plan_path}
+use Rattle.elide_setup.specs.Schedules.{AreAsked, ArePlanned, listed_in}
 use Rattle.elide_setup.specs.Setup.{IsAsked}
 use Rattle.elide_setup.specs.TmCore.Limits.{Limits}
+use Rattle.elide_setup.specs.TmCore.Theorem.{ShownMachine as Machine}
 use Rattle.elide_setup.specs.declared.fault.Refusal.{Refusal}
 use Rattle.elide_setup.specs.declared.machine.Setup.{Setup}
 use Rattle.elide_setup.specs.declared.plan.Course.{Course}
 use Rattle.elide_setup.specs.declared.plan.Plan.{Plan}
-use Rattle.ia_text.specs.declared.out.WriteFault.{WriteFault}
 use Rattle.tm_model.specs.declared.outcome.Pick.{Pick}
 use Rattle.elide_stats.specs.declared.command.Asked.{Asked}
 
--- a step is not made, or there is no memory for its counts
-abbrev pub IsUncountedStep : Refusal → Type 0
-IsUncountedStep why = IsNoCore why ⊎ IsAnyWant why
+-- a step is not made and counted: the machine has no core of its pick, or there is no memory for its counts
+abbrev pub IsUncountedStep : Machine → Pick → Refusal → Type 0
+IsUncountedStep machine pick why = IsNoCore machine pick why ⊎ IsAnyWant why
 
--- counts are not written, or there is no memory for their text
-abbrev pub AreUnwritten : Refusal → Type 0
-AreUnwritten why = ((cause : WriteFault) × (why ≡ not_written cause)) ⊎ IsAnyWant why
-
--- the steps of a board are not made again and counted on a machine with these limits, or their counts are not told
+-- the counts of a board's steps are not told: no machine with its limits is made, or their text is not told
 abbrev pub AreUntold : Limits → Refusal → Type 0
-AreUntold limits why = IsNoMachine limits why ⊎ (IsUncountedStep why ⊎ AreUnwritten why)
+AreUntold limits why = IsNoMachine limits why ⊎ IsUntold why
 
--- the steps of a course are not made and counted on a machine of so many cores: a listed one is of another core, or
--- their schedule is not written
+-- the steps of a course are not made and counted on a machine of so many cores: a listed one is of another core, their
+-- schedule is not written, or there is no memory
 pub data IsUncounted (asked : Course) (cores : ℕ) (path : Option (Bor (List ℕ))) (why : Refusal) : Type 0 where
   beyond : NamesNoCore (listed_in asked) cores why → IsUncounted asked cores path why
-  unstepped : IsUncountedStep why → IsUncounted asked cores path why
   unrecorded : IsUnrecorded path why → IsUncounted asked cores path why
+  unroomed : IsAnyWant why → IsUncounted asked cores path why
 
 -- of a program and a course: no machine is made, its steps are not counted, or the counts not told
 pub data IsNoCount (setup : Setup) (asked : Course) (path : Option (Bor (List ℕ))) (why : Refusal) : Type 0 where
   unmade : IsNoMachine setup.limits why → IsNoCount setup asked path why
   uncounted : IsUncounted asked (length setup.program.entries) path why → IsNoCount setup asked path why
-  untold : AreUnwritten why → IsNoCount setup asked path why
+  untold : IsUntold why → IsNoCount setup asked path why
 
 -- there is no program or no schedule by the options, or the same of them
 pub data IsNotCounted (content : List ℕ → Option (List ℕ)) (options : StatsOptions) (why : Refusal) : Type 0 where
   unscheduled : IsNotScheduled content options.machine options.schedule why → IsNotCounted content options why
   no_count : (setup : Setup) (asked : Course) → IsAsked (content options.machine.file.now) options.machine setup
-      → ((picks : List Pick) → AreOf asked picks → AreAsked content options.schedule picks)
-      → IsNoCount setup asked options.record why → IsNotCounted content options why
+      → IsCourseOf content options.schedule asked → IsNoCount setup asked options.record why
+      → IsNotCounted content options why
 
 -- or the path of `--record` is that of the program
 abbrev pub IsRefused : (List ℕ → Option (List ℕ)) → (List ℕ → List ℕ → Option Bool) → StatsOptions → Refusal → Type 0

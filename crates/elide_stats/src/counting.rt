@@ -38,7 +38,7 @@ impl StepMaker for Counting {
     ghost takes = { λ before steps after. AreMachineSteps before.machine steps after.machine
         × GoOn ⟦<AbortCause as PartialEq>⟧.eq before steps after };
 
-    ghost refuses = { IsUncountedStep };
+    ghost refuses = { λ before pick why. IsUncountedStep before.machine pick why };
 
     // Makes a step, and counts it with the transactions that it hits.
     fn make_step(&mut self, pick: Pick) -> Result<Outcome, Refusal> {
@@ -92,16 +92,18 @@ impl Counting {
         course.walk_recorded(alloc, cores, path, self, paths, progress)
     }
 
-    /// Makes the steps of a board's history.
+    /// Makes the steps of a board's history, on a machine with the cores of its program.
     pub fn run_history<G: Progress>(
         &mut self,
         board: &Board,
         progress: &mut G,
     ) -> Result<(), Refusal>
-        ensures refused { IfErr result IsUncountedStep }
+        requires { length self.old.machine.views ≡ length board.now.program.entries }
+        ensures refused { IfErr result IsAnyWant }
         ensures ran { IfOk result (λ _. (made : List (Pick × Outcome)) × (picks_made made ≡ picks_of board.now.history)
             × GoOn ⟦<AbortCause as PartialEq>⟧.eq self.old made self.new) }
     {
+        board.is_run();
         let history = board.history();
         for index in 0..history.len() {
             if index % PORTION == 0 {

@@ -1,10 +1,10 @@
 //! What is printed of a run that was counted.
 
-ghost use Rattle.std.specs.Prelude.{◌⊎◌, [], IfErr, IfOk};
+ghost use Rattle.std.specs.Prelude.{[], IfErr, IfOk};
 ghost use Rattle.elide_setup.specs.Runs.{IsRunOf};
-ghost use Rattle.elide_setup.specs.Refused.{IsNoMachine};
+ghost use Rattle.elide_setup.specs.Refused.{IsNoMachine, IsUntold};
 ghost use Rattle.elide_stats.specs.Counted.{HasCounted};
-ghost use Rattle.elide_stats.specs.Refused.{AreUntold, AreUnwritten, IsUncountedStep};
+ghost use Rattle.elide_stats.specs.Refused.{AreUntold};
 ghost use Rattle.tm_stats.specs.Counts.{AreCounts};
 
 use crate::counting::{Counting, no_memory};
@@ -35,7 +35,7 @@ pub fn tell_counting<O: Out>(
     out: &mut O,
 ) -> Result<(), Refusal>
     requires { HasCounted ⟦<AbortCause as PartialEq>⟧.eq run counting.old }
-    ensures { IfErr result AreUnwritten }
+    ensures { IfErr result IsUntold }
 {
     if counting.sort().is_err() {
         return Err(no_memory());
@@ -59,7 +59,7 @@ fn tell_labelled<O: Out>(
     out: &mut O,
 ) -> Result<(), Refusal>
     requires { HasCounted ⟦<AbortCause as PartialEq>⟧.eq _run counting.now }
-    ensures { IfErr result AreUnwritten }
+    ensures { IfErr result IsUntold }
 {
     match Report::of(alloc, counting.counts(), counting.conflicts(), labels) {
         Ok(report) => tell_report(alloc, &report, is_json, out),
@@ -74,7 +74,7 @@ fn tell_report<O: Out>(
     is_json: bool,
     out: &mut O,
 ) -> Result<(), Refusal>
-    ensures { IfErr result AreUnwritten }
+    ensures { IfErr result IsUntold }
 {
     let mut page = Gathered::new(Lent::new(out));
     if is_json {
@@ -88,7 +88,7 @@ fn tell_report<O: Out>(
 
 // Prints a report as JSON.
 fn put_json<O: Out>(alloc: Global, report: &Report, out: &mut O) -> Result<(), Refusal>
-    ensures { IfErr result AreUnwritten }
+    ensures { IfErr result IsUntold }
 {
     match json_line(alloc, report) {
         Ok(line) => {
@@ -142,7 +142,7 @@ fn tell_made<O: Out, G: Progress>(
 ) -> Result<(), Refusal>
     requires first { IsRunOf board.now.program board.now.limits [] counting.old.machine }
     requires none { AreCounts ⟦<AbortCause as PartialEq>⟧.eq counting.old.counts [] }
-    ensures { IfErr result (λ why. IsUncountedStep why ⊎ AreUnwritten why) }
+    ensures { IfErr result IsUntold }
 {
     let counted = counting.run_history(board, progress);
     progress.end();

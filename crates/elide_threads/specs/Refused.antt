@@ -5,7 +5,7 @@ use Rattle.std.specs.Option.{option_copied}
 use Rattle.elide_args.specs.declared.subcommand.ThreadsOptions.{ThreadsOptions}
 use Rattle.elide_setup.specs.ElideProgram.Settings.{number_said}
 use Rattle.elide_setup.specs.Misuse.{IsMisuse}
-use Rattle.elide_setup.specs.Refused.{HasNoSetup, IsAnyWant, IsNoBoard, IsOverProgram, IsUnrecorded}
+use Rattle.elide_setup.specs.Refused.{HasNoSetup, IsAnyWant, IsNoBoard, IsOverProgram, IsUnrecorded, IsUnwritten}
 use Rattle.elide_setup.specs.Setup.{IsAsked}
 use Rattle.elide_setup.specs.Shown.{are_held}
 use Rattle.elide_setup.specs.TmHist.Board.{ShownBoard as Board}
@@ -13,7 +13,7 @@ use Rattle.elide_setup.specs.declared.fault.Fault.TheVariants as fault
 use Rattle.elide_setup.specs.declared.fault.Refusal.{Refusal}
 use Rattle.elide_setup.specs.declared.fault.Refusal.TheVariants as refusal
 use Rattle.elide_setup.specs.declared.machine.Setup.{Setup}
-use Rattle.elide_why.specs.Refused.{IsNotRetold, IsUnwritten}
+use Rattle.elide_why.specs.Refused.{IsNotRetold}
 use Rattle.tm_work.specs.declared.plan.EventPlan.{EventPlan}
 use Rattle.elide_threads.specs.Burst.{burst_said}
 use Rattle.elide_threads.specs.Plans.{plan_said}

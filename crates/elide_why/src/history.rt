@@ -1,6 +1,6 @@
 //! The steps of a board that are told.
 
-ghost use Rattle.std.specs.Prelude.{ℕ, IfErr, IfOk, List};
+ghost use Rattle.std.specs.Prelude.{◌≡◌, ℕ, IfErr, IfOk, List, length};
 ghost use Rattle.ia_text.specs.Writing.{Wrote};
 ghost use Rattle.elide_setup.specs.Refused.{IsNoMachine};
 ghost use Rattle.elide_why.specs.Refused.{IsNotRetold};
@@ -42,6 +42,7 @@ fn told_steps<O: Out, G: Progress>(
     ensures told { IfOk result (λ _. (text : List ℕ) × Wrote (O.device out.old) (O.device out.new) text) }
     ensures refused { IfErr result (IsNotRetold board.now.limits) }
 {
+    board.is_run();
     let mut machine = machine_like(alloc, board)?;
     let teller = Teller::new(board.program(), path, &places.places, false);
     let mut teller = teller.naming(places.names);
@@ -59,7 +60,8 @@ fn told_steps<O: Out, G: Progress>(
 
 // A machine of a board's program and limits before its first step.
 fn machine_like(alloc: Global, board: &Board) -> Result<Machine, Refusal>
-    ensures { IfErr result (IsNoMachine board.now.limits) }
+    ensures cores { IfOk result (λ machine. length machine.views ≡ length board.now.program.entries) }
+    ensures none { IfErr result (IsNoMachine board.now.limits) }
 {
     match Machine::new(alloc, board.program(), board.limits()) {
         Ok(machine) => Ok(machine),

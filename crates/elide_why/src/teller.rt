@@ -1,8 +1,9 @@
 //! Steps that are made and told.
 
 ghost use Rattle.std.specs.Prelude.{ℕ, IfErr, IfOk, List};
+ghost use Rattle.elide_setup.specs.Refused.{IsUnwritten};
 ghost use Rattle.elide_setup.specs.Runs.{IsMachineStep};
-ghost use Rattle.elide_why.specs.Refused.{IsUntold, IsUnwritten};
+ghost use Rattle.elide_why.specs.Refused.{IsUntoldStep};
 ghost use Rattle.ia_text.specs.Writing.{Wrote};
 
 use crate::interference::write_interference;
@@ -79,7 +80,7 @@ impl<'a> Teller<'a> {
     ) -> Result<Outcome, Refusal>
         ensures step { IfOk result (λ outcome. IsMachineStep machine.old pick outcome machine.new) }
         ensures told { IfOk result (λ _. (text : List ℕ) × Wrote (O.device out.old) (O.device out.new) text) }
-        ensures refused { IfErr result IsUntold }
+        ensures refused { IfErr result (IsUntoldStep machine.old pick) }
     {
         if self.asked.anew(machine, pick.core).is_err() {
             return Err(Refusal::Fault(Fault::Run(RunFault::NoSuchCore)));
@@ -159,19 +160,6 @@ impl<'a> Teller<'a> {
     {
         let outside = self.outside_at(self.asked.eip);
         write_stop(self.asked.core, &outside, out)?;
-        Ok(())
-    }
-
-    /// The same of each pick of a list, in its order.
-    pub fn step_all<O: Out>(
-        &mut self,
-        machine: &mut Machine,
-        picks: &[Pick],
-        out: &mut O,
-    ) -> Result<(), Refusal> {
-        for pick in picks {
-            self.step(machine, *pick, out)?;
-        }
         Ok(())
     }
 }

@@ -7,6 +7,7 @@ use Rattle.elide_setup.specs.ElideProgram.ProgramFile.{IsFile}
 use Rattle.elide_setup.specs.Refused.{NamesNoCore, misplanned, misread, no_program, no_setup, not_read}
 use Rattle.elide_setup.specs.Schedules.{listed_in}
 use Rattle.elide_setup.specs.Setup.{IsAsked}
+use Rattle.elide_session.proofs.Plans.{drawn_for}
 use Rattle.elide_session.specs.Refused.{beyond, boardless, undrawn, unscheduled, without_program}
 use Rattle.elide_session.proofs.opened_scheduled.Goals as goal
 
@@ -30,6 +31,8 @@ returns-clause-plan g c =
     let picks = c.in_ok-plan.plan.items in
     record {
       asked = λ _. c.in_ok-asked.ensures.steps before picks (planned_before before (g.P.Paths.content c.read_file.new.paths) c.in_ok-asked.asked picks c.read_file.ensures.kept (c.in_ok-setup.ensures.course picks c.in_ok-plan.ensures.picks));
+      drawn = λ _ unlisted. drawn_for c.args.schedule.now c.in_ok-setup.setup c.in_ok-board.board c.in_ok-setup.course c.in_ok-asked.asked picks
+          c.in_ok-board.ensures.made c.in_ok-setup.ensures.listed c.in_ok-asked.ensures.listed c.in_ok-setup.ensures.out c.in_ok-asked.ensures.out c.in_ok-plan.ensures.drawn unlisted;
       unasked = λ none. let some = c.requires in cc;
     }
 

@@ -1,9 +1,11 @@
 use Rattle.std.proofs.Common.{◌∙◌, subst, ℕ}
 use Rattle.std.specs.Prelude.{max}
 use Rattle.elide_setup.specs.Refused.{IsNoBoard}
+use Rattle.elide_setup.specs.TmHist.Board.{IsNew}
 use Rattle.elide_setup.specs.Schedules.{most_of}
 use Rattle.elide_setup.proofs.Runs.{made_all}
 use Rattle.std.proofs.lemmas.Result.{err_from_is_err_and}
+use Rattle.elide_replay.proofs.Refusing.{of_walk}
 use Rattle.elide_replay.specs.Refused.{no_board}
 use Rattle.elide_replay.proofs.once_more.board_of.Goals as goal
 
@@ -29,3 +31,12 @@ returns-in_err-board-clause-none g c =
     subst (λ (n : ℕ). IsNoBoard c.args.setup.now (max n 1) c.in_err-board.field-0.0) c.most.ensures
     c.in_err-board.ensures.none in
     rw (p.1, p.2) (no_board none)
+
+pub returns-in_err-walk-clause-none : goal.returns-in_err-walk-clause-none
+returns-in_err-walk-clause-none g c =
+    let p = err_from_is_err_and c.from_residual-in_err-walk.result c.from_residual-in_err-walk.ensures.1 in
+    let new : IsNew c.args.setup.now.program c.args.setup.now.limits (max (most_of c.args.course.now) 1) c.in_ok-board.board =
+    subst (λ (n : ℕ). IsNew c.args.setup.now.program c.args.setup.now.limits (max n 1) c.in_ok-board.board) c.most.ensures c.in_ok-board.ensures.made in
+    rw (p.1, p.2)
+    (of_walk c.args.setup.now c.args.course.now c.cores-cores.result c.in_ok-board.board c.in_err-walk.field-0.0 new
+    c.cores-cores.ensures.program c.in_ok-check_cores.ensures.fit c.in_err-walk.ensures.refused)

@@ -6,7 +6,6 @@ use Rattle.elide_setup.specs.Recorded.{IsRecorded}
 use Rattle.elide_setup.specs.Schedules.{picks_made, picks_told, schedule_made}
 use Rattle.elide_setup.specs.Setup.{IsAsked}
 use Rattle.elide_run.proofs.Refusing.{of_opening, of_run}
-use Rattle.elide_run.specs.Refused.{no_room, over_program}
 use Rattle.std.proofs.lemmas.Result.{err_from_is_err_and}
 use Rattle.elide_run.proofs.coded.run_coded_explained.Goals as goal
 

@@ -7,7 +7,6 @@ use Rattle.elide_setup.specs.Recorded.{IsRecorded}
 use Rattle.elide_setup.specs.Schedules.{picks_made, picks_told, schedule_made}
 use Rattle.elide_setup.specs.Setup.{IsAsked}
 use Rattle.elide_run.proofs.Refusing.{of_opening, of_run}
-use Rattle.elide_run.specs.Refused.{over_program}
 use Rattle.elide_run.proofs.explained.run_explained.Goals as goal
 
 pub returns-clause-made : goal.returns-clause-made

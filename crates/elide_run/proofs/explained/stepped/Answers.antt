@@ -4,8 +4,8 @@ use Rattle.elide_setup.specs.Rounds.{IsOut}
 use Rattle.elide_setup.proofs.Runs.{run_of_all}
 use Rattle.elide_setup.specs.Gathering.{told as told_contents}
 use Rattle.elide_run.proofs.Steps.{told}
-use Rattle.elide_run.proofs.Refusing.{of_unexplained, of_walk}
-use Rattle.elide_run.specs.Refused.{IsUnexplained, unready}
+use Rattle.elide_run.proofs.Refusing.{of_walk}
+use Rattle.elide_run.specs.Refused.{unready}
 use Rattle.elide_run.proofs.explained.stepped.Goals as goal
 
 pub returns-clause-made : goal.returns-clause-made
@@ -20,8 +20,13 @@ pub returns-in_err-walk_recorded-clause-refused : goal.returns-in_err-walk_recor
 returns-in_err-walk_recorded-clause-refused g c =
     let p = err_from_is_err_and c.from_residual-in_err-walk_recorded.result c.from_residual-in_err-walk_recorded.ensures.1 in
     rw (p.1, p.2)
-    (of_walk IsUnexplained c.args.setup.now c.args.course.now c.args.path c.in_err-walk_recorded.field-0.0 (of_unexplained c.in_err-walk_recorded.field-0.0)
-    c.in_err-walk_recorded.ensures.refused)
+    (of_walk _ _ (λ m. m.machine) c.args.setup.now c.args.course.now c.cores-cores.result c.args.path _ c.in_err-walk_recorded.field-0.0
+    (c.cores-cores.ensures.count ∙ c.in_ok-machine.ensures.cores) c.in_ok-machine.ensures.fit
+    (λ made after lead. run_of_all c.args.setup.now.program c.args.setup.now.limits made c.in_ok-machine.machine after.machine c.in_ok-machine.ensures.made
+    (told made _ _ lead (λ m. m.machine)
+    (λ m. record { contents = told_contents (g.O.Out.device m.page.out).contents (g.O.Out.device m.page.before.value).contents m.page.failures m.page.row.items; failures = m.page.failures })
+    (λ _ _ _ h. h)).leads)
+    (λ after pick h. h) c.in_err-walk_recorded.ensures.refused)
 
 pub returns-in_err-machine-clause-refused : goal.returns-in_err-machine-clause-refused
 returns-in_err-machine-clause-refused g c =

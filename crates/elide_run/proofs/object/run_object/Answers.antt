@@ -14,7 +14,6 @@ use Rattle.elide_setup.specs.Setup.{IsAsked}
 use Rattle.elide_setup.specs.declared.gathered.Gathered.{Gathered}
 use Rattle.elide_why.proofs.Passing.{kept_first}
 use Rattle.elide_json.specs.Refused.{IsUnsent}
-use Rattle.elide_setup.specs.declared.fault.Refusal.{Refusal}
 use Rattle.elide_why.proofs.Refusing.{scheduled_before}
 use Rattle.elide_run.proofs.Refusing.{of_object, of_run}
 use Rattle.elide_run.specs.Refused.{IsRefused, unscheduled}

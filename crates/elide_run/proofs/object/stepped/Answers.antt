@@ -5,10 +5,6 @@ use Rattle.elide_setup.proofs.Runs.{run_of_all}
 use Rattle.elide_setup.specs.Gathering.{told}
 use Rattle.elide_run.proofs.Refusing.{of_front, of_walk}
 use Rattle.elide_run.specs.Refused.{unready}
-use Rattle.elide_setup.specs.Refused.{IsAnyWant, IsNoCore}
-use Rattle.elide_why.specs.Refused.{IsUntold}
-use Rattle.elide_setup.specs.declared.fault.Refusal.{Refusal}
-use Rattle.std.specs.Prelude.{◌⊎◌}
 use Rattle.elide_run.proofs.Rows.{rowed, wrote_no_rows, wrote_rows}
 use Rattle.elide_run.proofs.object.stepped.Goals as goal
 
@@ -43,15 +39,22 @@ pub returns-in_err-walk_recorded-clause-refused : goal.returns-in_err-walk_recor
 returns-in_err-walk_recorded-clause-refused g c =
     let p = err_from_is_err_and c.from_residual-in_err-walk_recorded.result c.from_residual-in_err-walk_recorded.ensures.1 in
     rw (p.1, p.2)
-    (of_walk IsNoCore c.args.setup.now c.args.course.now c.args.path c.in_err-walk_recorded.field-0.0 (λ h. inl (inl h))
-    c.in_err-walk_recorded.ensures.refused)
+    (of_walk _ _ (λ m. m) c.args.setup.now c.args.course.now c.cores-cores.result c.args.path c.in_ok-machine.machine c.in_err-walk_recorded.field-0.0
+    (c.cores-cores.ensures.count ∙ c.in_ok-machine.ensures.cores) c.in_ok-machine.ensures.fit
+    (λ made after lead. run_of_all c.args.setup.now.program c.args.setup.now.limits made c.in_ok-machine.machine after c.in_ok-machine.ensures.made lead)
+    (λ after pick h. inl h) c.in_err-walk_recorded.ensures.refused)
 
 pub returns-in_err-walk_recorded-2-clause-refused : goal.returns-in_err-walk_recorded-2-clause-refused
 returns-in_err-walk_recorded-2-clause-refused g c =
     let p = err_from_is_err_and c.from_residual-in_err-walk_recorded-2.result c.from_residual-in_err-walk_recorded-2.ensures.1 in
     rw (p.1, p.2)
-    (of_walk (λ (why : Refusal). IsUntold why ⊎ IsAnyWant why) c.args.setup.now c.args.course.now c.args.path c.in_err-walk_recorded-2.field-0.0 (λ h. h)
-    c.in_err-walk_recorded-2.ensures.refused)
+    (of_walk _ _ (λ m. m.machine) c.args.setup.now c.args.course.now c.cores-cores.result c.args.path _ c.in_err-walk_recorded-2.field-0.0
+    (c.cores-cores.ensures.count ∙ c.in_ok-machine.ensures.cores) c.in_ok-machine.ensures.fit
+    (λ made after lead. run_of_all c.args.setup.now.program c.args.setup.now.limits made c.in_ok-machine.machine after.machine c.in_ok-machine.ensures.made
+    (rowed made _ _ lead (λ m. m.machine)
+    (λ m. record { contents = told (g.O.Out.device m.page.out).contents (g.O.Out.device m.page.before.value).contents m.page.failures m.page.row.items; failures = m.page.failures })
+    (λ m. m.made) (λ _ _ _ h. h)).leads)
+    (λ after pick h. h) c.in_err-walk_recorded-2.ensures.refused)
 
 pub returns-in_err-machine-clause-refused : goal.returns-in_err-machine-clause-refused
 returns-in_err-machine-clause-refused g c =

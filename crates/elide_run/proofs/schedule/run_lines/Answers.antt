@@ -9,7 +9,7 @@ use Rattle.std.proofs.lemmas.Result.{IfErr-weaker}
 use Rattle.elide_run.proofs.Refusing.{of_end}
 use Rattle.elide_run.specs.Refused.{HasNotAll, IsRefused}
 use Rattle.elide_setup.specs.declared.fault.Refusal.{Refusal}
-use Rattle.elide_why.specs.Refused.{IsUnwritten}
+use Rattle.elide_setup.specs.Refused.{IsUnwritten}
 use Rattle.elide_run.proofs.schedule.run_lines.Goals as goal
 
 pub returns-clause-printed : goal.returns-clause-printed

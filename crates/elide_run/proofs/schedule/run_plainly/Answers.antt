@@ -9,7 +9,7 @@ use Rattle.elide_setup.specs.Setup.{IsAsked}
 use Rattle.elide_run.specs.Printed.{trace_text}
 use Rattle.elide_why.proofs.Refusing.{scheduled_before}
 use Rattle.elide_run.proofs.Refusing.{of_run}
-use Rattle.elide_run.specs.Refused.{unscheduled, over_program}
+use Rattle.elide_run.specs.Refused.{unscheduled}
 use Rattle.elide_run.proofs.schedule.run_plainly.Goals as goal
 
 pub returns-clause-made : goal.returns-clause-made

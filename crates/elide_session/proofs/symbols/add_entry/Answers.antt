@@ -1,4 +1,4 @@
-use Rattle.std.proofs.Common.{◌≡◌, ◌+◌, ◌∷◌, ◌++◌, [], List, ◌∙◌, append-nil, subst, sym}
+use Rattle.std.proofs.Common.{◌+◌, List, ◌∙◌, append-nil, subst, sym}
 use Rattle.debug_command.specs.Symbols.{symbol_in}
 use Rattle.debug_command.specs.declared.symbol.Symbol.{Symbol}
 use Rattle.elide_session.specs.Symbols.{IsFirstBelow}

@@ -1,4 +1,4 @@
-use Rattle.std.proofs.Common.{◌≡◌, ◌∷◌, ◌++◌, [], List, ap, ◌∙◌, subst, sym}
+use Rattle.std.proofs.Common.{List, ap, ◌∙◌, sym}
 use Rattle.debug_command.specs.Symbols.{symbol_in}
 use Rattle.debug_command.specs.declared.symbol.Symbol.{Symbol}
 use Rattle.elide_session.proofs.Rows.{symbol_taken, take_next}

@@ -1,7 +1,8 @@
 use Rattle.tm_stats.specs.contracts.cause.AbortCausePartialEq.TheImpl as causes
 use Rattle.std.proofs.Common.{ℕ, subst}
 use Rattle.std.proofs.lemmas.Result.{IfErr-weaker, err_from_is_err_and}
-use Rattle.elide_stats.specs.Refused.{AreUnwritten, IsNoCount, IsUncounted, uncounted, untold}
+use Rattle.elide_setup.specs.Refused.{IsUntold}
+use Rattle.elide_stats.specs.Refused.{IsNoCount, IsUncounted, uncounted, untold}
 use Rattle.elide_stats.proofs.Recording.{kept_on_ok}
 use Rattle.elide_stats.proofs.Steps.{counted_since}
 use Rattle.elide_stats.proofs.command.stats_of_course.Goals as goal
@@ -19,7 +20,7 @@ returns-clause-ran g c =
 
 pub returns-clause-refused : goal.returns-clause-refused
 returns-clause-refused g c =
-    IfErr-weaker c.tell_counting.result AreUnwritten (IsNoCount c.args.setup.now c.args.course.now c.args.asked.now.path)
+    IfErr-weaker c.tell_counting.result IsUntold (IsNoCount c.args.setup.now c.args.course.now c.args.asked.now.path)
     (λ why h. untold h) c.tell_counting.ensures
 
 pub returns-in_err-run_course-clause-refused : goal.returns-in_err-run_course-clause-refused

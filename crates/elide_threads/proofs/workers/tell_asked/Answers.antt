@@ -1,4 +1,4 @@
-use Rattle.std.proofs.Common.{List, ℕ, subst}
+use Rattle.std.proofs.Common.{subst}
 use Rattle.std.proofs.lemmas.Result.{IfErr-weaker}
 use Rattle.elide_json.specs.Refused.{IsUnsent}
 use Rattle.elide_setup.specs.TmCore.Theorem.{ShownMachine as Machine}

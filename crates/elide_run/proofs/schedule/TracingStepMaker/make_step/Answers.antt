@@ -1,4 +1,3 @@
-use Rattle.std.proofs.lemmas.Result.{err_from_is_err_and}
 use Rattle.elide_run.proofs.Steps.{wrote_one}
 use Rattle.elide_run.proofs.schedule.TracingStepMaker.make_step.Goals as goal
 

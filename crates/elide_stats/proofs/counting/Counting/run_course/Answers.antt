@@ -12,6 +12,7 @@ use Rattle.tm_model.specs.declared.outcome.Pick.{Pick}
 use Rattle.tm_stats.specs.contracts.cause.AbortCausePartialEq.TheImpl as causes
 use Rattle.tm_stats.specs.declared.cause.AbortCause.{AbortCause}
 use Rattle.elide_stats.specs.Counted.{GoOn}
+use Rattle.elide_stats.specs.declared.counting.Counting.{Counting}
 use Rattle.elide_stats.proofs.Refusing.{of_walk}
 use Rattle.elide_stats.specs.Refused.{IsUncounted, IsUncountedStep, beyond}
 use Rattle.elide_stats.proofs.Steps.{Counts, walk_counted}
@@ -36,10 +37,15 @@ returns-clause-ran g c =
 
 pub returns-clause-refused : goal.returns-clause-refused
 returns-clause-refused g c =
-    let cores = length c.args.self.now.machine.views in
-    IfErr-weaker c.walk_recorded.result (λ (why : Refusal). IsNoWalk IsUncountedStep why ⊎ IsUnrecorded c.args.path why)
-    (IsUncounted c.args.course.now cores c.args.path)
-    (λ why h. of_walk c.args.course.now cores c.args.path why h) c.walk_recorded.ensures.refused
+    let same : AbortCause → AbortCause → Bool = (causes.ghosts).eq in
+    let course = c.args.course.now in
+    let first = c.args.self.now in
+    let refuses : Counting → Pick → Refusal → Type 0 = λ counting pick why. IsUncountedStep counting.machine pick why in
+    IfErr-weaker c.walk_recorded.result
+    (λ (why : Refusal). IsNoWalk (Counts same) refuses course c.cores-cores.result first why ⊎ IsUnrecorded c.args.path why)
+    (IsUncounted course (length first.machine.views) c.args.path)
+    (λ why h. of_walk same course c.cores-cores.result c.args.path first why c.cores-cores.ensures.count c.in_ok-check_cores.ensures.fit h)
+    c.walk_recorded.ensures.refused
 
 pub returns-in_err-check_cores-clause-refused : goal.returns-in_err-check_cores-clause-refused
 returns-in_err-check_cores-clause-refused g c =
