@@ -3,11 +3,14 @@ use Rattle.std.proofs.Common.{◌≡◌, ℕ, Bool, true, false, Bor, List, [], 
 use Rattle.std.specs.List.{AllZip}
 use Rattle.elide_args.specs.declared.hunt_options.HuntOptions.{HuntOptions}
 use Rattle.elide_setup.specs.ElideProgram.ProgramFileType.{ProgramFile}
+use Rattle.elide_setup.specs.declared.fault.Refusal.{Refusal}
 use Rattle.ia_item.specs.declared.name.Name.{Name}
 use Rattle.tm_check.specs.declared.check.Check.{Check}
 use Rattle.elide_checks.specs.Checks.{AreChecks, AreChecksBy, halt_checks}
 use Rattle.elide_checks.specs.Constants.{is_among, is_constant}
 use Rattle.elide_checks.specs.Ends.{AreEndChecks, AreEndChecksBy}
+use Rattle.elide_checks.specs.Misread.{IsNoEndCondition}
+use Rattle.elide_checks.specs.Refused.{AreMisreadTexts, AreNoChecks}
 use Rattle.tm_condition.specs.declared.check.Check.{Check as EndCheck}
 
 -- the names that are kept are those of the program
@@ -25,6 +28,14 @@ pub ends_by_names : (text : List ℕ) (file : ProgramFile) (demands forbids : Li
 ends_by_names text file demands forbids names checks same are =
     let each : is_among names ≡ is_constant text file = λ i name. same name i in
     subst (λ (constants : List ℕ → Bool). AreEndChecksBy file constants demands forbids checks) each are
+
+-- and so where one is none
+pub none_by_names : (text : List ℕ) (file : ProgramFile) (demands forbids : List (Bor (List ℕ))) (names : List Name) (why : Refusal) →
+    ((name : List ℕ) → is_among names name ≡ is_constant text file name) →
+    AreMisreadTexts (IsNoEndCondition file (is_among names)) demands forbids why → AreNoChecks text file demands forbids why
+none_by_names text file demands forbids names why same none =
+    let each : is_among names ≡ is_constant text file = λ i name. same name i in
+    subst (λ (constants : List ℕ → Bool). AreMisreadTexts (IsNoEndCondition file constants) demands forbids why) each none
 
 -- four parts one behind the other
 pub joined : (none one two three four : List Check) (a b c : List Check) → none ≡ [] → one ≡ none ++ a → two ≡ one ++ b → three ≡ two ++ c →

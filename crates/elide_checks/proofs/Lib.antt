@@ -1,7 +1,11 @@
+mod Apart
 mod Zips
 mod Named
 mod Asked
 mod Parts
 mod Words
 mod Cuts
+mod Clauses
+mod Digits
+mod Operators
 mod Reasons

@@ -1,7 +1,7 @@
 -- Counts of a run, as their words say them (docs/FORMATS.md, "Checks").
-use Rattle.std.specs.Prelude.{◌≡◌, ℕ, List, [], ◌∷◌, ◌++◌, codes, Option, Some, None, Ok}
+use Rattle.std.specs.Prelude.{◌≡◌, ℕ, List, [], ◌∷◌, ◌++◌, codes, Option, Some, None, Ok, option_and_then}
 use Rattle.hex.specs.Hex.{decode_of}
-use Rattle.elide_setup.specs.ElideProgram.Settings.{word32}
+use Rattle.elide_setup.specs.ElideProgram.Settings.{below, word32}
 use Rattle.elide_setup.specs.TmHist.Lines.{interference_word}
 use Rattle.tm_check.specs.declared.count.AbortKind.{AbortKind}
 use Rattle.tm_check.specs.declared.count.AbortKind.TheVariants.{Program, Outside}
@@ -12,10 +12,14 @@ use Rattle.tm_check.specs.declared.count.Count.TheVariants.{Commits, Aborts}
 use Rattle.tm_status.specs.declared.cause.Cause.{Cause}
 use Rattle.tm_status.specs.declared.cause.Cause.TheVariants.{Conflict, Capacity, Nest, Explicit, Debug, Other}
 
--- the number of a core, or `*` for all
+-- the number of a core, 0 to 255
+abbrev pub core_said : List ℕ → Option ℕ
+core_said word = option_and_then (below 256) (word32 word)
+
+-- that, or `*` for all
 abbrev pub AreCores : List ℕ → Cores → Type 0
 AreCores word All = word ≡ codes "*"
-AreCores word (One core) = word32 word ≡ Some core
+AreCores word (One core) = core_said word ≡ Some core
 
 -- the word of a cause: that of the overflow of sets and of depth is one, since they have one status
 abbrev pub IsCause : List ℕ → Cause → Type 0

@@ -1,6 +1,6 @@
 -- Items of a check, as their words say them (docs/FORMATS.md, "Checks"). Which names are numbers is given as a test.
-use Rattle.std.specs.Prelude.{◌≡◌, ◌⊎◌, ℕ, ◌<◌, ◌-◌, ◌==◌, ◌||◌, Bool, true, false, not, List, [], ◌∷◌, length, take, drop}
-use Rattle.std.specs.Prelude.{Some, is_some}
+use Rattle.std.specs.Prelude.{◌≡◌, ◌≢◌, ◌⊎◌, ℕ, ◌<◌, ◌-◌, ◌==◌, ◌||◌, Bool, true, false, not, List, [], ◌∷◌, length}
+use Rattle.std.specs.Prelude.{Some, drop, is_some, take}
 use Rattle.std.specs.Char.{is_ascii_whitespace}
 use Rattle.std.specs.List.{after_first, before_first, list_all, position_or_len, prefix_len, slice_split, suffix_len}
 use Rattle.elide_program.specs.Sums.{IsSum, is_sign}
@@ -11,7 +11,7 @@ use Rattle.ia_word.specs.declared.width.Width.TheVariants.{D}
 use Rattle.tm_check.specs.declared.clause.Quantity.{Quantity}
 use Rattle.tm_check.specs.declared.clause.Quantity.TheVariants.{OfMachine, OfRun}
 use Rattle.tm_condition.specs.declared.item.Item.TheVariants.{Register, Memory, Number}
-use Rattle.elide_checks.specs.Counts.{IsCountOf}
+use Rattle.elide_checks.specs.Counts.{IsCountOf, core_said}
 use Rattle.elide_checks.specs.declared.items.Side.{Side}
 use Rattle.elide_checks.specs.declared.items.Side.TheVariants.{Left, Right}
 
@@ -49,7 +49,7 @@ is_address constants Right sum = not (are_numbers constants sum)
 -- what stands before an `@` and behind it: the name of a register of 32 bits, and the number of a core; or a count
 abbrev pub IsNamed : List ℕ → List ℕ → Quantity → Type 0
 IsNamed name whose (OfMachine (Register core register)) =
-    (register_of name ≡ Some (D, register)) × (word32 whose ≡ Some core)
+    (register_of name ≡ Some (D, register)) × (core_said whose ≡ Some core)
 IsNamed name whose (OfMachine (Memory address)) = ⊥
 IsNamed name whose (OfMachine (Number number)) = ⊥
 IsNamed name whose (OfRun count) = IsCountOf name whose count
@@ -67,16 +67,18 @@ pub record IsNamedBy (word : List ℕ) (quantity : Quantity) : Type 0 where
   pub parts : IsParted word before behind
   pub named : IsNamed before behind quantity
 
--- a sum without an `@`, which is taken so
+-- a sum without an `@`, and with no `&` in front, which is taken so
 pub record IsSumAs (file : ProgramFile) (constants : List ℕ → Bool) (side : Side) (word : List ℕ) (value : ℕ)
     (address : Bool) : Type 0 where
   pub has_none : at_place word ≡ length word
+  pub plain : (behind : List ℕ) → word ≢ 38 ∷ behind
   pub sum : IsSum file word (Some value)
   pub taken : is_address constants side word ≡ address
 
--- a sum behind `&`, its value itself
+-- a sum behind `&`, without an `@`, its value itself
 pub record IsAddressOf (file : ProgramFile) (word : List ℕ) (value : ℕ) : Type 0 where
   pub behind : List ℕ
+  pub has_none : at_place word ≡ length word
   pub whole : word ≡ 38 ∷ behind
   pub sum : IsSum file behind (Some value)
 

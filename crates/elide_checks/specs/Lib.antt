@@ -1,8 +1,10 @@
 pub mod Constants
 pub mod EquNames
+pub mod Cuts
 pub mod Counts
 pub mod Items
 pub mod Conditions
+pub mod Misread
 pub mod Checks
 pub mod Ends
 pub mod Reach

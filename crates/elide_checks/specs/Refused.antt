@@ -1,25 +1,41 @@
 -- Why what is to be checked, and what is asked of a search, is not read (docs/FAULTS.md).
-use Rattle.std.specs.Prelude.{◌≡◌, ◌≢◌, ◌<◌, ℕ, ◌⊎◌, false, List, [], length, codes, Contains, None}
+use Rattle.std.specs.Prelude.{◌≡◌, ◌≢◌, ℕ, ◌⊎◌, false, List, [], codes, Contains, None}
 use Rattle.std.specs.Borrow.{Bor}
 use Rattle.std.specs.Option.{option_copied}
 use Rattle.elide_args.specs.declared.hunt_options.HuntOptions.{HuntOptions}
+use Rattle.elide_setup.specs.ElideProgram.ProgramFileType.{ProgramFile}
 use Rattle.elide_setup.specs.ElideProgram.Settings.{number_said}
 use Rattle.elide_setup.specs.Faults.{want}
 use Rattle.elide_setup.specs.Misuse.{IsMisuse}
 use Rattle.elide_setup.specs.TmHist.Lines.{stop_word}
 use Rattle.elide_setup.specs.declared.fault.Refusal.{Refusal}
 use Rattle.tm_rule.specs.declared.kinds.Stop.{Stop}
+use Rattle.elide_checks.specs.Constants.{is_constant}
+use Rattle.elide_checks.specs.Misread.{IsNoCondition, IsNoEndCondition}
 use Rattle.elide_checks.specs.Runs.{AreNoJobs, AreNoRuns, IsNoLimit, IsNoMethod, events_asked}
 
--- a text of the option of this name is no condition, or there is no memory
-abbrev pub IsNoCondition : List ℕ → Refusal → Type 0
-IsNoCondition name why = IsMisuse name why ⊎ (why ≡ want)
+-- a text is none by a rule, and the option of this name is told for it; or there is no memory
+abbrev pub IsMisreadText : Type 0 → List ℕ → Refusal → Type 0
+IsMisreadText Rule name why = (Rule × IsMisuse name why) ⊎ (why ≡ want)
 
--- one of the texts of `--check` or of `--forbid`, of which there are some, is no condition, or there is no memory
-pub data AreNoChecks (demands forbids : List (Bor (List ℕ))) (why : Refusal) : Type 0 where
-  no_check : 0 < length demands → IsNoCondition (codes "--check") why → AreNoChecks demands forbids why
-  no_forbid : 0 < length forbids → IsNoCondition (codes "--forbid") why → AreNoChecks demands forbids why
-  no_memory : why ≡ want → AreNoChecks demands forbids why
+-- one of these texts is none
+pub record HasMisreadText (Rule : List ℕ → Type 0) (texts : List (Bor (List ℕ))) (name : List ℕ) (why : Refusal)
+    : Type 0 where
+  pub text : Bor (List ℕ)
+  pub among : Contains texts text
+  pub none : Rule text.now
+  pub named : IsMisuse name why
+
+-- one of the texts of `--check` or of `--forbid` is none, or there is no memory
+pub data AreMisreadTexts (Rule : List ℕ → Type 0) (demands forbids : List (Bor (List ℕ))) (why : Refusal) : Type 0 where
+  no_check : HasMisreadText Rule demands (codes "--check") why → AreMisreadTexts Rule demands forbids why
+  no_forbid : HasMisreadText Rule forbids (codes "--forbid") why → AreMisreadTexts Rule demands forbids why
+  no_memory : why ≡ want → AreMisreadTexts Rule demands forbids why
+
+-- of the ends of all schedules: it is no condition on a machine alone, of the program that a text is read as
+abbrev pub AreNoChecks : List ℕ → ProgramFile → List (Bor (List ℕ)) → List (Bor (List ℕ)) → Refusal → Type 0
+AreNoChecks text file demands forbids why =
+    AreMisreadTexts (IsNoEndCondition file (is_constant text file)) demands forbids why
 
 -- the word of no reason to stop, as one of `--stop`
 pub record IsNoStop (words : List (Bor (List ℕ))) (why : Refusal) : Type 0 where
@@ -28,12 +44,13 @@ pub record IsNoStop (words : List (Bor (List ℕ))) (why : Refusal) : Type 0 whe
   pub other : (stop : Stop) → stop_word stop ≢ word.now
   pub named : IsMisuse (codes "--stop") why
 
--- the same of a search for a bad schedule, of which one check is wanted at least
-pub data AreNoDemands (options : HuntOptions) (why : Refusal) : Type 0 where
-  no_checks : AreNoChecks options.checks.items options.forbids.items why → AreNoDemands options why
-  no_stop : IsNoStop options.stops.items why → AreNoDemands options why
+-- of a search for a bad schedule, of which one check is wanted at least: it is no condition
+pub data AreNoDemands (file : ProgramFile) (options : HuntOptions) (why : Refusal) : Type 0 where
+  no_checks : AreMisreadTexts (IsNoCondition file) options.checks.items options.forbids.items why
+      → AreNoDemands file options why
+  no_stop : IsNoStop options.stops.items why → AreNoDemands file options why
   none : options.checks.items ≡ [] → options.forbids.items ≡ [] → options.stops.items ≡ []
-      → options.expects_halt ≡ false → IsMisuse (codes "--check") why → AreNoDemands options why
+      → options.expects_halt ≡ false → IsMisuse (codes "--check") why → AreNoDemands file options why
 
 -- an option of such a search is misread, which is named
 pub data AreNoOrders (options : HuntOptions) (why : Refusal) : Type 0 where

@@ -1,9 +1,10 @@
 //! Bytes in memory, as a text says them.
 
-ghost use Rattle.std.specs.Prelude.{◌≡◌, IfOk, IfSome, Ok, length};
+ghost use Rattle.std.specs.Prelude.{◌≡◌, IfOk, MatchOption, Ok, length};
 ghost use Rattle.std.specs.Str.{trim};
 ghost use Rattle.hex.specs.Hex.{decode_of};
 ghost use Rattle.elide_checks.specs.Conditions.{AreBytes};
+ghost use Rattle.elide_checks.specs.Misread.{AreNoBytes, AreNotMany};
 
 use crate::cut::cut;
 use elide_setup::{ProgramFile, number_of, sum_of};
@@ -15,7 +16,8 @@ pub fn bytes_of(
     text: &str,
     file: &ProgramFile<'_>,
 ) -> Result<Option<(u32, Vec<u8>)>, AllocError>
-    ensures { IfOk result (λ found. IfSome found (λ parts. AreBytes file.now text.now parts.0 parts.1.items)) }
+    ensures { IfOk result (λ found. MatchOption found (AreNoBytes file.now text.now)
+        (λ parts. AreBytes file.now text.now parts.0 parts.1.items)) }
 {
     let Some((place, digits)) = cut(text, "=") else {
         return Ok(None);
@@ -37,8 +39,8 @@ pub fn bytes_of(
 
 // So many bytes in hex digits, around which spaces may stand.
 fn decoded(alloc: Global, digits: &str, count: u32) -> Result<Option<Vec<u8>>, AllocError>
-    ensures { IfOk result (λ bytes. IfSome bytes (λ found. (length found.items ≡ count)
-        × (decode_of (trim digits.now) ≡ Ok found.items))) }
+    ensures { IfOk result (λ bytes. MatchOption bytes (AreNotMany count (trim digits.now))
+        (λ found. (length found.items ≡ count) × (decode_of (trim digits.now) ≡ Ok found.items))) }
 {
     let digits = digits.trim().as_bytes();
     if digits.len() != count as usize * 2 {

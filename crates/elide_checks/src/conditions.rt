@@ -1,9 +1,11 @@
 //! Conditions, as a text says them.
 
-ghost use Rattle.std.specs.Prelude.{◌≡◌, ◌++◌, ◌∷◌, ℕ, [], Bool, IfOk, IfSome, List, MatchResult};
-ghost use Rattle.elide_checks.specs.Conditions.{IsClause, IsComparison, IsCondition, comparison_word};
+ghost use Rattle.std.specs.Prelude.{◌≡◌, ◌⊎◌, ◌++◌, ◌∷◌, ℕ, [], Bool, IfOk, List, MatchOption, MatchResult};
+ghost use Rattle.std.specs.Str.{trim};
+ghost use Rattle.elide_checks.specs.Conditions.{HasNoOperator, IsClause, IsCompared, IsComparison, IsCondition};
 ghost use Rattle.elide_checks.specs.Constants.{is_among};
-ghost use Rattle.elide_checks.specs.Refused.{IsNoCondition};
+ghost use Rattle.elide_checks.specs.Misread.{IsNoClause, IsNoCondition, IsNoItem};
+ghost use Rattle.elide_checks.specs.Refused.{IsMisreadText};
 ghost use Rattle.elide_setup.specs.ElideProgram.ProgramFileType.{ProgramFile as ProgramFileOf};
 ghost use Rattle.tm_check.specs.declared.clause.RunClause.{RunClause as RunClauseOf};
 
@@ -24,7 +26,7 @@ pub fn condition_of(
 ) -> Result<Vec<RunClause>, Refusal>
     ensures { MatchResult result
         (λ clauses. IsCondition scope.now.file.now (is_among scope.now.constants.now.names.items) text.now clauses.items)
-        (IsNoCondition name.now) }
+        (IsMisreadText (IsNoCondition scope.now.file.now text.now) name.now) }
 {
     let mut clauses = Vec::new(alloc);
     let mut rest = text;
@@ -47,7 +49,7 @@ fn add_clause(
     ensures { MatchResult result
         (λ _. (clause : RunClauseOf) × (clauses.new.items ≡ clauses.old.items ++ clause ∷ [])
         × IsClause scope.now.file.now (is_among scope.now.constants.now.names.items) text.now clause)
-        (IsNoCondition name.now) }
+        (IsMisreadText (IsNoClause scope.now.file.now text.now) name.now) }
 {
     match clause_of(alloc, text, scope)? {
         Some(clause) => {
@@ -64,8 +66,8 @@ pub fn clause_of(
     text: &str,
     scope: &Scope<'_, '_, '_>,
 ) -> Result<Option<RunClause>, AllocError>
-    ensures { IfOk result (λ found. IfSome found (IsClause scope.now.file.now
-        (is_among scope.now.constants.now.names.items) text.now)) }
+    ensures { IfOk result (λ found. MatchOption found (IsNoClause scope.now.file.now text.now)
+        (IsClause scope.now.file.now (is_among scope.now.constants.now.names.items) text.now)) }
 {
     if let Some((before, comparison, behind)) = compared(text) {
         return Ok(comparison_of(before, comparison, behind, scope));
@@ -78,7 +80,8 @@ pub fn clause_of(
 
 /// The two sides of a comparison.
 pub fn compared(text: &str) -> Option<(&str, Comparison, &str)>
-    ensures { IfSome result (λ parts. text.now ≡ parts.0.now ++ (comparison_word parts.1 ++ parts.2.now)) }
+    ensures { MatchOption result (HasNoOperator text.now)
+        (λ parts. IsCompared text.now parts.0.now parts.1 parts.2.now) }
 {
     if let Some((before, behind)) = cut(text, "==") {
         return Some((before, Comparison::Equal, behind));
@@ -92,18 +95,13 @@ pub fn compared(text: &str) -> Option<(&str, Comparison, &str)>
     if let Some((before, behind)) = cut(text, ">=") {
         return Some((before, Comparison::AtLeast, behind));
     }
-    ordered(text)
-}
-
-// The two sides of `<` or `>`.
-fn ordered(text: &str) -> Option<(&str, Comparison, &str)>
-    ensures { IfSome result (λ parts. text.now ≡ parts.0.now ++ (comparison_word parts.1 ++ parts.2.now)) }
-{
     if let Some((before, behind)) = cut(text, "<") {
         return Some((before, Comparison::Below, behind));
     }
-    let (before, behind) = cut(text, ">")?;
-    Some((before, Comparison::Above, behind))
+    if let Some((before, behind)) = cut(text, ">") {
+        return Some((before, Comparison::Above, behind));
+    }
+    None
 }
 
 // The comparison of two items.
@@ -113,8 +111,9 @@ fn comparison_of(
     behind: &str,
     scope: &Scope<'_, '_, '_>,
 ) -> Option<RunClause>
-    ensures { IfSome result (λ clause. (text : List ℕ) →
-        text ≡ before.now ++ (comparison_word comparison ++ behind.now) →
+    ensures { MatchOption result
+        (IsNoItem scope.now.file.now (trim before.now) ⊎ IsNoItem scope.now.file.now (trim behind.now))
+        (λ clause. (text : List ℕ) → IsCompared text before.now comparison behind.now →
         IsClause scope.now.file.now (is_among scope.now.constants.now.names.items) text clause) }
 {
     let left = item_of(before.trim(), Side::Left, scope)?;

@@ -1,16 +1,16 @@
 //! Counts of a run, as words say them.
 
-ghost use Rattle.std.specs.Prelude.{◌≡◌, ◌∷◌, [], ◌++◌, IfSome, Ok, Some};
+ghost use Rattle.std.specs.Prelude.{◌≡◌, ◌≢◌, ◌⊎◌, ◌∷◌, [], ◌++◌, List, MatchOption, Ok, ℕ};
 ghost use Rattle.hex.specs.Hex.{decode_of};
-ghost use Rattle.elide_setup.specs.ElideProgram.Settings.{word32};
-ghost use Rattle.elide_checks.specs.Counts.{AreAborts, AreCores, IsCause, IsCountOf, IsKind};
+ghost use Rattle.elide_checks.specs.Counts.{AreAborts, AreCores, IsCause, IsCountOf, IsKind, core_said};
+ghost use Rattle.elide_checks.specs.Misread.{AreNoAborts, AreNoCores, IsNoCause, IsNoCounted, IsNoKind};
 
 use elide_setup::{Interference, number_of};
 use tm_check::{AbortKind, Cause, Cores, Count};
 
 /// What is counted and whose, by the words before an `@` and behind it.
 pub fn count_of(name: &str, whose: &str) -> Option<Count>
-    ensures { IfSome result (IsCountOf name.now whose.now) }
+    ensures { MatchOption result (IsNoCounted name.now ⊎ AreNoCores whose.now) (IsCountOf name.now whose.now) }
 {
     let cores = cores_of(whose)?;
     if name == "commits" {
@@ -22,7 +22,7 @@ pub fn count_of(name: &str, whose: &str) -> Option<Count>
 
 // All cores, or one.
 fn cores_of(word: &str) -> Option<Cores>
-    ensures { IfSome result (AreCores word.now) }
+    ensures { MatchOption result (AreNoCores word.now) (AreCores word.now) }
 {
     if word == "*" {
         return Some(Cores::All);
@@ -33,7 +33,7 @@ fn cores_of(word: &str) -> Option<Cores>
 
 /// The number of a core, 0 to 255.
 pub fn core_of(word: &str) -> Option<u8>
-    ensures { IfSome result (λ core. word32 word.now ≡ Some core) }
+    ensures { result ≡ core_said word.now }
 {
     let number = number_of(Some(word), "--check").ok()?;
     u8::try_from(number).ok()
@@ -41,7 +41,7 @@ pub fn core_of(word: &str) -> Option<u8>
 
 // Aborts of any kind, or of one.
 fn aborts_of(word: &str) -> Option<Option<AbortKind>>
-    ensures { IfSome result (AreAborts word.now) }
+    ensures { MatchOption result (AreNoAborts word.now) (AreAborts word.now) }
 {
     if word == "aborts" {
         return Some(None);
@@ -52,14 +52,15 @@ fn aborts_of(word: &str) -> Option<Option<AbortKind>>
 
 // What stands behind a word at a text's front.
 fn behind<'a>(text: &'a str, front: &str) -> Option<&'a str>
-    ensures { IfSome result (λ rest. text.now ≡ front.now ++ rest.now) }
+    ensures { MatchOption result ((rest : List ℕ) → text.now ≢ front.now ++ rest)
+        (λ rest. text.now ≡ front.now ++ rest.now) }
 {
     text.strip_prefix(front)
 }
 
 // A kind of aborts.
 fn kind_of(word: &str) -> Option<AbortKind>
-    ensures { IfSome result (IsKind word.now) }
+    ensures { MatchOption result (IsNoKind word.now) (IsKind word.now) }
 {
     match word {
         "interrupt" => Some(AbortKind::Outside(Interference::Interrupt)),
@@ -71,7 +72,7 @@ fn kind_of(word: &str) -> Option<AbortKind>
 
 // A cause in the program.
 fn cause_of(word: &str) -> Option<Cause>
-    ensures { IfSome result (IsCause word.now) }
+    ensures { MatchOption result (IsNoCause word.now) (IsCause word.now) }
 {
     match word {
         "conflict" => Some(Cause::Conflict),
@@ -84,7 +85,8 @@ fn cause_of(word: &str) -> Option<Cause>
 
 // A byte in two hex digits.
 fn byte_of(digits: &str) -> Option<u8>
-    ensures { IfSome result (λ byte. decode_of digits.now ≡ Ok (byte ∷ [])) }
+    ensures { MatchOption result ((byte : ℕ) → decode_of digits.now ≢ Ok (byte ∷ []))
+        (λ byte. decode_of digits.now ≡ Ok (byte ∷ [])) }
 {
     let mut byte = [0; 1];
     match hex::decode_to_slice(digits, &mut byte) {

@@ -1,14 +1,15 @@
 //! What is checked, as the options say it.
 
-ghost use Rattle.std.specs.Prelude.{◌≡◌, ◌≢◌, ◌⊎◌, ◌↔◌, ◌<◌, ◌++◌, All, IsTrue, List, MatchOption, MatchResult, OnOk, codes, length};
+ghost use Rattle.std.specs.Prelude.{◌≡◌, ◌≢◌, ◌⊎◌, ◌↔◌, ◌++◌, All, IsTrue, List, MatchOption, MatchResult, OnOk, codes};
 ghost use Rattle.std.specs.List.{AllZip};
 ghost use Rattle.elide_args.specs.declared.hunt_options.HuntOptions.{HuntOptions};
 ghost use Rattle.elide_setup.specs.Misuse.{IsMisuse};
 ghost use Rattle.elide_setup.specs.TmHist.Lines.{stop_word};
 ghost use Rattle.elide_checks.specs.Checks.{AreChecks, AreChecksBy, IsDemanded, IsForbidden, IsStopCheck, halt_checks};
 ghost use Rattle.elide_checks.specs.Constants.{is_among};
+ghost use Rattle.elide_checks.specs.Misread.{IsNoCondition};
 ghost use Rattle.elide_checks.specs.Reach.{HasCheck};
-ghost use Rattle.elide_checks.specs.Refused.{AreNoDemands, IsNoCondition, IsNoStop};
+ghost use Rattle.elide_checks.specs.Refused.{AreNoDemands, HasMisreadText, IsNoStop};
 ghost use Rattle.elide_setup.specs.Faults.{want};
 ghost use Rattle.tm_rule.specs.declared.kinds.Stop.{Stop as StopOf};
 ghost use Rattle.tm_check.specs.declared.check.Check.{Check};
@@ -39,7 +40,7 @@ impl Demands {
         file: &ProgramFile<'_>,
     ) -> Result<Demands, Refusal>
         ensures { MatchResult result (λ demands. AreChecks text.now file.now options.now demands.checks.items)
-            (AreNoDemands options.now) }
+            (AreNoDemands file.now options.now) }
     {
         let constants = Constants::read(alloc, text, file)?;
         let scope = Scope {
@@ -84,7 +85,7 @@ fn checks_of(
 ) -> Result<Vec<Check>, Refusal>
     ensures { MatchResult result
         (λ checks. AreChecksBy scope.now.file.now (is_among scope.now.constants.now.names.items) options.now checks.items)
-        (AreNoDemands options.now) }
+        (AreNoDemands scope.now.file.now options.now) }
 {
     let mut checks = Vec::new(alloc);
     add_demanded(alloc, &mut checks, options.checks.as_slice(), scope)?;
@@ -108,7 +109,7 @@ fn add_demanded(
         (λ _. (more : List Check) × (checks.new.items ≡ checks.old.items ++ more)
         × AllZip (λ text check. IsDemanded scope.now.file.now (is_among scope.now.constants.now.names.items) text.now
         check) texts.now more)
-        (λ why. (0 < length texts.now) × IsNoCondition (codes "--check") why) }
+        (λ why. HasMisreadText (IsNoCondition scope.now.file.now) texts.now (codes "--check") why ⊎ (why ≡ want)) }
 {
     for text in texts {
         let clauses = condition_of(alloc, text, scope, "--check")?;
@@ -128,7 +129,7 @@ fn add_forbidden(
         (λ _. (more : List Check) × (checks.new.items ≡ checks.old.items ++ more)
         × AllZip (λ text check. IsForbidden scope.now.file.now (is_among scope.now.constants.now.names.items) text.now
         check) texts.now more)
-        (λ why. (0 < length texts.now) × IsNoCondition (codes "--forbid") why) }
+        (λ why. HasMisreadText (IsNoCondition scope.now.file.now) texts.now (codes "--forbid") why ⊎ (why ≡ want)) }
 {
     for text in texts {
         let clauses = condition_of(alloc, text, scope, "--forbid")?;

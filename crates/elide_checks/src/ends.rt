@@ -1,11 +1,14 @@
 //! What is checked at the ends of all schedules, as the options say it: conditions on the machine alone.
 
-ghost use Rattle.std.specs.Prelude.{◌≡◌, ◌↔◌, ◌<◌, ◌++◌, All, IfOk, IfSome, IsTrue, List, MatchResult, codes, length, map};
-ghost use Rattle.std.specs.List.{AllZip};
+ghost use Rattle.std.specs.Prelude.{◌≡◌, ◌⊎◌, ◌↔◌, ◌++◌, All, IfOk, IsTrue, List, MatchOption, MatchResult, codes, map};
+ghost use Rattle.std.specs.List.{AllZip, Contains};
 ghost use Rattle.elide_checks.specs.Constants.{is_among};
 ghost use Rattle.elide_checks.specs.Ends.{AreEndChecks, AreEndChecksBy, IsEndDemanded, IsEndForbidden, IsOfMachine};
+ghost use Rattle.elide_checks.specs.Misread.{IsNoEndCondition, IsOfRun};
 ghost use Rattle.elide_checks.specs.Reach.{HasEndCheck};
-ghost use Rattle.elide_checks.specs.Refused.{AreNoChecks, IsNoCondition};
+ghost use Rattle.elide_checks.specs.Refused.{AreNoChecks, AreMisreadTexts, HasMisreadText, IsMisreadText};
+ghost use Rattle.elide_setup.specs.Faults.{want};
+ghost use Rattle.tm_check.specs.declared.clause.RunClause.{RunClause as RunClauseOf};
 ghost use Rattle.tm_check.specs.declared.clause.RunClause.TheVariants.{OfMachine};
 ghost use Rattle.tm_condition.specs.declared.check.Check.{Check as CheckOf};
 
@@ -36,7 +39,7 @@ impl EndChecks {
         file: &ProgramFile<'_>,
     ) -> Result<EndChecks, Refusal>
         ensures { MatchResult result (λ ends. AreEndChecks text.now file.now demands.now forbids.now ends.checks.items)
-            (AreNoChecks demands.now forbids.now) }
+            (AreNoChecks text.now file.now demands.now forbids.now) }
     {
         let constants = Constants::read(alloc, text, file)?;
         let scope = Scope {
@@ -93,7 +96,8 @@ fn checks_of(
     ensures { MatchResult result
         (λ checks. AreEndChecksBy scope.now.file.now (is_among scope.now.constants.now.names.items) demands.now
         forbids.now checks.items)
-        (AreNoChecks demands.now forbids.now) }
+        (AreMisreadTexts (IsNoEndCondition scope.now.file.now (is_among scope.now.constants.now.names.items)) demands.now
+        forbids.now) }
 {
     let mut checks = Vec::new(alloc);
     add_demanded(alloc, &mut checks, demands, scope)?;
@@ -112,7 +116,8 @@ fn add_demanded(
         (λ _. (more : List CheckOf) × (checks.new.items ≡ checks.old.items ++ more)
         × AllZip (λ text check. IsEndDemanded scope.now.file.now (is_among scope.now.constants.now.names.items) text.now
         check) texts.now more)
-        (λ why. (0 < length texts.now) × IsNoCondition (codes "--check") why) }
+        (λ why. HasMisreadText (IsNoEndCondition scope.now.file.now (is_among scope.now.constants.now.names.items))
+        texts.now (codes "--check") why ⊎ (why ≡ want)) }
 {
     for text in texts {
         let clauses = machine_condition_of(alloc, text, scope, "--check")?;
@@ -132,7 +137,8 @@ fn add_forbidden(
         (λ _. (more : List CheckOf) × (checks.new.items ≡ checks.old.items ++ more)
         × AllZip (λ text check. IsEndForbidden scope.now.file.now (is_among scope.now.constants.now.names.items) text.now
         check) texts.now more)
-        (λ why. (0 < length texts.now) × IsNoCondition (codes "--forbid") why) }
+        (λ why. HasMisreadText (IsNoEndCondition scope.now.file.now (is_among scope.now.constants.now.names.items))
+        texts.now (codes "--forbid") why ⊎ (why ≡ want)) }
 {
     for text in texts {
         let clauses = machine_condition_of(alloc, text, scope, "--forbid")?;
@@ -150,7 +156,8 @@ fn machine_condition_of(
 ) -> Result<Vec<Clause>, Refusal>
     ensures { MatchResult result
         (λ clauses. IsOfMachine scope.now.file.now (is_among scope.now.constants.now.names.items) text.now clauses.items)
-        (IsNoCondition name.now) }
+        (IsMisreadText (IsNoEndCondition scope.now.file.now (is_among scope.now.constants.now.names.items) text.now)
+        name.now) }
 {
     let clauses = condition_of(alloc, text, scope, name)?;
     match on_machine(alloc, clauses)? {
@@ -161,7 +168,9 @@ fn machine_condition_of(
 
 // The same conditions, where all are on a machine.
 fn on_machine(alloc: Global, clauses: Vec<RunClause>) -> Result<Option<Vec<Clause>>, AllocError>
-    ensures { IfOk result (λ found. IfSome found (λ left. clauses.items ≡ map OfMachine left.items)) }
+    ensures { IfOk result (λ found. MatchOption found
+        ((one : RunClauseOf) × Contains clauses.items one × IsOfRun one)
+        (λ left. clauses.items ≡ map OfMachine left.items)) }
 {
     let mut left = Vec::new(alloc);
     for clause in clauses {

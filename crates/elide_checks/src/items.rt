@@ -1,10 +1,13 @@
 //! Items of a check, as words say them.
 
-ghost use Rattle.std.specs.Prelude.{◌≡◌, ◌∷◌, IfSome, MatchOption, length};
+ghost use Rattle.std.specs.Prelude.{◌≡◌, ◌≢◌, ◌∷◌, List, MatchOption, Some, length, ℕ};
 ghost use Rattle.elide_checks.specs.Constants.{is_among};
 ghost use Rattle.elide_checks.specs.Items.{IsItem, IsNamed, IsParted, at_place, are_numbers, is_address, is_number, trimmed};
+ghost use Rattle.elide_checks.specs.Misread.{IsNoItem, IsNoNamed, IsNoRegister};
 ghost use Rattle.elide_program.specs.Sums.{is_sign};
 ghost use Rattle.elide_setup.specs.ElideProgram.Settings.{word32};
+ghost use Rattle.ia_lex.specs.Words.{register_of};
+ghost use Rattle.ia_word.specs.declared.width.Width.TheVariants.{D};
 ghost use Rattle.tm_check.specs.declared.clause.Quantity.TheVariants.{OfMachine};
 
 use crate::constants::Constants;
@@ -35,7 +38,8 @@ pub struct Scope<'s, 'f, 't> {
 /// The item of a word, around which no spaces stand: a register of a core, as `eax@0`; a count, as `commits@*`; an address
 /// behind `&`; or a sum.
 pub fn item_of(word: &str, side: Side, scope: &Scope<'_, '_, '_>) -> Option<Quantity>
-    ensures { IfSome result (IsItem scope.now.file.now (is_among scope.now.constants.now.names.items) side word.now) }
+    ensures { MatchOption result (IsNoItem scope.now.file.now word.now)
+        (IsItem scope.now.file.now (is_among scope.now.constants.now.names.items) side word.now) }
 {
     match parted(word) {
         Some((name, whose)) => {
@@ -59,20 +63,31 @@ fn parted(word: &str) -> Option<(&str, &str)>
 
 // The item that a word with an `@` says: by what stands before the first one and behind it.
 fn named_item(name: &str, whose: &str) -> Option<Quantity>
-    ensures { IfSome result (IsNamed name.now whose.now) }
+    ensures { MatchOption result (IsNoNamed name.now whose.now) (IsNamed name.now whose.now) }
 {
-    if let Some((Width::D, register)) = register_of(name.as_bytes()) {
+    if let Some(register) = register_named(name) {
         let core = core_of(whose)?;
         return Some(Quantity::OfMachine(Item::Register(core, register)));
     }
     Some(Quantity::OfRun(count_of(name, whose)?))
 }
 
+/// The number of a register of 32 bits, 0 to 7, by its name in any case.
+pub fn register_named(name: &str) -> Option<u8>
+    ensures { MatchOption result (IsNoRegister name.now) (λ register. register_of name.now ≡ Some (D, register)) }
+{
+    match register_of(name.as_bytes()) {
+        Some((Width::D, register)) => Some(register),
+        _ => None,
+    }
+}
+
 // The item that a word without an `@` says.
 fn sum_item(word: &str, side: Side, scope: &Scope<'_, '_, '_>) -> Option<Item>
     requires { at_place word.now ≡ length word.now }
-    ensures { IfSome result (λ item. IsItem scope.now.file.now (is_among scope.now.constants.now.names.items) side
-        word.now (OfMachine item)) }
+    ensures { MatchOption result (IsNoItem scope.now.file.now word.now)
+        (λ item. IsItem scope.now.file.now (is_among scope.now.constants.now.names.items) side word.now
+        (OfMachine item)) }
 {
     match behind_ampersand(word) {
         Some(sum) => {
@@ -92,7 +107,7 @@ fn sum_item(word: &str, side: Side, scope: &Scope<'_, '_, '_>) -> Option<Item>
 
 // What stands behind `&`.
 fn behind_ampersand(word: &str) -> Option<&str>
-    ensures { IfSome result (λ rest. word.now ≡ 38 ∷ rest.now) }
+    ensures { MatchOption result ((rest : List ℕ) → word.now ≢ 38 ∷ rest) (λ rest. word.now ≡ 38 ∷ rest.now) }
 {
     word.strip_prefix("&")
 }

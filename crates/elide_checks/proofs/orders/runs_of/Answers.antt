@@ -20,7 +20,7 @@ returns-in_err-first-in-Some-cut-clause-err c =
     let p = err_from_is_err_and r.result r.ensures.1 in
     let why = c.in_err-first-in-Some-cut.ensures in
     rw p.1 (
-      no_first c.in-Some-cut.first.now c.in-Some-cut.end.now (ap option_copied c.in-Some.is ∙ ap Some c.in-Some-cut.ensures.some) why.0,
+      no_first c.in-Some-cut.first.now c.in-Some-cut.end.now (ap option_copied c.in-Some.is ∙ ap Some c.in-Some-cut.ensures.some.whole) why.0,
       misuse_named (codes "--runs") _ _ p.0 why.1 p.2 refl,
     )
 
@@ -30,14 +30,14 @@ returns-in_err-end-in-Some-cut-clause-err c =
     let p = err_from_is_err_and r.result r.ensures.1 in
     let why = c.in_err-end-in-Some-cut.ensures in
     rw p.1 (
-      no_end c.in-Some-cut.first.now c.in-Some-cut.end.now (ap option_copied c.in-Some.is ∙ ap Some c.in-Some-cut.ensures.some) why.0,
+      no_end c.in-Some-cut.first.now c.in-Some-cut.end.now (ap option_copied c.in-Some.is ∙ ap Some c.in-Some-cut.ensures.some.whole) why.0,
       misuse_named (codes "--runs") _ _ p.0 why.1 p.2 refl,
     )
 
 pub returns-then-first-end-clause-err : goal.returns-then-first-end-clause-err
 returns-then-first-end-clause-err c = (
   turned c.in-Some-cut.first.now c.in-Some-cut.end.now c.in_ok-first-in-Some-cut.first c.in_ok-end-in-Some-cut.end
-      (ap option_copied c.in-Some.is ∙ ap Some c.in-Some-cut.ensures.some) c.in_ok-first-in-Some-cut.ensures
+      (ap option_copied c.in-Some.is ∙ ap Some c.in-Some-cut.ensures.some.whole) c.in_ok-first-in-Some-cut.ensures
       c.in_ok-end-in-Some-cut.ensures c.if-first-end.true,
   refl,
 )
