@@ -6,3 +6,4 @@ pub mod Fronting
 pub mod Explaining
 pub mod Paging
 pub mod Untold
+pub mod Refusing

@@ -3,3 +3,4 @@ pub mod Notes
 pub mod Fronts
 pub mod Reasons
 pub mod Pages
+pub mod Refused

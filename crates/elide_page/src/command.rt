@@ -3,6 +3,12 @@
 //! [`page`] is the one call. Faults come in the order of its steps: `--output`, the page's options, the machine's, the
 //! schedule's, FILE, the schedule's file, the run, the window and the notes. Nothing is written before the run is known to fit.
 
+ghost use Rattle.std.specs.Prelude.{IfErr, IfOk};
+ghost use Rattle.elide_setup.specs.ElideProgram.ProgramFile.{IsFile};
+ghost use Rattle.elide_setup.specs.ElideProgram.ProgramFileType.{ProgramFile};
+ghost use Rattle.elide_setup.specs.Setup.{IsSetup};
+ghost use Rattle.elide_page.specs.Refused.{GivesNoProgram};
+
 use crate::asked::Asked;
 use crate::commanded::command_of;
 use crate::job::{Job, Subject, name_of};
@@ -118,7 +124,10 @@ pub fn setup_of(
     alloc: Global,
     settings: &Settings<'_>,
     text: &[u8],
-) -> Result<(Setup, Form), Refusal> {
+) -> Result<(Setup, Form), Refusal>
+    ensures setup { IfOk result (λ made. (file : ProgramFile) × IsFile text.now file × IsSetup file settings.now made.0) }
+    ensures none { IfErr result (GivesNoProgram text.now settings.now) }
+{
     let file = ProgramFile::read(alloc, text)?;
     let setup = Setup::of_file(alloc, settings, &file)?;
     let form = form_of(&file);

@@ -1,6 +1,8 @@
 //! What stands in a page's data before its steps.
 
-ghost use Rattle.std.specs.Prelude.{◌≡◌, ℕ, IfOk, List, OnOk};
+ghost use Rattle.std.specs.Prelude.{◌≡◌, ℕ, IfErr, IfOk, List, OnOk};
+ghost use Rattle.elide_setup.specs.Faults.{want};
+ghost use Rattle.elide_setup.specs.Refused.{IsUntold};
 ghost use Rattle.ia_text.specs.Writing.{Wrote};
 ghost use Rattle.page_run.specs.Plain.{ArePlain, WrotePlain};
 ghost use Rattle.elide_page.specs.Fronts.{IsFrontOf, cores_text, file_text, form_word, kind_text, limits_text};
@@ -19,8 +21,9 @@ use std::alloc::AllocError;
 
 /// Writes the data up to the machine as it is before the first step that stands there.
 pub fn put_front<O: Out>(job: &Job<'_>, shows: &[Shown<'_>], out: &mut O) -> Result<(), Refusal>
-    ensures { OnOk result ((text : List ℕ) × IsFrontOf job.now shows.now text
+    ensures text { OnOk result ((text : List ℕ) × IsFrontOf job.now shows.now text
         × Wrote (O.device out.old) (O.device out.new) text) }
+    ensures refused { IfErr result IsUntold }
 {
     put_names(job, name_of(job.subject.path), out)?;
     put_program(job, out)?;
@@ -31,6 +34,7 @@ pub fn put_front<O: Out>(job: &Job<'_>, shows: &[Shown<'_>], out: &mut O) -> Res
 fn put_names<O: Out>(job: &Job<'_>, name: &str, out: &mut O) -> Result<(), Refusal>
     ensures text { OnOk result (Wrote (O.device out.old) (O.device out.new) (names_text job.now name.now)) }
     ensures plain { OnOk result (ArePlain (names_text job.now name.now)) }
+    ensures refused { IfErr result IsUntold }
 {
     let text = names_of(job, name)?;
     put_plain(text.as_slice(), out)
@@ -153,20 +157,21 @@ fn write_most_stored<O: Out>(subject: &Subject<'_>, out: &mut O) -> Result<(), W
 
 // The program's lines, its labels, and where its code stands.
 fn put_program<O: Out>(job: &Job<'_>, out: &mut O) -> Result<(), Refusal>
-    ensures { OnOk result (WrotePlain (O.device out.old) (O.device out.new)) }
+    ensures text { OnOk result (WrotePlain (O.device out.old) (O.device out.new)) }
+    ensures refused { IfErr result IsUntold }
 {
     let mut piece = ToVec::new(Vec::new(job.subject.loaded.alloc));
     let made = in_memory(write_places(job, &mut piece));
     put_piece(made, &piece, out)
 }
 
-// What is written to memory alone fails as a device does for want of it alone.
-fn in_memory(made: Result<(), Refusal>) -> Result<(), Refusal> {
+// What is written to memory alone is refused for want of it alone.
+fn in_memory(made: Result<(), Refusal>) -> Result<(), Refusal>
+    ensures { IfErr result (λ why. why ≡ want) }
+{
     match made {
-        Err(Refusal::Fault(fault)) if fault.code() == WriteFault::Write.code() => {
-            Err(Refusal::from(AllocError))
-        }
-        made => made,
+        Ok(()) => Ok(()),
+        Err(_) => Err(Refusal::from(AllocError)),
     }
 }
 
@@ -181,6 +186,7 @@ fn write_places<O: Out>(job: &Job<'_>, out: &mut O) -> Result<(), Refusal> {
 fn put_lists<O: Out>(job: &Job<'_>, shows: &[Shown<'_>], out: &mut O) -> Result<(), Refusal>
     ensures text { OnOk result (Wrote (O.device out.old) (O.device out.new) (lists_text job.now shows.now)) }
     ensures plain { OnOk result (ArePlain (lists_text job.now shows.now)) }
+    ensures refused { IfErr result IsUntold }
 {
     let text = lists_of(job, shows)?;
     put_plain(text.as_slice(), out)

@@ -1,9 +1,14 @@
 //! A page as it goes to a device, or to a file.
 
 ghost use Rattle.std.specs.Io.KnownBytes.{Appends};
-ghost use Rattle.std.specs.Prelude.{◌≡◌, ℕ, IfOk, IfSome, List, OnOk};
+ghost use Rattle.std.specs.Prelude.{◌≡◌, ◌⊎◌, ℕ, IfErr, IfOk, IfSome, List, OnOk, Some, true};
+ghost use Rattle.elide_setup.specs.Refused.{IsUnwritten};
+ghost use Rattle.elide_setup.specs.declared.fault.Fault.TheVariants as fault;
+ghost use Rattle.elide_setup.specs.declared.fault.Refusal.TheVariants as refusal;
+ghost use Rattle.page_run.specs.Refused.{IsNotTold};
 ghost use Rattle.page_template.specs.declared.template.TheConstants.{TAIL};
 ghost use Rattle.elide_page.specs.Pages.{IsPageOf};
+ghost use Rattle.elide_page.specs.Refused.{IsNoPage};
 
 use crate::front::put_front;
 use crate::job::Job;
@@ -19,7 +24,8 @@ use std::alloc::AllocError;
 /// Writes a page to a file, as a whole or not at all. It goes there as it is made, so that no memory grows with its
 /// run. What refuses it on the way is told, and 81 `Output` where the file cannot be written.
 pub fn write_page_to<P: Paths>(job: &Job<'_>, path: &str, paths: &mut P) -> Result<(), Refusal>
-    ensures { OnOk result (IfSome (P.content paths.new path.now) (IsPageOf job.now)) }
+    ensures written { OnOk result (IfSome (P.content paths.new path.now) (IsPageOf job.now)) }
+    ensures refused { IfErr result (IsNoPage job.now.stretch.setup.now job.now.stretch.course.now) }
 {
     let mut file = PageFile {
         job: *job,
@@ -33,16 +39,20 @@ pub fn write_page_to<P: Paths>(job: &Job<'_>, path: &str, paths: &mut P) -> Resu
 
 // Why a page is not written to a file: what refused it as it was made, but for a device that failed, which was the
 // file.
-fn refusal_of(refused: Option<Refusal>) -> Refusal {
+fn refusal_of(refused: Option<Refusal>) -> Refusal
+    ensures { (result ≡ refusal.Fault fault.Output) ⊎ ((refused ≡ Some result) × ¬ IsUnwritten result) }
+{
     match refused {
-        Some(refusal) if !is_of_device(refusal) => refusal,
+        Some(cause) if !is_of_device(cause) => cause,
         _ => Refusal::Fault(Fault::Output),
     }
 }
 
-fn is_of_device(refusal: Refusal) -> bool {
-    match refusal {
-        Refusal::Fault(fault) => fault.code() == WriteFault::Write.code(),
+fn is_of_device(cause: Refusal) -> bool
+    ensures { IsUnwritten cause → result ≡ true }
+{
+    match cause {
+        Refusal::Fault(told) => told.code() == WriteFault::Write.code(),
         Refusal::Usage(_) => false,
     }
 }
@@ -56,7 +66,9 @@ struct PageFile<'a> {
 }
 
 impl Text for PageFile<'_> {
-    ghost tells = { λ file _ bytes. IsPageOf file.job bytes };
+    ghost tells = { λ before after bytes. (after.refused ≡ before.refused) × IsPageOf before.job bytes };
+
+    ghost breaks = { λ before after. IfSome after.refused (IsNotTold before.job.stretch) };
 
     fn write_to<O: Out + Drop>(&mut self, out: O) -> Result<O, WriteFault> {
         match write_page(&self.job, out) {
@@ -71,8 +83,9 @@ impl Text for PageFile<'_> {
 
 /// Writes a page to a device, and gives that back.
 pub fn write_page<O: Out + Drop>(job: &Job<'_>, out: O) -> Result<O, Refusal>
-    ensures { IfOk result (λ given. (bytes : List ℕ) × IsPageOf job.now bytes
+    ensures written { IfOk result (λ given. (bytes : List ℕ) × IsPageOf job.now bytes
         × Appends (O.device out).contents (O.device given).contents bytes) }
+    ensures refused { IfErr result (IsNotTold job.now.stretch) }
 {
     let subject = &job.subject;
     let shows = shown_of(subject.loaded, subject.sums, job.survey)?;
@@ -89,8 +102,9 @@ pub fn write_page<O: Out + Drop>(job: &Job<'_>, out: O) -> Result<O, Refusal>
 
 // The end of a page.
 fn finish<O: Out + Drop>(page: Gathered<O>) -> Result<O, Refusal>
-    ensures { IfOk result (λ out. Appends (⟦<Gathered<O> as Out>⟧.device page).contents (O.device out).contents
+    ensures tail { IfOk result (λ out. Appends (⟦<Gathered<O> as Out>⟧.device page).contents (O.device out).contents
         TAIL.now) }
+    ensures refused { IfErr result IsUnwritten }
 {
     let mut page = page;
     write_tail(&mut page)?;

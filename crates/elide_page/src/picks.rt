@@ -1,5 +1,10 @@
 //! The page of a schedule that a search found.
 
+ghost use Rattle.std.specs.Prelude.{◌≡◌, IfErr};
+ghost use Rattle.elide_setup.specs.Faults.{want};
+ghost use Rattle.elide_setup.specs.Refused.{IsNotPaged};
+ghost use Rattle.elide_page.specs.Refused.{IsNoPage};
+
 use crate::command::setup_of;
 use crate::commanded::command_of_picks;
 use crate::job::{Job, Subject, name_of};
@@ -56,7 +61,9 @@ fn page_of_picks<P: Paths>(
     picks: &[Pick],
     path: &str,
     paths: &mut P,
-) -> Result<(), Refusal> {
+) -> Result<(), Refusal>
+    ensures { IfErr result (IsNotPaged text.now machine.now picks.now) }
+{
     let settings = Settings::read(machine)?;
     let (setup, form) = setup_of(alloc, &settings, text)?;
     let course = Course::Listed(Vec::from_slice(alloc, picks)?);
@@ -78,7 +85,9 @@ fn page_found<P: Paths>(
     found: Found<'_>,
     path: &str,
     paths: &mut P,
-) -> Result<(), Refusal> {
+) -> Result<(), Refusal>
+    ensures { IfErr result (IsNoPage found.entry.setup.now found.entry.course.now) }
+{
     let survey = surveyed(alloc, found.setup, found.course, Extent::ALL, &mut Silent)?;
     let places = Places::of_text(alloc, found.text)?;
     let command = command_listed(alloc, found)?;
@@ -94,7 +103,9 @@ fn page_found<P: Paths>(
     written
 }
 
-fn command_listed(alloc: Global, found: Found<'_>) -> Result<Vec<u8>, Refusal> {
+fn command_listed(alloc: Global, found: Found<'_>) -> Result<Vec<u8>, Refusal>
+    ensures { IfErr result (λ why. why ≡ want) }
+{
     match found.course {
         Course::Listed(picks) => Ok(command_of_picks(alloc, found.machine, picks.as_slice())?),
         Course::Drawn(_) => Ok(Vec::new(alloc)),
@@ -108,7 +119,9 @@ fn page_surveyed<'x, P: Paths>(
     command: &'x [u8],
     path: &str,
     paths: &mut P,
-) -> Result<(), Refusal> {
+) -> Result<(), Refusal>
+    ensures { IfErr result (IsNoPage found.entry.setup.now found.entry.course.now) }
+{
     let window = Extent::ALL.window(survey.made)?;
     let file = found.machine.file;
     let sources = Sources::beside(loaded, file, survey.ran.as_slice(), paths)?;

@@ -1,11 +1,14 @@
 //! The third pass over a run: why its steps aborted or stopped.
 
-ghost use Rattle.std.specs.Prelude.{◌≡◌, ◌+◌, ◌||◌, ℕ, IfOk, List, OnOk, codes, is_some};
+ghost use Rattle.std.specs.Prelude.{◌≡◌, ◌≢◌, ◌+◌, ◌^◌, ◌≤◌, ◌||◌, ℕ, IfErr, IfOk, List, OnErr, OnOk, codes, is_some};
+ghost use Rattle.elide_setup.specs.Refused.{IsUntold, IsUnwritten};
 ghost use Rattle.ia_text.specs.Writing.{Wrote};
 ghost use Rattle.elide_setup.specs.Runs.{IsMachineStep};
 ghost use Rattle.page_run.specs.Plain.{ArePlain};
+ghost use Rattle.page_run.specs.Refused.{IsNotTold};
 ghost use Rattle.elide_page.specs.Reasons.{AreReasonsOf, IsPiece, ReasonsEach, has_reason, is_told, reason_front};
 ghost use Rattle.elide_page.specs.Reasons.{reason_text};
+ghost use Rattle.elide_page.specs.Refused.{IsUnreasoned};
 
 use crate::job::Job;
 use elide_setup::{Machine, Outcome, Pick, Refusal, Silent, StepMaker, new_machine};
@@ -17,8 +20,9 @@ use std::alloc::{AllocError, Global};
 
 /// Writes why steps aborted or stopped, each by its number in the page. Gives the device back.
 pub fn write_reasons<O: Out + Drop>(job: &Job<'_>, out: O) -> Result<O, Refusal>
-    ensures { IfOk result (λ last. (text : List ℕ) × AreReasonsOf job.now.stretch text
+    ensures text { IfOk result (λ last. (text : List ℕ) × AreReasonsOf job.now.stretch text
         × Wrote (O.device out) (O.device last) text) }
+    ensures refused { IfErr result (IsNotTold job.now.stretch) }
 {
     let subject = &job.subject;
     let loaded = subject.loaded;
@@ -32,8 +36,9 @@ fn reasoned<T: Reasoner + Drop, O: Out + Drop>(
     teller: T,
     out: O,
 ) -> Result<O, Refusal>
-    ensures { IfOk result (λ last. (text : List ℕ) × AreReasonsOf stretch.entry text
+    ensures text { IfOk result (λ last. (text : List ℕ) × AreReasonsOf stretch.entry text
         × Wrote (O.device out) (O.device last) text) }
+    ensures refused { IfErr result (IsNotTold stretch.entry) }
 {
     let alloc = stretch.alloc;
     let machine = new_machine(alloc, stretch.setup)?;
@@ -58,7 +63,9 @@ fn reasoned<T: Reasoner + Drop, O: Out + Drop>(
 
 // That so many steps were made as the run has. A schedule makes the steps again that it made as it was surveyed.
 fn check_total(made: u64, total: u64) -> Result<(), Refusal>
-    ensures { OnOk result (made ≡ total) }
+    ensures all { OnOk result (made ≡ total) }
+    ensures others { OnErr result (made ≢ total) }
+    ensures refused { IfErr result IsUnwritten }
 {
     if made != total {
         return Err(Refusal::from(WriteFault::Write));
@@ -68,7 +75,8 @@ fn check_total(made: u64, total: u64) -> Result<(), Refusal>
 
 // The beginning of the object.
 fn begun<O: Out + Drop>(out: O) -> Result<O, Refusal>
-    ensures { IfOk result (λ last. Wrote (O.device out) (O.device last) (codes ",\n\"why\":{")) }
+    ensures text { IfOk result (λ last. Wrote (O.device out) (O.device last) (codes ",\n\"why\":{")) }
+    ensures refused { IfErr result IsUnwritten }
 {
     let mut out = out;
     put_plain(b",\n\"why\":{", &mut out)?;
@@ -77,7 +85,8 @@ fn begun<O: Out + Drop>(out: O) -> Result<O, Refusal>
 
 // The end of the object, and of the data.
 fn ended<O: Out + Drop>(out: O) -> Result<O, Refusal>
-    ensures { IfOk result (λ last. Wrote (O.device out) (O.device last) (codes "}}")) }
+    ensures text { IfOk result (λ last. Wrote (O.device out) (O.device last) (codes "}}")) }
+    ensures refused { IfErr result IsUnwritten }
 {
     let mut out = out;
     put_plain(b"}}", &mut out)?;
@@ -94,7 +103,8 @@ trait Reasoner {
         pick: Pick,
         line: &mut ToVec,
     ) -> Result<Outcome, Refusal>
-        ensures { IfOk result (λ outcome. IsMachineStep machine.old pick outcome machine.new) };
+        ensures step { IfOk result (λ outcome. IsMachineStep machine.old pick outcome machine.new) }
+        ensures refused { IfErr result (IsUnreasoned machine.old pick) };
 }
 
 impl Reasoner for Teller<'_> {
@@ -140,6 +150,8 @@ impl<T: Reasoner, O: Out> StepMaker for Reasoning<T, O> {
           device = O.device after.out;
         }) };
 
+    ghost refuses = { λ reasoning pick why. IsUnreasoned reasoning.machine pick why };
+
     fn make_step(&mut self, pick: Pick) -> Result<Outcome, Refusal> {
         let made = one_more(self.made)?;
         let is_past = self.made >= self.window.to;
@@ -167,7 +179,9 @@ impl<T: Reasoner, O: Out> StepMaker for Reasoning<T, O> {
 
 // The number of steps behind one more.
 fn one_more(made: u64) -> Result<u64, Refusal>
-    ensures { IfOk result (λ next. next ≡ made + 1) }
+    ensures next { IfOk result (λ next. next ≡ made + 1) }
+    ensures none { OnErr result (2 ^ 64 ≤ made + 1) }
+    ensures refused { IfErr result IsUnwritten }
 {
     match made.checked_add(1) {
         Some(next) => Ok(next),
@@ -191,7 +205,8 @@ fn step_reasoned<T: Reasoner>(
     teller: &mut T,
     pick: Pick,
 ) -> Result<MadeStep, Refusal>
-    ensures { IfOk result (λ step. IsMachineStep machine.old pick step.outcome machine.new) }
+    ensures step { IfOk result (λ step. IsMachineStep machine.old pick step.outcome machine.new) }
+    ensures refused { IfErr result (IsUnreasoned machine.old pick) }
 {
     let mut line = ToVec::new(Vec::new(alloc));
     if is_past {
@@ -226,6 +241,7 @@ fn put_step<O: Out>(
     requires { number ≡ made + 1 }
     ensures piece { OnOk result (IsPiece window made some step.now.outcome (O.device out.old) (O.device out.new)) }
     ensures some { IfOk result (λ is. is ≡ (some || is_told window made step.now.outcome)) }
+    ensures refused { IfErr result IsUntold }
 {
     match words_told(window, made, step.outcome) {
         None => Ok(some),
@@ -259,6 +275,7 @@ fn put_reason<O: Out>(
 ) -> Result<(), Refusal>
     ensures text { OnOk result (Wrote (O.device out.old) (O.device out.new) (reason_text some step reason.now)) }
     ensures plain { OnOk result (ArePlain (reason_text some step reason.now)) }
+    ensures refused { IfErr result IsUntold }
 {
     let text = reason_of(alloc, some, step, reason)?;
     put_plain(text.as_slice(), out)

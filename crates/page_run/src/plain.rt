@@ -3,8 +3,9 @@
 //! What the data is made of escapes each `<` (`page_text`). Here each piece is looked at once more before it is written, so that,
 //! whatever made it, nothing in the data ends the element that it stands in.
 
-ghost use Rattle.std.specs.Prelude.{◌≡◌, OnOk, true};
+ghost use Rattle.std.specs.Prelude.{◌≡◌, ◌⊎◌, Err, IfErr, OnOk, true};
 ghost use Rattle.std.specs.List.{list_all};
+ghost use Rattle.elide_setup.specs.Refused.{IsUntold, IsUnwritten};
 ghost use Rattle.ia_text.specs.Writing.{Wrote};
 ghost use Rattle.page_run.specs.Plain.{ArePlain, WrotePlain, is_unmarked};
 
@@ -16,6 +17,7 @@ use std::alloc::AllocError;
 pub fn put_plain<O: Out>(text: &[u8], out: &mut O) -> Result<(), Refusal>
     ensures text { OnOk result (Wrote (O.device out.old) (O.device out.new) text.now) }
     ensures plain { OnOk result (ArePlain text.now) }
+    ensures refused { IfErr result IsUnwritten }
 {
     if !are_unmarked(text) {
         return Err(Refusal::from(WriteFault::Write));
@@ -36,7 +38,8 @@ pub fn put_piece<O: Out>(
     piece: &ToVec,
     out: &mut O,
 ) -> Result<(), Refusal>
-    ensures { OnOk result (WrotePlain (O.device out.old) (O.device out.new)) }
+    ensures text { OnOk result (WrotePlain (O.device out.old) (O.device out.new)) }
+    ensures refused { IfErr result (λ why. (made ≡ Err why) ⊎ IsUntold why) }
 {
     if piece.failures > 0 {
         return Err(Refusal::from(AllocError));

@@ -1,5 +1,10 @@
 //! The first pass over a run: how long it is, which lines of memory it touches, and which code it runs.
 
+ghost use Rattle.std.specs.Prelude.{◌≡◌, Err, IfErr, length};
+ghost use Rattle.elide_setup.specs.Faults.{want};
+ghost use Rattle.elide_setup.specs.Refused.{IsNoCore};
+ghost use Rattle.page_run.specs.Refused.{IsNotSurveyed};
+
 use crate::window::Extent;
 use elide_setup::{
     CoreState, Course, Machine, Outcome, Pick, Progress, Refusal, Setup, StepMaker, new_machine,
@@ -41,7 +46,9 @@ pub fn surveyed<G: Progress>(
     course: &Course,
     extent: Extent,
     progress: &mut G,
-) -> Result<Survey, Refusal> {
+) -> Result<Survey, Refusal>
+    ensures refused { IfErr result (IsNotSurveyed setup.now course.now) }
+{
     let machine = new_machine(alloc, setup)?;
     let cores = machine.cores();
     course.check_cores(cores)?;
@@ -58,7 +65,9 @@ pub fn surveyed<G: Progress>(
 }
 
 // What is known behind the last step.
-fn finished(surveyor: Surveyor, walked: Result<Vec<Pick>, Refusal>) -> Result<Survey, Refusal> {
+fn finished(surveyor: Surveyor, walked: Result<Vec<Pick>, Refusal>) -> Result<Survey, Refusal>
+    ensures refused { IfErr result (λ why. walked ≡ Err why) }
+{
     let Surveyor {
         machine,
         base,
@@ -76,7 +85,9 @@ fn finished(surveyor: Surveyor, walked: Result<Vec<Pick>, Refusal>) -> Result<Su
 }
 
 // What is known before the first step.
-fn blank(alloc: Global, setup: &Setup, size: usize) -> Result<Survey, Refusal> {
+fn blank(alloc: Global, setup: &Setup, size: usize) -> Result<Survey, Refusal>
+    ensures refused { IfErr result (λ why. why ≡ want) }
+{
     let unused = LineUse {
         touched: false,
         read: false,
@@ -102,7 +113,10 @@ struct Surveyor {
 }
 
 impl StepMaker for Surveyor {
-    ghost takes = { λ before steps after. Unit {0} };
+    // The machine keeps its cores.
+    ghost takes = { λ before steps after. length after.machine.views ≡ length before.machine.views };
+
+    ghost refuses = { λ surveyor pick why. IsNoCore surveyor.machine pick why };
 
     fn make_step(&mut self, pick: Pick) -> Result<Outcome, Refusal> {
         let made = self.survey.made;

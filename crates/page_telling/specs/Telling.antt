@@ -1,5 +1,6 @@
 -- A machine that tells its steps as it makes them.
-use Rattle.std.specs.Prelude.{◌≡◌, ℕ, ◌+◌, ◌<◌, ◌≤◌, ◌&&◌, nat_eq, nat_le, nat_lt, List, [], ◌∷◌, Option, if◌then◌else◌}
+use Rattle.std.specs.Prelude.{◌≡◌, ℕ, ◌+◌, ◌<◌, ◌≤◌, ◌&&◌, nat_eq, nat_le, nat_lt, List, [], ◌∷◌, Option}
+use Rattle.std.specs.Prelude.{if◌then◌else◌, length}
 use Rattle.ia_text.specs.Writing.{Device, Wrote}
 use Rattle.tm_model.specs.declared.outcome.Outcome.{Outcome}
 use Rattle.tm_model.specs.declared.outcome.Pick.{Pick}
@@ -53,6 +54,7 @@ pub record TellsOne (before : Spot) (step : Pick × Outcome) (after : Spot) : Ty
   pub piece : IsPiece before.window before.made told before.device after.device
 
 pub record TellsStep (before : Spot) (step : Pick × Outcome) (after : Spot) : Type 0 where
+  pub cores : length after.machine.views ≡ length before.machine.views
   pub window : after.window ≡ before.window
   pub made : after.made ≡ before.made + 1
   pub told : before.made < before.window.to → TellsOne before step after

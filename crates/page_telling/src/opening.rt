@@ -1,10 +1,11 @@
 //! The machine as it is before the first step of a page.
 
-ghost use Rattle.std.specs.Prelude.{OnOk};
+ghost use Rattle.std.specs.Prelude.{IfErr, OnOk};
+ghost use Rattle.elide_setup.specs.Refused.{IsUntold};
 ghost use Rattle.page_run.specs.Plain.{WrotePlain};
 
 use crate::kept::Kept;
-use elide_setup::{CoreState, Fault, Kind, Machine, Refusal};
+use elide_setup::{CoreState, Fault, Kind, Machine, Refusal, RunFault};
 use ia_text::page::{Page, push_hex};
 use ia_text::{Out, ToVec, WriteFault};
 use page_run::{LineUse, put_piece};
@@ -35,7 +36,8 @@ pub fn put_opening<O: Out>(
     lines: &[LineUse],
     out: &mut O,
 ) -> Result<(), Refusal>
-    ensures { OnOk result (WrotePlain (O.device out.old) (O.device out.new)) }
+    ensures text { OnOk result (WrotePlain (O.device out.old) (O.device out.new)) }
+    ensures refused { IfErr result IsUntold }
 {
     let mut piece = ToVec::new(Vec::new(alloc));
     let made = write_opening(alloc, machine, behind, lines, &mut piece);
@@ -48,7 +50,9 @@ fn write_opening<O: Out>(
     behind: &Behind,
     lines: &[LineUse],
     out: &mut O,
-) -> Result<(), Refusal> {
+) -> Result<(), Refusal>
+    ensures { IfErr result IsUntold }
+{
     out.put(b",\n\"opening\":[")?;
     write_registers(machine, out)?;
     out.put(b"],\n\"states\":[")?;
@@ -94,7 +98,9 @@ fn write_transactions<O: Out>(
     machine: &Machine,
     behind: &Behind,
     out: &mut O,
-) -> Result<(), Refusal> {
+) -> Result<(), Refusal>
+    ensures { IfErr result IsUntold }
+{
     let mut some = false;
     for core in 0..machine.cores() {
         if is_in_transaction(machine, core) {
@@ -119,7 +125,9 @@ fn write_transaction<O: Out>(
     behind: &Behind,
     core: u8,
     out: &mut O,
-) -> Result<(), Refusal> {
+) -> Result<(), Refusal>
+    ensures { IfErr result IsUntold }
+{
     out.put(b"\"")?;
     write_number(u64::from(core), out)?;
     out.put(b"\":{\"b\":")?;
@@ -138,19 +146,23 @@ fn write_transaction<O: Out>(
     Ok(())
 }
 
+// The lines of a set of a core that the machine has.
 fn write_set<O: Out>(
     alloc: Global,
     machine: &Machine,
     core: u8,
     kind: Kind,
     out: &mut O,
-) -> Result<(), Refusal> {
-    let lines = match machine.sets(alloc, core, kind) {
-        Ok(lines) => lines,
-        Err(fault) => return Err(Refusal::Fault(Fault::Run(fault))),
-    };
-    write_numbers(lines.as_slice(), out)?;
-    Ok(())
+) -> Result<(), Refusal>
+    ensures { IfErr result IsUntold }
+{
+    match machine.sets(alloc, core, kind) {
+        Ok(lines) => {
+            write_numbers(lines.as_slice(), out)?;
+            Ok(())
+        }
+        Err(_) => Err(Refusal::Fault(Fault::Run(RunFault::NoMemory))),
+    }
 }
 
 // The bytes that an open transaction keeps at these addresses; a doomed one keeps none.
@@ -160,7 +172,9 @@ fn write_private<O: Out>(
     core: u8,
     kept: &[u64],
     out: &mut O,
-) -> Result<(), Refusal> {
+) -> Result<(), Refusal>
+    ensures { IfErr result IsUntold }
+{
     let bytes = match machine.state(core) {
         Ok(CoreState::Open(_)) => private_bytes(alloc, machine, core, kept)?,
         _ => Vec::new(alloc),

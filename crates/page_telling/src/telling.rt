@@ -1,13 +1,15 @@
 //! The second pass over a run: its steps, written as they are made.
 
-ghost use Rattle.std.specs.Prelude.{◌≡◌, ◌+◌, ◌≤◌, ℕ, IfOk, List, OnOk, codes};
+ghost use Rattle.std.specs.Prelude.{◌≡◌, ◌+◌, ◌<◌, ◌≤◌, ◌≢◌, ◌⊎◌, ℕ, IfErr, IfOk, List, OnErr, OnOk, codes, length};
 ghost use Rattle.ia_text.specs.Writing.{Wrote};
 ghost use Rattle.tm_page.specs.Applied.{is_listed};
 ghost use Rattle.tm_page.specs.Before.{IsBefore};
 ghost use Rattle.tm_page.specs.Difference.{IsDifference};
 ghost use Rattle.page_run.specs.Plain.{ArePlain, WrotePlain};
+ghost use Rattle.page_run.specs.Refused.{IsNotTold};
 ghost use Rattle.tm_model.specs.declared.outcome.Pick.{Pick};
 ghost use Rattle.page_steps.specs.Steps.{step_text};
+ghost use Rattle.elide_setup.specs.Refused.{IsAnyWant, IsNoCore, IsUntold, IsUnwritten};
 ghost use Rattle.elide_setup.specs.TmCore.Theorem.{ShownMachine, view_at};
 ghost use Rattle.page_telling.specs.Kept.{is_kept};
 ghost use Rattle.page_telling.specs.Telling.{IsMade, IsPiece, Tells};
@@ -31,7 +33,8 @@ pub fn write_steps<O: Out + Drop>(
     lines: &[LineUse],
     out: O,
 ) -> Result<O, Refusal>
-    ensures { IfOk result (λ last. AreLinesWritten stretch.entry (O.device out) (O.device last)) }
+    ensures written { IfOk result (λ last. AreLinesWritten stretch.entry (O.device out) (O.device last)) }
+    ensures refused { IfErr result (IsNotTold stretch.entry) }
 {
     let alloc = stretch.alloc;
     let machine = new_machine(alloc, stretch.setup)?;
@@ -64,6 +67,8 @@ pub fn write_steps<O: Out + Drop>(
 fn check_made(made: u64, total: u64, window: Window) -> Result<(), Refusal>
     ensures all { OnOk result (made ≡ total) }
     ensures reached { OnOk result (window.to ≤ made) }
+    ensures others { OnErr result ((made ≢ total) ⊎ (made < window.to)) }
+    ensures refused { IfErr result IsUnwritten }
 {
     if made != total || made < window.to {
         return Err(Refusal::from(WriteFault::Write));
@@ -73,7 +78,8 @@ fn check_made(made: u64, total: u64, window: Window) -> Result<(), Refusal>
 
 // The end of the list.
 fn ended<O: Out + Drop>(out: O) -> Result<O, Refusal>
-    ensures { IfOk result (λ last. Wrote (O.device out) (O.device last) (codes "]")) }
+    ensures text { IfOk result (λ last. Wrote (O.device out) (O.device last) (codes "]")) }
+    ensures refused { IfErr result IsUnwritten }
 {
     let mut out = out;
     put_plain(b"]", &mut out)?;
@@ -114,6 +120,8 @@ impl<O: Out> StepMaker for Telling<O> {
           device = O.device after.out;
         }) };
 
+    ghost refuses = { λ telling pick why. IsNoCore telling.machine pick why ⊎ IsUntold why };
+
     fn make_step(&mut self, pick: Pick) -> Result<Outcome, Refusal> {
         let made = one_more(self.made, self.total)?;
         if self.made >= self.window.to {
@@ -139,7 +147,9 @@ impl<O: Out> StepMaker for Telling<O> {
 
 // The number of steps behind one more, of so many in all.
 fn one_more(made: u64, total: u64) -> Result<u64, Refusal>
-    ensures { IfOk result (λ next. next ≡ made + 1) }
+    ensures next { IfOk result (λ next. next ≡ made + 1) }
+    ensures none { OnErr result (total ≤ made) }
+    ensures refused { IfErr result IsUnwritten }
 {
     if made >= total {
         // A schedule makes no step that it did not make as it was surveyed.
@@ -156,6 +166,7 @@ impl<O: Out> Telling<O> {
         ensures window { self.new.window ≡ self.old.window }
         ensures made { self.new.made ≡ self.old.made }
         ensures text { OnOk result (WrotePlain (O.device self.old.out) (O.device self.new.out)) }
+        ensures refused { IfErr result IsUntold }
     {
         if self.window.from > 0 {
             return Ok(());
@@ -186,11 +197,12 @@ fn step_told(
     behind: &mut Behind,
     pick: Pick,
 ) -> Result<Told, Refusal>
-    ensures { IfOk result (λ told. IsMade machine.old behind.old.kept.bytes.items
+    ensures made { IfOk result (λ told. IsMade machine.old behind.old.kept.bytes.items
         (record { pick = pick; outcome = told.outcome; before = told.before; delta = told.delta })
         machine.new behind.new.kept.bytes.items) }
+    ensures refused { IfErr result (λ why. IsNoCore machine.old pick why ⊎ IsAnyWant why) }
 {
-    let state = state_of(machine, pick.core)?;
+    let state = state_of(machine, pick)?;
     let before = before_of(alloc, machine, pick.core)?;
     let outcome = machine.make_step(pick)?;
     let delta = difference(alloc, &behind.kept, &before, outcome, machine)?;
@@ -205,13 +217,14 @@ fn step_told(
     })
 }
 
-// What the machine shows of a core before its step.
+// What the machine shows of a core that it has, before its step.
 fn before_of(alloc: Global, machine: &Machine, core: u8) -> Result<Before, Refusal>
-    ensures { IfOk result (IsBefore machine.now core) }
+    ensures before { IfOk result (IsBefore machine.now core) }
+    ensures refused { IfErr result IsAnyWant }
 {
     match Before::of(alloc, machine, core) {
         Ok(before) => Ok(before),
-        Err(fault) => Err(Refusal::Fault(Fault::Run(fault))),
+        Err(_) => Err(Refusal::Fault(Fault::Run(RunFault::NoMemory))),
     }
 }
 
@@ -223,22 +236,24 @@ fn difference(
     outcome: Outcome,
     machine: &Machine,
 ) -> Result<PageDelta, Refusal>
-    ensures { IfOk result (λ delta. (row : List ℕ)
+    ensures delta { IfOk result (λ delta. (row : List ℕ)
         × ((address : ℕ) → is_listed row address ≡ is_kept kept.now.bytes.items before.now.asked.core address)
         × ((start : ShownMachine) → IsBefore start before.now.asked.core before.now →
         IsDifference start machine.now before.now.asked.core outcome before.now.reach row delta)) }
+    ensures refused { IfErr result IsAnyWant }
 {
     let row = kept.of(alloc, before.asked.core)?;
     match delta_of(alloc, before, outcome, row.as_slice(), machine) {
         Ok(delta) => Ok(delta),
-        Err(fault) => Err(Refusal::Fault(Fault::Run(fault))),
+        Err(_) => Err(Refusal::Fault(Fault::Run(RunFault::NoMemory))),
     }
 }
 
-fn state_of(machine: &Machine, core: u8) -> Result<CoreState, Refusal>
-    ensures { IfOk result (λ state. state ≡ (view_at machine.now core).mode) }
+fn state_of(machine: &Machine, pick: Pick) -> Result<CoreState, Refusal>
+    ensures state { IfOk result (λ state. state ≡ (view_at machine.now pick.core).mode) }
+    ensures refused { IfErr result (IsNoCore machine.now pick) }
 {
-    match machine.state(core) {
+    match machine.state(pick.core) {
         Ok(state) => Ok(state),
         Err(_) => Err(Refusal::Fault(Fault::Run(RunFault::NoSuchCore))),
     }
@@ -255,9 +270,10 @@ fn put_told<O: Out>(
     lines: &[LineUse],
     out: &mut O,
 ) -> Result<(), Refusal>
-    ensures { OnOk result ((pick : Pick) → IsPiece window made
+    ensures piece { OnOk result ((pick : Pick) → IsPiece window made
         (record { pick = pick; outcome = told.now.outcome; before = told.now.before; delta = told.now.delta })
         (O.device out.old) (O.device out.new)) }
+    ensures refused { IfErr result IsUntold }
 {
     if window.holds(made) {
         return put_line(alloc, made == window.from, &told.delta, told.before, out);
@@ -278,6 +294,7 @@ fn put_line<O: Out>(
 ) -> Result<(), Refusal>
     ensures text { OnOk result (Wrote (O.device out.old) (O.device out.new) (line_text is_first delta.now before)) }
     ensures plain { OnOk result (ArePlain (line_text is_first delta.now before)) }
+    ensures refused { IfErr result IsUntold }
 {
     let line = line_of(alloc, delta, before)?;
     put_plain(before_line(is_first), out)?;

@@ -6,8 +6,8 @@ use Rattle.elide_page.proofs.Pieces.{both_on_ok}
 use Rattle.elide_page.specs.Fronts.{lists_text}
 use Rattle.elide_page.proofs.front.put_front.Goals as goal
 
-pub returns : goal.returns
-returns g c =
+pub returns-clause-text : goal.returns-clause-text
+returns-clause-text g c =
     let job = c.args.job.now in
     let shows = c.args.shows.now in
     let last = g.O.Out.device c.put_lists.new.out in
@@ -16,4 +16,4 @@ returns g c =
     (λ (lists : Wrote before last (lists_text job shows)) (plain : ArePlain (lists_text job shows)).
     front_written job shows c.name_of.result.now (g.O.Out.device c.args.out.now) (g.O.Out.device c.put_names.new.out)
     before last c.name_of.ensures c.in_ok-put_names.ensures.text c.in_ok-put_names.ensures.plain
-    c.in_ok-put_program.ensures lists plain)
+    c.in_ok-put_program.ensures.text lists plain)

@@ -5,8 +5,8 @@ use Rattle.page_template.specs.declared.template.TheConstants.{TAIL}
 use Rattle.elide_page.proofs.Paging.{handed_on}
 use Rattle.elide_page.proofs.output.finish.Goals as goal
 
-pub returns : goal.returns
-returns g c =
+pub returns-clause-tail : goal.returns-clause-tail
+returns-clause-tail g c =
     let held : Gathered g.row.O.Denot → Option (List ℕ) = λ m.
     told (g.O.Out.device m.out).contents (g.O.Out.device m.before.value).contents m.failures m.row.items in
     handed_on (held c.args.page) (held c.write_tail.new.out) (g.O.Out.device c.in_ok-out.out).contents TAIL.now

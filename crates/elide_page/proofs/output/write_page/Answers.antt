@@ -9,8 +9,8 @@ use Rattle.elide_page.proofs.Paging.{page_written}
 use Rattle.elide_page.specs.Pages.{IsPageOf}
 use Rattle.elide_page.proofs.output.write_page.Goals as goal
 
-pub returns : goal.returns
-returns g c =
+pub returns-clause-written : goal.returns-clause-written
+returns-clause-written g c =
     let held : Gathered g.row.O.Denot → Device = λ m. record {
       contents = told (g.O.Out.device m.out).contents (g.O.Out.device m.before.value).contents m.failures m.row.items;
       failures = m.failures;
@@ -24,5 +24,5 @@ returns g c =
     × Appends first (g.O.Out.device last).contents bytes)
     (λ last tail. page_written c.args.job.now _ first (g.O.Out.device last).contents
     (held c.new-page.result) (held c.write_head.new.out) (held c.put_front.new.out) (held c.in_ok-told.told) ended
-    c.new-page.ensures.kept head c.in_ok-put_front.ensures c.in_ok-told.ensures c.in_ok-explained.ensures tail)
-    c.finish.ensures
+    c.new-page.ensures.kept head c.in_ok-put_front.ensures.text c.in_ok-told.ensures.written c.in_ok-explained.ensures.text tail)
+    c.finish.ensures.tail

@@ -1,9 +1,10 @@
-use Rattle.std.proofs.Common.{◌≡◌, ◌∙◌, ◌≤◌, ℕ, List, [], refl, subst, sym}
-use Rattle.std.proofs.lemmas.Result.{IfOk-weaker}
+use Rattle.std.proofs.Common.{◌≡◌, ◌∙◌, ◌≤◌, ℕ, List, [], ap, length, refl, subst, sym}
+use Rattle.std.proofs.lemmas.Result.{IfOk-weaker, err_from_is_err_and}
 use Rattle.std.specs.Prelude.{codes}
 use Rattle.ia_text.specs.Writing.{Wrote}
 use Rattle.elide_setup.specs.Runs.{IsRunOf}
 use Rattle.elide_setup.specs.TmCore.Theorem.{ShownMachine as Machine}
+use Rattle.page_run.proofs.Refusing.{not_told_of}
 use Rattle.page_telling.proofs.Knowing.{IsKnown, known_first}
 use Rattle.page_telling.proofs.Lines.{HasTold, all_tell, has_told, lines_written}
 use Rattle.page_telling.specs.Telling.{Spot}
@@ -12,8 +13,8 @@ use Rattle.page_telling.specs.declared.kept.KeptByte.{KeptByte}
 use Rattle.page_telling.specs.declared.telling.Telling.{Telling}
 use Rattle.page_telling.proofs.telling.write_steps.Goals as goal
 
-pub returns : goal.returns
-returns g c =
+pub returns-clause-written : goal.returns-clause-written
+returns-clause-written g c =
     let spot : Telling g.row.O.Denot → Spot = λ t. record {
       machine = t.machine;
       kept = t.behind.kept.bytes.items;
@@ -40,4 +41,13 @@ returns g c =
     (λ (last : g.row.O.Denot). AreLinesWritten stretch (g.O.Out.device c.args.out) (g.O.Out.device last))
     (λ last end. lines_written stretch walked.0 (spot opened) (spot ended) (g.O.Out.device c.args.out) (g.O.Out.device last) walked.1 opens
     c.open_first.ensures.made c.open_first.ensures.window c.in_ok-open_first.ensures.text all c.in_ok-check_made.ensures.all c.in_ok-check_made.ensures.reached end)
-    c.ended.ensures
+    c.ended.ensures.text
+
+pub returns-in_err-walk-clause-refused : goal.returns-in_err-walk-clause-refused
+returns-in_err-walk-clause-refused g c =
+    let p = err_from_is_err_and c.from_residual-in_err-walk.result c.from_residual-in_err-walk.ensures.1 in
+    let cores = c.cores-cores.ensures.count in
+    let same = ap (λ (m : Machine). length m.views) c.open_first.ensures.machine ∙ sym cores in
+    rw (p.1, p.2)
+    (not_told_of (λ (t : Telling g.row.O.Denot). t.machine) (λ a steps b h. h.2.cores) c.args.stretch _ _ _ same
+    (cores ∙ c.in_ok-machine.ensures.cores) c.in_err-walk.ensures.refused)

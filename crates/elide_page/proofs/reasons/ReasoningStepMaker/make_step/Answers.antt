@@ -7,9 +7,9 @@ returns-clause-made g c = (
   c.in_ok-step.step.outcome,
   refl,
   record {
-    step = c.in_ok-step.ensures;
+    step = c.in_ok-step.ensures.step;
     window = refl;
-    made = c.in_ok-made.ensures;
+    made = c.in_ok-made.ensures.next;
     some = c.in_ok-some.ensures.some;
     piece = c.in_ok-some.ensures.piece;
   },

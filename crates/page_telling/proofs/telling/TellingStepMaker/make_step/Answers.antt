@@ -7,13 +7,14 @@ returns-clause-made g c =
       (c.args.pick, told.outcome),
       refl,
       record {
+        cores = c.in_ok-told.ensures.made.step.same.cores;
         window = refl;
-        made = c.in_ok-made.ensures;
+        made = c.in_ok-made.ensures.next;
         told = λ within. record {
           told = record { pick = c.args.pick; outcome = told.outcome; before = told.before; delta = told.delta };
           is = refl;
-          made = c.in_ok-told.ensures;
-          piece = c.in_ok-put_told.ensures c.args.pick;
+          made = c.in_ok-told.ensures.made;
+          piece = c.in_ok-put_told.ensures.piece c.args.pick;
         };
         behind = λ past. absurd (omega (arith, past, c.if-self.false));
       },

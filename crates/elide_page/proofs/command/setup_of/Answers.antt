@@ -1,0 +1,15 @@
+use Rattle.std.proofs.Common.{refl}
+use Rattle.std.proofs.lemmas.Result.{err_from_is_err_and}
+use Rattle.elide_page.specs.Refused.{is_none, unloaded}
+use Rattle.elide_page.proofs.command.setup_of.Goals as goal
+
+pub returns-in_err-file-clause-none : goal.returns-in_err-file-clause-none
+returns-in_err-file-clause-none c =
+    let p = err_from_is_err_and c.from_residual.result c.from_residual.ensures.1 in
+    rw (p.1, p.2) (is_none c.in_err-file.field-0.0 c.in_err-file.ensures.none refl)
+
+pub returns-in_err-setup-clause-none : goal.returns-in_err-setup-clause-none
+returns-in_err-setup-clause-none c =
+    let none = c.in_err-setup.ensures.none in
+    let p = err_from_is_err_and c.from_residual-in_err-setup.result c.from_residual-in_err-setup.ensures.1 in
+    rw (p.1, p.2) (unloaded c.in_ok-file.file none.0 c.in_ok-file.ensures.file none.2 none.1)

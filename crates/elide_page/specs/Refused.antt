@@ -1,0 +1,32 @@
+-- Why a page is not written (docs/FAULTS.md).
+use Rattle.std.specs.Prelude.{◌≡◌, ◌⊎◌, ℕ, List}
+use Rattle.elide_setup.specs.ElideProgram.ProgramFile.{IsFile}
+use Rattle.elide_setup.specs.ElideProgram.ProgramFileType.{ProgramFile}
+use Rattle.elide_setup.specs.ElideProgram.ProgramRefusalType.{ProgramRefusal}
+use Rattle.elide_setup.specs.ElideProgram.Refusals.{IsNoProgram}
+use Rattle.elide_setup.specs.ElideProgram.SettingsType.{Settings}
+use Rattle.elide_setup.specs.Faults.{refusal_of}
+use Rattle.elide_setup.specs.Refused.{IsNoCore, IsNotLoaded, IsUntold}
+use Rattle.elide_setup.specs.TmCore.Theorem.{ShownMachine as Machine}
+use Rattle.elide_setup.specs.declared.fault.Fault.TheVariants as fault
+use Rattle.elide_setup.specs.declared.fault.Refusal.{Refusal}
+use Rattle.elide_setup.specs.declared.fault.Refusal.TheVariants as refusal
+use Rattle.elide_setup.specs.declared.machine.Setup.{Setup}
+use Rattle.elide_setup.specs.declared.plan.Course.{Course}
+use Rattle.tm_model.specs.declared.outcome.Pick.{Pick}
+use Rattle.page_run.specs.Refused.{IsNotSurveyed}
+
+-- a text gives no program: it is none, or it is not loaded as the settings say
+pub data GivesNoProgram (text : List ℕ) (settings : Settings) (why : Refusal) : Type 0 where
+  is_none : (cause : ProgramRefusal) → IsNoProgram text cause → why ≡ refusal_of cause
+      → GivesNoProgram text settings why
+  unloaded : (file : ProgramFile) (cause : ProgramRefusal) → IsFile text file → IsNotLoaded file settings cause
+      → why ≡ refusal_of cause → GivesNoProgram text settings why
+
+-- a step whose reason is told is refused: there is no such core, its line is not written, or there is no memory for it
+abbrev pub IsUnreasoned : Machine → Pick → Refusal → Type 0
+IsUnreasoned machine pick why = IsNoCore machine pick why ⊎ IsUntold why
+
+-- a run is not written as a page to a file: it is not surveyed, or the file cannot be written
+abbrev pub IsNoPage : Setup → Course → Refusal → Type 0
+IsNoPage setup asked why = IsNotSurveyed setup asked why ⊎ (why ≡ refusal.Fault fault.Output)
