@@ -1,5 +1,5 @@
 -- Why a search is refused.
-use Rattle.std.proofs.Common.{◌≡◌, ◌⊎◌, inl, inr, ℕ, Bool, true, List, Option, Some, Result, Ok, Err, subst, sym}
+use Rattle.std.proofs.Common.{◌≡◌, ◌⊎◌, inl, inr, ℕ, Bool, true, List, Option, Some, Result, subst, sym}
 use Rattle.std.proofs.lemmas.Result.{IfErr-weaker}
 use Rattle.std.specs.Borrow.{Bor}
 use Rattle.std.specs.Prelude.{All, IfErr}
@@ -29,11 +29,6 @@ page_over_steady before after steady path file recorded why h = record {
   one = over_one before after steady h.given.now file recorded h.one;
   named = h.named;
 }
-
--- whatever refuses it
-pub always_err : {A E X : Type 0} (r : Result A E) → X → IfErr r (λ _. X)
-always_err (Ok a) x = tt
-always_err (Err e) x = x
 
 -- some have not all that there is to have, with a memory of this size and so many cores
 pub lacks : {X : Type 0} (Has : ℕ → ℕ → X → Type 0) (size mem_size cores count : ℕ) (xs : List X) → size ≡ mem_size → cores ≡ count → ¬ (All (Has size cores) xs) →

@@ -10,15 +10,15 @@ use Rattle.elide_checks.specs.declared.demands.Demands.{Demands}
 use Rattle.elide_checks.specs.declared.orders.Orders.{Orders}
 use Rattle.elide_setup.specs.ElideProgram.ProgramFile.{IsRead}
 use Rattle.elide_setup.specs.ElideProgram.ProgramFileType.{ProgramFile}
-use Rattle.elide_setup.specs.Faults.{not_written}
-use Rattle.elide_setup.specs.Refused.{HasNoSetup, IsAnyWant, IsOverProgram, IsPageOver, IsUnrecorded}
+use Rattle.elide_setup.specs.Refused.{HasNoSetup, IsAnyWant, IsNotPaged, IsOverProgram, IsPageOver, IsUnrecorded}
+use Rattle.elide_setup.specs.Refused.{IsUntold}
 use Rattle.elide_setup.specs.Setup.{IsAsked}
 use Rattle.elide_setup.specs.declared.fault.Fault.TheVariants as fault
 use Rattle.elide_setup.specs.declared.fault.Refusal.{Refusal}
 use Rattle.elide_setup.specs.declared.fault.Refusal.TheVariants as refusal
 use Rattle.elide_setup.specs.declared.machine.Setup.{Setup}
-use Rattle.ia_text.specs.declared.out.WriteFault.{WriteFault}
 use Rattle.tm_hunt.specs.Attempts.{IsRefusal}
+use Rattle.tm_hunt.specs.Deciding.{deciding}
 use Rattle.tm_hunt.specs.declared.attempt.HuntFault.{HuntFault}
 use Rattle.tm_hunt.specs.declared.attempt.HuntFault.TheVariants as hunt
 use Rattle.tm_hunt.specs.declared.searching.Found.{Found}
@@ -61,18 +61,16 @@ pub record IsSearched (content : List ℕ → Option (List ℕ)) (options : Hunt
   pub beside : Beside
   pub hunted : IsHunted trial orders beside search
 
--- a run failed whose page is asked for; what refuses the page is its writer's to say
-pub record IsToBePaged (content : List ℕ → Option (List ℕ)) (options : HuntOptions) : Type 0 where
+-- a run failed whose page is asked for, and what decides of it is not written as one, of the program whose text FILE
+-- has
+pub record IsUnpaged (content : List ℕ → Option (List ℕ)) (options : HuntOptions) (why : Refusal) : Type 0 where
   pub page : Bor (List ℕ)
   pub asked : options.page ≡ Some page
   pub search : Search
   pub searched : IsSearched content options search
   pub found : Found
   pub failed : search.found ≡ Some found
-
--- it is not printed, or there is no memory for the object that is
-abbrev pub IsNotTold : Refusal → Type 0
-IsNotTold why = ((cause : WriteFault) × (why ≡ not_written cause)) ⊎ IsAnyWant why
+  pub refused : IsNotPaged searched.asked.read.text options.machine (deciding found.failure) why
 
 -- ---- the command
 
@@ -86,11 +84,11 @@ pub data IsRefused (content : List ℕ → Option (List ℕ)) (are_one : List �
   page_over : IsPageOver are_one options.page options.machine.file.now (option_copied options.record) why
       → IsRefused content are_one options why
   without_program : HasNoSetup content options.machine why → IsRefused content are_one options why
-  no_demands : (file : ProgramFile) → IsRead (content options.machine.file.now) file → AreNoDemands options why
+  no_demands : (file : ProgramFile) → IsRead (content options.machine.file.now) file → AreNoDemands file options why
       → IsRefused content are_one options why
   no_search : (setup : Setup) (orders : Orders)
       → (asked : IsAsked (content options.machine.file.now) options.machine setup) → AreOrders options orders
       → IsNoSearch asked.read.text asked.file options setup orders why → IsRefused content are_one options why
   unrecorded : IsUnrecorded options.record why → IsRefused content are_one options why
-  unpaged : IsToBePaged content options → IsRefused content are_one options why
-  not_told : IsNotTold why → IsRefused content are_one options why
+  unpaged : IsUnpaged content options why → IsRefused content are_one options why
+  not_told : IsUntold why → IsRefused content are_one options why

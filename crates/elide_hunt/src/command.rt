@@ -10,7 +10,7 @@ ghost use Rattle.elide_setup.specs.ElideProgram.ProgramFile.{IsFile};
 ghost use Rattle.elide_setup.specs.ElideProgram.ProgramFileType.{ProgramFile};
 ghost use Rattle.elide_setup.specs.ElideProgram.Settings.{AreSettings};
 ghost use Rattle.elide_setup.specs.Recorded.{IsRecorded};
-ghost use Rattle.elide_setup.specs.Refused.{IsUnrecorded};
+ghost use Rattle.elide_setup.specs.Refused.{IsNotPaged, IsUnrecorded, IsUntold};
 ghost use Rattle.tm_schedule.specs.Schedule.{schedule_text};
 ghost use Rattle.elide_setup.specs.Setup.{IsSetup};
 ghost use Rattle.elide_setup.specs.declared.machine.Setup.{Setup};
@@ -25,7 +25,7 @@ ghost use Rattle.tm_pick.specs.declared.method.Plan.{Plan};
 ghost use Rattle.elide_object.specs.Object.{object_text};
 ghost use Rattle.elide_hunt.specs.Lines.{search_text};
 ghost use Rattle.elide_hunt.specs.Object.{search_value};
-ghost use Rattle.elide_hunt.specs.Refused.{IsNoSearch, IsNotHunted, IsNotTold, IsRefused};
+ghost use Rattle.elide_hunt.specs.Refused.{IsNoSearch, IsNotHunted, IsRefused};
 ghost use Rattle.elide_hunt.specs.Printed.{AreOrders, IsHunted, IsPlanOf, IsPrinted, IsTold, IsTrialOf, answer_of};
 
 use crate::fault::fault_of;
@@ -113,8 +113,9 @@ fn write_page<P: Paths, W: Pages>(
     pages: &W,
     paths: &mut P,
 ) -> Result<Paged, Refusal>
-    ensures { IfErr result (λ _. (given : Bor (List ℕ)) × (found : Found) × (page.entry ≡ Some given)
-        × (search.now.found ≡ Some found)) }
+    ensures { IfErr result (λ why. (given : Bor (List ℕ)) × (found : Found) × (page.entry ≡ Some given)
+        × (search.now.found ≡ Some found)
+        × IsNotPaged text.now options.now.machine (deciding found.failure) why) }
 {
     match (page, &search.found) {
         (Some(page), Some(found)) => {
@@ -147,7 +148,7 @@ fn tell<O: Out + Drop>(
 ) -> Result<(Answer, O), Refusal>
     ensures told { IfOk result (λ r. IsTold options.now beside search.now r.0
         (O.device out).contents (O.device r.1).contents) }
-    ensures refused { IfErr result IsNotTold }
+    ensures refused { IfErr result IsUntold }
 {
     if options.is_json {
         let out = put_object(alloc, options, search, beside, out)?;
@@ -168,7 +169,7 @@ fn put_object<O: Out + Drop>(
 ) -> Result<O, Refusal>
     ensures told { IfOk result (λ given. Appends (O.device out).contents (O.device given).contents
         (object_text (search_value options.now beside search.now))) }
-    ensures refused { IfErr result IsNotTold }
+    ensures refused { IfErr result IsUntold }
 {
     let mut page = Gathered::new(out);
     tell_object(alloc, options, search, beside, &mut page)?;
@@ -185,7 +186,7 @@ fn put_lines<O: Out + Drop>(
 ) -> Result<O, Refusal>
     ensures told { IfOk result (λ given. Appends (O.device out).contents (O.device given).contents
         (search_text options.now beside search.now)) }
-    ensures refused { IfErr result IsNotTold }
+    ensures refused { IfErr result IsUntold }
 {
     let mut page = Gathered::new(out);
     tell_lines(options, search, beside, &mut page)?;

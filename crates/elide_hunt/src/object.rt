@@ -5,8 +5,8 @@
 ghost use Rattle.std.specs.Prelude.{◌≡◌, IfErr, IfOk, OnOk, Some, string_bytes};
 ghost use Rattle.std.specs.Io.KnownBytes.{Appends};
 ghost use Rattle.elide_object.specs.Object.{object_text};
+ghost use Rattle.elide_setup.specs.Refused.{IsUntold};
 ghost use Rattle.elide_hunt.specs.Object.{found_value, hunt_value, search_value};
-ghost use Rattle.elide_hunt.specs.Refused.{IsNotTold};
 ghost use Rattle.elide_hunt.specs.Sent.{object_value};
 
 use crate::replay::command_bytes;
@@ -30,7 +30,7 @@ pub fn tell_object<O: Out>(
 ) -> Result<(), Refusal>
     ensures written { OnOk result (Appends (O.device out.old).contents (O.device out.new).contents
         (object_text (search_value options.now beside search.now))) }
-    ensures refused { IfErr result IsNotTold }
+    ensures refused { IfErr result IsUntold }
 {
     match search_line(alloc, options, search, beside) {
         Ok(line) => {

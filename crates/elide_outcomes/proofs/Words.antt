@@ -4,7 +4,7 @@ use Rattle.std.specs.Char.{is_not_whitespace, is_whitespace}
 use Rattle.std.specs.Str.{EmptyOrStartsWithPassing, NoCharPasses}
 use Rattle.elide_program.specs.declared.file.ProgramFile.{ProgramFile}
 use Rattle.tm_outcomes.specs.declared.trial.Item.{Item}
-use Rattle.elide_outcomes.specs.Items.{AreWords, BeginsWithWord, IsItem, SaysItems}
+use Rattle.elide_outcomes.specs.Items.{AreWords, BeginsWithWord, HasNoItem, IsItem, SaysItems, later}
 
 -- what `split_whitespace` says of a word, as the record
 pub word_of_step : (text word rest : List ℕ) →
@@ -23,6 +23,14 @@ goes_on file text rest next word items items' item before begins is same others 
     let Says : List Item → Type 0 = λ all. SaysItems file text all in
     let said : Says (items ++ (item ∷ others)) = before (item ∷ others) (word, next, begins, is, says) in
     subst (λ (all : List Item). Says (all ++ others)) (sym same) (subst Says (sym (append_assoc items (item ∷ []) others)) said)
+
+-- where a word of the rest is no item, one of the text is none
+abbrev pub GoesWrong : ProgramFile → List ℕ → List ℕ → Type 0
+GoesWrong file text rest = HasNoItem file rest → HasNoItem file text
+
+pub goes_wrong : (file : ProgramFile) (text rest next word : List ℕ) → GoesWrong file text rest → BeginsWithWord rest word next →
+    GoesWrong file text next
+goes_wrong file text rest next word before begins none = before (later word next begins none)
 
 -- no word is left
 pub all_said : (file : ProgramFile) (text rest : List ℕ) (items : List Item) → GoesOn file text rest items → SaysItems file rest [] → SaysItems file text items

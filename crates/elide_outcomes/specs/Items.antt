@@ -5,7 +5,8 @@ use Rattle.std.specs.List.{after_first, before_first, position_or_len}
 use Rattle.std.specs.Str.{EmptyOrStartsWithPassing, NoCharPasses}
 use Rattle.ia_lex.specs.Words.{register_of}
 use Rattle.ia_word.specs.declared.width.Width.TheVariants.{D}
-use Rattle.elide_program.specs.Settings.{word32}
+use Rattle.elide_checks.specs.Counts.{core_said}
+use Rattle.elide_checks.specs.Misread.{IsNoRegister}
 use Rattle.elide_program.specs.Sums.{IsSum}
 use Rattle.elide_program.specs.declared.file.ProgramFile.{ProgramFile}
 use Rattle.tm_outcomes.specs.declared.trial.Item.{Item}
@@ -25,7 +26,7 @@ at_place word = position_or_len is_at word
 pub record IsRegister (word : List ℕ) (core register : ℕ) : Type 0 where
   pub has_at : at_place word < length word
   pub name : register_of (before_first is_at word) ≡ Some (D, register)
-  pub number : word32 (after_first is_at word) ≡ Some core
+  pub number : core_said (after_first is_at word) ≡ Some core
 
 -- or, without an `@`, a sum that says the address of a doubleword
 pub record IsAddress (file : ProgramFile) (word : List ℕ) (address : ℕ) : Type 0 where
@@ -35,6 +36,13 @@ pub record IsAddress (file : ProgramFile) (word : List ℕ) (address : ℕ) : Ty
 abbrev pub IsItem : ProgramFile → List ℕ → Item → Type 0
 IsItem file word (Register core register) = IsRegister word core register
 IsItem file word (Memory address) = IsAddress file word address
+
+-- a word is no item: before its first `@` stands the name of no register of 32 bits, or behind it no core's number; or
+-- it has no `@`, and its sum says nothing
+pub data IsNoItem (file : ProgramFile) (word : List ℕ) : Type 0 where
+  no_register : at_place word < length word → IsNoRegister (before_first is_at word) → IsNoItem file word
+  no_core : at_place word < length word → core_said (after_first is_at word) ≡ None → IsNoItem file word
+  no_sum : at_place word ≡ length word → IsSum file word None → IsNoItem file word
 
 -- ---- words with white space between
 
@@ -58,6 +66,13 @@ SaysItems file text [] = NoCharPasses is_not_whitespace text
 SaysItems file text (item ∷ items) =
     (word : List ℕ) × (rest : List ℕ)
     × BeginsWithWord text word rest × IsItem file word item × SaysItems file rest items
+
+-- a word of the text is no item
+pub data HasNoItem (file : ProgramFile) : List ℕ → Type 0 where
+  first : {text : List ℕ} (word rest : List ℕ) → BeginsWithWord text word rest → IsNoItem file word
+      → HasNoItem file text
+  later : {text : List ℕ} (word rest : List ℕ) → BeginsWithWord text word rest → HasNoItem file rest
+      → HasNoItem file text
 
 -- ---- the option
 

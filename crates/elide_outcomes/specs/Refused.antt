@@ -1,7 +1,9 @@
 -- Why `elide outcomes` is refused (docs/FAULTS.md). Want of memory is a reason wherever memory is taken.
-use Rattle.std.specs.Prelude.{◌≡◌, ◌≢◌, ◌⊎◌, ⊤, ℕ, ◌+◌, Bool, true, not, List, [], ◌∷◌, All, length, codes, Option, Some, None}
+use Rattle.std.specs.Prelude.{◌≡◌, ◌≢◌, ◌⊎◌, ◌≤◌, ⊤, ℕ, ◌+◌, Bool, true, not, List, [], ◌∷◌, All, length, codes}
+use Rattle.std.specs.Prelude.{Option, Some, None, IfSome, slice_get}
 use Rattle.std.specs.Borrow.{Bor}
 use Rattle.std.specs.Option.{option_copied}
+use Rattle.elide_args.specs.declared.subcommand.MachineOptions.{MachineOptions}
 use Rattle.elide_args.specs.declared.subcommand.OutcomesOptions.{OutcomesOptions}
 use Rattle.elide_checks.specs.Ends.{AreEndChecks}
 use Rattle.elide_checks.specs.Reach.{HasEndCheck}
@@ -16,24 +18,25 @@ use Rattle.elide_program.specs.declared.fault.ProgramRefusal.{ProgramRefusal}
 use Rattle.elide_program.specs.declared.file.ProgramFile.{ProgramFile}
 use Rattle.elide_program.specs.declared.settings.Settings.{Settings}
 use Rattle.elide_setup.specs.Events.{kinds_said}
-use Rattle.elide_setup.specs.Faults.{not_written, refusal_of, want}
+use Rattle.elide_setup.specs.Faults.{refusal_of, want}
 use Rattle.elide_setup.specs.Misuse.{IsMisuse}
-use Rattle.elide_setup.specs.Refused.{IsAnyWant, IsNoMachine, IsNotLoaded, IsPageOver}
-use Rattle.elide_setup.specs.Setup.{IsSetup}
+use Rattle.elide_setup.specs.Refused.{IsAnyWant, IsNoMachine, IsNotLoaded, IsNotPaged, IsPageOver, IsUntold}
+use Rattle.elide_setup.specs.Setup.{IsAsked, IsSetup}
 use Rattle.elide_setup.specs.declared.fault.Fault.TheVariants as fault
 use Rattle.elide_setup.specs.declared.fault.Refusal.{Refusal}
 use Rattle.elide_setup.specs.declared.fault.Refusal.TheVariants as refusal
 use Rattle.elide_setup.specs.declared.machine.Setup.{Setup}
-use Rattle.ia_text.specs.declared.out.WriteFault.{WriteFault}
 use Rattle.tm_condition.specs.declared.check.Check.{Check}
 use Rattle.tm_outcomes.specs.Outcomes.{AreThere}
+use Rattle.tm_outcomes.specs.declared.table.Told.{Told}
 use Rattle.tm_outcomes.specs.declared.trial.Item.{Item}
 use Rattle.tm_outcomes.specs.declared.trial.Trial.{Trial}
 use Rattle.tm_rule.specs.declared.kinds.Stop.{Stop}
-use Rattle.elide_outcomes.specs.Items.{AreItems}
-use Rattle.elide_outcomes.specs.Printed.{IsMade, asks_more}
+use Rattle.elide_outcomes.specs.Items.{AreItems, AreWords, HasNoItem}
+use Rattle.elide_outcomes.specs.Printed.{IsFound, IsLimit, IsMade, IsTrialOf, asks_more}
 use Rattle.elide_outcomes.specs.Stops.{AreStops}
 use Rattle.elide_outcomes.specs.Under.{IsUnder}
+use Rattle.elide_outcomes.specs.declared.found.Found.{Found}
 use Rattle.elide_outcomes.specs.declared.paged.PageAsked.{PageAsked}
 use Rattle.elide_outcomes.specs.declared.paged.PageAsked.TheVariants.{Nothing, Of}
 use Rattle.elide_outcomes.specs.declared.under.Under.{Under}
@@ -48,33 +51,28 @@ pub record IsNoUnder (option : Option (List ℕ)) (why : Refusal) : Type 0 where
   pub none : kinds_said text ≡ None
   pub named : IsMisuse (codes "--events") why
 
--- nothing is said to be shown though that is wanted, or a text that has no item or a word that is none
-pub data AreNoItems (is_wanted : Bool) (option : Option (List ℕ)) (why : Refusal) : Type 0 where
-  not_given : option ≡ None → is_wanted ≡ true → IsMisuse (codes "--show") why → AreNoItems is_wanted option why
-  no_item : (text : List ℕ) → option ≡ Some text → IsMisuse (codes "--show") why → AreNoItems is_wanted option why
-  no_memory : why ≡ want → AreNoItems is_wanted option why
+-- nothing is said to be shown though that is wanted, or a text that has no word, or one that is no item
+pub data AreNoItems (file : ProgramFile) (is_wanted : Bool) (option : Option (List ℕ)) (why : Refusal) : Type 0 where
+  not_given : option ≡ None → is_wanted ≡ true → IsMisuse (codes "--show") why → AreNoItems file is_wanted option why
+  no_words : (text : List ℕ) → option ≡ Some text → AreWords text [] → IsMisuse (codes "--show") why
+      → AreNoItems file is_wanted option why
+  no_item : (text : List ℕ) → option ≡ Some text → HasNoItem file text → IsMisuse (codes "--show") why
+      → AreNoItems file is_wanted option why
+  no_memory : why ≡ want → AreNoItems file is_wanted option why
 
--- the page of an outcome is asked for whose number is none from 1 on, or to which no outcome has come
+-- the page of an outcome is asked for whose number is none from 1 on
 pub record IsNoPage (page : List (Bor (List ℕ))) (why : Refusal) : Type 0 where
   pub number : Bor (List ℕ)
   pub path : Bor (List ℕ)
   pub given : page ≡ number ∷ path ∷ []
+  pub none : IfSome (number_said (Some number.now)) (λ value. value ≡ 0)
   pub named : IsMisuse (codes "--page") why
-
--- what is asked for is the page of an outcome
-abbrev pub IsAPage : PageAsked → Type 0
-IsAPage Nothing = ⊥
-IsAPage (Of index path) = ⊤
 
 -- it is what the option says: a number, which counts outcomes from 1, and a path
 abbrev pub IsPageOf : List (Bor (List ℕ)) → PageAsked → Type 0
 IsPageOf page Nothing = ⊤
 IsPageOf page (Of index path) =
     (number : Bor (List ℕ)) × (page ≡ number ∷ path ∷ []) × (number_said (Some number.now) ≡ Some (index + 1))
-
--- there is one
-abbrev pub HasPage : List (Bor (List ℕ)) → Type 0
-HasPage page = (number : Bor (List ℕ)) × (path : Bor (List ℕ)) × (page ≡ number ∷ path ∷ [])
 
 -- its path is that of the program
 pub record IsOverProgram (are_one : List ℕ → List ℕ → Option Bool) (page : List (Bor (List ℕ))) (file : List ℕ)
@@ -117,9 +115,9 @@ pub record HasNoSearch (text : List ℕ) (file : ProgramFile) (setup : Setup) (o
 -- say, its machine is not searched, or there is no memory
 pub data IsNotFoundIn (text : List ℕ) (file : ProgramFile) (settings : Settings) (options : OutcomesOptions)
     (under : Under) (reasons : List Stop) (why : Refusal) : Type 0 where
-  no_items : AreNoItems (not (asks_more options)) (option_copied options.show) why
+  no_items : AreNoItems file (not (asks_more options)) (option_copied options.show) why
       → IsNotFoundIn text file settings options under reasons why
-  no_checks : AreNoChecks options.checks.items options.forbids.items why
+  no_checks : AreNoChecks text file options.checks.items options.forbids.items why
       → IsNotFoundIn text file settings options under reasons why
   not_loaded : (cause : ProgramRefusal) → IsNotLoaded file settings cause → why ≡ refusal_of cause
       → IsNotFoundIn text file settings options under reasons why
@@ -135,14 +133,44 @@ pub data IsNotFound (text : List ℕ) (settings : Settings) (options : OutcomesO
   not_in : (file : ProgramFile) → IsFile text file → IsNotFoundIn text file settings options under reasons why
       → IsNotFound text settings options under reasons why
 
--- what was found is not written, or there is no memory for that
-abbrev pub IsUntold : Refusal → Type 0
-IsUntold why = ((cause : WriteFault) × (why ≡ not_written cause)) ⊎ IsAnyWant why
+-- ---- a page
+
+-- the search of FILE's program that the options ask for found this
+pub record IsSearched (content : List ℕ → Option (List ℕ)) (options : OutcomesOptions) (found : Found) : Type 0 where
+  pub setup : Setup
+  pub asked : IsAsked (content options.machine.file.now) options.machine setup
+  pub under : Under
+  pub said : IsUnder (option_copied options.events) under
+  pub stops : List Stop
+  pub named : AreStops options.stops.items stops
+  pub trial : Trial
+  pub shows : IsTrialOf asked.read.text asked.file setup options under stops trial
+  pub most : ℕ
+  pub limit : IsLimit (option_copied options.limit) most
+  pub is_found : IsFound asked.file trial most found
+
+-- of these outcomes the one that is asked for has no page: fewer are told, or its schedule is not written as one, of
+-- the program of this text
+pub data IsNotShown (text : List ℕ) (options : MachineOptions) (told : List Told) (asked : PageAsked) (why : Refusal)
+    : Type 0 where
+  none_told : (index : ℕ) (path : Bor (List ℕ)) → asked ≡ Of index path → length told ≤ index
+      → IsMisuse (codes "--page") why → IsNotShown text options told asked why
+  not_written : (index : ℕ) (path : Bor (List ℕ)) (one : Told) → asked ≡ Of index path
+      → slice_get told index ≡ Some one → IsNotPaged text options one.schedule.items why
+      → IsNotShown text options told asked why
+
+-- the page of an outcome is asked for and not written
+pub record IsUnpaged (content : List ℕ → Option (List ℕ)) (options : OutcomesOptions) (why : Refusal) : Type 0 where
+  pub page : PageAsked
+  pub said : IsPageOf options.page.items page
+  pub found : Found
+  pub searched : IsSearched content options found
+  pub refused : IsNotShown searched.asked.read.text options.machine found.search.outcomes.items page why
 
 -- ---- the command
 
--- an option is misread, FILE is not read, its text not searched, or what was found not told; or the page of an outcome
--- is asked for, and its writer tells why it is not written
+-- an option is misread, FILE is not read, its text not searched, or what was found is not told, or not shown on the
+-- page that is asked for
 pub data IsRefused (content : List ℕ → Option (List ℕ)) (are_one : List ℕ → List ℕ → Option Bool)
     (options : OutcomesOptions) (why : Refusal) : Type 0 where
   no_stop : IsNoStop options.stops.items why → IsRefused content are_one options why
@@ -160,6 +188,6 @@ pub data IsRefused (content : List ℕ → Option (List ℕ)) (are_one : List �
       → Gives (content options.machine.file.now) most_bytes text → AreSettings options.machine settings
       → IsUnder (option_copied options.events) under → AreStops options.stops.items reasons
       → IsNotFound text settings options under reasons why → IsRefused content are_one options why
-  not_paged : HasPage options.page.items → IsRefused content are_one options why
+  not_paged : IsUnpaged content options why → IsRefused content are_one options why
   unwritten : IsUntold why → IsRefused content are_one options why
   no_room : IsAnyWant why → IsRefused content are_one options why

@@ -5,6 +5,7 @@ ghost use Rattle.std.specs.Option.{option_copied};
 ghost use Rattle.elide_program.specs.ProgramFile.{IsFile};
 ghost use Rattle.elide_program.specs.declared.file.ProgramFile.{ProgramFile};
 ghost use Rattle.elide_setup.specs.Misuse.{IsMisuse};
+ghost use Rattle.elide_setup.specs.Refused.{IsUntold};
 ghost use Rattle.elide_setup.specs.Setup.{IsSetup};
 ghost use Rattle.elide_setup.specs.declared.machine.Setup.{Setup};
 ghost use Rattle.tm_outcomes.specs.Outcomes.{AreThere, IsSearch};
@@ -14,7 +15,7 @@ ghost use Rattle.elide_args.specs.Asked.{texts_of};
 ghost use Rattle.elide_checks.specs.Runs.{IsNoLimit};
 ghost use Rattle.elide_outcomes.specs.Printed.{AreWritten, IsFound, IsLimit, IsMade, IsPrinted, IsSorted, IsTrialOf};
 ghost use Rattle.elide_outcomes.specs.Printed.{IsWritten, asks_more};
-ghost use Rattle.elide_outcomes.specs.Refused.{IsNotFound, IsNotFoundIn, IsNotSearched, IsNotSearchedBy, IsRefused, IsUntold};
+ghost use Rattle.elide_outcomes.specs.Refused.{IsNotFound, IsNotFoundIn, IsNotSearched, IsNotSearchedBy, IsRefused};
 ghost use Rattle.elide_outcomes.specs.Stops.{AreStops};
 ghost use Rattle.elide_outcomes.specs.Under.{AreUnder};
 

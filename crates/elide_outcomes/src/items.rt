@@ -1,19 +1,20 @@
 //! What an outcome shows, as the option says it.
 
-ghost use Rattle.std.specs.Prelude.{◌≡◌, ◌⊎◌, ◌++◌, ◌∷◌, [], IfSome, MatchResult, OnOk, Some, codes, false, true};
+ghost use Rattle.std.specs.Prelude.{◌≡◌, ◌⊎◌, ◌++◌, ◌∷◌, [], MatchOption, MatchResult, None, OnOk, Some, codes};
+ghost use Rattle.std.specs.Prelude.{false, true};
 ghost use Rattle.std.specs.Option.{option_copied};
 ghost use Rattle.ia_lex.specs.Words.{register_of};
 ghost use Rattle.ia_word.specs.declared.width.Width.TheVariants.{D};
-ghost use Rattle.elide_program.specs.Settings.{word32};
+ghost use Rattle.elide_checks.specs.Counts.{core_said};
+ghost use Rattle.elide_checks.specs.Misread.{IsNoRegister};
 ghost use Rattle.elide_setup.specs.Faults.{want};
 ghost use Rattle.elide_setup.specs.Misuse.{IsMisuse};
-ghost use Rattle.elide_outcomes.specs.Items.{AreItems, IsItem, SaysItems};
+ghost use Rattle.elide_outcomes.specs.Items.{AreItems, HasNoItem, IsItem, IsNoItem, SaysItems};
 ghost use Rattle.elide_outcomes.specs.Refused.{AreNoItems};
 
-use elide_program::{ProgramFile, number_of, sum_of};
+use elide_checks::{core_of, register_named};
+use elide_program::{ProgramFile, sum_of};
 use elide_setup::Refusal;
-use ia_lex::register_of;
-use ia_word::Width;
 use std::alloc::{AllocError, Global};
 use tm_outcomes::Item;
 
@@ -26,7 +27,7 @@ pub fn items_of(
     file: &ProgramFile<'_>,
 ) -> Result<Vec<Item>, Refusal>
     ensures { MatchResult result (λ items. AreItems file.now is_wanted (option_copied text.entry) items.items)
-        (AreNoItems is_wanted (option_copied text.entry)) }
+        (AreNoItems file.now is_wanted (option_copied text.entry)) }
 {
     let Some(text) = text else {
         return no_items(alloc, is_wanted);
@@ -52,7 +53,7 @@ fn no_items(alloc: Global, is_wanted: bool) -> Result<Vec<Item>, Refusal>
 // The items that the words of a text say.
 fn items_in(alloc: Global, text: &str, file: &ProgramFile<'_>) -> Result<Vec<Item>, Refusal>
     ensures { MatchResult result (λ items. SaysItems file.now text.now items.items)
-        (λ why. IsMisuse (codes "--show") why ⊎ (why ≡ want)) }
+        (λ why. (HasNoItem file.now text.now × IsMisuse (codes "--show") why) ⊎ (why ≡ want)) }
 {
     let mut items = Vec::new(alloc);
     for word in text.split_whitespace() {
@@ -72,7 +73,7 @@ fn add(items: &mut Vec<Item>, item: Item) -> Result<(), AllocError>
 }
 
 fn item_of(word: &str, file: &ProgramFile<'_>) -> Option<Item>
-    ensures { IfSome result (IsItem file.now word.now) }
+    ensures { MatchOption result (IsNoItem file.now word.now) (IsItem file.now word.now) }
 {
     match word.split_once('@') {
         Some((name, number)) => {
@@ -85,11 +86,10 @@ fn item_of(word: &str, file: &ProgramFile<'_>) -> Option<Item>
 
 // The core of this number, and the register of 32 bits of this name.
 fn register_in(name: &str, number: &str) -> Option<(u8, u8)>
-    ensures { IfSome result (λ r. (register_of name.now ≡ Some (D, r.1)) × (word32 number.now ≡ Some r.0)) }
+    ensures { MatchOption result (IsNoRegister name.now ⊎ (core_said number.now ≡ None))
+        (λ r. (register_of name.now ≡ Some (D, r.1)) × (core_said number.now ≡ Some r.0)) }
 {
-    let core = number_of(Some(number), "--show").ok()?;
-    match register_of(name.as_bytes()) {
-        Some((Width::D, register)) => Some((u8::try_from(core).ok()?, register)),
-        _ => None,
-    }
+    let register = register_named(name)?;
+    let core = core_of(number)?;
+    Some((core, register))
 }

@@ -3,7 +3,7 @@
 //! [`tell_object`] is the one call. The whole text is made, and then it is written.
 
 ghost use Rattle.std.specs.Prelude.{◌≡◌, IfErr, IfOk, OnOk, Some, codes, string_bytes};
-ghost use Rattle.elide_outcomes.specs.Refused.{IsUntold};
+ghost use Rattle.elide_setup.specs.Refused.{IsUntold};
 ghost use Rattle.elide_args.specs.Asked.{texts_of};
 ghost use Rattle.elide_object.specs.Object.{SendsMember, list_value, object_text};
 ghost use Rattle.serde_json.specs.Events.{SendsValue};

@@ -1,7 +1,7 @@
 //! The page of an outcome.
 
 ghost use Rattle.std.specs.Prelude.{◌≡◌, ◌⊎◌, ℕ, IfErr, IfOk, List};
-ghost use Rattle.elide_outcomes.specs.Refused.{IsNoPage, IsOverProgram, IsAPage, IsPageOf};
+ghost use Rattle.elide_outcomes.specs.Refused.{IsNoPage, IsNotShown, IsOverProgram, IsPageOf};
 
 use elide_args::{MachineOptions, OutcomesOptions};
 use elide_program::{Paths, number_of};
@@ -57,7 +57,7 @@ impl<'a> PageAsked<'a> {
         pages: &W,
         paths: &mut P,
     ) -> Result<Paged, Refusal>
-        ensures { IfErr result (λ _. IsAPage self.entry) }
+        ensures { IfErr result (IsNotShown text.now machine.now told.now self.entry) }
     {
         let PageAsked::Of { index, path } = self else {
             return Ok(Paged::AsAsked);

@@ -5,7 +5,7 @@ use Rattle.std.specs.Prelude.{IfSome}
 use Rattle.elide_setup.specs.ElideProgram.Files.{Gives, most_bytes}
 use Rattle.elide_setup.specs.ElideProgram.ProgramFile.{IsFile}
 use Rattle.elide_setup.specs.Recorded.{IsRecorded}
-use Rattle.elide_setup.specs.Refused.{misread, no_setup, not_read}
+use Rattle.elide_setup.specs.Refused.{HasNoProgram, IsNotPaged, no_setup, not_read}
 use Rattle.tm_schedule.specs.Schedule.{schedule_text}
 use Rattle.tm_hunt.specs.Deciding.{deciding}
 use Rattle.elide_hunt.specs.Printed.{IsTrialOf}
@@ -57,7 +57,7 @@ returns-clause-printed g c =
 pub returns-in_err-settings-clause-refused : goal.returns-in_err-settings-clause-refused
 returns-in_err-settings-clause-refused g c =
     let p = err_from_is_err_and c.from_residual.result c.from_residual.ensures.1 in
-    rw (p.1, p.2) (without_program (λ any. no_setup c.in_err-settings.field-0.0 (misread c.in_err-settings.ensures.misread) refl))
+    rw (p.1, p.2) (without_program (λ any. no_setup c.in_err-settings.field-0.0 (HasNoProgram.misread c.in_err-settings.ensures.misread) refl))
 
 pub returns-in_err-orders-clause-refused : goal.returns-in_err-orders-clause-refused
 returns-in_err-orders-clause-refused g c =
@@ -122,4 +122,7 @@ returns-in_err-paged-clause-refused g c =
       };
       found = paged.1;
       failed = paged.3;
+      refused =
+          subst (λ (text : List ℕ). IsNotPaged text options.machine (deciding paged.1.failure) c.in_err-paged.field-0.0)
+          c.as_slice-2.ensures.value paged.4;
     }))

@@ -3,9 +3,10 @@ use Rattle.std.proofs.lemmas.Result.{err_from_is_err_and}
 use Rattle.elide_program.specs.Faults.{unread}
 use Rattle.elide_program.specs.Files.{Gives, Tells, most_bytes}
 use Rattle.elide_program.specs.ProgramFile.{IsFile}
+use Rattle.tm_outcomes.specs.declared.table.Told.{Told}
 use Rattle.elide_outcomes.specs.Printed.{IsTrialOf}
-use Rattle.elide_outcomes.specs.Refused.{IsNotFound, misread, not_found, not_paged, not_read, unwritten}
-use Rattle.elide_outcomes.proofs.Refusing.{err_weaker, has_page}
+use Rattle.elide_outcomes.specs.Refused.{IsNotFound, IsNotShown, misread, not_found, not_paged, not_read, unwritten}
+use Rattle.elide_outcomes.proofs.Refusing.{err_weaker}
 use Rattle.elide_outcomes.proofs.command.outcomes_with_stops.Goals as goal
 
 pub returns-clause-ok : goal.returns-clause-ok
@@ -84,5 +85,45 @@ returns-in_err-write-clause-err g c =
 
 pub returns-clause-page : goal.returns-clause-page
 returns-clause-page g c =
+    let options = c.args.options.now in
+    let made = c.in_ok-found.ensures in
+    let bytes : List ℕ = c.in_ok-text.text.items in
     err_weaker c.write-paged.result _ _
-    (λ why is. not_paged (has_page c.args.options.now.page.items c.in_ok-page.page c.in_ok-page.ensures.ok is)) c.write-paged.ensures
+    (λ why h. not_paged (record {
+      page = c.in_ok-page.page;
+      said = c.in_ok-page.ensures.ok;
+      found = c.in_ok-found.found;
+      searched = record {
+        setup = made.3;
+        asked = record {
+          file = made.0;
+          read = record {
+            text = bytes;
+            given =
+                subst (λ (known : Option (List ℕ)). Gives known most_bytes bytes)
+                (c.read-3.ensures.kept options.machine.file.now) c.in_ok-text.ensures.given;
+            read = subst (λ (text : List ℕ). IsFile text made.0) c.as_slice.ensures.value made.1;
+          };
+          settings = c.in_ok-settings.settings;
+          said = c.in_ok-settings.ensures.settings;
+          made = made.4;
+        };
+        under = c.in_ok-under.under;
+        said = c.in_ok-under.ensures.ok;
+        stops = c.args.stops.now;
+        named = c.requires;
+        trial = made.2;
+        shows =
+            subst
+            (λ (text : List ℕ). IsTrialOf text made.0 made.3 options c.in_ok-under.under c.args.stops.now made.2)
+            c.as_slice.ensures.value made.5;
+        most = c.in_ok-most.most;
+        limit = c.in_ok-most.ensures.ok;
+        is_found = made.6;
+      };
+      refused =
+          subst (λ (text : List ℕ). IsNotShown text options.machine c.in_ok-found.found.search.outcomes.items c.in_ok-page.page why)
+          c.as_slice-2.ensures.value
+          (subst (λ (told : List Told). IsNotShown c.as_slice-2.result.now options.machine told c.in_ok-page.page why)
+          c.as_slice-told.ensures.value h);
+    })) c.write-paged.ensures
