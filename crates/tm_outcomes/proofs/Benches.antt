@@ -134,7 +134,7 @@ one_schedule trial nodes one other a b (suc most) index below within = elim (cas
 ]
 
 -- it stands there in a tree with a node more
-at_grown : (trial : Trial) (nodes after : List Node) (node : Node) (schedules : List (List Pick)) (place : Place) (at : Option ℕ) →
+pub at_grown : (trial : Trial) (nodes after : List Node) (node : Node) (schedules : List (List Pick)) (place : Place) (at : Option ℕ) →
     IsTree trial nodes schedules → after ≡ nodes ++ node ∷ [] → node.parent < length nodes → All (IsPickOf trial) node.steps.items →
     HasRun trial (schedule_at schedules node.parent ++ node.steps.items) → IsAtNode trial nodes place at → IsAtNode trial after place at
 at_grown trial nodes after node schedules place None tree added parent are_picks has_run is = tt

@@ -15,6 +15,8 @@ pub mod Along
 pub mod Stored
 pub mod Noted
 pub mod Benches
+pub mod Digests
+pub mod Kept
 pub mod Follows
 pub mod Grown
 pub mod Joined

@@ -3,6 +3,8 @@ use Rattle.std.proofs.Common.{◌≡◌, ℕ, ◌≤◌, List, Option, length, s
 use Rattle.std.specs.Prelude.{All, IfSome}
 use Rattle.std.proofs.lemmas.Bool.{false≢true}
 use Rattle.tm_model.specs.declared.outcome.Pick.{Pick}
+use Rattle.tm_outcomes.specs.Kept.{AreApart}
+use Rattle.tm_outcomes.specs.Nodes.{IsTree}
 use Rattle.tm_outcomes.specs.Outcomes.{AreDistinct, AreTold, IsAllowed, IsSearch, IsTold, trial_setting}
 use Rattle.tm_outcomes.specs.Searching.{AreFindings, AreStops, AreViolations, IsCutOf, IsSearching, IsWholeOf}
 use Rattle.tm_outcomes.specs.Searching.{TellsWayless}
@@ -15,8 +17,10 @@ use Rattle.tm_outcomes.specs.declared.stuck.Stuck.{Stuck}
 use Rattle.tm_outcomes.specs.declared.table.Told.{Told}
 use Rattle.tm_outcomes.specs.declared.trial.Trial.{Trial}
 use Rattle.tm_outcomes.specs.declared.violations.Violation.{Violation}
+use Rattle.tm_outcomes.specs.declared.written.Written.{Written}
 use Rattle.tm_outcomes.proofs.Catching.{stays_stopped}
 use Rattle.tm_outcomes.proofs.Complete.{all_told, met, met_end}
+use Rattle.tm_outcomes.proofs.Kept.{are_different, has_found}
 use Rattle.tm_outcomes.proofs.Ways.{has_states, is_cycle, is_free, is_stuck}
 
 module _ (trial : Trial) (most done : ℕ) (search : Searching) (schedules : List (List Pick)) (told : Search)
@@ -34,8 +38,8 @@ module _ (trial : Trial) (most done : ℕ) (search : Searching) (schedules : Lis
         few = (let f = searching.few in let s = of.states in omega arith);
       }
 
-  pub is_verdict : IsVerdict trial told
-  is_verdict =
+  pub is_verdict : (written : Written) → AreApart trial search.nodes.items written → IsVerdict trial told
+  is_verdict written apart =
       let stops : search.found.stops.items ≡ told.stops.items = sym (ap (λ v. v.items) of.stops) in
       let all : AreStops trial told.stops.items = subst (λ (s : List ReachedStop). AreStops trial s) stops searching.found.stops in
       let violations : search.found.violations.items ≡ told.violations.items = sym (ap (λ v. v.items) of.violations) in
@@ -48,7 +52,8 @@ module _ (trial : Trial) (most done : ℕ) (search : Searching) (schedules : Lis
             (subst (λ (o : Option Stuck). TellsWayless search.nodes.items of.verdict.marked o) none of.verdict.stuck);
         cut = λ cut. absurd (false≢true (sym of.is_cut ∙ cut));
         states = λ _. has_states trial most done search schedules searching whole of.verdict.marked of.verdict.marks told of.states
-            of.verdict.stuck;
+            of.verdict.stuck (are_different trial search.nodes.items written schedules searching.tree apart);
+        found = has_found trial search.nodes.items written schedules told searching.tree apart of.states;
         cycle = is_cycle trial most done search schedules searching whole of.verdict.marked of.verdict.marks told.cycle of.verdict.cycle;
         cut_cycle = λ cut. absurd (false≢true (sym of.is_cut ∙ cut));
         stops = all.told;
@@ -81,8 +86,9 @@ module _ (trial : Trial) (most : ℕ) (search : Searching) (told : Search) (full
         few = (let s = of.states in omega arith);
       }
 
-  pub is_cut_verdict : IsVerdict trial told
-  is_cut_verdict =
+  pub is_cut_verdict : (written : Written) (schedules : List (List Pick)) → IsTree trial search.nodes.items schedules →
+      AreApart trial search.nodes.items written → IsVerdict trial told
+  is_cut_verdict written schedules tree apart =
       let stops : search.found.stops.items ≡ told.stops.items = sym (ap (λ v. v.items) of.stops) in
       let all : AreStops trial told.stops.items = subst (λ (s : List ReachedStop). AreStops trial s) stops found.stops in
       let violations : search.found.violations.items ≡ told.violations.items = sym (ap (λ v. v.items) of.violations) in
@@ -93,6 +99,7 @@ module _ (trial : Trial) (most : ℕ) (search : Searching) (told : Search) (full
         free = λ whole. absurd (false≢true (sym whole ∙ of.is_cut));
         cut = λ _. of.stuck;
         states = λ whole. absurd (false≢true (sym whole ∙ of.is_cut));
+        found = has_found trial search.nodes.items written schedules told tree apart of.states;
         cycle = subst (λ (o : Option Cycle). IfSome o (λ c. IsCycle trial c.schedule.items c.steps.items)) (sym of.cycle) tt;
         cut_cycle = λ _. of.cycle;
         stops = all.told;

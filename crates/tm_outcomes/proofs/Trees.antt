@@ -19,13 +19,13 @@ schedule_new schedules schedule index last =
     ap (schedule_at (schedules ++ schedule ∷ [])) last ∙ get_or-append_seam schedules schedule [] []
 
 -- a part of each node
-part_old : {A : Type 0} (part : Node → A) (default : A) (nodes : List Node) (node : Node) (index : ℕ) → index < length nodes →
+pub part_old : {A : Type 0} (part : Node → A) (default : A) (nodes : List Node) (node : Node) (index : ℕ) → index < length nodes →
     get_or (map part (nodes ++ node ∷ [])) index default ≡ get_or (map part nodes) index default
 part_old part default nodes node index below =
     ap (λ parts. get_or parts index default) (map-append part nodes (node ∷ []))
     ∙ get_or_append_left (map part nodes) (part node ∷ []) default index (subst (λ n. index < n) (sym (length-map nodes part)) below)
 
-part_new : {A : Type 0} (part : Node → A) (default : A) (nodes : List Node) (node : Node) (index : ℕ) → index ≡ length nodes →
+pub part_new : {A : Type 0} (part : Node → A) (default : A) (nodes : List Node) (node : Node) (index : ℕ) → index ≡ length nodes →
     get_or (map part (nodes ++ node ∷ [])) index default ≡ part node
 part_new part default nodes node index last =
     ap (λ parts. get_or parts index default) (map-append part nodes (node ∷ []))

@@ -11,7 +11,7 @@ use Rattle.tm_outcomes.specs.Nodes.{IsEnd, IsFollowed, IsPickOf, IsStep, LeadsTo
 use Rattle.tm_outcomes.specs.Outcomes.{AreAllowed, IsAllowed, IsSparing, trial_opening, trial_setting}
 use Rattle.tm_outcomes.specs.Schedules.{HasEnded, Situation, after_pick, after_schedule}
 use Rattle.tm_outcomes.specs.Searching.{IsRoundOf, IsSearching, TellsWayless}
-use Rattle.tm_outcomes.specs.Verdicts.{CanEnd, HasStates, IsCycle, IsJudged, IsReached, IsStuck}
+use Rattle.tm_outcomes.specs.Verdicts.{AreDifferent, CanEnd, HasStates, IsCycle, IsJudged, IsReached, IsStuck}
 use Rattle.tm_outcomes.specs.declared.cycle.Cycle.{Cycle}
 use Rattle.tm_outcomes.specs.declared.links.Link.{Link}
 use Rattle.tm_outcomes.specs.declared.searching.Search.{Search}
@@ -129,14 +129,15 @@ module _ (trial : Trial) (most done : ℕ) (search : Searching) (schedules : Lis
   counted_stuck (Some stuck) tells = tells.states
 
   pub has_states : (told : Search) → told.states ≡ length search.nodes.items →
-      TellsWayless search.nodes.items marked told.stuck → HasStates trial told
-  has_states told states tells =
+      TellsWayless search.nodes.items marked told.stuck → AreDifferent trial schedules → HasStates trial told
+  has_states told states tells different =
       let counted = searching.tree.counted in
       record {
         schedules = schedules;
         can_end = marked;
         count = counted ∙ sym states;
         judgements = marks.count ∙ sym states;
+        different = different;
         all = λ schedule now is.
             let there = met trial most done search schedules searching whole schedule now is in
             let within : there.index < length search.nodes.items = (let w = there.leads.within in omega arith) in (

@@ -9,3 +9,5 @@ pub mod Nodes
 pub mod Resting
 pub mod Searching
 pub mod Written
+pub mod Digests
+pub mod Kept

@@ -94,14 +94,30 @@ abbrev pub IsJudged : Trial → List Pick → Bool → Type 0
 IsJudged trial schedule true = (now : Situation) × IsReached trial schedule now × CanEnd trial now
 IsJudged trial schedule false = IsStuck trial schedule
 
--- A schedule to each of the states that were found, and whether an end can be reached from there. Wherever a schedule
--- leads, one of these states, or what is shown alike, follows by steps that no other core sees. As many as cannot reach
--- an end are told as stuck.
+-- no two of these schedules lead to what is shown alike
+abbrev pub AreDifferent : Trial → List (List Pick) → Type 0
+AreDifferent trial schedules =
+    (first second : ℕ) → first < second → second < length schedules → (one other : Situation) →
+    IsReached trial (slice_index_or schedules first []) one →
+    IsReached trial (slice_index_or schedules second []) other → ¬ AreSame trial one other
+
+-- as many states as are told: a schedule leads to each, and no two of them are shown alike
+pub record HasFound (trial : Trial) (search : Search) : Type 0 where
+  pub schedules : List (List Pick)
+  pub count : length schedules ≡ search.states
+  pub reached : (index : ℕ) → index < search.states →
+      (now : Situation) × IsReached trial (slice_index_or schedules index []) now
+  pub different : AreDifferent trial schedules
+
+-- A schedule to each of the states that were found, no two of which are shown alike, and whether an end can be reached
+-- from there. Wherever a schedule leads, one of these states, or what is shown alike, follows by steps that no other
+-- core sees. As many as cannot reach an end are told as stuck.
 pub record HasStates (trial : Trial) (search : Search) : Type 0 where
   pub schedules : List (List Pick)
   pub can_end : List Bool
   pub count : length schedules ≡ search.states
   pub judgements : length can_end ≡ search.states
+  pub different : AreDifferent trial schedules
   pub all : (schedule : List Pick) (now : Situation) → IsReached trial schedule now →
       (index : ℕ) × (index < search.states) × RestsAs trial now (slice_index_or schedules index [])
   pub judged : (index : ℕ) → index < search.states →
@@ -152,12 +168,13 @@ IsViolationTold violations check = Any (λ told. told.check ≡ check) violation
 -- for a stop that it does not lead to, and none for a check that its end does not violate; and where the search was
 -- not cut and tells none, each schedule goes on to an end, none leads to a stop that is looked for, and each end passes
 -- each check. Where it was cut, none is told as stuck, and no cycle. No step of a schedule that is told comes under an
--- event without need.
+-- event without need. As many states are told as were found, cut or not, none of them twice.
 pub record IsVerdict (trial : Trial) (search : Search) : Type 0 where
   pub stuck : IfSome search.stuck (λ told. IsStuck trial told.schedule.items)
   pub free : search.is_cut ≡ false → search.stuck ≡ None → (schedule : List Pick) (now : Situation) →
       IsReached trial schedule now → CanEnd trial now
   pub cut : search.is_cut ≡ true → search.stuck ≡ None
+  pub found : HasFound trial search
   pub states : search.is_cut ≡ false → HasStates trial search
   pub cycle : IfSome search.cycle (λ told. IsCycle trial told.schedule.items told.steps.items)
   pub cut_cycle : search.is_cut ≡ true → search.cycle ≡ None

@@ -1,5 +1,5 @@
 -- The lines that the steps of a search have stored to, outside of which memory is what it was before the first step.
-use Rattle.std.specs.Prelude.{◌≡◌, ⊤, ℕ, ◌<◌, List, Option, Some, None, length}
+use Rattle.std.specs.Prelude.{◌≡◌, ⊤, ℕ, ◌<◌, List, ◌++◌, Contains, Option, Some, None, length}
 use Rattle.tm_core.specs.IaImage.Program.{opening_memory}
 use Rattle.tm_core.specs.Reopening.{IsSameElsewhere}
 use Rattle.tm_model.specs.Setting.{Setting}
@@ -27,6 +27,12 @@ abbrev pub IsWithin : Trial → List ℕ → List Pick → Type 0
 IsWithin trial lines schedule =
     (now : Situation) → after_schedule (trial_setting trial) (trial_opening trial) schedule ≡ Some now →
     IsSameElsewhere lines now.state.memory (opening_memory trial.program.now)
+
+-- lines that were not there stand behind the others
+pub record HasMore (before after : List ℕ) : Type 0 where
+  pub more : List ℕ
+  pub grown : after ≡ before ++ more
+  pub fresh : (line : ℕ) → Contains more line → ¬ Contains before line
 
 -- memory before the first step, and lines that the schedule of each node stays within
 pub record IsWrittenOf (trial : Trial) (nodes : List Node) (written : Written) : Type 0 where

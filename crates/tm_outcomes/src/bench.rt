@@ -1,7 +1,9 @@
 //! The machines that a search works with.
 
-ghost use Rattle.std.specs.Prelude.{◌≡◌, ◌<◌, ◌^◌, IfErr, IfOk, IfSome, IsTrue, List, None, OnOk, length};
+ghost use Rattle.std.specs.Prelude.{◌≡◌, ◌<◌, ◌^◌, [], ℕ, IfErr, IfOk, IfSome, IsTrue, List, None, OnOk, false, length};
 ghost use Rattle.tm_model.specs.declared.outcome.Pick.{Pick};
+ghost use Rattle.tm_outcomes.specs.Digests.{digest_by};
+ghost use Rattle.tm_outcomes.specs.Kept.{AreApart, IsNewest, IsOther};
 ghost use Rattle.tm_outcomes.specs.Nodes.{HaveSchedules, IsFound, IsTree, schedule_at};
 ghost use Rattle.tm_outcomes.specs.Outcomes.{IsRefusal};
 ghost use Rattle.tm_outcomes.specs.Places.{IsAt};
@@ -35,6 +37,7 @@ impl Bench {
         ensures ok { IfOk result (λ bench. IsPlaceIn trial.now bench.noted bench.start
             × IsPlaceIn trial.now bench.noted bench.here × IsPlaceIn trial.now bench.noted bench.other) }
         ensures at { IfOk result (λ bench. bench.at ≡ None) }
+        ensures begins { IfOk result (λ bench. IsAt trial.now bench.here []) }
         ensures err { IfErr result (IsRefusal trial.now) }
     {
         let start = Place::opening(alloc, trial)?;
@@ -65,6 +68,7 @@ impl Bench {
         ensures bench { OnOk result (IsBenchOf trial.now nodes.now self.new) }
         ensures start { OnOk result ((schedules : List (List Pick)) → IsTree trial.now nodes.now schedules →
             IsAt trial.now self.new.start (schedule_at schedules index)) }
+        ensures noted { self.new.noted ≡ self.old.noted }
         ensures err { IfErr result (IsRefusal trial.now) }
     {
         if self.at == Some(index) {
@@ -93,6 +97,7 @@ impl Bench {
         ensures bench { OnOk result (IsBenchOf trial.now nodes.now self.new) }
         ensures here { OnOk result ((schedules : List (List Pick)) → IsTree trial.now nodes.now schedules →
             IsAt trial.now self.new.here (schedule_at schedules index)) }
+        ensures noted { self.new.noted ≡ self.old.noted }
         ensures err { IfErr result (IsRefusal trial.now) }
     {
         if self.here.copy(&self.start, &self.noted) {
@@ -120,6 +125,7 @@ impl Bench {
         ensures here { self.new.here ≡ self.old.here }
         ensures noted { self.new.noted ≡ self.old.noted }
         ensures ok { IfOk result (λ is_there. IsTrue is_there → IsFound trial.now nodes.now self.old.here index) }
+        ensures other { IfOk result (λ is_there. is_there ≡ false → IsOther trial.now nodes.now self.old.here index) }
         ensures err { IfErr result (IsRefusal trial.now) }
     {
         if self.at == Some(index) {
@@ -129,8 +135,8 @@ impl Bench {
         Ok(self.here.is_alike(&self.other, &self.noted))
     }
 
-    /// A node that goes on as the state does that went on, of those with this digest that are reached from the newest of
-    /// them.
+    /// The node that goes on as the state does that went on, where there is one. It is looked for among those with this
+    /// digest, which are reached from the newest of them.
     pub fn find(
         &mut self,
         alloc: Global,
@@ -141,21 +147,19 @@ impl Bench {
         requires bench { IsBenchOf trial.now nodes.now self.old }
         requires few { length nodes.now < 2 ^ 32 }
         requires tree { HaveSchedules trial.now nodes.now }
+        requires apart { AreApart trial.now nodes.now self.old.noted }
+        requires newest { IsNewest nodes.now (digest_by self.old.noted self.old.here) (length nodes.now) newest }
         ensures bench { IsBenchOf trial.now nodes.now self.new }
         ensures here { self.new.here ≡ self.old.here }
         ensures noted { self.new.noted ≡ self.old.noted }
         ensures ok { IfOk result (λ found. IfSome found (IsFound trial.now nodes.now self.old.here)) }
+        ensures none { IfOk result (λ found. found ≡ None → (index : ℕ) → index < length nodes.now →
+            IsOther trial.now nodes.now self.old.here index) }
         ensures err { IfErr result (IsRefusal trial.now) }
     {
         let mut candidate = newest;
-        'nodes: for _ in 0..nodes.len() {
-            let Some(index) = candidate else {
-                return Ok(None);
-            };
+        'nodes: while let Some(index) = candidate {
             let index = index as usize;
-            if index >= nodes.len() {
-                return Ok(None);
-            }
             if self.is_there(alloc, trial, nodes, index)? {
                 return Ok(Some(index));
             }

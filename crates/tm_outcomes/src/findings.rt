@@ -64,6 +64,7 @@ impl Findings {
         ensures shows { OnOk result ((schedules : List (List Pick)) → IsTree trial.now nodes.now schedules →
             Shows trial.now schedules self.old self.new index) }
         ensures bench { OnOk result (IsBenchOf trial.now nodes.now bench.new) }
+        ensures noted { bench.new.noted ≡ bench.old.noted }
         ensures err { IfErr result (IsRefusal trial.now) }
     {
         bench.come_to(alloc, trial, nodes, index)?;

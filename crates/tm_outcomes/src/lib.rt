@@ -8,16 +8,18 @@
 //! check; where it is not cut and tells none, there is none. Of states that can end but need not, it tells a schedule to
 //! one, and steps of all cores that go on, which lead back there; that there is none where it tells none is not promised.
 //! No step of a schedule that is told comes under an event that need not come and aborts nothing. The states that it
-//! counts, and those without a way to an end among them, are those of a list that has each, where it is not cut; that it
-//! has none twice, and how many states show an outcome or need not end, is compared by `doc_tests`. The words for it stand in `specs/Schedules.antt`, `specs/Outcomes.antt` and `specs/Verdicts.antt`, over the
-//! machine's definitions in `tm_model` alone.
+//! counts are those of a list of schedules, no two of which lead to what is shown alike; where it is not cut, the list
+//! has each state, and those without a way to an end are counted among them. How many states show an outcome or need not
+//! end is compared by `doc_tests`. The words for it stand in `specs/Schedules.antt`, `specs/Outcomes.antt` and
+//! `specs/Verdicts.antt`, over the machine's definitions in `tm_model` alone.
 //!
 //! Two states count as one where memory and what is shown of each core are the same: the machine's steps are a
 //! function of these. Behind each step that is followed, the steps of all cores are made at once that no other core
 //! sees and none changes (`specs/Unseen.antt`): whatever comes between them, the same states follow, so no schedule
 //! is lost that way. A state is kept as the last steps of a schedule that leads there. Two machines are kept, each of
-//! which comes to a state by a run of its schedule, from before the first step on. A digest only says which states
-//! may be the same: they are compared before one is dropped.
+//! which comes to a state by a run of its schedule, from before the first step on. A digest says which states may
+//! be the same: they are compared before one is dropped. States that are the same have the same digest
+//! (`specs/Digests.antt`), so that none is kept twice.
 #![tactic(auto)]
 
 mod bench;

@@ -1,12 +1,14 @@
 //! A machine at the end of a schedule.
 
-ghost use Rattle.std.specs.Prelude.{◌≡◌, ◌↔◌, ◌<◌, ◌++◌, ◌∷◌, [], List, IfErr, IfOk, IsOk, IsTrue, length, map};
+ghost use Rattle.std.specs.Prelude.{◌≡◌, ◌↔◌, ◌+◌, ◌*◌, ◌^◌, ◌<◌, ◌++◌, ◌∷◌, [], List, IfErr, IfOk, IsOk, IsTrue, false, length, map};
 ghost use Rattle.tm_core.specs.Reopening.{IsSameElsewhere};
 ghost use Rattle.tm_core.specs.Theorem.{SameMachine, StandsFor, TakesStepUnder, view_at};
 ghost use Rattle.tm_model.specs.Conflicts.{Doomed};
 ghost use Rattle.tm_model.specs.State.{State};
 ghost use Rattle.tm_outcomes.specs.Outcomes.{AreThere, IsRefusal, IsThere, trial_setting, value_of};
 ghost use Rattle.tm_model.specs.declared.outcome.Pick.{Pick};
+ghost use Rattle.tm_outcomes.specs.Digests.{digest_by, mixed_core, mixed_cores, mixed_lines, mixed_regs, mixed_rest};
+ghost use Rattle.tm_outcomes.specs.Digests.{mode_number};
 ghost use Rattle.tm_outcomes.specs.Places.{AreAlike, GoesTo, IsAt, IsPlaceOf, has_stopped, is_open};
 ghost use Rattle.tm_outcomes.specs.Schedules.{HasEnded, Situation};
 ghost use Rattle.tm_condition.specs.Conditions.{Violates};
@@ -98,6 +100,8 @@ impl Place {
         requires others { IsSameElsewhere written.now.lines.items other.now.machine.memory written.now.opening.items }
         ensures at { IsTrue result → (trial : Trial) (schedule : List Pick) → IsAt trial other.now schedule →
             IsAt trial self.new schedule }
+        ensures alike { IsTrue result → AreAlike self.new other.now }
+        ensures stays { result ≡ false → self.new ≡ self.old }
         ensures place { (trial : Trial) → IsPlaceIn trial written.now self.old → IsPlaceIn trial written.now other.now →
             IsPlaceIn trial written.now self.new }
     {
@@ -111,7 +115,7 @@ impl Place {
     pub fn is_alike(&self, other: &Place, written: &Written) -> bool
         requires memory { IsSameElsewhere written.now.lines.items self.now.machine.memory written.now.opening.items }
         requires others { IsSameElsewhere written.now.lines.items other.now.machine.memory written.now.opening.items }
-        ensures { IsTrue result → AreAlike self.now other.now }
+        ensures { IsTrue result ↔ AreAlike self.now other.now }
     {
         if self.machine.cores() != other.machine.cores() {
             return false;
@@ -230,36 +234,75 @@ impl Place {
 
     /// A number that is the same for places of a trial that are alike: of each line that steps store to the bytes, where
     /// they are not what they were before the first step, and of each core what it does and its registers.
-    pub fn digest(&self, written: &Written) -> u64 {
+    pub fn digest(&self, written: &Written) -> u64
+        ensures { result ≡ digest_by written.now self.now }
+    {
         let mut digest = Digest::new();
+        self.digest_lines(written, &mut digest);
+        self.digest_cores(&mut digest);
+        digest.value()
+    }
+
+    // Adds the lines that steps store to.
+    fn digest_lines(&self, written: &Written, digest: &mut Digest)
+        ensures { digest.new.value ≡ mixed_lines self.now.machine.memory written.now.opening.items digest.old.value
+            written.now.lines.items }
+    {
         for line in written.lines.as_slice() {
             digest.add_line(self.machine.view(), written.opening.as_slice(), *line);
         }
+    }
+
+    // Adds what is shown of each core.
+    fn digest_cores(&self, digest: &mut Digest)
+        ensures { digest.new.value ≡ mixed_cores digest.old.value self.now.machine.views }
+    {
         for core in 0..self.machine.cores() {
-            self.digest_core(core, &mut digest);
+            self.digest_core(core, digest);
         }
-        digest.value()
     }
 
     // Adds what a core does and its registers, and between two steps the value that the first has loaded: in a transaction
     // the registers before it, and where it is not doomed those now.
-    fn digest_core(&self, core: u8, digest: &mut Digest) {
+    fn digest_core(&self, core: u8, digest: &mut Digest)
+        requires { core < length self.now.machine.views }
+        ensures { digest.new.value ≡ mixed_core digest.old.value (view_at self.now.machine core) }
+    {
         let (Ok(state), Ok(base)) = (self.machine.state(core), self.machine.base_regs(core)) else {
-            return;
+            unreachable!();
         };
         digest.add(number_of(state));
         add_regs(digest, &base);
-        if let (CoreState::Mid, Ok(kept)) = (state, self.machine.kept(core)) {
-            digest.add(u64::from(kept));
-        }
-        if let (CoreState::Open(_), Ok(regs)) = (state, self.machine.regs(core)) {
-            add_regs(digest, &regs);
+        self.digest_rest(core, state, digest);
+    }
+
+    // Adds what there is besides.
+    fn digest_rest(&self, core: u8, state: CoreState, digest: &mut Digest)
+        requires { core < length self.now.machine.views }
+        ensures { digest.new.value ≡ mixed_rest digest.old.value (view_at self.now.machine core) state }
+    {
+        match state {
+            CoreState::Mid => {
+                let Ok(kept) = self.machine.kept(core) else {
+                    unreachable!();
+                };
+                digest.add(u64::from(kept));
+            }
+            CoreState::Open(_) => {
+                let Ok(regs) = self.machine.regs(core) else {
+                    unreachable!();
+                };
+                add_regs(digest, &regs);
+            }
+            CoreState::Running | CoreState::Condemned(_) | CoreState::Stopped(_) => {}
         }
     }
 }
 
 // A number for what a core does.
-fn number_of(state: CoreState) -> u64 {
+fn number_of(state: CoreState) -> u64
+    ensures { result ≡ mode_number state }
+{
     match state {
         CoreState::Running => 0,
         CoreState::Mid => 1,
@@ -269,9 +312,18 @@ fn number_of(state: CoreState) -> u64 {
     }
 }
 
+// The instruction pointer and the flags.
+fn word_of(regs: &Regs) -> u64
+    ensures { result ≡ regs.now.eip * 2 ^ 32 + regs.now.flags.0 }
+{
+    u64::from(regs.eip) * 0x1_0000_0000 + u64::from(regs.flags.bits())
+}
+
 // Adds registers.
-fn add_regs(digest: &mut Digest, regs: &Regs) {
-    digest.add(u64::from(regs.eip) << 32 | u64::from(regs.flags.bits()));
+fn add_regs(digest: &mut Digest, regs: &Regs)
+    ensures { digest.new.value ≡ mixed_regs digest.old.value regs.now }
+{
+    digest.add(word_of(regs));
     for register in regs.gpr {
         digest.add(u64::from(register));
     }

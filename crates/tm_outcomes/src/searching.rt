@@ -1,9 +1,11 @@
 //! The search.
 
 ghost use Rattle.std.specs.Prelude.{◌≡◌, ◌<◌, ◌≤◌, ◌+◌, ◌++◌, ◌∷◌, ◌^◌, [], ℕ, All, IfErr, IfOk, List, OnOk, false, length};
-ghost use Rattle.std.specs.Prelude.{None, Option, true};
+ghost use Rattle.std.specs.HashMap.{Updates};
+ghost use Rattle.std.specs.Prelude.{None, Option, Some, nat_eq, true};
 ghost use Rattle.tm_model.specs.declared.outcome.Event.{Event};
 ghost use Rattle.tm_model.specs.declared.outcome.Pick.{Pick};
+ghost use Rattle.tm_outcomes.specs.Kept.{AreKept, AreNewest, AreOlder, digest_at};
 ghost use Rattle.tm_outcomes.specs.Links.{LiesWithin};
 ghost use Rattle.tm_outcomes.specs.Nodes.{HaveSchedules, IsNeededBehind, IsOpenBehind, IsPickOf, IsTree, IsUntouched};
 ghost use Rattle.tm_outcomes.specs.Nodes.{schedule_at};
@@ -88,7 +90,10 @@ pub struct Followed {
 impl Searching {
     // The opening state, which has this digest.
     fn opening(alloc: Global, digest: u64) -> Result<Searching, AllocError>
-        ensures { IfOk result (λ search. (trial : Trial) → HaveDone trial 1 search 0) }
+        ensures done { IfOk result (λ search. (trial : Trial) → HaveDone trial 1 search 0) }
+        ensures newest { IfOk result AreNewest }
+        ensures older { IfOk result (λ search. AreOlder search.nodes.items) }
+        ensures digest { IfOk result (λ search. digest_at search.nodes.items 0 ≡ digest) }
     {
         let mut search = Searching {
             nodes: Vec::new(alloc),
@@ -110,6 +115,8 @@ impl Searching {
     fn add(&mut self, node: Node) -> Result<(), AllocError>
         requires { length self.old.nodes.items < 2 ^ 32 }
         ensures nodes { IfOk result (λ _. self.new.nodes.items ≡ self.old.nodes.items ++ node ∷ []) }
+        ensures newest { IfOk result (λ _. Updates nat_eq self.old.newest self.new.newest node.digest
+            (Some (length self.old.nodes.items))) }
         ensures links { self.new.links ≡ self.old.links }
         ensures found { self.new.found ≡ self.old.found }
     {
@@ -127,6 +134,7 @@ impl Searching {
         ensures links { IfOk result (λ _. self.new.links.items
             ≡ self.old.links.items ++ record { from = from; to = to } ∷ []) }
         ensures nodes { self.new.nodes ≡ self.old.nodes }
+        ensures newest { self.new.newest ≡ self.old.newest }
         ensures found { self.new.found ≡ self.old.found }
     {
         self.links.push(Link {
@@ -154,6 +162,7 @@ impl Searching {
             IsNeededBehind trial.now (schedule_at schedules index) pick }
         requires few { length self.old.nodes.items ≤ most }
         requires tree { HaveSchedules trial.now self.old.nodes.items }
+        requires kept { AreKept trial.now self.old bench.old.noted }
         ensures found { self.new.found ≡ self.old.found }
         ensures followed { IfOk result (λ r. r.progress ≡ Progress.GoesOn →
             IsFollowedIn trial.now most self.old self.new index pick.core (IsThis pick.event)) }
@@ -163,6 +172,7 @@ impl Searching {
             IsTree trial.now self.old.nodes.items schedules → IsOpenBehind trial.now (schedule_at schedules index) pick.core) }
         ensures cut { IfOk result (λ r. r.progress ≡ Progress.IsCut → length self.new.nodes.items ≡ most) }
         ensures bench { OnOk result (IsBenchOf trial.now self.new.nodes.items bench.new) }
+        ensures kept { OnOk result (AreKept trial.now self.new bench.new.noted) }
         ensures err { IfErr result (IsRefusal trial.now) }
     {
         bench.come_to(alloc, trial, self.nodes.as_slice(), index)?;
@@ -197,6 +207,7 @@ impl Searching {
             IsNeededBehind trial.now (schedule_at schedules index) pick }
         requires few { length self.old.nodes.items ≤ most }
         requires tree { HaveSchedules trial.now self.old.nodes.items }
+        requires kept { AreKept trial.now self.old bench.old.noted }
         ensures found { self.new.found ≡ self.old.found }
         ensures followed { IfOk result (λ r. r.progress ≡ Progress.GoesOn →
             IsFollowedIn trial.now most self.old self.new index pick.core (IsThis pick.event)) }
@@ -206,6 +217,7 @@ impl Searching {
             IsTree trial.now self.old.nodes.items schedules → IsOpenBehind trial.now (schedule_at schedules index) pick.core) }
         ensures cut { IfOk result (λ r. r.progress ≡ Progress.IsCut → length self.new.nodes.items ≡ most) }
         ensures bench { OnOk result (IsBenchOf trial.now self.new.nodes.items bench.new) }
+        ensures kept { OnOk result (AreKept trial.now self.new bench.new.noted) }
         ensures err { IfErr result (IsRefusal trial.now) }
     {
         let was_open = bench.here.is_open(pick.core);
@@ -261,11 +273,13 @@ impl Searching {
         requires allowed { (event : Option Event) → IsNoneOrOneOf events.now event → IsAllowed trial.now.events event }
         requires few { length self.old.nodes.items ≤ most }
         requires tree { HaveSchedules trial.now self.old.nodes.items }
+        requires kept { AreKept trial.now self.old bench.old.noted }
         ensures found { self.new.found ≡ self.old.found }
         ensures followed { IfOk result (λ progress. progress ≡ Progress.GoesOn →
             IsFollowedIn trial.now most self.old self.new index core (IsOneOf events.now)) }
         ensures cut { IfOk result (λ progress. progress ≡ Progress.IsCut → length self.new.nodes.items ≡ most) }
         ensures bench { OnOk result (IsBenchOf trial.now self.new.nodes.items bench.new) }
+        ensures kept { OnOk result (AreKept trial.now self.new bench.new.noted) }
         ensures err { IfErr result (IsRefusal trial.now) }
     {
         for event in events {
@@ -300,12 +314,14 @@ impl Searching {
         requires allowed { (event : Option Event) → IsNoneOrOneOf events.now event → IsAllowed trial.now.events event }
         requires few { length self.old.nodes.items ≤ most }
         requires tree { HaveSchedules trial.now self.old.nodes.items }
+        requires kept { AreKept trial.now self.old bench.old.noted }
         ensures found { self.new.found ≡ self.old.found }
         ensures followed { IfOk result (λ progress. progress ≡ Progress.GoesOn →
             IsFollowedIn trial.now most self.old self.new index core
             (IsNoneOrOneOf events.now)) }
         ensures cut { IfOk result (λ progress. progress ≡ Progress.IsCut → length self.new.nodes.items ≡ most) }
         ensures bench { OnOk result (IsBenchOf trial.now self.new.nodes.items bench.new) }
+        ensures kept { OnOk result (AreKept trial.now self.new bench.new.noted) }
         ensures err { IfErr result (IsRefusal trial.now) }
     {
         let alone = Pick { core, event: None };
@@ -334,12 +350,14 @@ impl Searching {
         requires is_core { core < length trial.now.program.now.entries }
         requires few { length self.old.nodes.items ≤ most }
         requires tree { HaveSchedules trial.now self.old.nodes.items }
+        requires kept { AreKept trial.now self.old bench.old.noted }
         ensures found { self.new.found ≡ self.old.found }
         ensures followed { IfOk result (λ progress. progress ≡ Progress.GoesOn →
             IsFollowedIn trial.now most self.old self.new index core
             (IsAllowed trial.now.events)) }
         ensures cut { IfOk result (λ progress. progress ≡ Progress.IsCut → length self.new.nodes.items ≡ most) }
         ensures bench { OnOk result (IsBenchOf trial.now self.new.nodes.items bench.new) }
+        ensures kept { OnOk result (AreKept trial.now self.new bench.new.noted) }
         ensures err { IfErr result (IsRefusal trial.now) }
     {
         match trial.events {
@@ -379,11 +397,13 @@ impl Searching {
         requires within { index < length self.old.nodes.items }
         requires there { AreThere trial.now }
         requires done { HaveDone trial.now most self.old index }
+        requires kept { AreKept trial.now self.old bench.old.noted }
         ensures goes_on { IfOk result (λ progress. progress ≡ Progress.GoesOn →
             HaveDone trial.now most self.new (index + 1)) }
         ensures cut { IfOk result (λ progress. progress ≡ Progress.IsCut →
             (length self.new.nodes.items ≡ most) × AreFindings trial.now self.new.found) }
         ensures bench { OnOk result (IsBenchOf trial.now self.new.nodes.items bench.new) }
+        ensures kept { OnOk result (AreKept trial.now self.new bench.new.noted) }
         ensures err { IfErr result (IsRefusal trial.now) }
     {
         self.found
@@ -498,12 +518,14 @@ fn explore<W: Watching>(
     requires here { IsPlaceIn trial.now bench.old.noted bench.old.here }
     requires other { IsPlaceIn trial.now bench.old.noted bench.old.other }
     requires at { bench.old.at ≡ None }
+    requires begins { IsAt trial.now bench.old.here [] }
     requires there { AreThere trial.now }
     requires some { 1 ≤ most }
     ensures whole { IfOk result (λ explored. explored.progress ≡ Progress.GoesOn → IsOver trial.now most explored.search) }
     ensures cut { IfOk result (λ explored. explored.progress ≡ Progress.IsCut →
         (length explored.search.nodes.items ≡ most) × AreFindings trial.now explored.search.found) }
     ensures bench { IfOk result (λ explored. IsBenchOf trial.now explored.search.nodes.items bench.new) }
+    ensures kept { IfOk result (λ explored. AreKept trial.now explored.search bench.new.noted) }
     ensures err { IfErr result (IsRefusal trial.now) }
 {
     let mut search = Searching::opening(alloc, bench.here.digest(&bench.noted))?;

@@ -1,12 +1,12 @@
 //! The lines of memory that steps store to.
 
-ghost use Rattle.std.specs.Prelude.{◌≡◌, ◌/◌, ◌<◌, ◌^◌, ℕ, Contains, IfOk, OnOk, false, length, true};
+ghost use Rattle.std.specs.Prelude.{◌≡◌, ◌↔◌, ◌/◌, ◌<◌, ◌^◌, ℕ, Contains, IfOk, OnOk, false, length, true};
 ghost use Rattle.tm_core.specs.IaImage.Program.{opening_memory as memory_of};
 ghost use Rattle.tm_core.specs.Theorem.{StandsFor, machine_setting, view_at};
 ghost use Rattle.tm_model.specs.Access.{loaded_addresses};
 ghost use Rattle.tm_outcomes.specs.Places.{is_open};
 ghost use Rattle.tm_outcomes.specs.Schedules.{Situation};
-ghost use Rattle.tm_outcomes.specs.Written.{StoresOn};
+ghost use Rattle.tm_outcomes.specs.Written.{HasMore, StoresOn};
 
 use crate::trial::Trial;
 use std::alloc::{AllocError, Global};
@@ -48,6 +48,7 @@ impl Written {
         requires { core < length machine.now.views }
         ensures opening { self.new.opening ≡ self.old.opening }
         ensures kept { (line : ℕ) → Contains self.old.lines.items line → Contains self.new.lines.items line }
+        ensures grown { OnOk result (HasMore self.old.lines.items self.new.lines.items) }
         ensures noted { OnOk result ((now : Situation) → StandsFor machine.now now.state now.doomed →
             StoresOn (machine_setting machine.now) self.new.lines.items now core) }
     {
@@ -64,6 +65,7 @@ impl Written {
         requires open { is_open (view_at machine.now core).mode ≡ true }
         ensures opening { self.new.opening ≡ self.old.opening }
         ensures kept { (line : ℕ) → Contains self.old.lines.items line → Contains self.new.lines.items line }
+        ensures grown { OnOk result (HasMore self.old.lines.items self.new.lines.items) }
         ensures noted { OnOk result ((now : Situation) → StandsFor machine.now now.state now.doomed →
             StoresOn (machine_setting machine.now) self.new.lines.items now core) }
     {
@@ -87,6 +89,7 @@ impl Written {
         requires closed { is_open (view_at machine.now core).mode ≡ false }
         ensures opening { self.new.opening ≡ self.old.opening }
         ensures kept { (line : ℕ) → Contains self.old.lines.items line → Contains self.new.lines.items line }
+        ensures grown { OnOk result (HasMore self.old.lines.items self.new.lines.items) }
         ensures noted { OnOk result ((now : Situation) → StandsFor machine.now now.state now.doomed →
             StoresOn (machine_setting machine.now) self.new.lines.items now core) }
     {
@@ -101,6 +104,7 @@ impl Written {
     fn add_access(&mut self, access: Option<Access>) -> Result<(), AllocError>
         ensures opening { self.new.opening ≡ self.old.opening }
         ensures kept { (line : ℕ) → Contains self.old.lines.items line → Contains self.new.lines.items line }
+        ensures grown { OnOk result (HasMore self.old.lines.items self.new.lines.items) }
         ensures all { OnOk result ((address : ℕ) → Contains (loaded_addresses access) address →
             Contains self.new.lines.items (address / 64)) }
     {
@@ -118,6 +122,7 @@ impl Written {
     fn add_all(&mut self, lines: &[u32]) -> Result<(), AllocError>
         ensures opening { self.new.opening ≡ self.old.opening }
         ensures kept { (line : ℕ) → Contains self.old.lines.items line → Contains self.new.lines.items line }
+        ensures grown { OnOk result (HasMore self.old.lines.items self.new.lines.items) }
         ensures all { OnOk result ((line : ℕ) → Contains lines.now line → Contains self.new.lines.items line) }
     {
         for line in lines {
@@ -130,6 +135,7 @@ impl Written {
     fn add(&mut self, line: u32) -> Result<(), AllocError>
         ensures opening { self.new.opening ≡ self.old.opening }
         ensures kept { (other : ℕ) → Contains self.old.lines.items other → Contains self.new.lines.items other }
+        ensures grown { OnOk result (HasMore self.old.lines.items self.new.lines.items) }
         ensures here { OnOk result (Contains self.new.lines.items line) }
     {
         if has(self.lines.as_slice(), line) {
@@ -142,7 +148,7 @@ impl Written {
 
 // Whether a line is among these.
 fn has(lines: &[u32], line: u32) -> bool
-    ensures { result ≡ true → Contains lines.now line }
+    ensures { result ≡ true ↔ Contains lines.now line }
 {
     for other in lines {
         if *other == line {

@@ -3,8 +3,8 @@ use Rattle.std.proofs.lemmas.Bool.{cases_lt}
 use Rattle.std.proofs.lemmas.List.{get_or_past}
 use Rattle.tm_outcomes.proofs.digest.is_line_same.Goals as goal
 
-pub returns : goal.returns
-returns c = λ same address is.
+pub returns-clause-same : goal.returns-clause-same
+returns-clause-same c = λ same address is.
     let these = c.args.these.now in
     let those = c.args.those.now in
     let so_far = c.loop-at.invariant in

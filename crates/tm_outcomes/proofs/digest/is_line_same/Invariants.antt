@@ -8,4 +8,5 @@ invariant-loop-at l = record {
   within : l.end ≤ length l.these;
   so_far : l.same ≡ true → (address : ℕ) → l.start ≤ address → address < l.at →
       slice_index l.these address ≡ slice_index l.those address;
+  differs : l.these ≡ l.those → l.same ≡ true;
 }

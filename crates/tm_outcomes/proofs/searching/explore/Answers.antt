@@ -1,11 +1,14 @@
-use Rattle.std.proofs.Common.{◌≡◌, ℕ, Option, length, sym, subst, arith}
+use Rattle.std.proofs.Common.{◌≡◌, ◌∙◌, ℕ, Option, length, sym, subst, arith}
 use Rattle.tm_outcomes.specs.Written.{IsAtNode}
 use Rattle.tm_outcomes.proofs.Benches.{written_first}
+use Rattle.tm_outcomes.proofs.Kept.{apart_first}
 use Rattle.tm_outcomes.proofs.searching.explore.Goals as goal
 
 pub loop-index-init : goal.loop-index-init
 loop-index-init g c =
-    let opened = c.in_ok-search.ensures c.args.trial.now in
+    let opened = c.in_ok-search.ensures.done c.args.trial.now in
+    let nodes = c.in_ok-search.search.nodes.items in
+    let one : length nodes ≡ 1 = (let some = opened.1.tree.some in let few = opened.1.few in omega arith) in
     record {
       done = (
         opened.0,
@@ -19,8 +22,6 @@ loop-index-init g c =
         },
       );
       bench =
-          let one : length c.in_ok-search.search.nodes.items ≡ 1 =
-          (let some = opened.1.tree.some in let few = opened.1.few in omega arith) in
           record {
             start = c.requires.start;
             here = c.requires.here;
@@ -29,6 +30,11 @@ loop-index-init g c =
             written = written_first c.args.trial.now c.in_ok-search.search.nodes.items c.args.bench.now.noted opened.0
                 c.requires.here.opening opened.1.tree one;
           };
+      kept = record {
+        apart = apart_first c.args.trial.now nodes c.args.bench.now.noted opened.0 c.args.bench.now.here opened.1.tree one
+            c.requires.begins (c.in_ok-search.ensures.digest ∙ c.digest.ensures) c.in_ok-search.ensures.older;
+        newest = c.in_ok-search.ensures.newest;
+      };
     }
 
 pub returns-then-index-len-clause-whole : goal.returns-then-index-len-clause-whole

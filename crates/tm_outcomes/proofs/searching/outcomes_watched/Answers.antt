@@ -17,7 +17,9 @@ returns-in_default-clause-ok g c =
 pub returns-in_default-clause-verdict : goal.returns-in_default-clause-verdict
 returns-in_default-clause-verdict g c =
     let cut = c.in_ok-explored.ensures.cut c.in_default.is in
+    let explored = c.in_ok-explored.ensures in
     is_cut_verdict c.args.trial.now c.args.most c.in_ok-explored.explored.search c.cut.result cut.0 cut.1 c.cut.ensures
+    c.explore.new.bench.noted explored.bench.written.schedules explored.bench.written.tree explored.kept.apart
 
 pub whole-requires-clause-few : goal.whole-requires-clause-few
 whole-requires-clause-few g c =
@@ -61,4 +63,4 @@ pub returns-clause-verdict : goal.returns-clause-verdict
 returns-clause-verdict g c =
     let over = c.in_ok-explored.ensures.whole c.in-GoesOn.is in
     is_verdict c.args.trial.now c.args.most over.done c.in_ok-explored.explored.search over.schedules c.in_ok-told.told
-    over.searching over.whole c.in_ok-told.ensures.ok
+    over.searching over.whole c.in_ok-told.ensures.ok c.explore.new.bench.noted c.in_ok-explored.ensures.kept.apart

@@ -1,5 +1,9 @@
-use Rattle.std.proofs.Common.{◌≡◌, ◌⊎◌, inl, inr, ℕ, Bool, true, false, List, refl, sym, ap, ◌∙◌, subst}
+use Rattle.std.proofs.Common.{◌≡◌, ◌⊎◌, inl, inr, ℕ, Bool, true, false, List, length, refl, sym, ap, ◌∙◌, subst}
+use Rattle.std.specs.Prelude.{slice_index_or}
 use Rattle.tm_core.specs.Reopening.{IsSameElsewhere}
+use Rattle.tm_core.specs.Theorem.{no_regs}
+use Rattle.tm_model.specs.Shown.{View, view_outside}
+use Rattle.tm_model.specs.declared.outcome.CoreState.TheVariants.{Running}
 use Rattle.tm_outcomes.proofs.Stored.{then_same, turned}
 use Rattle.tm_outcomes.proofs.place.Place.copy.Goals as goal
 
@@ -43,3 +47,15 @@ returns-clause-place c = λ trial here other.
         | inr stays ↦ subst (λ m. IsSameElsewhere lines m opening) (sym (ap (λ m. m.memory) (c.copy_lines.ensures.none stays))) here.memory
       ];
     }
+
+pub returns-clause-alike : goal.returns-clause-alike
+returns-clause-alike c = λ copied.
+    let views = c.copy_lines.ensures.views copied in
+    record {
+      memory = c.copy_lines.ensures.memory copied;
+      count = ap (λ (vs : List View). length vs) views;
+      each = λ core below. ap (λ (vs : List View). slice_index_or vs core (view_outside Running no_regs)) views;
+    }
+
+pub returns-clause-stays : goal.returns-clause-stays
+returns-clause-stays c = λ stays. ap (λ m. record { machine = m }) (c.copy_lines.ensures.none stays)

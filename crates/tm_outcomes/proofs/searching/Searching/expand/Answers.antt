@@ -2,6 +2,7 @@ use Rattle.std.proofs.Common.{List, refl, sym, subst, arith}
 use Rattle.tm_outcomes.specs.Nodes.{IsTree}
 use Rattle.tm_outcomes.specs.Written.{IsBenchOf}
 use Rattle.tm_outcomes.specs.declared.nodes.Node.{Node}
+use Rattle.tm_outcomes.proofs.Kept.{kept_same}
 use Rattle.tm_outcomes.proofs.Underway.{begins, ends, goes_on}
 use Rattle.tm_outcomes.proofs.searching.Searching.expand.Goals as goal
 
@@ -13,6 +14,8 @@ loop-core-init c =
           (λ schedules tree. shown.shows schedules (subst (λ (ns : List Node). IsTree c.args.trial.now ns schedules) (sym c.as_slice.ensures.value) tree))
           c.requires.done;
       bench = subst (λ (ns : List Node). IsBenchOf c.args.trial.now ns c.show.new.bench) c.as_slice.ensures.value shown.bench;
+      kept = kept_same c.args.trial.now c.args.self.now (record c.args.self.now { found = c.show.new.self }) c.args.bench.now.noted
+          c.show.new.bench.noted refl refl shown.noted c.requires.kept;
     }
 
 pub loop-core-preserved : goal.loop-core-preserved
@@ -23,6 +26,7 @@ loop-core-preserved c =
           c.follow_core.new.self (sym followed.found) (followed.followed c.in-GoesOn.is)
           c.loop-core.invariant.search;
       bench = followed.bench;
+      kept = followed.kept;
     }
 
 pub returns-clause-goes_on : goal.returns-clause-goes_on

@@ -1,4 +1,4 @@
-use Rattle.std.proofs.Common.{List, ◌∙◌, sym, ap, subst, arith}
+use Rattle.std.proofs.Common.{List, ◌∙◌, refl, sym, ap, subst, arith}
 use Rattle.std.proofs.lemmas.Bool.{false≢true}
 use Rattle.tm_outcomes.specs.Nodes.{IsTree, schedule_at}
 use Rattle.tm_outcomes.specs.Places.{IsAt}
@@ -6,6 +6,7 @@ use Rattle.tm_outcomes.specs.Written.{IsBenchOf}
 use Rattle.tm_outcomes.specs.declared.nodes.Node.{Node}
 use Rattle.tm_outcomes.proofs.Idling.{leads_back}
 use Rattle.tm_outcomes.proofs.Joined.{to_known}
+use Rattle.tm_outcomes.proofs.Kept.{kept_same}
 use Rattle.tm_outcomes.proofs.Leads.{untouched_at}
 use Rattle.tm_outcomes.proofs.Shown.{stopped_closed}
 use Rattle.tm_outcomes.proofs.searching.Searching.follow.Goals as goal
@@ -70,3 +71,13 @@ pub returns-then-has_stopped-clause-bench : goal.returns-then-has_stopped-clause
 returns-then-has_stopped-clause-bench c =
     subst (λ (ns : List Node). IsBenchOf c.args.trial.now ns c.come_to.new.self)
     (c.as_slice.ensures.value ∙ sym (ap (λ v. v.items) c.in_ok-join.ensures.nodes)) c.in_ok-come_to.ensures.bench
+
+pub returns-then-has_stopped-clause-kept : goal.returns-then-has_stopped-clause-kept
+returns-then-has_stopped-clause-kept c =
+    kept_same c.args.trial.now c.args.self.now c.join.new.self c.args.bench.now.noted c.come_to.new.self.noted
+    c.in_ok-join.ensures.nodes c.in_ok-join.ensures.newest c.in_ok-come_to.ensures.noted c.requires.kept
+
+pub follow_here-requires-clause-kept : goal.follow_here-requires-clause-kept
+follow_here-requires-clause-kept c =
+    kept_same c.args.trial.now c.args.self.now c.args.self.now c.args.bench.now.noted c.set_out.new.self.noted refl refl
+    (c.in_ok-set_out.ensures.noted ∙ c.in_ok-come_to.ensures.noted) c.requires.kept

@@ -13,6 +13,7 @@ loop-event-init c = record {
   few = c.requires.few;
   tree = c.requires.tree;
   bench = c.requires.bench;
+  kept = c.requires.kept;
   opened = c.requires.opened;
   found = refl;
   followed = nothing_yet c.args.trial.now c.args.most c.args.index c.args.core c.args.self.now c.requires.few;
@@ -43,6 +44,7 @@ loop-event-preserved c =
       few = next.few;
       tree = has_tree trial most index core middle after (IsThis _) next so_far.tree;
       bench = c.in_ok-followed.ensures.bench;
+      kept = c.in_ok-followed.ensures.kept;
       opened = holds_still trial most index core (λ (s : List Pick). IsOpenBehind trial s core) middle after (IsThis _) next
           so_far.tree so_far.within so_far.opened;
       found = c.in_ok-followed.ensures.found ∙ so_far.found;

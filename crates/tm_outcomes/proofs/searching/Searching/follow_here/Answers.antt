@@ -2,14 +2,18 @@ use Rattle.std.proofs.Common.{◌≡◌, ◌<◌, ◌+◌, ℕ, List, Option, []
 use Rattle.std.specs.Prelude.{IfSome}
 use Rattle.tm_core.specs.Theorem.{machine_setting}
 use Rattle.tm_model.specs.declared.outcome.Pick.{Pick}
+use Rattle.tm_outcomes.specs.Digests.{digest_by}
+use Rattle.tm_outcomes.specs.Kept.{AreApart, IsNewest, IsOther}
 use Rattle.tm_outcomes.specs.Nodes.{IsFound, IsTree, schedule_at}
 use Rattle.tm_outcomes.specs.Places.{IsAt}
-use Rattle.tm_outcomes.specs.Written.{IsBenchOf, IsPlaceIn, IsWithin, StoresOn}
+use Rattle.tm_outcomes.specs.Written.{HasMore, IsBenchOf, IsPlaceIn, IsWithin, StoresOn}
 use Rattle.tm_outcomes.specs.declared.bench.Bench.{Bench}
 use Rattle.tm_outcomes.specs.declared.nodes.Node.{Node}
+use Rattle.tm_outcomes.specs.declared.trial.Trial.{Trial}
 use Rattle.tm_outcomes.specs.declared.written.Written.{Written}
 use Rattle.tm_outcomes.proofs.Benches.{bench_advanced, bench_grown, place_at, within_more, within_advanced}
 use Rattle.tm_outcomes.proofs.Follows.{follows}
+use Rattle.tm_outcomes.proofs.Kept.{apart_grown, apart_noted, kept_same, newest_added, newest_same}
 use Rattle.tm_outcomes.proofs.Joined.{to_known, to_new}
 use Rattle.tm_outcomes.proofs.Leads.{alike_stands, opened_at, untouched_at}
 use Rattle.tm_outcomes.proofs.Sparing.{sparing_advanced}
@@ -198,3 +202,93 @@ returns-clause-bench c =
     (is.written.within c.args.index c.requires.within)
     (λ now stands. subst (λ (w : Written). StoresOn (machine_setting before.machine) w.lines.items now c.args.pick.core) (sym noted)
     (c.in_ok-note.ensures.noted now stands)))
+
+-- ---- nodes that are pairwise different
+
+-- the nodes with the lines that were noted
+noted_apart : (trial : Trial) (nodes : List Node) (bench : Bench) (noted : Written) → IsBenchOf trial nodes bench →
+    AreApart trial nodes bench.noted → noted.opening ≡ bench.noted.opening → HasMore bench.noted.lines.items noted.lines.items →
+    AreApart trial nodes noted
+noted_apart trial nodes bench noted is apart opening grown =
+    apart_noted trial nodes bench.noted noted opening grown is.written apart
+
+pub find-requires-clause-apart : goal.find-requires-clause-apart
+find-requires-clause-apart c =
+    let trial = c.args.trial.now in
+    let noted = c.note.new.self in
+    subst (λ (ns : List Node). AreApart trial ns noted) (sym c.as_slice.ensures.value)
+    (noted_apart trial c.args.self.now.nodes.items c.args.bench.now noted c.requires.bench c.requires.kept.apart
+    c.in_ok-note.ensures.opening c.in_ok-note.ensures.grown)
+
+pub find-requires-clause-newest : goal.find-requires-clause-newest
+find-requires-clause-newest c =
+    let nodes : List Node = c.args.self.now.nodes.items in
+    let place = c.advance.new.self in
+    let digest = c.digest-digest.result in
+    subst (λ (ns : List Node). IsNewest ns (digest_by c.note.new.self place) (length ns) c.copied-old.result)
+    (sym c.as_slice.ensures.value)
+    (subst (λ d. IsNewest nodes d (length nodes) c.copied-old.result) c.digest-digest.ensures
+    (subst (λ (o : Option ℕ). IsNewest nodes digest (length nodes) o) (sym (c.copied-old.ensures ∙ c.get.ensures.value))
+    (c.requires.kept.newest digest)))
+
+pub returns-in-Some-clause-kept : goal.returns-in-Some-clause-kept
+returns-in-Some-clause-kept c =
+    let trial = c.args.trial.now in
+    let noted = c.note.new.self in
+    kept_same trial c.args.self.now c.join.new.self noted c.find.new.self.noted c.in_ok-join.ensures.nodes
+    c.in_ok-join.ensures.newest c.in_ok-known.ensures.noted
+    (record {
+      apart = noted_apart trial c.args.self.now.nodes.items c.args.bench.now noted c.requires.bench c.requires.kept.apart
+          c.in_ok-note.ensures.opening c.in_ok-note.ensures.grown;
+      newest = c.requires.kept.newest;
+    })
+
+pub returns-then-len-most-clause-kept : goal.returns-then-len-most-clause-kept
+returns-then-len-most-clause-kept c =
+    let trial = c.args.trial.now in
+    let noted = c.note.new.self in
+    kept_same trial c.args.self.now c.args.self.now noted c.find.new.self.noted refl refl c.in_ok-known.ensures.noted
+    (record {
+      apart = noted_apart trial c.args.self.now.nodes.items c.args.bench.now noted c.requires.bench c.requires.kept.apart
+          c.in_ok-note.ensures.opening c.in_ok-note.ensures.grown;
+      newest = c.requires.kept.newest;
+    })
+
+pub returns-clause-kept : goal.returns-clause-kept
+returns-clause-kept c =
+    let trial = c.args.trial.now in
+    let noted = c.note.new.self in
+    let before = c.args.bench.now.here in
+    let place = c.advance.new.self in
+    let old = c.args.self.now in
+    let joined = c.join-2.new.self in
+    let added = c.add.new.self in
+    let nodes : List Node = old.nodes.items in
+    let digest = c.digest-digest.result in
+    let node : Node = record { parent = c.args.index; steps = c.in_ok-steps.steps; digest = digest; older = c.copied-old.result } in
+    let schedules = c.requires.tree.0 in
+    let tree = c.requires.tree.1 in
+    let schedule : List Pick = schedule_at schedules c.args.index in
+    let at : IsAt trial before schedule = c.requires.here schedules tree in
+    let after = c.in_ok-steps.ensures.at schedule at in
+    let others : (index : ℕ) → index < length nodes → IsOther trial nodes place index =
+    subst (λ (ns : List Node). (index : ℕ) → index < length ns → IsOther trial ns place index) c.as_slice.ensures.value
+    (c.in_ok-known.ensures.none c.in_default.is) in
+    kept_same trial added added noted c.find.new.self.noted refl refl c.in_ok-known.ensures.noted
+    (record {
+      apart = apart_grown trial nodes added.nodes.items node noted schedules place tree
+          (c.in_ok-add.ensures.nodes ∙ ap (λ v. v.items ++ node ∷ []) c.in_ok-join-2.ensures.nodes) c.requires.within
+          c.in_ok-steps.ensures.are_picks (
+            after.now,
+            after.is_run,
+            sym after.stands.same_count ∙ after.count,
+            sparing_advanced trial schedule before place c.args.pick c.in_ok-steps.steps.items at c.in_ok-steps.ensures
+                (tree.runs c.args.index c.requires.within).3 (c.requires.needed schedules tree),
+          ) after c.digest-digest.ensures
+          (subst (λ (o : Option ℕ). IsNewest nodes digest (length nodes) o) (sym (c.copied-old.ensures ∙ c.get.ensures.value))
+          (c.requires.kept.newest digest)) others
+          (noted_apart trial nodes c.args.bench.now noted c.requires.bench c.requires.kept.apart c.in_ok-note.ensures.opening
+          c.in_ok-note.ensures.grown);
+      newest = newest_added joined added node c.in_ok-add.ensures.nodes c.in_ok-add.ensures.newest
+          (newest_same old joined c.in_ok-join-2.ensures.nodes c.in_ok-join-2.ensures.newest c.requires.kept.newest);
+    })

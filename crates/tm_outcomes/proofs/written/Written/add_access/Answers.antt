@@ -6,6 +6,7 @@ use Rattle.ia_word.specs.declared.width.Width.{Width}
 use Rattle.ia_word.specs.declared.width.Width.TheVariants.{B, D}
 use Rattle.tm_model.specs.Access.{loaded_addresses}
 use Rattle.tm_model.specs.Types.{Access}
+use Rattle.tm_outcomes.proofs.Digests.{more_then}
 use Rattle.tm_outcomes.proofs.Stored.{in_row}
 use Rattle.tm_outcomes.proofs.written.Written.add_access.Goals as goal
 
@@ -30,3 +31,8 @@ returns-clause-all c = λ address among.
           subst (λ n. Contains c.add-2.new.self.lines.items n) (omega arith)
           (c.in_ok-add-2.ensures.kept _ c.in_ok-add.ensures.here)
     ]
+
+pub returns-clause-grown : goal.returns-clause-grown
+returns-clause-grown c =
+    more_then c.args.self.now.lines.items c.add.new.self.lines.items c.add-2.new.self.lines.items c.in_ok-add.ensures.grown
+    c.in_ok-add-2.ensures.grown

@@ -2,10 +2,11 @@ use Rattle.std.proofs.Common.{List, ℕ, inl, inr, ◌∙◌, take, refl, sym, s
 use Rattle.std.specs.Prelude.{Contains}
 use Rattle.std.proofs.lemmas.List.{take_all, take_more}
 use Rattle.std.proofs.lemmas.List.Elements.{Contains-push_cases}
+use Rattle.tm_outcomes.proofs.Digests.{more_then, no_more}
 use Rattle.tm_outcomes.proofs.written.Written.add_all.Goals as goal
 
 pub loop-line-init : goal.loop-line-init
-loop-line-init c = record { opening = refl; kept = λ line among. among; all = λ line (k, below, is). absurd (omega arith) }
+loop-line-init c = record { opening = refl; kept = λ line among. among; grown = no_more c.args.self.now.lines.items; all = λ line (k, below, is). absurd (omega arith) }
 
 pub loop-line-preserved : goal.loop-line-preserved
 loop-line-preserved c =
@@ -15,6 +16,8 @@ loop-line-preserved c =
     record {
       opening = c.in_ok-add.ensures.opening ∙ before.opening;
       kept = λ line among. c.in_ok-add.ensures.kept line (before.kept line among);
+      grown = more_then c.args.self.now.lines.items c.loop-line.self.lines.items c.add.new.self.lines.items before.grown
+          c.in_ok-add.ensures.grown;
       all = λ line among.
           elim (Contains-push_cases (take at lines) _ line
           (subst (λ (xs : List ℕ). Contains xs line) (take_more lines at _ c.loop-line-test.true) among)) [
