@@ -6,6 +6,7 @@ use crate::files::{advise_input, advise_length, advise_output};
 use crate::machine::{advise_executable, advise_limits, advise_load, advise_steps};
 use crate::misuse::advise_misuse;
 use crate::page::Page;
+use crate::range::advise_range;
 use crate::source::advise_source;
 use crate::steps::{advise_core, advise_schedule, write_line};
 use crate::symbols::advise_symbol;
@@ -72,7 +73,7 @@ fn advise_fault<P: Paths, O: Out>(
         Fault::Run(RunFault::NoSuchCore) => advise_core(alloc, subcommand, paths, page),
         Fault::Step(StepFault::NoSuchCore) => advise_core(alloc, subcommand, paths, page),
         Fault::Schedule(fault) => advise_schedule(subcommand, fault, paths, page),
-        Fault::OutOfRange => writeln!(page, "what is to be shown or checked is not there"),
+        Fault::OutOfRange => advise_range(subcommand, page),
         Fault::SpawnRefused => writeln!(
             page,
             "the system refused a thread: it starts no further one (ulimit -u), or has no memory for its stack (ulimit -v)"

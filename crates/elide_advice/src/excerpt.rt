@@ -82,11 +82,9 @@ pub fn write_excerpt<O: Out, M: Display>(
     let window = window_of(excerpt);
     page.put_times(b' ', gutter)?;
     write_place(b"-->", page)?;
-    writeln!(
-        page,
-        " {}:{}:{}",
-        excerpt.path, excerpt.number, excerpt.column
-    )?;
+    page.put(b" ")?;
+    page.put_name(excerpt.path)?;
+    writeln!(page, ":{}:{}", excerpt.number, excerpt.column)?;
     page.put_times(b' ', gutter)?;
     write_place(b" |", page)?;
     page.put(b"\n")?;

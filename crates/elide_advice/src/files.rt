@@ -23,7 +23,7 @@ pub fn advise_input<P: Paths, O: Out>(
         if let Some(path) = path {
             // Whether it can be read shows at its first byte.
             if let Err(ReadFault::Failed(obstacle)) = paths.read(path, 0) {
-                return writeln!(page, "{path}: {obstacle}");
+                return page.put_wrong(path, &obstacle);
             }
         }
     }
@@ -38,7 +38,7 @@ pub fn advise_length<O: Out>(page: &mut Page<'_, O>) -> fmt::Result {
 /// Writes which file cannot be written.
 pub fn advise_output<O: Out>(subcommand: &Subcommand<'_>, page: &mut Page<'_, O>) -> fmt::Result {
     match record_of(subcommand) {
-        Some(path) => writeln!(page, "{path}: cannot be written"),
+        Some(path) => page.put_wrong(path, &"cannot be written"),
         None => Ok(()),
     }
 }

@@ -35,21 +35,17 @@ pub fn memory_of(machine: &MachineOptions<'_>) -> u32 {
 
 /// Writes what an executable is not, of which this fault was told by its number (docs/FAULTS.md), and how it is made.
 pub fn advise_executable<O: Out>(file: &str, fault: u8, page: &mut Page<'_, O>) -> fmt::Result {
-    match fault {
-        90 => writeln!(
-            page,
-            "{file}: not for a 32-bit Intel 80386; compile with -m32 -march=i486"
-        ),
-        92 => writeln!(
-            page,
-            "{file}: an object file, a shared one or one with dynamic linking; link with -static -nostdlib -no-pie"
-        ),
-        96 => writeln!(
-            page,
-            "{file}: a segment without code lies below the end of the code; link with -Wl,-T,elide.ld, the script of examples/c"
-        ),
-        _ => Ok(()),
-    }
+    let meaning = match fault {
+        90 => "not for a 32-bit Intel 80386; compile with -m32 -march=i486",
+        92 => {
+            "an object file, a shared one or one with dynamic linking; link with -static -nostdlib -no-pie"
+        }
+        96 => {
+            "a segment without code lies below the end of the code; link with -Wl,-T,elide.ld, the script of examples/c"
+        }
+        _ => return Ok(()),
+    };
+    page.put_wrong(file, &meaning)
 }
 
 /// Writes why a program is not loaded into a machine.
@@ -64,19 +60,20 @@ pub fn advise_load<O: Out>(
     let file = machine.file;
     let memory = memory_of(machine);
     match fault {
-        LoadFault::Empty => writeln!(page, "{file}: a program has one byte at least"),
+        LoadFault::Empty => page.put_wrong(file, &"a program has one byte at least"),
         LoadFault::BadCores => writeln!(page, "--cores {}: 1 to 64", cores_of(machine)),
         LoadFault::BadMemorySize => advise_memory(cores_of(machine), memory, page),
-        LoadFault::TooLarge => writeln!(page, "{file}: the program ends above --mem {memory}"),
-        LoadFault::CodeTooLong => {
-            writeln!(
-                page,
-                "{file}: its first line says more bytes of code than there are"
-            )
+        LoadFault::TooLarge => {
+            page.put_name(file)?;
+            writeln!(page, ": the program ends above --mem {memory}")
         }
+        LoadFault::CodeTooLong => page.put_wrong(
+            file,
+            &"its first line says more bytes of code than there are",
+        ),
         LoadFault::EntryOutsideCode => match machine.entry {
-            Some(entry) => writeln!(page, "--entry {entry}: an entry is the address of code"),
-            None => writeln!(page, "{file}: its entry is no address of code"),
+            Some(entry) => page.put_value("--entry", entry, &"an entry is the address of code"),
+            None => page.put_wrong(file, &"its entry is no address of code"),
         },
         LoadFault::NoMemory => Ok(()),
     }

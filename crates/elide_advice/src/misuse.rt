@@ -22,9 +22,10 @@ pub fn advise_misuse<O: Out>(
             None => Ok(()),
         },
         ("--entry", other) => advise_entry(other, page),
-        ("--stop" | "--runs" | "--method" | "--show" | "--dump" | "--core", other) => {
-            advise_form(other, name, page)
-        }
+        ("--show", Subcommand::Outcomes(options)) if options.show.is_none() => writeln!(
+            page,
+            "one of --show, --check, --forbid, --stop and --stuck is wanted"
+        ),
         ("--record" | "--output", _) => writeln!(page, "{name} takes another path than FILE"),
         ("--page", Subcommand::Outcomes(_)) => writeln!(
             page,
@@ -34,6 +35,9 @@ pub fn advise_misuse<O: Out>(
             page,
             "--page takes another path than FILE and that of --record"
         ),
+        ("--stop" | "--runs" | "--method" | "--show" | "--dump" | "--core", other) => {
+            advise_form(other, name, page)
+        }
         ("--note", _) => writeln!(
             page,
             "--note takes STEP:TEXT, a step of the run, or 0 before the first, and what is said there"
@@ -58,7 +62,7 @@ fn advise_form<O: Out>(
 ) -> fmt::Result {
     let form = match (name, subcommand) {
         ("--stop", _) => "#BP, #DE, #UD, #GP, HLT, range, code-store, fetch or not-in-subset",
-        ("--runs", _) => "a count K, or A..B with A below B",
+        ("--runs", _) => "a count K, or A..B with A at most B",
         ("--method", _) => "seen, uniform, bursts, pct or mix",
         ("--core", _) => "numbers of cores, each once, as 0,2",
         ("--dump", _) => {
@@ -68,7 +72,11 @@ fn advise_form<O: Out>(
         _ => "a sum of numbers and of the program's symbols, as 'count' or 'table+8'",
     };
     match value_text(subcommand, name) {
-        Some(text) => writeln!(page, "{name} {text}: it takes {form}"),
+        Some(text) => {
+            write!(page, "{name} ")?;
+            page.put_shown(text)?;
+            writeln!(page, ": it takes {form}")
+        }
         None => writeln!(page, "{name} takes {form}"),
     }
 }
@@ -76,10 +84,9 @@ fn advise_form<O: Out>(
 // That there is no such fault.
 fn advise_unknown<O: Out>(subcommand: &Subcommand<'_>, page: &mut Page<'_, O>) -> fmt::Result {
     let text = value_text(subcommand, "FAULT").unwrap_or("");
-    writeln!(
-        page,
-        "no fault has the number or name '{text}'; elide explain lists them"
-    )
+    write!(page, "no fault has the number or name '")?;
+    page.put_shown(text)?;
+    writeln!(page, "'; elide explain lists them")
 }
 
 // What a seed goes with, or how its number is written.
@@ -104,7 +111,9 @@ fn advise_number<O: Out>(
         return writeln!(page, "{name} is wanted, with a number");
     };
     if number_of(Some(text), "").is_err() {
-        return writeln!(page, "{name}: '{text}' is no number below 4294967296");
+        write!(page, "{name}: '")?;
+        page.put_shown(text)?;
+        return writeln!(page, "' is no number below 4294967296");
     }
     match name {
         "--from" => writeln!(page, "--from {text}: a step of the run, counted from 1"),
@@ -179,8 +188,9 @@ fn advise_entry<O: Out>(subcommand: &Subcommand<'_>, page: &mut Page<'_, O>) -> 
         let noun = if cores == 1 { "core" } else { "cores" };
         return writeln!(page, "--entry: {count} entries for {cores} {noun}");
     }
-    writeln!(
-        page,
-        "--entry {list}: an entry is an address or a symbol of the source"
+    page.put_value(
+        "--entry",
+        list,
+        &"an entry is an address or a symbol of the source",
     )
 }

@@ -2,8 +2,10 @@
 
 use elide_color::{ENDING, Style};
 use elide_setup::{Gathered, Lent};
+use elide_shell::{Mark, put_escaped};
 use ia_text::Out;
 use std::fmt;
+use std::fmt::{Display, Write};
 
 /// A device that text is formatted to, painted or not.
 #[derive(Drop)]
@@ -42,6 +44,33 @@ impl<'o, O: Out> Page<'o, O> {
     /// Writes bytes.
     pub fn put(&mut self, bytes: &[u8]) -> fmt::Result {
         self.out.put(bytes).map_err(|_| fmt::Error)
+    }
+
+    /// Writes a text of the command line or of a file, so that it drives no terminal and ends no line.
+    pub fn put_shown(&mut self, text: &str) -> fmt::Result {
+        put_escaped(text, Mark::Backslash, &mut self.out).map_err(|_| fmt::Error)
+    }
+
+    /// Writes the name of a file: two quotes where it is empty.
+    pub fn put_name(&mut self, name: &str) -> fmt::Result {
+        if name.is_empty() {
+            self.put(b"''")
+        } else {
+            self.put_shown(name)
+        }
+    }
+
+    /// Writes what is wrong with a file, behind its name.
+    pub fn put_wrong<M: Display>(&mut self, name: &str, meaning: &M) -> fmt::Result {
+        self.put_name(name)?;
+        writeln!(self, ": {meaning}")
+    }
+
+    /// Writes what is wrong with the value of an option, behind both.
+    pub fn put_value<M: Display>(&mut self, option: &str, value: &str, meaning: &M) -> fmt::Result {
+        write!(self, "{option} ")?;
+        self.put_shown(value)?;
+        writeln!(self, ": {meaning}")
     }
 
     /// Writes a byte so many times.

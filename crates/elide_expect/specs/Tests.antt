@@ -38,7 +38,8 @@ ahead front (Err n) = Err n
 abbrev pub writes : List ℕ → Bool
 writes word =
     pointwise nat_eq word (codes "--record") || pointwise nat_eq word (codes "--output")
-    || starts_with nat_eq word (codes "--record=") || starts_with nat_eq word (codes "--output=")
+    || pointwise nat_eq word (codes "--page") || starts_with nat_eq word (codes "--record=")
+    || starts_with nat_eq word (codes "--output=") || starts_with nat_eq word (codes "--page=")
 
 -- a subcommand that reads standard input, or makes tests itself
 abbrev pub is_left_out : List ℕ → Bool

@@ -193,7 +193,7 @@ fn program_of<'a>(kind: Kind, lines: &[&'a [u8]]) -> Option<Option<&'a [u8]>>
 /// The tests of a file, in the order of its lines.
 ///
 /// Each has one expectation at least, and a command that reads no standard input and is given no path to write to by
-/// `--record` or `--output`. [`TestFault::BadTest`] names the first line that cannot be read, by which the file has no
+/// `--record`, `--output` or `--page`. [`TestFault::BadTest`] names the first line that cannot be read, by which the file has no
 /// tests at all; [`TestFault::NoMemory`], where the tests found no memory.
 pub fn read_tests<'a>(alloc: Global, text: &'a [u8], kind: Kind) -> Result<TestFile<'a>, TestFault>
     ensures { Gives file_content result (file_of kind text.now) }

@@ -16,8 +16,10 @@ fn writes(word: &[u8]) -> bool
 {
     word == b"--record".as_slice()
         || word == b"--output".as_slice()
+        || word == b"--page".as_slice()
         || word.starts_with(b"--record=")
         || word.starts_with(b"--output=")
+        || word.starts_with(b"--page=")
 }
 
 // A subcommand that reads standard input, or makes tests itself.

@@ -63,7 +63,7 @@ fn tests_beside_an_executable(rt: HostRuntime) -> Result<(), TestFault> {
 
 #[test]
 fn lines_that_cannot_be_read(rt: HostRuntime) {
-    let cases: [(&[u8], usize); 16] = [
+    let cases: [(&[u8], usize); 18] = [
         (b";expect: status 0\n;elide: run\n;expect: status 0", 1),
         (b";elide: run\n;elide: run\n;expect: status 0", 1),
         (b"\n;elide:\n;expect: status 0", 2),
@@ -71,6 +71,8 @@ fn lines_that_cannot_be_read(rt: HostRuntime) {
         (b";elide: debug\n;expect: status 0", 1),
         (b";elide: run --record=a\n;expect: status 0", 1),
         (b";elide: asm --output a\n;expect: status 0", 1),
+        (b";elide: hunt --page a\n;expect: status 0", 1),
+        (b";elide: outcomes --page=1 a\n;expect: status 0", 1),
         (b";elide: run\n;expect: status 256", 2),
         (b";elide: run\n;expect: status 0\n;expect: status 0", 3),
         (b";elide: run\n;expect: line", 2),

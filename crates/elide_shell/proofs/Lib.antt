@@ -1,2 +1,5 @@
 mod Digits
+mod Escaping
+mod Harmless
+mod ReadBack
 pub mod Texts

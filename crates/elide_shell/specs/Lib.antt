@@ -1,2 +1,4 @@
+pub mod Controls
 pub mod Options
+pub mod Reading
 pub mod Shell

@@ -1,19 +1,24 @@
-//! Words of a command, as a POSIX shell reads them.
+//! Words of a command, as a shell reads them.
 
 ghost use Rattle.std.specs.Prelude.{◌≡◌, ◌++◌, OnOk, codes};
 ghost use Rattle.std.specs.List.{flat_map, list_all};
 ghost use Rattle.ia_text.specs.Writing.{Wrote};
-ghost use Rattle.elide_shell.specs.Shell.{begins_with_dash, is_plain, is_plain_word, path_word, quoted, quoted_byte, shell_word};
+ghost use Rattle.elide_shell.specs.Shell.{begins_with_dash, is_plain, is_plain_word, path_word, quoted, quoted_byte};
+ghost use Rattle.elide_shell.specs.Shell.{quoted_with_escapes, shell_word};
 
+use crate::escapes::{Mark, has_control, put_escaped};
 use ia_text::{Failed, Out};
 
-/// Writes a word, between single quotes where a byte of it would not stand for itself.
+/// Writes a word, between quotes where a byte of it would not stand for itself. They are `$'..'` where it has a control
+/// character, so that no word drives a terminal or ends a line.
 #[tactic(auto, unfolding(crate::specs::Shell::shell_word))]
 pub fn put_word<O: Out>(word: &str, out: &mut O) -> Result<(), Failed>
     ensures { OnOk result (Wrote (O.device out.old) (O.device out.new) (shell_word word.now)) }
 {
     if is_plain_word(word) {
         out.put(word.as_bytes())
+    } else if has_control(word.as_bytes()) {
+        put_with_escapes(word, out)
     } else {
         put_quoted(word, out)
     }
@@ -66,6 +71,15 @@ fn is_plain(byte: u8) -> bool
     ensures { result ≡ is_plain byte }
 {
     byte.is_ascii_alphanumeric() || b"_./,:=@%+-".contains(&byte)
+}
+
+// Writes a word in `$'..'`.
+fn put_with_escapes<O: Out>(word: &str, out: &mut O) -> Result<(), Failed>
+    ensures { OnOk result (Wrote (O.device out.old) (O.device out.new) (quoted_with_escapes word.now)) }
+{
+    out.put(b"$'")?;
+    put_escaped(word, Mark::Quote, out)?;
+    out.put(b"'")
 }
 
 fn put_quoted<O: Out>(word: &str, out: &mut O) -> Result<(), Failed>

@@ -1,5 +1,5 @@
 -- The object that `elide test --json` prints (docs/JSON.md, "test").
-use Rattle.std.specs.Prelude.{ℕ, List, codes, Option, Some, None, string_bytes, if◌then◌else◌}
+use Rattle.std.specs.Prelude.{ℕ, List, codes, Option, Some, None, option_map, string_bytes, if◌then◌else◌}
 use Rattle.std.specs.List.{list_all}
 use Rattle.elide_object.specs.Object.{list_value, number_value}
 use Rattle.serde_json.specs.Data.{Data, boolean, member, no_members, null, object, string}
@@ -18,13 +18,18 @@ abbrev pub unmet_value : Option Difference → Data
 unmet_value None = null
 unmet_value (Some difference) = difference_value difference
 
+abbrev pub refusal_value : Option (List ℕ) → Data
+refusal_value None = null
+refusal_value (Some line) = string line
+
 abbrev pub test_value : TestReport → Data
 test_value report =
     object (member (codes "line") (number_value report.line)
     (member (codes "command") (string (string_bytes report.word))
     (member (codes "ok") (boolean (is_met report))
     (member (codes "unmet") (unmet_value report.difference)
-    (member (codes "status") (number_value report.status) no_members)))))
+    (member (codes "status") (number_value report.status)
+    (member (codes "stderr") (refusal_value (option_map string_bytes report.refusal)) no_members))))))
 
 abbrev pub file_value : FileReport → Data
 file_value file =

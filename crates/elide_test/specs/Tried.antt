@@ -1,5 +1,5 @@
 -- What it means that tests were carried out (docs/FORMATS.md, "Tests").
-use Rattle.std.specs.Prelude.{◌≡◌, ℕ, List, [], ◌∷◌, ◌++◌, codes, map, Option, Some, None, Ok, IsSomeAnd, string_bytes}
+use Rattle.std.specs.Prelude.{◌≡◌, ℕ, List, [], ◌∷◌, ◌++◌, codes, map, Option, Some, None, Ok, IsSomeAnd, option_map, string_bytes}
 use Rattle.std.specs.Prelude.{nat_eq, if◌then◌else◌}
 use Rattle.std.specs.Fmt.{decimal}
 use Rattle.std.specs.List.{AllZip, ends_with}
@@ -13,6 +13,7 @@ use Rattle.elide_expect.specs.declared.judge.Verdict.TheVariants.{Differs, Passe
 use Rattle.elide_program.specs.Files.{Gives, most_bytes}
 use Rattle.ia_lex.specs.Lines.{lines_of}
 use Rattle.elide_test.specs.Folder.{IsIn}
+use Rattle.elide_test.specs.Refusals.{refusal_of}
 use Rattle.elide_test.specs.declared.ended.Ended.{Ended}
 use Rattle.elide_test.specs.declared.report.Difference.{Difference}
 use Rattle.elide_test.specs.declared.report.FileReport.{FileReport}
@@ -36,11 +37,12 @@ TellsVerdict test (Differs (found.Status n)) told = IsSomeAnd told (λ differenc
     (difference.line ≡ test.line) × (string_bytes difference.expected ≡ codes "status " ++ decimal n))
 TellsVerdict test (Differs (found.Unmet n)) told = IsSomeAnd told (λ difference. difference.line ≡ n)
 
--- the report of a test whose command ended with a status, and of which this is the verdict
-pub record IsToldOf (test : TestContent) (status : ℕ) (verdict : Verdict) (report : TestReport) : Type 0 where
+-- the report of a test whose command came to this, and of which this is the verdict
+pub record IsToldOf (test : TestContent) (ended : Ended) (verdict : Verdict) (report : TestReport) : Type 0 where
   pub line : report.line ≡ test.line
   pub word : string_bytes report.word ≡ first_of test.words
-  pub status_came : report.status ≡ status
+  pub status_came : report.status ≡ ended.status
+  pub refusal_came : option_map string_bytes report.refusal ≡ refusal_of ended.errors.items
   pub difference_told : TellsVerdict test verdict report.difference
 
 -- the report tells the verdict on what the test's command came to
@@ -49,7 +51,7 @@ pub record IsJudged (test : TestContent) (ended : Ended) (report : TestReport) :
   pub printed : map (λ line. line.now) lines ≡ lines_of ended.output.items
   pub verdict : Verdict
   pub judged : IsVerdict test ended.status lines verdict
-  pub told : IsToldOf test ended.status verdict report
+  pub told : IsToldOf test ended verdict report
 
 -- a test of a program was carried out in a folder
 pub record WasTried (came_to : Option (List ℕ) → List (List ℕ) → Ended → Type 0) (folder : Option (List ℕ))

@@ -9,7 +9,7 @@ ghost use Rattle.elide_test.specs.Tap.{bail_line, bail_text};
 
 use crate::report::FileReport;
 use crate::stop::Stop;
-use crate::tap::tell_until;
+use crate::tap::{tell_text, tell_until};
 use arrayvec::{ArrayString, ArrayVec};
 use elide_program::ProgramFault;
 use elide_setup::{Fault, Gathered, Refusal, push_back, push_front};
@@ -83,7 +83,7 @@ fn tell_bail<O: Out>(name: &str, fault: Fault, out: &mut O) -> Result<(), WriteF
     ensures { OnOk result ((word : List ℕ) × Wrote (O.device out.old) (O.device out.new) (bail_line name.now fault word)) }
 {
     out.put(b"Bail out! ")?;
-    out.put(name.as_bytes())?;
+    tell_text(name, out)?;
     out.put(b": ")?;
     tell_fault(fault, out)
 }

@@ -9,5 +9,7 @@ pub struct Ended {
     pub status: u8,
     /// What it printed on standard output.
     pub output: Vec<u8>,
+    /// What it printed on standard error.
+    pub errors: Vec<u8>,
     pub ghost most: { status ≤ 3 },
 }

@@ -2,12 +2,12 @@
 //!
 //! [`tell_object`] is the one call: the files, their tests and the exit status are sent in the order in which they stand.
 
-ghost use Rattle.std.specs.Prelude.{◌≡◌, IfOk, OnOk, codes, string_bytes};
+ghost use Rattle.std.specs.Prelude.{◌≡◌, IfOk, OnOk, codes, option_map, string_bytes};
 ghost use Rattle.std.specs.Io.KnownBytes.{Appends};
 ghost use Rattle.elide_object.specs.Object.{SendsMember, list_value, object_text};
 ghost use Rattle.serde_json.specs.Events.{SendsValue};
 ghost use Rattle.elide_test.specs.Object.{difference_value, file_value, test_value, tests_status, tests_value};
-ghost use Rattle.elide_test.specs.Object.{unmet_value};
+ghost use Rattle.elide_test.specs.Object.{refusal_value, unmet_value};
 
 use crate::report::{Difference, FileReport, TestReport, all_pass};
 use elide_object::{object_line, send_flag, send_number, send_text};
@@ -112,13 +112,26 @@ fn send_test_list<S: Serializer>(tests: &[TestReport], out: &mut S) -> Result<()
 fn send_test<S: Serializer>(test: &TestReport, out: &mut S) -> Result<(), S::Error>
     ensures { OnOk result (SendsValue (test_value test.now) (S.written out.old) (S.written out.new)) }
 {
-    out.begin_map(Some(5))?;
+    out.begin_map(Some(6))?;
     send_number("line", test.line as u64, out)?;
     send_text("command", test.word.as_str(), out)?;
     send_flag("ok", test.is_met(), out)?;
     send_unmet(&test.difference, out)?;
     send_number("status", u64::from(test.status), out)?;
+    send_refusal(&test.refusal, out)?;
     out.end_map()
+}
+
+// Sends the line by which the command was refused.
+fn send_refusal<S: Serializer>(refusal: &Option<String>, out: &mut S) -> Result<(), S::Error>
+    ensures { OnOk result (SendsMember (codes "stderr") (refusal_value (option_map string_bytes refusal.now))
+        (S.written out.old) (S.written out.new)) }
+{
+    out.key("stderr")?;
+    match refusal {
+        Some(line) => out.str(line.as_str()),
+        None => out.unit(),
+    }
 }
 
 // Sends the expectation that was not met.

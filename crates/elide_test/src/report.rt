@@ -33,6 +33,8 @@ pub struct TestReport {
     pub word: String,
     /// The exit status that its command came to.
     pub status: u8,
+    /// The line of standard error by which its command was refused, if it was.
+    pub refusal: Option<String>,
     /// The first expectation that was not met. None of a test that passed.
     pub difference: Option<Difference>,
 }

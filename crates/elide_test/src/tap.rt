@@ -2,13 +2,15 @@
 
 ghost use Rattle.std.specs.Prelude.{◌≡◌, ◌+◌, ◌^◌, ◌<◌, ◌++◌, IfOk, IfSome, OnOk, OnSome, codes, length};
 ghost use Rattle.std.specs.Fmt.{decimal};
-ghost use Rattle.std.specs.List.{flat_map, list_any};
 ghost use Rattle.ia_text.specs.Writing.{Wrote};
-ghost use Rattle.elide_test.specs.Tap.{block_text, count_of, difference_text, escaped, escaped_byte};
-ghost use Rattle.elide_test.specs.Tap.{file_text, files_text, is_special, line_text, named_text, none_text};
-ghost use Rattle.elide_test.specs.Tap.{quoted_byte, scalar, tap_text, test_text, tests_text, verdict_text};
+ghost use Rattle.elide_shell.specs.Controls.{escaped};
+ghost use Rattle.elide_shell.specs.declared.escapes.Mark.TheVariants.{Backslash, Hash};
+ghost use Rattle.elide_test.specs.Tap.{count_of, file_text, files_text, line_text, named_text, none_text, tap_text};
+ghost use Rattle.elide_test.specs.Tap.{test_text, tests_text, verdict_text};
 
+use crate::block::tell_difference;
 use crate::report::{Difference, FileReport, TestReport};
+use elide_shell::{Mark, put_escaped};
 use ia_text::{Out, WriteFault};
 use itoa::Buffer;
 
@@ -120,7 +122,7 @@ fn tell_test<O: Out>(
     ensures { OnOk result (Wrote (O.device out.old) (O.device out.new) (test_text name.now number report.now)) }
 {
     tell_line(&report.difference, number, name, report.word.as_str(), out)?;
-    tell_difference(report.status, &report.difference, out)?;
+    tell_difference(report, out)?;
     Ok(())
 }
 
@@ -154,7 +156,8 @@ fn tell_verdict<O: Out>(difference: &Option<Difference>, out: &mut O) -> Result<
     Ok(())
 }
 
-fn tell_number<O: Out>(number: usize, out: &mut O) -> Result<(), WriteFault>
+/// Prints a number.
+pub fn tell_number<O: Out>(number: usize, out: &mut O) -> Result<(), WriteFault>
     ensures { OnOk result (Wrote (O.device out.old) (O.device out.new) (decimal number)) }
 {
     let mut digits = Buffer::new();
@@ -162,125 +165,18 @@ fn tell_number<O: Out>(number: usize, out: &mut O) -> Result<(), WriteFault>
     Ok(())
 }
 
-fn tell_status<O: Out>(status: u8, out: &mut O) -> Result<(), WriteFault>
-    ensures { OnOk result (Wrote (O.device out.old) (O.device out.new) (decimal status)) }
+/// Prints a name, or a text.
+pub fn tell_text<O: Out>(text: &str, out: &mut O) -> Result<(), WriteFault>
+    ensures { OnOk result (Wrote (O.device out.old) (O.device out.new) (escaped Backslash text.now)) }
 {
-    let mut digits = Buffer::new();
-    out.put(digits.format(status).as_bytes())?;
-    Ok(())
-}
-
-fn tell_text<O: Out>(text: &str, out: &mut O) -> Result<(), WriteFault>
-    ensures { OnOk result (Wrote (O.device out.old) (O.device out.new) text.now) }
-{
-    out.put(text.as_bytes())?;
+    put_escaped(text, Mark::Backslash, out)?;
     Ok(())
 }
 
 // Prints a name in the line of a test.
-#[tactic(auto, unfolding(crate::specs::Tap::escaped))]
 fn tell_name<O: Out>(name: &str, out: &mut O) -> Result<(), WriteFault>
-    ensures { OnOk result (Wrote (O.device out.old) (O.device out.new) (escaped name.now)) }
+    ensures { OnOk result (Wrote (O.device out.old) (O.device out.new) (escaped Hash name.now)) }
 {
-    tell_escaped(name.as_bytes(), out)
-}
-
-fn tell_escaped<O: Out>(name: &[u8], out: &mut O) -> Result<(), WriteFault>
-    ensures { OnOk result (Wrote (O.device out.old) (O.device out.new) (flat_map escaped_byte name.now)) }
-{
-    for byte in name {
-        tell_escaped_byte(*byte, out)?;
-    }
-    Ok(())
-}
-
-fn tell_escaped_byte<O: Out>(byte: u8, out: &mut O) -> Result<(), WriteFault>
-    ensures { OnOk result (Wrote (O.device out.old) (O.device out.new) (escaped_byte byte)) }
-{
-    if byte == b'#' || byte == b'\\' {
-        out.put(&[b'\\', byte])?;
-    } else {
-        out.put(&[byte])?;
-    }
-    Ok(())
-}
-
-fn tell_difference<O: Out>(
-    status: u8,
-    difference: &Option<Difference>,
-    out: &mut O,
-) -> Result<(), WriteFault>
-    ensures { OnOk result (Wrote (O.device out.old) (O.device out.new) (difference_text status difference.now)) }
-{
-    match difference {
-        None => Ok(()),
-        Some(difference) => {
-            tell_block(difference.line, difference.expected.as_str(), status, out)
-        }
-    }
-}
-
-fn tell_block<O: Out>(
-    line: usize,
-    expected: &str,
-    status: u8,
-    out: &mut O,
-) -> Result<(), WriteFault>
-    ensures { OnOk result (Wrote (O.device out.old) (O.device out.new) (block_text line expected.now status)) }
-{
-    out.put(b"  ---\n  line: ")?;
-    tell_number(line, out)?;
-    out.put(b"\n  expected: ")?;
-    tell_scalar(expected, out)?;
-    out.put(b"\n  came: status ")?;
-    tell_status(status, out)?;
-    out.put(b"\n  ...\n")?;
-    Ok(())
-}
-
-// Prints a text as a scalar of YAML.
-fn tell_scalar<O: Out>(text: &str, out: &mut O) -> Result<(), WriteFault>
-    ensures { OnOk result (Wrote (O.device out.old) (O.device out.new) (scalar text.now)) }
-{
-    tell_scalar_of(text.as_bytes(), out)
-}
-
-#[tactic(auto, unfolding(crate::specs::Tap::scalar))]
-fn tell_scalar_of<O: Out>(text: &[u8], out: &mut O) -> Result<(), WriteFault>
-    ensures { OnOk result (Wrote (O.device out.old) (O.device out.new) (scalar text.now)) }
-{
-    if is_special(text) {
-        out.put(b"'")?;
-        tell_quoted(text, out)?;
-        out.put(b"'")?;
-    } else {
-        out.put(text)?;
-    }
-    Ok(())
-}
-
-fn is_special(text: &[u8]) -> bool
-    ensures { result ≡ list_any is_special text.now }
-{
-    text.iter().any(|byte| *byte == b'#' || *byte == b':')
-}
-
-fn tell_quoted<O: Out>(text: &[u8], out: &mut O) -> Result<(), WriteFault>
-    ensures { OnOk result (Wrote (O.device out.old) (O.device out.new) (flat_map quoted_byte text.now)) }
-{
-    for byte in text {
-        tell_quoted_byte(*byte, out)?;
-    }
-    Ok(())
-}
-
-fn tell_quoted_byte<O: Out>(byte: u8, out: &mut O) -> Result<(), WriteFault>
-    ensures { OnOk result (Wrote (O.device out.old) (O.device out.new) (quoted_byte byte)) }
-{
-    if byte == b'\'' {
-        out.put(b"''")?;
-    } else {
-        out.put(&[byte])?;
-    }
+    put_escaped(name, Mark::Hash, out)?;
     Ok(())
 }

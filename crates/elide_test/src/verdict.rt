@@ -6,6 +6,7 @@ ghost use Rattle.elide_expect.specs.Tests.{test_content};
 ghost use Rattle.elide_test.specs.Tried.{IsJudged, IsToldOf, TellsVerdict};
 
 use crate::ended::Ended;
+use crate::refusal::refusal_in;
 use crate::report::{Difference, TestReport};
 use crate::stop::Stop;
 use crate::words::first_word;
@@ -19,19 +20,21 @@ pub fn report_of(alloc: Global, test: &Test<'_>, ended: &Ended) -> Result<TestRe
     let came = CameTo::new(alloc, ended.status, ended.output.as_slice())?;
     let verdict = test.judge(&came);
     drop(came);
-    told(alloc, test, ended.status, verdict)
+    told(alloc, test, ended, verdict)
 }
 
 // The report of a verdict.
-fn told(alloc: Global, test: &Test<'_>, status: u8, verdict: Verdict) -> Result<TestReport, Stop>
-    ensures { IfOk result (IsToldOf (test_content test.now) status verdict) }
+fn told(alloc: Global, test: &Test<'_>, ended: &Ended, verdict: Verdict) -> Result<TestReport, Stop>
+    ensures { IfOk result (IsToldOf (test_content test.now) ended.now verdict) }
 {
     let word = first_word(alloc, test)?;
+    let refusal = refusal_in(alloc, ended.errors.as_slice())?;
     let difference = difference_of(alloc, test, verdict)?;
     Ok(TestReport {
         line: test.line,
         word,
-        status,
+        status: ended.status,
+        refusal,
         difference,
     })
 }

@@ -9,7 +9,7 @@ use Rattle.ia_text.specs.declared.out.ToVec.{ToVec}
 use Rattle.elide_trial.specs.declared.ending.CommandEnd.{CommandEnd}
 
 -- a call with these words, with these files as they are seen from this folder, if there is one, and with an empty
--- device ended with this status, and its device has the whole output
+-- device ended with this status, its device has the whole output, and this came on standard error
 pub record CameTo {S : Type 0}
     (answers : Bor (List (Bor (List ℕ))) → FolderPaths S → ToVec → CommandEnd → Type 0) (paths : S)
     (folder : Option (List ℕ)) (words : List (List ℕ)) (ended : Ended) : Type 0 where
@@ -24,4 +24,5 @@ pub record CameTo {S : Type 0}
   pub answered : answers given files device end
   pub same_status : ended.status ≡ end.status
   pub same_output : ended.output ≡ end.out.bytes
+  pub same_errors : ended.errors ≡ end.errors
   pub none_lost : end.out.failures ≡ 0

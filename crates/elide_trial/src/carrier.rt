@@ -1,6 +1,6 @@
 //! What carries out the commands of tests.
 
-ghost use Rattle.std.specs.Prelude.{◌≡◌, IfOk, None};
+ghost use Rattle.std.specs.Prelude.{◌≡◌, IfOk};
 ghost use Rattle.std.specs.Option.{option_copied};
 ghost use Rattle.elide_args.specs.Asked.{texts_of};
 ghost use Rattle.elide_trial.specs.Came.{CameTo};
@@ -8,14 +8,14 @@ ghost use Rattle.elide_trial.specs.Came.{CameTo};
 use crate::ending::CommandEnd;
 use elide_command::{Silent, Surroundings, command};
 use elide_test::{Ended, FolderPaths, SharedPaths};
-use ia_text::{Failed, Out, ToVec};
+use ia_text::{Failed, ToVec};
 use std::alloc::{AllocError, Global};
 use std::sync::Wait;
 use std::thread::Threads;
 use tm_debug::In;
 
 /// Carries out a command: its words without the program's name, the files that it reads, and the device that it writes to. It has no
-/// input, and what it writes on standard error is not kept.
+/// input.
 pub fn command_end<R: Threads + Wait + Sync + AllocGlobal, S: SharedPaths>(
     rt: &R,
     words: &[&str],
@@ -24,17 +24,22 @@ pub fn command_end<R: Threads + Wait + Sync + AllocGlobal, S: SharedPaths>(
 ) -> CommandEnd {
     let mut files = files;
     let mut out = out;
+    let mut err = ToVec::new(Vec::new(files.alloc));
     let status = command(
         rt,
         words,
         &mut files,
         &mut NoInput,
         &mut out,
-        &mut Nowhere,
+        &mut err,
         Surroundings::NONE,
         &mut Silent,
     );
-    CommandEnd { status, out }
+    CommandEnd {
+        status,
+        out,
+        errors: err.bytes,
+    }
 }
 
 /// What a command of a test came to, which a call carries out: its relative paths are seen from a folder, or as they are where there
@@ -64,6 +69,7 @@ fn ended_of(end: CommandEnd) -> Result<Ended, AllocError>
     ensures whole { IfOk result (λ _. end.out.failures ≡ 0) }
     ensures status { IfOk result (λ ended. ended.status ≡ end.status) }
     ensures output { IfOk result (λ ended. ended.output ≡ end.out.bytes) }
+    ensures errors { IfOk result (λ ended. ended.errors ≡ end.errors) }
 {
     if end.out.failures != 0 {
         return Err(AllocError);
@@ -71,6 +77,7 @@ fn ended_of(end: CommandEnd) -> Result<Ended, AllocError>
     Ok(Ended {
         status: end.status,
         output: end.out.bytes,
+        errors: end.errors,
     })
 }
 
@@ -83,22 +90,6 @@ impl In for NoInput {
 
     fn get(&mut self, _buf: &mut [u8]) -> Result<usize, Failed> {
         Ok(0)
-    }
-
-    fn failures(&self) -> u64 {
-        0
-    }
-}
-
-// A device whose bytes no one reads.
-#[derive(Clone, Copy)]
-struct Nowhere;
-
-impl Out for Nowhere {
-    ghost device = { λ _. record { contents = None; failures = 0 } };
-
-    fn put(&mut self, _bytes: &[u8]) -> Result<(), Failed> {
-        Ok(())
     }
 
     fn failures(&self) -> u64 {

@@ -11,5 +11,7 @@ pub struct CommandEnd {
     pub status: u8,
     /// The device of its standard output.
     pub out: ToVec,
+    /// What it wrote on standard error, as far as memory took it.
+    pub errors: Vec<u8>,
     pub ghost most: { status ≤ 3 },
 }

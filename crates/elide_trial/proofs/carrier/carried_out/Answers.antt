@@ -18,5 +18,6 @@ returns g c =
       answered = c.call-end.ensures;
       same_status = c.in_ok-ended.ensures.status;
       same_output = c.in_ok-ended.ensures.output;
+      same_errors = c.in_ok-ended.ensures.errors;
       none_lost = c.in_ok-ended.ensures.whole;
     }
