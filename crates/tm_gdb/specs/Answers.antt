@@ -2,19 +2,19 @@
 use Rattle.std.specs.Prelude.{◌≡◌, ℕ, ◌+◌, ◌==◌, if◌then◌else◌, List, [], ◌∷◌, ◌++◌, Option, Some, None, codes, is_some}
 use Rattle.std.specs.Prelude.{nat_lt, Bool, true, false}
 use Rattle.hex.specs.Hex.{encode_lower}
-use Rattle.gdb_command.specs.declared.command.Command.{Command}
-use Rattle.gdb_command.specs.declared.command.Command.TheVariants as command
-use Rattle.gdb_command.specs.declared.command.Monitor.TheVariants as monitor
-use Rattle.gdb_command.specs.declared.command.Move.{Move}
-use Rattle.gdb_command.specs.declared.command.Move.TheVariants as move
-use Rattle.gdb_command.specs.declared.command.Point.{Point}
-use Rattle.gdb_command.specs.declared.command.PointKind.{PointKind}
-use Rattle.gdb_command.specs.declared.command.PointKind.TheVariants as point
-use Rattle.gdb_command.specs.declared.command.Question.{Question}
-use Rattle.gdb_command.specs.declared.command.Question.TheVariants as question
-use Rattle.gdb_command.specs.declared.command.Setting.{Setting}
-use Rattle.gdb_command.specs.declared.command.Setting.TheVariants as setting
-use Rattle.gdb_command.specs.declared.command.Span.{Span}
+use Rattle.gdb_packet.specs.declared.command.Command.{Command}
+use Rattle.gdb_packet.specs.declared.command.Command.TheVariants as command
+use Rattle.gdb_packet.specs.declared.command.Monitor.TheVariants as monitor
+use Rattle.gdb_packet.specs.declared.command.Move.{Move}
+use Rattle.gdb_packet.specs.declared.command.Move.TheVariants as move
+use Rattle.gdb_packet.specs.declared.command.Point.{Point}
+use Rattle.gdb_packet.specs.declared.command.PointKind.{PointKind}
+use Rattle.gdb_packet.specs.declared.command.PointKind.TheVariants as point
+use Rattle.gdb_packet.specs.declared.command.Question.{Question}
+use Rattle.gdb_packet.specs.declared.command.Question.TheVariants as question
+use Rattle.gdb_packet.specs.declared.command.Setting.{Setting}
+use Rattle.gdb_packet.specs.declared.command.Setting.TheVariants as setting
+use Rattle.gdb_packet.specs.declared.command.Span.{Span}
 use Rattle.gdb_target.specs.declared.shown.CoreShown.{CoreShown}
 use Rattle.gdb_target.specs.Memory.{memory_text}
 use Rattle.gdb_target.specs.Registers.{register_of, register_text, registers_text}

@@ -4,11 +4,11 @@ use Rattle.std.specs.Prelude.{[], ◌∷◌}
 use Rattle.std.specs.Prelude.{◌++◌, Option, Some, None, length, nat_eq, nat_lt, unwrap_or}
 use Rattle.std.specs.Option.{option_or}
 use Rattle.std.specs.List.{list_any, slice_get}
-use Rattle.gdb_command.specs.Actions.{action_of}
-use Rattle.gdb_command.specs.declared.command.Action.{Action}
-use Rattle.gdb_command.specs.declared.command.Action.TheVariants.{Step, Continue}
-use Rattle.gdb_command.specs.declared.command.Actions.{Actions}
-use Rattle.gdb_command.specs.declared.command.ThreadAction.{ThreadAction}
+use Rattle.gdb_packet.specs.Actions.{action_of}
+use Rattle.gdb_packet.specs.declared.command.Action.{Action}
+use Rattle.gdb_packet.specs.declared.command.Action.TheVariants.{Step, Continue}
+use Rattle.gdb_packet.specs.declared.command.Actions.{Actions}
+use Rattle.gdb_packet.specs.declared.command.ThreadAction.{ThreadAction}
 use Rattle.tm_debug.specs.Session.{is_stopped, next_behind, plain_pick}
 use Rattle.tm_hist.specs.Board.{IsHistory, IsOwedNext, SameBoard, ShownBoard}
 use Rattle.tm_model.specs.declared.outcome.Event.{Event}

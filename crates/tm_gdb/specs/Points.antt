@@ -3,7 +3,7 @@ use Rattle.std.specs.Prelude.{ℕ, ◌+◌, ◌%◌, ◌^◌, ◌==◌, ◌&&◌
 use Rattle.std.specs.Prelude.{filter, length, map, nat_le, nat_lt, not, Option, Some, None}
 use Rattle.std.specs.Int.{w64, from_be_bytes}
 use Rattle.std.specs.List.{list_any}
-use Rattle.gdb_command.specs.declared.command.Span.{Span}
+use Rattle.gdb_packet.specs.declared.command.Span.{Span}
 use Rattle.tm_hist.specs.Machine.{shown_regs, shown_state}
 use Rattle.tm_hist.specs.TmCore.Seen.{byte_seen}
 use Rattle.tm_hist.specs.TmCore.Theorem.{ShownMachine}

@@ -1,9 +1,9 @@
 -- What a session does of what it hears (gdb manual, appendix E.1, "Overview").
 use Rattle.std.specs.Prelude.{◌≡◌, ℕ, Bool, true, false, not, if◌then◌else◌, List, [], ◌∷◌, ◌++◌, Option, Some, None}
-use Rattle.gdb_command.specs.declared.command.Command.{Command}
-use Rattle.gdb_command.specs.declared.command.Command.TheVariants as command
-use Rattle.gdb_command.specs.declared.command.Question.TheVariants as question
-use Rattle.gdb_command.specs.Commands.{IsToldBy}
+use Rattle.gdb_packet.specs.declared.command.Command.{Command}
+use Rattle.gdb_packet.specs.declared.command.Command.TheVariants as command
+use Rattle.gdb_packet.specs.declared.command.Question.TheVariants as question
+use Rattle.gdb_packet.specs.Commands.{IsToldBy}
 use Rattle.gdb_packet.specs.declared.heard.Heard.{Heard}
 use Rattle.gdb_packet.specs.declared.heard.Heard.TheVariants.{Nothing, Packet, Damaged, TooLong, Interrupt}
 use Rattle.gdb_packet.specs.declared.heard.Heard.TheVariants.{Received, Resend}

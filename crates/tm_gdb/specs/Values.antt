@@ -1,6 +1,6 @@
 -- A target as contracts see it.
 use Rattle.std.specs.Prelude.{ℕ, ◌-◌, ◌==◌, if◌then◌else◌, List, [], Option, Some, None, Vec, length, nat_le, nat_lt}
-use Rattle.gdb_command.specs.declared.command.Span.{Span}
+use Rattle.gdb_packet.specs.declared.command.Span.{Span}
 use Rattle.tm_model.specs.declared.outcome.Event.{Event}
 use Rattle.tm_model.specs.declared.outcome.Pick.{Pick}
 use Rattle.tm_hist.specs.Board.{ShownBoard}

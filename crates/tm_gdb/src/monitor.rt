@@ -3,7 +3,7 @@
 use crate::target::Target;
 use crate::text::Text;
 use crate::why::{write_core, write_reasons};
-use gdb_command::Monitor;
+use gdb_packet::Monitor;
 use ia_text::page::{Page, push, push_hex};
 use ia_text::{Out, WriteFault};
 use itoa::Buffer;

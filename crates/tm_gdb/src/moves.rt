@@ -11,7 +11,7 @@ use crate::points::first_changed;
 use crate::stop::{Stop, stop_of};
 use crate::target::Target;
 use crate::turns::{Goers, core_count, goers_of, is_stopped, stepping_from, steps};
-use gdb_command::Actions;
+use gdb_packet::Actions;
 use tm_debug::{Board, StepFault};
 use tm_model::{Outcome, Pick};
 

@@ -8,7 +8,7 @@ ghost use Rattle.tm_gdb.specs.Points.{set_watch, sights, stands_at, unset_break,
 ghost use Rattle.tm_gdb.specs.Points.{watched_byte, watched_number};
 
 use arrayvec::ArrayVec;
-use gdb_command::{Point, PointKind, Span};
+use gdb_packet::{Point, PointKind, Span};
 use tm_debug::{CoreState, Machine};
 
 /// The most breakpoints, and the most watchpoints, that are set at once.

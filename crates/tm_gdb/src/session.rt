@@ -18,8 +18,7 @@ ghost use Rattle.tm_gdb.specs.Values.{picks_in, start_with, value_of};
 
 use crate::answer::carry_out;
 use crate::target::Target;
-use gdb_command::{Command, Question, read_command};
-use gdb_packet::{Bytes, Heard, Reader, write_packet};
+use gdb_packet::{Bytes, Command, Heard, Question, Reader, read_command, write_packet};
 use ia_text::{Failed, Out};
 use std::alloc::Global;
 use std::sync::Wait;

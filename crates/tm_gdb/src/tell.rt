@@ -5,8 +5,7 @@ ghost use Rattle.tm_gdb.specs.Answers.{TellsMemory, TellsRegister, TellsRegister
 ghost use Rattle.tm_gdb.specs.Values.{value_of};
 
 use crate::target::Target;
-use gdb_command::Span;
-use gdb_packet::Bytes;
+use gdb_packet::{Bytes, Span};
 use gdb_target::{
     CoreShown, REGISTERS, push_description, push_memory, push_part, push_register, push_registers,
     push_thread_list,

@@ -1,13 +1,13 @@
 //! Whose turn it is.
 
 ghost use Rattle.std.specs.Prelude.{◌≡◌, ◌+◌, ◌^◌, ◌<◌, ◌≤◌, IfSome, length};
-ghost use Rattle.gdb_command.specs.Actions.{action_of};
+ghost use Rattle.gdb_packet.specs.Actions.{action_of};
 ghost use Rattle.tm_debug.specs.Session.{is_stopped, next_behind};
 ghost use Rattle.tm_gdb.specs.Moves.{all_continue, continues, goer_from, goers_of, goes, going_from, is_continue};
 ghost use Rattle.tm_gdb.specs.Moves.{is_step, is_stranger, names_stranger};
 ghost use Rattle.tm_gdb.specs.Moves.{plainly, some_continue, stepping_from, steps, turn_pick};
 
-use gdb_command::{Action, Actions, ThreadAction};
+use gdb_packet::{Action, Actions, ThreadAction};
 use tm_debug::{Board, CoreState};
 use tm_model::Pick;
 

@@ -1,8 +1,0 @@
-use Rattle.std.proofs.Common.{◌≡◌, drop}
-use Rattle.gdb_command.specs.Actions.{entry_says, leftmost}
-use Rattle.gdb_command.proofs.command.Actions.of.Given as goal
-
--- the entries before this one say nothing of the thread
-abbrev pub invariant-chosen : goal.invariant-chosen
-invariant-chosen l =
-    leftmost (entry_says l.thread) l.self.chosen ≡ leftmost (entry_says l.thread) (drop l.index l.self.chosen)
