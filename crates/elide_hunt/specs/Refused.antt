@@ -1,5 +1,5 @@
 -- Why `elide hunt` is refused (docs/FAULTS.md).
-use Rattle.std.specs.Prelude.{◌≡◌, ◌⊎◌, ℕ, Bool, All, List, Option, Some, length}
+use Rattle.std.specs.Prelude.{◌≡◌, ℕ, Bool, All, List, Option, Some, length}
 use Rattle.std.specs.Borrow.{Bor}
 use Rattle.std.specs.Option.{option_copied}
 use Rattle.elide_args.specs.declared.hunt_options.HuntOptions.{HuntOptions}

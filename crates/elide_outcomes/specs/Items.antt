@@ -39,10 +39,10 @@ IsItem file word (Memory address) = IsAddress file word address
 
 -- a word is no item: before its first `@` stands the name of no register of 32 bits, or behind it no core's number; or
 -- it has no `@`, and its sum says nothing
-pub data IsNoItem (file : ProgramFile) (word : List ℕ) : Type 0 where
-  no_register : at_place word < length word → IsNoRegister (before_first is_at word) → IsNoItem file word
-  no_core : at_place word < length word → core_said (after_first is_at word) ≡ None → IsNoItem file word
-  no_sum : at_place word ≡ length word → IsSum file word None → IsNoItem file word
+pub data IsNoShownItem (file : ProgramFile) (word : List ℕ) : Type 0 where
+  no_register : at_place word < length word → IsNoRegister (before_first is_at word) → IsNoShownItem file word
+  no_core : at_place word < length word → core_said (after_first is_at word) ≡ None → IsNoShownItem file word
+  no_sum : at_place word ≡ length word → IsSum file word None → IsNoShownItem file word
 
 -- ---- words with white space between
 
@@ -69,7 +69,7 @@ SaysItems file text (item ∷ items) =
 
 -- a word of the text is no item
 pub data HasNoItem (file : ProgramFile) : List ℕ → Type 0 where
-  first : {text : List ℕ} (word rest : List ℕ) → BeginsWithWord text word rest → IsNoItem file word
+  first : {text : List ℕ} (word rest : List ℕ) → BeginsWithWord text word rest → IsNoShownItem file word
       → HasNoItem file text
   later : {text : List ℕ} (word rest : List ℕ) → BeginsWithWord text word rest → HasNoItem file rest
       → HasNoItem file text

@@ -1,5 +1,5 @@
 -- Why `elide outcomes` is refused (docs/FAULTS.md). Want of memory is a reason wherever memory is taken.
-use Rattle.std.specs.Prelude.{◌≡◌, ◌≢◌, ◌⊎◌, ◌≤◌, ⊤, ℕ, ◌+◌, Bool, true, not, List, [], ◌∷◌, All, length, codes}
+use Rattle.std.specs.Prelude.{◌≡◌, ◌≢◌, ◌≤◌, ⊤, ℕ, ◌+◌, Bool, true, not, List, [], ◌∷◌, All, length, codes}
 use Rattle.std.specs.Prelude.{Option, Some, None, IfSome, slice_get}
 use Rattle.std.specs.Borrow.{Bor}
 use Rattle.std.specs.Option.{option_copied}

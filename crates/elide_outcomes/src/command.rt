@@ -56,9 +56,10 @@ pub struct Asked<'a> {
     pub most: u32,
 }
 
-/// Searches all schedules of a program, prints each outcome in the order of its values, and writes the page of one where that is
-/// asked for. While it searches, `progress` is told how many states were found. Answers what the search came to and what became of the page, and gives the device back. Where there is no such
-/// outcome, or its page cannot be written, that is the refusal, and the outcomes are printed before.
+/// Searches all schedules of a program, prints each outcome in the order of its values, and writes the page of one where that
+/// is asked for. While it searches, `progress` is told how many states were found. Answers what the search came to and what
+/// became of the page, and gives the device back. Where there is no such outcome, or its page cannot be written, that is the
+/// refusal, and the outcomes are printed before.
 pub fn outcomes<P: Paths, O: Out + Drop, G: Progress, W: Pages>(
     alloc: Global,
     options: &OutcomesOptions<'_>,

@@ -9,7 +9,7 @@ ghost use Rattle.elide_checks.specs.Counts.{core_said};
 ghost use Rattle.elide_checks.specs.Misread.{IsNoRegister};
 ghost use Rattle.elide_setup.specs.Faults.{want};
 ghost use Rattle.elide_setup.specs.Misuse.{IsMisuse};
-ghost use Rattle.elide_outcomes.specs.Items.{AreItems, HasNoItem, IsItem, IsNoItem, SaysItems};
+ghost use Rattle.elide_outcomes.specs.Items.{AreItems, HasNoItem, IsItem, IsNoShownItem, SaysItems};
 ghost use Rattle.elide_outcomes.specs.Refused.{AreNoItems};
 
 use elide_checks::{core_of, register_named};
@@ -73,7 +73,7 @@ fn add(items: &mut Vec<Item>, item: Item) -> Result<(), AllocError>
 }
 
 fn item_of(word: &str, file: &ProgramFile<'_>) -> Option<Item>
-    ensures { MatchOption result (IsNoItem file.now word.now) (IsItem file.now word.now) }
+    ensures { MatchOption result (IsNoShownItem file.now word.now) (IsItem file.now word.now) }
 {
     match word.split_once('@') {
         Some((name, number)) => {

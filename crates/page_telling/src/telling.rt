@@ -1,6 +1,6 @@
 //! The second pass over a run: its steps, written as they are made.
 
-ghost use Rattle.std.specs.Prelude.{◌≡◌, ◌+◌, ◌<◌, ◌≤◌, ◌≢◌, ◌⊎◌, ℕ, IfErr, IfOk, List, OnErr, OnOk, codes, length};
+ghost use Rattle.std.specs.Prelude.{◌≡◌, ◌+◌, ◌<◌, ◌≤◌, ◌≢◌, ◌⊎◌, ℕ, IfErr, IfOk, List, OnErr, OnOk, codes};
 ghost use Rattle.ia_text.specs.Writing.{Wrote};
 ghost use Rattle.tm_page.specs.Applied.{is_listed};
 ghost use Rattle.tm_page.specs.Before.{IsBefore};
