@@ -15,3 +15,4 @@ mod OperandLists
 pub mod ReadLines
 pub mod Fronts
 pub mod Rests
+pub mod WarnedLines

@@ -10,3 +10,4 @@ pub mod Statements
 pub mod Source
 pub mod Rests
 pub mod Fits
+pub mod Warnings

@@ -4,7 +4,7 @@ use Rattle.std.proofs.lemmas.List.{drop-drop, drop_all}
 use Rattle.ia_lex.specs.Lines.{lines_of}
 use Rattle.ia_text.specs.Writing.{Device, Making, Stopped, Wrote}
 use Rattle.ia_text.proofs.Writing.{making_more, making_room, making_stopped}
-use Rattle.ia_warn.specs.Warnings.{line_warning, lone_label, warnings_from}
+use Rattle.ia_source.specs.Warnings.{line_warning, lone_label, warnings_from}
 
 -- a part of the rest was written
 pub part_wrote : {a b c : Device} {rest whole : List ℕ} (part rest' : List ℕ) → Making a b [] rest whole → rest ≡ part ++ rest'

@@ -1,11 +1,11 @@
-//! The lines that are told.
+//! The warnings of a source: its lines that are a label alone, without a colon.
 
 ghost use Rattle.std.specs.Prelude.{◌≡◌, option_map};
+ghost use Rattle.ia_source.specs.Warnings.{line_warning, lone_label, warning, warnings};
 ghost use Rattle.ia_text.specs.Writing.{Writes};
-ghost use Rattle.ia_warn.specs.Warnings.{line_warning, lone_label, warning, warnings};
 
+use crate::head::is_label;
 use ia_lex::{first_line, only_word};
-use ia_source::is_label;
 use ia_text::{Failed, Out};
 use itoa::Buffer;
 

@@ -2,9 +2,9 @@ use Rattle.std.proofs.Common.{rules, ◌≡◌, ◌∙◌, ◌+◌, ◌-◌, ap,
 use Rattle.std.proofs.lemmas.List.{take_rest}
 use Rattle.ia_lex.specs.Lines.{lines_of}
 use Rattle.ia_text.proofs.Writing.{writes_err}
-use Rattle.ia_warn.specs.Warnings.{line_warning, lone_label, warnings, warnings_from}
-use Rattle.ia_warn.proofs.Parts.{line_behind, part_stopped, part_wrote}
-use Rattle.ia_warn.proofs.lines.warn.Goals as goal
+use Rattle.ia_source.specs.Warnings.{line_warning, lone_label, warnings, warnings_from}
+use Rattle.ia_source.proofs.WarnedLines.{line_behind, part_stopped, part_wrote}
+use Rattle.ia_source.proofs.warning.warn.Goals as goal
 
 pub returns-in_err-warn_of : goal.returns-in_err-warn_of
 returns-in_err-warn_of g c =

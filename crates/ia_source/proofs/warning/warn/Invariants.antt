@@ -1,8 +1,8 @@
 use Rattle.std.proofs.Common.{◌+◌, ◌-◌, ◌≤◌, [], drop, length}
 use Rattle.ia_lex.specs.Lines.{lines_of}
 use Rattle.ia_text.specs.Writing.{Making}
-use Rattle.ia_warn.specs.Warnings.{warnings, warnings_from}
-use Rattle.ia_warn.proofs.lines.warn.Given as goal
+use Rattle.ia_source.specs.Warnings.{warnings, warnings_from}
+use Rattle.ia_source.proofs.warning.warn.Given as goal
 
 -- the warnings of the lines before `place` were written
 abbrev pub invariant-lines : goal.invariant-lines
