@@ -2,9 +2,8 @@
 
 use ia_image::load;
 use std::test::Fail;
-use tm_back::{BackFault, first_steps};
 use tm_core::Limits;
-use tm_hist::Board;
+use tm_hist::{BackFault, Board, first_steps};
 
 const LIMITS: Limits = Limits {
     read_lines: 512,

@@ -3,6 +3,5 @@ pub mod Help
 pub mod Session
 pub mod Serving
 pub mod Faults
-pub mod TmBack
 pub mod TmHist
 pub mod TmModel

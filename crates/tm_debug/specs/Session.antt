@@ -21,7 +21,7 @@ use Rattle.tm_reason.specs.TmHist.Board.{IsHistory, IsOwedNext, SameBoard, Shown
 use Rattle.tm_reason.specs.TmHist.Lines.{core_text, dump_lines, outcome_line, state_word}
 use Rattle.ia_text.specs.TextLine.{line_end, number_text}
 use Rattle.tm_reason.specs.TmHist.Machine.{shown_regs, shown_state}
-use Rattle.tm_reason.specs.TmBack.Back.{IsFirst}
+use Rattle.tm_reason.specs.TmHist.Back.{IsFirst}
 use Rattle.tm_reason.specs.History.{IsReasonOf}
 use Rattle.tm_reason.specs.Lines.{reason_line}
 use Rattle.tm_reason.specs.TmWhy.Reason.{Reason}

@@ -3,8 +3,8 @@ use Rattle.std.proofs.Common.{◌≡◌, ℕ, ◌+◌, ◌-◌, ◌<◌, ◌≤�
 use Rattle.std.proofs.Common.{◌∙◌, subst, arith}
 use Rattle.std.specs.List.{slice_get}
 use Rattle.std.proofs.Math.Nat.{eq-or-lt_of_le}
-use Rattle.tm_back.specs.Back.{IsFirst}
-use Rattle.tm_back.proofs.Owed.{first_more, told_at}
+use Rattle.tm_hist.specs.Back.{IsFirst}
+use Rattle.tm_hist.proofs.Owed.{first_more, told_at}
 use Rattle.tm_hist.specs.Board.{IsHistory, IsOwedNext, ShownBoard}
 use Rattle.tm_model.specs.declared.outcome.Event.{Event}
 use Rattle.tm_model.specs.declared.outcome.Outcome.{Outcome}

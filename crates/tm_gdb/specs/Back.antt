@@ -1,7 +1,7 @@
 -- Steps that are taken back, the newest first (gdb manual, appendix E.2, `bs` and `bc`).
 use Rattle.std.specs.Prelude.{◌≡◌, ℕ, zero, suc, ◌+◌, ◌≤◌, List, Option, Some, None, Bool, length, if◌then◌else◌}
 use Rattle.std.specs.List.{slice_get}
-use Rattle.tm_back.specs.Back.{IsFirst}
+use Rattle.tm_hist.specs.Back.{IsFirst}
 use Rattle.tm_hist.specs.Board.{IsHistory, ShownBoard}
 use Rattle.tm_model.specs.declared.outcome.Outcome.{Outcome}
 use Rattle.tm_gdb.specs.declared.back.Place.{Place}

@@ -3,7 +3,7 @@
 ghost use Rattle.std.specs.Prelude.{◌≡◌, ◌+◌, ◌<◌, ◌≤◌, ◌==◌, Err, IfNone, IfOk, IfSome, OnErr, OnOk, Some, false};
 ghost use Rattle.std.specs.Prelude.{length, true};
 ghost use Rattle.std.specs.List.{slice_get};
-ghost use Rattle.tm_back.specs.Back.{IsFirst};
+ghost use Rattle.tm_hist.specs.Back.{IsFirst};
 ghost use Rattle.tm_hist.specs.Board.{IsFull, IsHistory, IsOwedNext, SameBoard};
 ghost use Rattle.tm_hist.specs.History.{pairs_of};
 ghost use Rattle.tm_model.specs.declared.outcome.Outcome.{Outcome};

@@ -8,7 +8,7 @@
 //! stops by anything but HLT, or the end (`Moves`). Steps back undo steps of the history, the newest first (`Back`).
 //! Not promised: the words of `monitor` and of descriptions.
 //!
-//! Stands on `tm_hist` (boards), `tm_back` (boards of first steps), `gdb_target` (what is shown), `gdb_packet` (packets
+//! Stands on `tm_hist` (boards, and those of first steps), `gdb_target` (what is shown), `gdb_packet` (packets
 //! and their commands), `tm_reason` (why cores abort) and `tm_debug` (devices that are read).
 #![tactic(auto)]
 

@@ -8,3 +8,4 @@ pub mod Idles
 pub mod Boards
 pub mod Pushes
 pub mod UnderEvents
+pub mod Owed

@@ -8,3 +8,5 @@ pub mod Replay
 pub mod TmCore
 pub mod TmModel
 pub mod TmRule
+pub mod IaImage
+pub mod Back

@@ -4,13 +4,16 @@
 //! each history replays: `serial` runs it on one flat memory, without buffers, sets or marks, and ends with the
 //! machine's memory, registers and stops, or names the first pair at which a list is no run. `Board::steps` makes several
 //! steps of one core, a transaction among them as a whole where it can; `Board::step_under` makes one under an event from
-//! outside; `Board::restart` takes a board back before its first step. State lines, outcome lines and dumps are those of
-//! docs/FORMATS.md; schedules are `tm_schedule`'s.
+//! outside; `Board::restart` takes a board back before its first step. `first_steps` makes the first steps of a board's
+//! history once more, on a board of the same program and limits: as a board's machine is the run of its history, this is the
+//! machine as it was behind these steps. State lines, outcome lines and dumps are those of docs/FORMATS.md; schedules are
+//! `tm_schedule`'s.
 //!
 //! Stands on `tm_core` (the machine), `tm_rule` (one instruction), `ia_image` (programs) and `ia_text` (numbers,
 //! writing).
 #![tactic(auto)]
 
+mod back;
 mod board;
 mod flat;
 mod history;
@@ -24,6 +27,7 @@ mod step;
 mod usual;
 mod whole;
 
+pub use back::{BackFault, first_steps};
 pub use board::{Board, BoardFault, MOST_STEPS, StepFault};
 pub use history::History;
 pub use history_memory::HistoryMemory;
@@ -34,5 +38,5 @@ pub use one_memory::serial;
 pub use replay::{Serial, SerialFault};
 pub use tm_core::{
     AbortReason, CoreState, Counts, Event, Interference, Kind, Limits, Machine, MachineFault,
-    MachineMemory, Outcome, Pick, Reach, RunFault, Stop, memory,
+    MachineMemory, Outcome, Pick, Program, Reach, RunFault, Stop, memory,
 };

@@ -1,9 +1,9 @@
 -- One step more of a history.
 use Rattle.std.proofs.Common.{◌≡◌, ℕ, zero, suc, ◌+◌, ◌<◌, List, [], ◌∷◌, ◌++◌, Some, sym, ◌∙◌, ap, subst, length, take, arith}
 use Rattle.std.specs.List.{slice_get}
-use Rattle.tm_back.specs.TmModel.Outcome.{Outcome}
-use Rattle.tm_back.specs.TmHist.Board.{IsHistory, ShownBoard as Board}
-use Rattle.tm_back.specs.Back.{IsFirst}
+use Rattle.tm_hist.specs.TmModel.Outcome.{Outcome}
+use Rattle.tm_hist.specs.Board.{IsHistory, ShownBoard as Board}
+use Rattle.tm_hist.specs.Back.{IsFirst}
 use Rattle.tm_why.specs.Asked.{IsAsked}
 use Rattle.tm_why.specs.Watched.{IsWatch}
 use Rattle.tm_why.specs.declared.asked.Asked.{Asked}

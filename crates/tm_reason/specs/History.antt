@@ -1,8 +1,8 @@
 -- What a board's history tells of a core's next step.
 use Rattle.std.specs.Prelude.{◌≡◌, ⊤, ℕ, List, [], ◌∷◌, Option, Some, length}
 use Rattle.std.specs.List.{slice_get}
-use Rattle.tm_back.specs.TmHist.Board.{IsHistory, ShownBoard as Board}
-use Rattle.tm_back.specs.Back.{IsFirst}
+use Rattle.tm_hist.specs.Board.{IsHistory, ShownBoard as Board}
+use Rattle.tm_hist.specs.Back.{IsFirst}
 use Rattle.tm_why.specs.Asked.{IsAsked}
 use Rattle.tm_why.specs.declared.asked.Asked.{Asked}
 use Rattle.tm_why.specs.declared.reason.Reason.{Reason}

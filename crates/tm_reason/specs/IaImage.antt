@@ -1,2 +1,2 @@
 -- The words of ia_image that crates above name, passed on.
-pub use Rattle.tm_back.specs.IaImage.Program
+pub use Rattle.tm_hist.specs.IaImage.Program

@@ -1,7 +1,6 @@
 pub mod History
 pub mod Lines
 pub mod IaImage
-pub mod TmBack
 pub mod TmCore
 pub mod TmHist
 pub mod TmModel

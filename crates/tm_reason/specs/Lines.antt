@@ -3,9 +3,9 @@ use Rattle.std.specs.Prelude.{ℕ, List, [], ◌++◌, codes, Option, Some, None
 use Rattle.std.specs.Fmt.{decimal}
 use Rattle.ia_text.specs.Number.{eight_digits, hex_digits}
 use Rattle.ia_text.specs.TextLine.{line_end}
-use Rattle.tm_back.specs.TmHist.Lines.{stop_word}
-use Rattle.tm_back.specs.TmModel.AbortReason.{AbortReason}
-use Rattle.tm_back.specs.TmModel.AbortReason.TheVariants as cause
+use Rattle.tm_hist.specs.Lines.{stop_word}
+use Rattle.tm_hist.specs.TmModel.AbortReason.{AbortReason}
+use Rattle.tm_hist.specs.TmModel.AbortReason.TheVariants as cause
 use Rattle.tm_sets.specs.declared.interface.Kind.{Kind}
 use Rattle.tm_sets.specs.declared.interface.Kind.TheVariants.{Read, Write}
 use Rattle.tm_why.specs.declared.reason.Reason.{Reason}

@@ -1,2 +1,2 @@
 -- The words of tm_core that crates above name, passed on.
-pub use Rattle.tm_back.specs.TmCore.Theorem
+pub use Rattle.tm_hist.specs.TmCore.Theorem

@@ -1,4 +1,5 @@
 -- The words of tm_hist that crates above name, passed on.
-pub use Rattle.tm_back.specs.TmHist.Board
-pub use Rattle.tm_back.specs.TmHist.Lines
-pub use Rattle.tm_back.specs.TmHist.Machine
+pub use Rattle.tm_hist.specs.Back
+pub use Rattle.tm_hist.specs.Board
+pub use Rattle.tm_hist.specs.Lines
+pub use Rattle.tm_hist.specs.Machine

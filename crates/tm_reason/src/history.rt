@@ -1,12 +1,12 @@
 //! The steps of a history, of which a watch is told.
 
 ghost use Rattle.std.specs.Prelude.{◌≡◌, ◌↔◌, ◌+◌, ◌++◌, ◌<◌, ◌∷◌, [], Err, IfOk, OnOk, length};
-ghost use Rattle.tm_back.specs.Back.{IsFirst};
-ghost use Rattle.tm_back.specs.TmHist.Board.{IsFull, IsNew, IsOwedNext, SameBoard};
+ghost use Rattle.tm_hist.specs.Back.{IsFirst};
+ghost use Rattle.tm_hist.specs.Board.{IsFull, IsNew, IsOwedNext, SameBoard};
 ghost use Rattle.tm_reason.specs.History.{IsReasonOf, IsWatchOf};
 
 use std::alloc::{AllocError, Global};
-use tm_back::{Board, Outcome, Pick, StepFault};
+use tm_hist::{Board, Outcome, Pick, StepFault};
 use tm_why::{Asked, Reason, Watch};
 
 /// A watch that was told of each step of a board's history. They are made once more on a board of their own, each under the event

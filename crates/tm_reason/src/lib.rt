@@ -2,7 +2,7 @@
 //!
 //! Promised: a watch is told of each step of the history with what the machine said before it, which is made once more on
 //! a board of its own; the reason is that of `tm_why` behind these steps; and the line that tells it. Stands on `tm_why`
-//! and `tm_back`.
+//! and `tm_hist`.
 #![tactic(auto)]
 
 mod history;
@@ -10,7 +10,7 @@ mod line;
 
 pub use history::{reason_of, watched};
 pub use line::write_reason;
-pub use tm_back::{
+pub use tm_hist::{
     BackFault, Board, CoreState, Kind, Machine, Outcome, Program, StepFault, first_steps,
     push_state, write_core, write_dump, write_outcome,
 };

@@ -9,7 +9,7 @@ ghost use Rattle.tm_reason.specs.Lines.{begun_words, cause_word, hit_words, reas
 use ia_text::page::{Page, push, push_eight, push_hex};
 use ia_text::{Out, WriteFault};
 use itoa::Buffer;
-use tm_back::{AbortReason, Kind, stop_text};
+use tm_hist::{AbortReason, Kind, stop_text};
 use tm_why::{Reason, StandingHit};
 
 /// Writes why the next step of a core is an abort: the machine's reason, the hit that doomed its transaction, if one did, and when

@@ -1,4 +1,4 @@
-use Rattle.tm_back.specs.Back.{IsFirst}
+use Rattle.tm_hist.specs.Back.{IsFirst}
 use Rattle.tm_reason.specs.History.{IsWatchOf}
 use Rattle.tm_reason.proofs.history.follow.Given as goal
 

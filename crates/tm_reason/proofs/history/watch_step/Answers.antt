@@ -1,7 +1,7 @@
 use Rattle.std.proofs.Common.{◌-◌, ◌<◌, ◌^◌, Option, arith, length, rules, subst, sym}
-use Rattle.tm_back.proofs.Owed.{first_more, told_at}
-use Rattle.tm_back.specs.TmHist.Board.{IsOwedNext}
-use Rattle.tm_back.specs.TmModel.Event.{Event}
+use Rattle.tm_hist.proofs.Owed.{first_more, told_at}
+use Rattle.tm_hist.specs.Board.{IsOwedNext}
+use Rattle.tm_hist.specs.TmModel.Event.{Event}
 use Rattle.tm_reason.proofs.Steps.{watched_more}
 use Rattle.tm_reason.proofs.history.watch_step.Goals as goal
 

@@ -1,4 +1,4 @@
-use Rattle.tm_back.specs.Back.{IsFirst}
+use Rattle.tm_hist.specs.Back.{IsFirst}
 use Rattle.tm_hist.specs.Board.{IsHistory}
 use Rattle.tm_gdb.specs.Back.{EndsBack}
 use Rattle.tm_gdb.specs.Values.{value_of}

@@ -1,13 +1,14 @@
 //! The first steps of a history, made once more.
 
 ghost use Rattle.std.specs.Prelude.{◌≡◌, ◌↔◌, ◌+◌, ◌++◌, ◌<◌, ◌≤◌, ◌∷◌, [], Err, IfOk, OnErr, OnOk, false, length, true};
-ghost use Rattle.tm_hist.specs.TmCore.Machine.{bad_limits};
+ghost use Rattle.tm_core.specs.Machine.{bad_limits};
+ghost use Rattle.tm_hist.specs.Back.{HasStranger, IsFirst};
 ghost use Rattle.tm_hist.specs.Board.{IsFull, IsNew, IsOwedNext, SameBoard, bad_limit};
-ghost use Rattle.tm_back.specs.Back.{HasStranger, IsFirst};
 
+use crate::board::{Board, BoardFault, StepFault};
 use std::alloc::Global;
 use thiserror::Error;
-use tm_hist::{Board, BoardFault, Outcome, Pick, StepFault};
+use tm_core::{Outcome, Pick};
 
 /// Why the first steps were not made once more.
 #[derive(Clone, Copy, PartialEq, Eq, Debug, Drop, Error)]

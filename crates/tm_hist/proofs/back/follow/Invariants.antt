@@ -1,5 +1,5 @@
-use Rattle.tm_back.specs.Back.{IsFirst}
-use Rattle.tm_back.proofs.back.follow.Given as goal
+use Rattle.tm_hist.specs.Back.{IsFirst}
+use Rattle.tm_hist.proofs.back.follow.Given as goal
 
 -- the steps so far are the first of the history
 abbrev pub invariant-steps : goal.invariant-steps

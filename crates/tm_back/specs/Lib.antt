@@ -1,5 +1,0 @@
-pub mod Back
-pub mod IaImage
-pub mod TmCore
-pub mod TmHist
-pub mod TmModel

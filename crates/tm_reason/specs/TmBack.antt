@@ -1,2 +1,0 @@
--- The words of tm_back that crates above name, passed on.
-pub use Rattle.tm_back.specs.Back
