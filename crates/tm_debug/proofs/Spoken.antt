@@ -4,7 +4,7 @@ use Rattle.std.specs.Prelude.{Result, Ok, Err, IfErr, IfOk}
 use Rattle.ia_text.specs.declared.out.WriteFault.{WriteFault}
 use Rattle.ia_text.specs.Writing.{Device, Wrote}
 use Rattle.ia_text.proofs.Writing.{wrote_then}
-use Rattle.tm_reason.specs.TmHist.Board.{ShownBoard as Board}
+use Rattle.tm_why.specs.TmHist.Board.{ShownBoard as Board}
 use Rattle.debug_command.specs.declared.manner.Manner.{Manner}
 use Rattle.debug_command.specs.declared.manner.Manner.TheVariants.{Plain, Spoken}
 use Rattle.tm_debug.specs.declared.session.SessionFault.{SessionFault}

@@ -6,25 +6,25 @@ use Rattle.std.specs.Fmt.{decimal}
 use Rattle.std.specs.List.{flat_map, list_any, position, remove, slice_get}
 use Rattle.std.specs.List.Sorted.{IsStrictlyIncreasing}
 use Rattle.std.specs.FinSet as set
-use Rattle.tm_reason.specs.IaImage.Program.{ProgramValue as Program, code_of}
+use Rattle.tm_why.specs.IaImage.Program.{ProgramValue as Program, code_of}
 use Rattle.ia_text.specs.Listing.{shown_bytes}
 use Rattle.ia_text.specs.Number.{eight_digits, hex_digits}
 use Rattle.ia_text.specs.declared.out.WriteFault.{WriteFault}
 use Rattle.ia_text.specs.Writing.{Device, Stopped, Writes, Wrote}
-use Rattle.tm_reason.specs.TmModel.CoreState.{CoreState}
-use Rattle.tm_reason.specs.TmModel.CoreState.TheVariants.{Mid}
+use Rattle.tm_why.specs.TmModel.CoreState.{CoreState}
+use Rattle.tm_why.specs.TmModel.CoreState.TheVariants.{Mid}
 use Rattle.tm_model.specs.declared.outcome.Event.{Event}
 use Rattle.tm_model.specs.declared.outcome.Outcome.{Outcome}
 use Rattle.tm_model.specs.declared.outcome.Pick.{Pick}
-use Rattle.tm_reason.specs.TmCore.Theorem.{ShownMachine as Machine, view_at}
-use Rattle.tm_reason.specs.TmHist.Board.{IsHistory, IsOwedNext, SameBoard, ShownBoard as Board, stop_shown}
-use Rattle.tm_reason.specs.TmHist.Lines.{core_text, dump_lines, outcome_line, state_word}
+use Rattle.tm_why.specs.TmCore.Theorem.{ShownMachine as Machine, view_at}
+use Rattle.tm_why.specs.TmHist.Board.{IsHistory, IsOwedNext, SameBoard, ShownBoard as Board, stop_shown}
+use Rattle.tm_why.specs.TmHist.Lines.{core_text, dump_lines, outcome_line, state_word}
 use Rattle.ia_text.specs.TextLine.{line_end, number_text}
-use Rattle.tm_reason.specs.TmHist.Machine.{shown_regs, shown_state}
-use Rattle.tm_reason.specs.TmHist.Back.{IsFirst}
-use Rattle.tm_reason.specs.History.{IsReasonOf}
-use Rattle.tm_reason.specs.Lines.{reason_line}
-use Rattle.tm_reason.specs.TmWhy.Reason.{Reason}
+use Rattle.tm_why.specs.TmHist.Machine.{shown_regs, shown_state}
+use Rattle.tm_why.specs.TmHist.Back.{IsFirst}
+use Rattle.tm_why.specs.History.{IsReasonOf}
+use Rattle.tm_why.specs.Lines.{reason_line}
+use Rattle.tm_why.specs.declared.reason.Reason.{Reason}
 use Rattle.tm_trace.specs.Deeds.{IsBefore, IsDeed}
 use Rattle.tm_trace.specs.Lines.{step_line}
 use Rattle.tm_trace.specs.declared.deed.Before.{Before}

@@ -1,2 +1,2 @@
 -- The words of tm_model that crates above name, passed on.
-pub use Rattle.tm_reason.specs.TmModel.Outcome
+pub use Rattle.tm_why.specs.TmModel.Outcome

@@ -18,7 +18,7 @@ use ia_text::page::{push, push_eight};
 use ia_text::text_line::{TextLine, push_number};
 use ia_text::{Out, WriteFault};
 use tm_model::{Event, Pick};
-use tm_reason::{Machine, Program, StepFault, write_core, write_dump};
+use tm_why::{Machine, Program, StepFault, write_core, write_dump};
 
 /// Tells that there is no core of a number.
 pub fn refuse_core<O: Out>(state: &SessionState, out: &mut O) -> Result<(), WriteFault>

@@ -12,7 +12,7 @@ use ia_text::text_line::TextLine;
 use ia_text::{Out, WriteFault};
 use itoa::Buffer;
 use std::alloc::{AllocError, Global};
-use tm_reason::{Board, first_steps};
+use tm_why::{Board, first_steps};
 
 // The number behind that of the core that was stepped last.
 fn next_behind(board: &Board) -> u8

@@ -7,7 +7,7 @@
 //! answers tell. It waits for its input only. The line of each step of a spoken session goes on with what the step did.
 //!
 //! It stands on `debug_command` (commands, as lines write them), `tm_hist` (boards, steps that are taken back, and the texts of
-//! outcomes, states and dumps), `tm_reason` (why a core aborts), `tm_trace` (what a step did), `ia_text` (listings, and
+//! outcomes, states and dumps), `tm_why` (why a core aborts), `tm_trace` (what a step did), `ia_text` (listings, and
 //! devices that are written to) and `ia_lex` (lines).
 #![tactic(auto)]
 
@@ -29,7 +29,7 @@ pub use debug_command::{CommandName, Manner, Names, Range, Refusal, Symbol};
 pub use input::{FromReader, In};
 pub use session::{Session, SessionFault, serve, serve_in};
 pub use state::MOST_BREAKPOINTS;
-pub use tm_reason::{
+pub use tm_why::{
     BackFault, Board, CoreState, Kind, Machine, StepFault, first_steps, reason_of, watched,
     write_outcome, write_reason,
 };

@@ -2,7 +2,7 @@
 
 ghost use Rattle.std.specs.Prelude.{◌≡◌, ◌<◌, ◌≤◌, List, ℕ, OnErr, OnOk, length};
 ghost use Rattle.ia_text.specs.Writing.{Wrote};
-ghost use Rattle.tm_reason.specs.TmHist.Board.{IsFull};
+ghost use Rattle.tm_why.specs.TmHist.Board.{IsFull};
 ghost use Rattle.tm_debug.specs.Session.{GoAnswer, RunAnswer, RunAnswerBroken, RunBroken, RunWhole, TellsAnswer};
 ghost use Rattle.tm_debug.specs.Session.{value_of};
 

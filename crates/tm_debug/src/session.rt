@@ -26,7 +26,7 @@ use std::fmt;
 use std::sync::Wait;
 use thiserror::Error;
 use tm_model::Pick;
-use tm_reason::Board;
+use tm_why::Board;
 
 /// Why a session ended before its input did. Each gives the board back, after the steps that were made.
 #[derive(Drop, Error)]

@@ -6,7 +6,7 @@ ghost use Rattle.std.specs.List.Sorted.{IsStrictlyIncreasing};
 ghost use Rattle.arrayvec.specs.ArrayVec.{array_vec_len};
 ghost use Rattle.ia_text.specs.Number.{hex_digits};
 ghost use Rattle.ia_text.specs.Writing.{Writes};
-ghost use Rattle.tm_reason.specs.TmCore.Theorem.{lines_shown, view_at};
+ghost use Rattle.tm_why.specs.TmCore.Theorem.{lines_shown, view_at};
 ghost use Rattle.tm_debug.specs.Session.{AnswerStopped, Ends, SetsAnswer, SetsOf, lines_text, value_of, sets_head};
 
 use crate::answer::{core_of, refuse_core};
@@ -16,8 +16,8 @@ use ia_text::page::{Page, push, push_hex};
 use ia_text::text_line::{TextLine, push_number};
 use ia_text::{Out, WriteFault};
 use std::alloc::{AllocError, Global};
-use tm_reason::{CoreState, Machine, push_state};
 use tm_sets::Kind;
+use tm_why::{CoreState, Machine, push_state};
 
 // Adds the number of a line in hex, behind a space.
 fn add_line(text: &mut Vec<u8>, line: u32) -> Result<(), AllocError>

@@ -15,7 +15,7 @@ use ia_text::text_line::TextLine;
 use ia_text::{Out, WriteFault};
 use itoa::Buffer;
 use std::alloc::Global;
-use tm_reason::{Reason, reason_of, watched, write_reason};
+use tm_why::{Reason, reason_of, watched, write_reason};
 
 /// Tells why the next step of a core is an abort, where it is one, by the steps that were made, which are made once more.
 pub fn why<O: Out>(

@@ -9,7 +9,7 @@
 //! Not promised: the words of `monitor` and of descriptions.
 //!
 //! Stands on `tm_hist` (boards, and those of first steps), `gdb_target` (what is shown), `gdb_packet` (packets
-//! and their commands), `tm_reason` (why cores abort) and `tm_debug` (devices that are read).
+//! and their commands), `tm_why` (why cores abort) and `tm_debug` (devices that are read).
 #![tactic(auto)]
 
 mod answer;

@@ -2,3 +2,4 @@ mod OneStep
 mod FilledRows
 mod ChangedRows
 mod StandingHits
+pub mod HistorySteps

@@ -4,3 +4,9 @@ pub mod Watched
 pub mod Standing
 pub mod Rows
 pub mod Asked
+pub mod History
+pub mod Lines
+pub mod IaImage
+pub mod TmCore
+pub mod TmHist
+pub mod TmModel

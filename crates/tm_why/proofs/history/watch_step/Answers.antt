@@ -2,8 +2,8 @@ use Rattle.std.proofs.Common.{◌-◌, ◌<◌, ◌^◌, Option, arith, length, 
 use Rattle.tm_hist.proofs.Owed.{first_more, told_at}
 use Rattle.tm_hist.specs.Board.{IsOwedNext}
 use Rattle.tm_hist.specs.TmModel.Event.{Event}
-use Rattle.tm_reason.proofs.Steps.{watched_more}
-use Rattle.tm_reason.proofs.history.watch_step.Goals as goal
+use Rattle.tm_why.proofs.HistorySteps.{watched_more}
+use Rattle.tm_why.proofs.history.watch_step.Goals as goal
 
 pub returns-in-Ok-step_as_told-clause-first : goal.returns-in-Ok-step_as_told-clause-first
 returns-in-Ok-step_as_told-clause-first c =

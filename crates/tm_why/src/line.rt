@@ -4,13 +4,14 @@ ghost use Rattle.std.specs.Prelude.{◌≡◌, ◌+◌, ◌≤◌, ◌++◌, len
 ghost use Rattle.arrayvec.specs.ArrayVec.{array_vec_len};
 ghost use Rattle.ia_text.specs.Writing.{Writes};
 ghost use Rattle.std.specs.Fmt.{decimal};
-ghost use Rattle.tm_reason.specs.Lines.{begun_words, cause_word, hit_words, reason_line, use_word};
+ghost use Rattle.tm_why.specs.Lines.{begun_words, cause_word, hit_words, reason_line, use_word};
 
+use crate::reason::Reason;
+use crate::row::StandingHit;
 use ia_text::page::{Page, push, push_eight, push_hex};
 use ia_text::{Out, WriteFault};
 use itoa::Buffer;
 use tm_hist::{AbortReason, Kind, stop_text};
-use tm_why::{Reason, StandingHit};
 
 /// Writes why the next step of a core is an abort: the machine's reason, the hit that doomed its transaction, if one did, and when
 /// that began. Steps are counted from 1.

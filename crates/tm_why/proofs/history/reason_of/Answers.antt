@@ -1,4 +1,4 @@
-use Rattle.tm_reason.proofs.history.reason_of.Goals as goal
+use Rattle.tm_why.proofs.history.reason_of.Goals as goal
 
 pub returns : goal.returns
 returns c = record {

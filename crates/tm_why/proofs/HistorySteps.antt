@@ -8,7 +8,7 @@ use Rattle.tm_why.specs.Asked.{IsAsked}
 use Rattle.tm_why.specs.Watched.{IsWatch}
 use Rattle.tm_why.specs.declared.asked.Asked.{Asked}
 use Rattle.tm_why.specs.declared.watch.Watch.{Watch}
-use Rattle.tm_reason.specs.History.{IsWatchOf}
+use Rattle.tm_why.specs.History.{IsWatchOf}
 
 last_is : {X : Type 0} (xs : List X) (n : ℕ) (x : X) → n < length xs → take n xs ++ x ∷ [] ≡ take (suc n) xs → slice_get xs n ≡ Some x
 last_is [] n x below e = absurd (omega arith)

@@ -3,11 +3,13 @@
 ghost use Rattle.std.specs.Prelude.{◌≡◌, ◌↔◌, ◌+◌, ◌++◌, ◌<◌, ◌∷◌, [], Err, IfOk, OnOk, length};
 ghost use Rattle.tm_hist.specs.Back.{IsFirst};
 ghost use Rattle.tm_hist.specs.Board.{IsFull, IsNew, IsOwedNext, SameBoard};
-ghost use Rattle.tm_reason.specs.History.{IsReasonOf, IsWatchOf};
+ghost use Rattle.tm_why.specs.History.{IsReasonOf, IsWatchOf};
 
+use crate::asked::Asked;
+use crate::reason::Reason;
+use crate::watch::Watch;
 use std::alloc::{AllocError, Global};
 use tm_hist::{Board, Outcome, Pick, StepFault};
-use tm_why::{Asked, Reason, Watch};
 
 /// A watch that was told of each step of a board's history. They are made once more on a board of their own, each under the event
 /// that its outcome tells of, at the cost of a step each. `AllocError`, where there was no memory for it.

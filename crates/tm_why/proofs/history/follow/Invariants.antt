@@ -1,6 +1,6 @@
 use Rattle.tm_hist.specs.Back.{IsFirst}
-use Rattle.tm_reason.specs.History.{IsWatchOf}
-use Rattle.tm_reason.proofs.history.follow.Given as goal
+use Rattle.tm_why.specs.History.{IsWatchOf}
+use Rattle.tm_why.proofs.history.follow.Given as goal
 
 -- the steps so far are the first of the history, and the watch was told of them
 abbrev pub invariant-steps : goal.invariant-steps
