@@ -2,3 +2,4 @@ mod Cores
 mod Recording
 mod Refusing
 mod Steps
+pub mod RowsMore

@@ -7,8 +7,12 @@ ghost use Rattle.elide_stats.specs.Counted.{HasCounted};
 ghost use Rattle.elide_stats.specs.Refused.{AreUntold};
 ghost use Rattle.tm_stats.specs.Counts.{AreCounts};
 
+use crate::columns::put_columns;
 use crate::counting::{Counting, no_memory};
-use elide_report::{Labels, Naming, Report, json_line, put_columns};
+use crate::json::json_line;
+use crate::labels::Labels;
+use crate::report::Report;
+use elide_places::Naming;
 use elide_setup::{
     Board, Course, Fault, Gathered, Lent, Machine, ProgramFile, Progress, Refusal, Setup,
 };

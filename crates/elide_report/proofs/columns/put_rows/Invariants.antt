@@ -1,9 +1,0 @@
-use Rattle.std.proofs.Common.{take}
-use Rattle.std.specs.List.{flat_map}
-use Rattle.ia_text.specs.Writing.{Wrote}
-use Rattle.elide_report.proofs.columns.put_rows.Given as goal
-
--- the rows so far were put
-abbrev pub invariant-loop-row : goal.invariant-loop-row
-invariant-loop-row g l =
-    Wrote (g.O.Out.device l.initial.out) (g.O.Out.device l.out) (flat_map g.R.Row.text (take l.row-index l.rows))

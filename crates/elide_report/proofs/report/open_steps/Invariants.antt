@@ -1,7 +1,0 @@
-use Rattle.std.proofs.Common.{take}
-use Rattle.std.specs.Prelude.{sum}
-use Rattle.elide_report.specs.Rows.{IsSum}
-use Rattle.elide_report.proofs.report.open_steps.Given as goal
-
-abbrev pub invariant-loop-core : goal.invariant-loop-core
-invariant-loop-core l = IsSum (sum (take l.core l.under_way)) l.steps
