@@ -11,16 +11,15 @@ use elide_args::{
 };
 use elide_asm::{asm, dis};
 use elide_color::PaintedWords;
-use elide_debug::debug;
 use elide_draw::draw;
 use elide_explain::explain;
-use elide_gdb::gdb;
 use elide_hunt::hunt;
 use elide_outcomes::outcomes;
 use elide_page::{PageFiles, page};
 use elide_program::Paths;
 use elide_replay::replay;
 use elide_run::run;
+use elide_session::{debug, gdb};
 use elide_setup::{Lent, Progress, Refusal, Terminals};
 use elide_stats::stats;
 use elide_threads::threads;

@@ -1,7 +1,6 @@
 pub mod Opened
 pub mod Refused
 pub mod Symbols
-pub mod DebugCommand
-pub mod ElideSetup
-pub mod TmDebug
-pub mod TmHist
+pub mod DebugRefused
+pub mod DebugServed
+pub mod GdbServed

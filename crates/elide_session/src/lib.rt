@@ -1,215 +1,29 @@
-//! What `elide debug` and `elide gdb` begin with: a board, the schedule that a session goes along, and the program's symbols.
+//! Sessions: `elide debug`, `elide gdb`, and what both begin with: a board, the schedule that a session goes along, and the
+//! program's symbols.
 //!
-//! Promised: the board is that of the options and of the program in FILE before its first step, with room for 1,000,000 steps; the
-//! plan is the schedule that the options ask for, in the words of `elide_setup`, where it is drawn that of a run of the program to its
-//! end, its limit or 1,000,001 steps, and there is none where they ask for none; each name stands for what it stands for in that
-//! program; that a session is not opened for the reason that it names alone (`specs/Refused.antt`); and the number of the fault that
-//! ends a session early. Which cores a seed draws, and which labels a program has, is compared by `doc_tests`. Stands on `elide_setup`
-//! and, for sessions, on `tm_debug`.
+//! Promised of what they begin with ([`opened`]): the board is that of the options and of the program in FILE before its first step,
+//! with room for 1,000,000 steps; the plan is the schedule that the options ask for, in the words of `elide_setup`, where it is drawn
+//! that of a run of the program to its end, its limit or 1,000,001 steps, and there is none where they ask for none; each name stands
+//! for what it stands for in that program; that a session is not opened for the reason that it names alone (`specs/Refused.antt`); and
+//! the number of the fault that ends a session early. Which cores a seed draws, and which labels a program has, is compared by
+//! `doc_tests`.
+//!
+//! Then the input is served. What [`debug`] writes are the answers of a session (`tm_debug`) to it: spoken where input and output are a
+//! terminal's, and plain else. It is refused, or ends early, for the reason that it names alone (`specs/DebugRefused.antt`). What
+//! [`gdb`] writes is what is to be done of the packets of the input (`tm_gdb`); a continued run of all cores goes along the schedule,
+//! where one is asked for. No board is handed on, and nothing is written to a file. Stored sessions with gdb are compared by
+//! `doc_tests`; why `gdb` is refused is not promised.
+//!
+//! Stands on `elide_setup` and, for sessions, on `tm_debug` and `tm_gdb`.
 #![tactic(auto)]
 
-ghost use Rattle.std.specs.Prelude.{◌≡◌, ℕ, IfErr, IfOk, IfSome, List, Option, Some, false, is_some, true};
-ghost use Rattle.elide_session.specs.Opened.{AreDrawn, IsLimitedOut, IsOpened, IsPlan, is_scheduled, limited_plan, says_draw};
-ghost use Rattle.elide_session.specs.Refused.{IsEndBy, IsNotOpened, IsUndrawn};
-ghost use Rattle.elide_session.specs.Symbols.{AreSymbolsOf};
-ghost use Rattle.elide_setup.specs.Drawing.{AreUnder};
-ghost use Rattle.elide_setup.specs.Faults.{fault_number};
-ghost use Rattle.elide_setup.specs.Refused.{IsMisplanned, plan_path};
-ghost use Rattle.elide_setup.specs.Rounds.{IsOut, IsPlannedOut};
-ghost use Rattle.elide_setup.specs.Schedules.{AreAsked, AreOf, ArePlanned, are_listed, form_asked, form_of, plan_form};
-ghost use Rattle.tm_debug.specs.Faults.{session_code};
-ghost use Rattle.tm_model.specs.declared.outcome.Outcome.{Outcome};
-ghost use Rattle.tm_model.specs.declared.outcome.Pick.{Pick};
-
+mod debugger;
+mod gdb_server;
+mod opening;
 mod symbols;
 
-use elide_args::{MachineOptions, ScheduleOptions};
+pub use debugger::debug;
 pub use elide_setup::{Paths, Refusal, Terminals};
-use elide_setup::{
-    Course, Drawn, Fault, Plan, ProgramFile, Settings, Setup, Silent, new_board, new_machine,
-    planned, read_file,
-};
-use std::alloc::{AllocError, Global};
-use symbols::{labels_of, symbols_of};
-pub use tm_debug::{In, Manner, serve_in};
-use tm_debug::{Board, Names, SessionFault};
-use tm_model::Pick;
-
-/// How many steps a session can make.
-const MOST_STEPS: u64 = 1_000_000;
-
-/// How many steps of a schedule a session can ask for: those that it makes, and the one that it has no room for.
-const MOST_DRAWN: u32 = 1_000_001;
-
-/// What a session begins with.
-#[derive(Drop)]
-pub struct Opening {
-    /// The board of a machine before its first step, with room for 1,000,000 of them.
-    pub board: Board,
-    /// The picks of the schedule: none, where no schedule is asked for. Of a schedule that is drawn at most 1,000,001, one more than
-    /// a session can make, so that it is told apart whether the schedule ends or the session does.
-    pub plan: Vec<Pick>,
-    /// The symbols of the program, and its labels, where they are wanted.
-    pub names: Names,
-}
-
-/// Reads FILE, loads it by the options, and reads the schedule, where one is asked for. A session whose answers tell no labels wants
-/// none.
-pub fn opened<P: Paths>(
-    alloc: Global,
-    machine: &MachineOptions<'_>,
-    schedule: &ScheduleOptions<'_>,
-    wants_labels: bool,
-    paths: &mut P,
-) -> Result<Opening, Refusal>
-    ensures opened { IfOk result (λ r. IsOpened (P.content paths.old machine.now.file.now) machine.now r.board r.names.symbols.items) }
-    ensures plan { IfOk result (λ r. IsPlan (P.content paths.old) schedule.now r.board r.plan.items) }
-    ensures none { IfErr result (IsNotOpened (P.content paths.old) machine.now schedule.now) }
-{
-    if is_scheduled(schedule) {
-        return opened_scheduled(alloc, machine, schedule, wants_labels, paths);
-    }
-    let settings = Settings::read(machine)?;
-    let text = read_file(machine.file, paths)?;
-    let file = ProgramFile::read(alloc, text.as_slice())?;
-    let setup = Setup::of_file(alloc, &settings, &file)?;
-    let board = new_board(alloc, &setup, MOST_STEPS)?;
-    let names = names_of(alloc, &file, text.as_slice(), wants_labels)?;
-    Ok(Opening {
-        board,
-        plan: Vec::new(alloc),
-        names,
-    })
-}
-
-/// The fault that ended a session early. The board that comes with it is not asked for.
-pub fn session_fault(fault: &SessionFault) -> Fault
-    ensures number { fault_number result ≡ session_code fault.now }
-    ensures kind { IsEndBy (session_code fault.now) result }
-{
-    match fault {
-        SessionFault::Read(_) => Fault::SessionRead,
-        SessionFault::Write(_) => Fault::SessionWrite,
-        SessionFault::NoMemory(_) => Fault::NoSession,
-    }
-}
-
-/// Whether a schedule is asked for, which may have no steps. What is said of a draw alone is refused where the schedule is
-/// read.
-pub fn is_scheduled(schedule: &ScheduleOptions<'_>) -> bool
-    ensures { result ≡ is_scheduled schedule.now }
-{
-    schedule.steps.is_some()
-        || schedule.path.is_some()
-        || schedule.in_turn
-        || schedule.random.is_some()
-        || says_draw(schedule)
-}
-
-// Whether something is said of a schedule that is drawn.
-fn says_draw(schedule: &ScheduleOptions<'_>) -> bool
-    ensures { result ≡ says_draw schedule.now }
-{
-    schedule.events.is_some() || schedule.seed.is_some() || schedule.limit.is_some()
-}
-
-// The same as `opened`, where a schedule is asked for. It is read before the program is loaded.
-fn opened_scheduled<P: Paths>(
-    alloc: Global,
-    machine: &MachineOptions<'_>,
-    schedule: &ScheduleOptions<'_>,
-    wants_labels: bool,
-    paths: &mut P,
-) -> Result<Opening, Refusal>
-    requires { is_scheduled schedule.now ≡ true }
-    ensures opened { IfOk result (λ r. IsOpened (P.content paths.old machine.now.file.now) machine.now r.board r.names.symbols.items) }
-    ensures plan { IfOk result (λ r. IsPlan (P.content paths.old) schedule.now r.board r.plan.items) }
-    ensures none { IfErr result (IsNotOpened (P.content paths.old) machine.now schedule.now) }
-{
-    let settings = Settings::read(machine)?;
-    let asked = plan_read(alloc, schedule)?;
-    let text = read_file(machine.file, paths)?;
-    let file = ProgramFile::read(alloc, text.as_slice())?;
-    let (setup, course) = planned(alloc, &settings, asked, &file, paths)?;
-    course.check_cores(setup.program.cores())?;
-    let board = new_board(alloc, &setup, MOST_STEPS)?;
-    let plan = plan_of(alloc, &setup, course)?;
-    let names = names_of(alloc, &file, text.as_slice(), wants_labels)?;
-    Ok(Opening { board, plan, names })
-}
-
-// The names of a file of this text.
-fn names_of(
-    alloc: Global,
-    file: &ProgramFile<'_>,
-    text: &[u8],
-    wants_labels: bool,
-) -> Result<Names, AllocError>
-    ensures { IfOk result (λ names. AreSymbolsOf file.now names.symbols.items) }
-{
-    let symbols = symbols_of(alloc, file)?;
-    let labels = if wants_labels {
-        labels_of(alloc, text)?
-    } else {
-        Vec::new(alloc)
-    };
-    Ok(Names { symbols, labels })
-}
-
-// Reads the schedule, of which no more steps are drawn than a session can ask for.
-fn plan_read<'a>(alloc: Global, schedule: &ScheduleOptions<'a>) -> Result<Plan<'a>, Refusal>
-    ensures steps { IfOk result (λ plan. (content : List ℕ → Option (List ℕ)) (picks : List Pick) →
-        ArePlanned content plan picks → AreAsked content schedule.now picks) }
-    ensures listed { IfOk result (λ plan. plan_form plan ≡ form_asked schedule.now) }
-    ensures path { IfOk result (λ plan. IfSome (plan_path plan) (λ path. schedule.now.path ≡ Some path)) }
-    ensures out { IfOk result (λ plan. are_listed schedule.now ≡ false → (cores : ℕ) (steps : List (Pick × Outcome)) →
-        IsPlannedOut plan cores steps → IsLimitedOut schedule.now cores steps) }
-    ensures none { IfErr result (IsMisplanned schedule.now) }
-{
-    let plan = Plan::read(alloc, schedule)?;
-    Ok(limited(plan))
-}
-
-// A plan of which no more are drawn.
-fn limited(plan: Plan<'_>) -> Plan<'_>
-    ensures { result ≡ limited_plan plan.entry }
-{
-    match plan {
-        Plan::Steps(steps) => Plan::Steps(steps),
-        Plan::File(path) => Plan::File(path),
-        Plan::Drawn(drawn) => Plan::Drawn(Drawn {
-            most: drawn.most.min(MOST_DRAWN),
-            ..drawn
-        }),
-    }
-}
-
-// The picks of a schedule.
-fn plan_of(alloc: Global, setup: &Setup, course: Course) -> Result<Vec<Pick>, Refusal>
-    ensures picks { IfOk result (λ plan. AreOf course plan.items) }
-    ensures drawn { IfOk result (λ plan. is_some (form_of course) ≡ true →
-        AreDrawn setup.now.program setup.now.limits (IsOut course) plan.items) }
-    ensures none { IfErr result (IsUndrawn setup.now) }
-{
-    match course {
-        Course::Listed(steps) => Ok(steps),
-        Course::Drawn(drawn) => drawn_plan(alloc, setup, drawn),
-    }
-}
-
-// Those of one that is drawn, as a run on a machine of its own draws it.
-fn drawn_plan(alloc: Global, setup: &Setup, drawn: Drawn) -> Result<Vec<Pick>, Refusal>
-    ensures under { IfOk result (λ plan. AreUnder drawn.events plan.items) }
-    ensures run { IfOk result (λ plan. AreDrawn setup.now.program setup.now.limits (IsOut (Course.Drawn drawn)) plan.items) }
-    ensures none { IfErr result (IsUndrawn setup.now) }
-{
-    let mut machine = new_machine(alloc, setup)?;
-    let course = Course::Drawn(drawn);
-    course.walk(
-        alloc,
-        setup.program.cores(),
-        true,
-        &mut machine,
-        &mut Silent,
-    )
-}
+pub use gdb_server::gdb;
+pub use opening::{Opening, is_scheduled, opened, session_fault};
+pub use tm_debug::In;
