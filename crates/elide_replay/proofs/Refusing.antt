@@ -15,7 +15,7 @@ use Rattle.elide_setup.specs.Walks.{Leads}
 use Rattle.elide_setup.specs.declared.fault.Refusal.{Refusal}
 use Rattle.elide_setup.specs.declared.machine.Setup.{Setup}
 use Rattle.elide_setup.specs.declared.plan.Course.{Course}
-use Rattle.elide_why.proofs.Due.{due_core, due_few}
+use Rattle.elide_setup.proofs.DueCores.{due_core, due_few}
 use Rattle.elide_why.proofs.Refusing.{scheduled_before}
 use Rattle.tm_model.specs.declared.outcome.Outcome.{Outcome}
 use Rattle.tm_model.specs.declared.outcome.Pick.{Pick}

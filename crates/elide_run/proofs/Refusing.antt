@@ -16,7 +16,7 @@ use Rattle.elide_setup.specs.Walks.{Leads}
 use Rattle.elide_setup.specs.declared.fault.Refusal.{Refusal}
 use Rattle.elide_setup.specs.declared.machine.Setup.{Setup}
 use Rattle.elide_setup.specs.declared.plan.Course.{Course}
-use Rattle.elide_why.proofs.Due.{due_core, has_core}
+use Rattle.elide_setup.proofs.DueCores.{due_core, has_core}
 use Rattle.elide_why.proofs.Refusing.{scheduled_before}
 use Rattle.elide_why.specs.Refused.{IsUntoldStep}
 use Rattle.elide_run.specs.Refused.{HasNotAll, IsNoRun, IsRefused, IsUnexplained, no_room, not_run, not_shown, unrecorded, unscheduled, untold, unwritten}

@@ -2,9 +2,11 @@ pub mod Alone
 pub mod Boards
 mod Decimal
 pub mod Drawing
+pub mod DueCores
 mod EventTexts
 mod Forms
 mod Held
+pub mod HistoryCores
 pub mod Made
 pub mod Misread
 pub mod NoSteps

@@ -1,4 +1,3 @@
-mod Cores
 mod Recording
 mod Refusing
 mod Steps

@@ -9,7 +9,7 @@ use Rattle.elide_setup.specs.declared.fault.Refusal.{Refusal}
 use Rattle.elide_setup.specs.declared.plan.Course.{Course}
 use Rattle.tm_model.specs.declared.outcome.Pick.{Pick}
 use Rattle.tm_stats.specs.declared.cause.AbortCause.{AbortCause}
-use Rattle.elide_stats.proofs.Cores.{due_core, same_cores}
+use Rattle.elide_setup.proofs.DueCores.{due_core, same_cores}
 use Rattle.elide_stats.proofs.Steps.{Counts, walk_counted}
 use Rattle.elide_stats.specs.Refused.{IsUncounted, IsUncountedStep, unrecorded, unroomed}
 use Rattle.elide_stats.specs.declared.counting.Counting.{Counting}

@@ -1,4 +1,3 @@
-pub mod Due
 pub mod Passing
 pub mod Refusing
 pub mod Within
