@@ -12,8 +12,9 @@ use std::alloc::Global;
 use std::sync::Wait;
 use tm_debug::{In, Manner, serve_in};
 
-/// Answers the commands of the input. The machine is that of the options, and the session can make 1,000,000 steps. `next` goes
-/// along the schedule of the options, where there is one. It is spoken where input and output are a terminal's.
+/// Answers the commands of the input. The machine is that of the options, and the session can make 1,000,000 steps.
+/// `next` goes along the schedule of the options, where there is one. It is spoken where input and output are a
+/// terminal's.
 pub fn debug<R: Wait, P: Paths, I: In, O: Out>(
     rt: &R,
     alloc: Global,

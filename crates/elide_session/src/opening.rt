@@ -1,7 +1,8 @@
 //! What a session begins with, and the fault that ends it early.
 
 ghost use Rattle.std.specs.Prelude.{◌≡◌, ℕ, IfErr, IfOk, IfSome, List, Option, Some, false, is_some, true};
-ghost use Rattle.elide_session.specs.Opened.{AreDrawn, IsLimitedOut, IsOpened, IsPlan, is_scheduled, limited_plan, says_draw};
+ghost use Rattle.elide_session.specs.Opened.{AreDrawn, IsLimitedOut, IsOpened, IsPlan};
+ghost use Rattle.elide_session.specs.Opened.{is_scheduled, limited_plan, says_draw};
 ghost use Rattle.elide_session.specs.Refused.{IsEndBy, IsNotOpened, IsUndrawn};
 ghost use Rattle.elide_session.specs.Symbols.{AreSymbolsOf};
 ghost use Rattle.elide_setup.specs.Drawing.{AreUnder};
@@ -34,15 +35,15 @@ const MOST_DRAWN: u32 = 1_000_001;
 pub struct Opening {
     /// The board of a machine before its first step, with room for 1,000,000 of them.
     pub board: Board,
-    /// The picks of the schedule: none, where no schedule is asked for. Of a schedule that is drawn at most 1,000,001, one more than
-    /// a session can make, so that it is told apart whether the schedule ends or the session does.
+    /// The picks of the schedule: none, where no schedule is asked for. Of a schedule that is drawn at most 1,000,001,
+    /// one more than a session can make, so that it is told apart whether the schedule ends or the session does.
     pub plan: Vec<Pick>,
     /// The symbols of the program, and its labels, where they are wanted.
     pub names: Names,
 }
 
-/// Reads FILE, loads it by the options, and reads the schedule, where one is asked for. A session whose answers tell no labels wants
-/// none.
+/// Reads FILE, loads it by the options, and reads the schedule, where one is asked for. A session whose answers tell no
+/// labels wants none.
 pub fn opened<P: Paths>(
     alloc: Global,
     machine: &MachineOptions<'_>,
@@ -50,7 +51,8 @@ pub fn opened<P: Paths>(
     wants_labels: bool,
     paths: &mut P,
 ) -> Result<Opening, Refusal>
-    ensures opened { IfOk result (λ r. IsOpened (P.content paths.old machine.now.file.now) machine.now r.board r.names.symbols.items) }
+    ensures opened { IfOk result
+        (λ r. IsOpened (P.content paths.old machine.now.file.now) machine.now r.board r.names.symbols.items) }
     ensures plan { IfOk result (λ r. IsPlan (P.content paths.old) schedule.now r.board r.plan.items) }
     ensures none { IfErr result (IsNotOpened (P.content paths.old) machine.now schedule.now) }
 {
@@ -82,8 +84,8 @@ pub fn session_fault(fault: &SessionFault) -> Fault
     }
 }
 
-/// Whether a schedule is asked for, which may have no steps. What is said of a draw alone is refused where the schedule is
-/// read.
+/// Whether a schedule is asked for, which may have no steps. What is said of a draw alone is refused where the schedule
+/// is read.
 pub fn is_scheduled(schedule: &ScheduleOptions<'_>) -> bool
     ensures { result ≡ is_scheduled schedule.now }
 {
@@ -110,7 +112,8 @@ fn opened_scheduled<P: Paths>(
     paths: &mut P,
 ) -> Result<Opening, Refusal>
     requires { is_scheduled schedule.now ≡ true }
-    ensures opened { IfOk result (λ r. IsOpened (P.content paths.old machine.now.file.now) machine.now r.board r.names.symbols.items) }
+    ensures opened { IfOk result
+        (λ r. IsOpened (P.content paths.old machine.now.file.now) machine.now r.board r.names.symbols.items) }
     ensures plan { IfOk result (λ r. IsPlan (P.content paths.old) schedule.now r.board r.plan.items) }
     ensures none { IfErr result (IsNotOpened (P.content paths.old) machine.now schedule.now) }
 {
@@ -188,7 +191,8 @@ fn plan_of(alloc: Global, setup: &Setup, course: Course) -> Result<Vec<Pick>, Re
 // Those of one that is drawn, as a run on a machine of its own draws it.
 fn drawn_plan(alloc: Global, setup: &Setup, drawn: Drawn) -> Result<Vec<Pick>, Refusal>
     ensures under { IfOk result (λ plan. AreUnder drawn.events plan.items) }
-    ensures run { IfOk result (λ plan. AreDrawn setup.now.program setup.now.limits (IsOut (Course.Drawn drawn)) plan.items) }
+    ensures run { IfOk result
+        (λ plan. AreDrawn setup.now.program setup.now.limits (IsOut (Course.Drawn drawn)) plan.items) }
     ensures none { IfErr result (IsUndrawn setup.now) }
 {
     let mut machine = new_machine(alloc, setup)?;

@@ -6,9 +6,9 @@
 //! answer is missing, of a run a rest of its last line. The fault gives the board back, after the steps that the
 //! answers tell. It waits for its input only. The line of each step of a spoken session goes on with what the step did.
 //!
-//! It stands on `debug_command` (commands, as lines write them), `tm_hist` (boards, steps that are taken back, and the texts of
-//! outcomes, states and dumps), `tm_why` (why a core aborts), `tm_trace` (what a step did), `ia_text` (listings, and
-//! devices that are written to) and `ia_lex` (lines).
+//! It stands on `debug_command` (commands, as lines write them), `tm_hist` (boards, steps that are taken back, and the
+//! texts of outcomes, states and dumps), `tm_why` (why a core aborts), `tm_trace` (what a step did), `ia_text`
+//! (listings, and devices that are written to) and `ia_lex` (lines).
 #![tactic(auto)]
 
 mod answer;

@@ -1,14 +1,14 @@
 //! Why transactions abort: who hit them, on which line, and when they began.
 //!
-//! An [`Asked`] is what a machine says of a core's next step before it is made: whom it hits, and why it is an abort, if
-//! it is one. Where an abort from outside of the program comes in its place, the outcome tells so, and its hits are none.
-//! A [`Watch`] is told of each step of a run, and keeps of each core at which step its open transaction began, and the hit
-//! that condemned it. Promised: what is kept is what `specs/Watched.antt` says of the list of steps, and the reason of an
-//! abort is the machine's, with these beside it. That takes no memory.
+//! An [`Asked`] is what a machine says of a core's next step before it is made: whom it hits, and why it is an abort,
+//! if it is one. Where an abort from outside of the program comes in its place, the outcome tells so, and its hits are
+//! none. A [`Watch`] is told of each step of a run, and keeps of each core at which step its open transaction began,
+//! and the hit that condemned it. Promised: what is kept is what `specs/Watched.antt` says of the list of steps, and
+//! the reason of an abort is the machine's, with these beside it. That takes no memory.
 //!
-//! Behind the history of a board, `watched` gives a watch that was told of each step of the history with what the machine
-//! said before it, which is made once more on a board of its own; `reason_of` gives the reason behind these steps; and
-//! `write_reason` writes the line that tells it. The given board is not stepped.
+//! Behind the history of a board, `watched` gives a watch that was told of each step of the history with what the
+//! machine said before it, which is made once more on a board of its own; `reason_of` gives the reason behind these
+//! steps; and `write_reason` writes the line that tells it. The given board is not stepped.
 //!
 //! Stands on `tm_core` (the machine), `tm_hist` (boards) and `ia_text` (numbers, writing).
 #![tactic(auto)]
