@@ -1,4 +1,7 @@
-//! A reader that reads ahead.
+//! A reader that reads ahead, for the input of sessions, which is asked for byte by byte.
+//!
+//! [`ReadAhead`] asks its reader only where nothing is left, and once: a line that is there is answered before the next
+//! is awaited. At an end it asks again at the next call. What a signal interrupts is read again below it.
 
 ghost use Rattle.std.specs.Prelude.{◌≤◌};
 

@@ -1,4 +1,8 @@
 //! The arguments of the program, whose bytes stand in a row that is handed in.
+//!
+//! [`read_words`] takes a row on the stack, and memory only where that is too short. Arguments are read one after
+//! another, and the first that is no UTF-8, or has no room, is the fault; its line is told by `main`, since there is no
+//! command line yet. What the words say is read by `elide_args`.
 
 use arrayvec::ArrayVec;
 use std::env::FillError;

@@ -1,4 +1,7 @@
 //! What the environment asks for. Takes no memory.
+//!
+//! Each variable is read once, at the start, and handed in by `main`. What `--color` and `--words` say outweighs both,
+//! in `elide_command`.
 
 use std::env::FillError;
 use std::rt::Env;

@@ -1,4 +1,8 @@
 //! A line on a terminal that tells how far long work is.
+//!
+//! [`ProgressLine`] writes nothing in the program's first two seconds, then five times a second at most, and clears the
+//! line when the work ends, so that an answer stands on a line of its own. Without a terminal or a clock it stays
+//! silent. A failure of the device is passed over. When it is told is up to the commands.
 
 use arrayvec::ArrayString;
 use elide_command::Progress;

@@ -1,4 +1,8 @@
-//! What is written beside each fault.
+//! What is written beside each fault: [`advise`] is the one call, made when the fault's own line stands.
+//!
+//! A misused option is looked at as a condition first, then for symbols that there are not, and last by its form. What
+//! is written is gathered; where it comes to no end, what is still held is dropped, and nobody is told. No exit status
+//! depends on it. Each kind of fault has a module of its own here.
 
 use crate::asked::file_of;
 use crate::checks::{advise_condition, asked_by};
@@ -52,6 +56,7 @@ fn advise_usage<P: Paths, O: Out>(
     if let Some(asked) = asked_by(subcommand, name) {
         return advise_condition(alloc, asked, name, paths, page);
     }
+    // Before the form, which is right where only a symbol is not there.
     if advise_symbol(alloc, subcommand, name, paths, page)? {
         return Ok(());
     }

@@ -1,4 +1,8 @@
-//! The options of a subcommand, by their names.
+//! The options of a subcommand, by their names, as a fault has no more than such a name.
+//!
+//! A number is looked for among the options of the machine, then among the subcommand's own, then among those of its
+//! schedule; `None` where there is none of this name, or no value was given. Values are handed out as text: what is
+//! wrong with them is told by `misuse` and `machine`.
 
 use elide_args::{MachineOptions, ScheduleOptions, Subcommand};
 
@@ -74,7 +78,7 @@ pub fn number_text<'s>(subcommand: &'s Subcommand<'_>, name: &str) -> Option<&'s
     }
 }
 
-// The same of the options that a subcommand has beside those of its machine.
+// What [`number_text`] answers of the options that a subcommand has beside those of its machine.
 fn own_number_text<'s>(subcommand: &'s Subcommand<'_>, name: &str) -> Option<&'s str> {
     match (subcommand, name) {
         (Subcommand::Threads(options), "--budget") => options.budget,

@@ -1,4 +1,8 @@
-//! Conditions that cannot be read.
+//! Conditions that cannot be read: which words, where they stand, and what is wanted there.
+//!
+//! [`asked_by`] knows the commands that take conditions. [`advise_condition`] reads FILE again, as words are symbols of
+//! it, and asks `elide_checks` for the first words at fault. A word that is no symbol is told before the form. Where
+//! all can be read, it is something else that is wanted, and said without a place.
 
 use crate::page::Page;
 use crate::symbols::{advise_unknown, unknown_in};
@@ -78,7 +82,7 @@ pub fn advise_condition<P: Paths, O: Out>(
     }
 }
 
-// The same of a program that was read.
+// What [`advise_condition`] does once FILE is read as a program.
 fn advise_first<O: Out>(
     alloc: Global,
     asked: Asked<'_, '_>,

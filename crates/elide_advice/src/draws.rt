@@ -1,4 +1,7 @@
-//! What is said of events that are drawn, and misused.
+//! What is said of events that are drawn, and misused: which forms `--events` has, and when `--seed` is taken.
+//!
+//! [`advise_events`] tells a command's own forms, but first that the steps are not drawn, where they are not.
+//! [`advise_seed`] answers whether it has said something: if not, `misuse` goes on with the number.
 
 use crate::asked::schedule_of;
 use crate::page::Page;

@@ -1,4 +1,7 @@
-//! A line of a text with a part that is marked.
+//! A line of a text with a part that is marked, in four lines: the place, a gap, the text, the marks with the meaning.
+//!
+//! [`write_excerpt`] shows 100 bytes at most, around the part where the line has more, and one character a byte, so
+//! that the marks stand below what they mark. Which line it is, and of which text, was found by `source` or `steps`.
 
 use crate::page::Page;
 use elide_color::Style;

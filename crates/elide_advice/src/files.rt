@@ -1,4 +1,8 @@
-//! Files that are not read or written.
+//! Files that are not read or written, as faults do not say which of them.
+//!
+//! [`advise_input`] opens FILE and then the schedule's file again, and names the first that still cannot be read; where
+//! both can be by now, it writes nothing. [`advise_output`] names the file of `--record`, or the one that `page`
+//! writes, and nothing where the options name neither.
 
 use crate::asked::{file_of, record_of, schedule_of};
 use crate::page::Page;

@@ -1,4 +1,8 @@
-//! Machines that are not made.
+//! Machines that are not made: which option is at fault, what it was, and what it takes.
+//!
+//! Values are read from the options once more, with what stands for one that is not given. No file is read: of a
+//! program that does not fit, the fault itself says why. Of limits both are looked at, and each that is none has a
+//! line.
 
 use crate::asked::{machine_of, number_text};
 use crate::page::Page;

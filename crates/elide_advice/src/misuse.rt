@@ -1,4 +1,7 @@
-//! Options that are misused.
+//! Options that are misused: a line for each, by its name and the command that it was given to.
+//!
+//! [`advise_misuse`] comes last, when neither a condition nor a symbol explained it. Of a value the form is told with
+//! what was given; of a number first whether it is one, and then its range. Nothing is read here but the options.
 
 use crate::asked::{machine_of, number_text, schedule_of, value_text};
 use crate::draws::{advise_events, advise_seed};

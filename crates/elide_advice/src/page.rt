@@ -1,4 +1,7 @@
-//! The device that advice is written on.
+//! The device that advice is written on, gathered, with painted parts or without.
+//!
+//! [`Page::put_shown`], and the calls that go through it, write a text from outside so that it drives no terminal; all
+//! others hand on what they are given. [`Page::finish`] comes last: a page that is dropped before it writes no more.
 
 use elide_color::{ENDING, Style};
 use elide_setup::{Gathered, Lent};

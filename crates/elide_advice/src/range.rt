@@ -1,4 +1,7 @@
-//! What is to be shown or checked, and is not there.
+//! What is to be shown or checked, and is not there: the fault says neither what nor by which option.
+//!
+//! [`advise_range`] names a value where only one was given that can be meant, and else says that something is not
+//! there. Which of several it was would have to be read from the program, and is not.
 
 use crate::asked::machine_of;
 use crate::machine::{cores_of, memory_of};

@@ -1,4 +1,8 @@
-//! The faults of a source.
+//! The faults of a source: where each stands, and what is meant.
+//!
+//! [`advise_source`] reads FILE again, and writes only where its first fault is the one that was told. Of that one the
+//! place follows, since its line stands already; each further one has such a line first. They are found by
+//! `ia_diagnosis`, which also says whether there are more.
 
 use crate::excerpt::{Excerpt, write_excerpt};
 use crate::page::Page;

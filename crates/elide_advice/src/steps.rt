@@ -1,4 +1,8 @@
 //! Schedules that are none, and steps of cores that are not there.
+//!
+//! [`advise_core`] reads the list or the file again and names the first step whose core is too great;
+//! [`advise_schedule`] shows the line of the file that was told. [`write_line`] shows a line of any file, for image
+//! text, too. A list of `--steps` that says nothing is misused, and told by `misuse`.
 
 use crate::asked::{machine_of, schedule_of};
 use crate::excerpt::{Excerpt, write_excerpt};

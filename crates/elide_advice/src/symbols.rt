@@ -1,4 +1,8 @@
-//! Symbols that a program does not have.
+//! Symbols that a program does not have, and the one that may be meant.
+//!
+//! [`advise_symbol`] reads FILE as a program again and looks for the first word of the option that is none of its
+//! symbols, for `--entry`, `--show` and `--dump`; [`advise_unknown`] takes a word from `checks`. Both answer whether
+//! they wrote: if not, the option is told by its form. What is near is said by `near`.
 
 use crate::asked::machine_of;
 use crate::near::is_near;
@@ -158,7 +162,7 @@ fn near_symbol(
     }
 }
 
-// The same of a source, whose local labels have whole names.
+// What [`near_symbol`] answers of a source, whose local labels have whole names.
 fn near_in_source(
     alloc: Global,
     word: &[u8],

@@ -1,4 +1,8 @@
-//! `elide asm`.
+//! `elide asm`: [`asm`] reads FILE, assembles all of it, and then prints.
+//!
+//! A fault of the source comes before a byte is printed, and so does want of memory, also that for FILE, which is told
+//! as the assembler's. Image text is made without a listing, and a listing without image text, so that neither is kept
+//! for nothing. Warnings are told where FILE is read, by `elide_program`; the output is painted above.
 
 ghost use Rattle.std.specs.Prelude.{MatchResult};
 ghost use Rattle.ia_asm.specs.Assembles.{GivesListing};

@@ -1,4 +1,8 @@
-//! `elide dis`.
+//! `elide dis`: [`dis`] reads FILE, whatever form it has, and prints the instructions of its code.
+//!
+//! A source is assembled first, and its faults are told as those of `asm`. Then comes code that is longer than its
+//! image, and only then a line is printed. With labels `labels` prints, and code outside of the subset is named. Data
+//! behind the code is not shown.
 
 ghost use Rattle.std.specs.Prelude.{◌≡◌, ◌≤◌, false, length, take, true, IfOk};
 ghost use Rattle.elide_program.specs.declared.file.ProgramFile.{ProgramFile};
@@ -65,7 +69,7 @@ fn list<O: Out + Drop>(file: &ProgramFile<'_>, out: O) -> Result<O, ProgramRefus
     }
 }
 
-// The same with the labels of the file's text.
+// What [`list`] does, with the labels of the file's text.
 fn list_with_labels<O: Out + Drop>(
     alloc: Global,
     text: &[u8],

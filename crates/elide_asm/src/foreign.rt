@@ -1,4 +1,8 @@
-//! Lines of code that is no instruction of the subset.
+//! Lines of code that is no instruction of the subset: its bytes as `db`, and what it is and comes to.
+//!
+//! [`outcome_text`] says what a core does that comes there, by what the decoder refuses it for; [`write_foreign`] makes
+//! the line on a page and writes it at once. How many bytes belong to it is asked of `ia_foreign` in `listing`, and
+//! that they are 1 to 15 is required here.
 
 ghost use Rattle.std.specs.Prelude.{◌≡◌, ◌+◌, ◌<◌, ◌≤◌, ◌++◌, flat_map, length, replicate};
 ghost use Rattle.arrayvec.specs.ArrayVec.{array_vec_len};

@@ -1,4 +1,7 @@
-//! Listings with labels.
+//! Listings with labels: [`list_labelled`] sorts the labels, and then writes.
+//!
+//! Their order takes memory, whose want is told before the first line is written. The lines are those of `listing`,
+//! gathered, and handed on at the end or where they are much.
 
 ghost use Rattle.std.specs.Prelude.{ℕ, IfOk, List, length};
 ghost use Rattle.std.specs.Io.KnownBytes.{Appends};

@@ -1,4 +1,8 @@
-//! The lines of a listing with labels.
+//! The lines of a listing with labels, from the first byte of the code to its last, none left out.
+//!
+//! [`write_listing`] writes at each address the labels, and below them one line. An instruction outside of the subset
+//! ends before a label in it, so that the label has its line; one of the subset is written whole, and a label in it is
+//! not. Its labels are sorted by `marks`, and lines of the subset written by `ia_text`'s calls.
 
 ghost use Rattle.std.specs.Prelude.{◌≡◌, ◌<◌, ◌≤◌, ℕ, IfOk, List, length};
 ghost use Rattle.std.specs.List.Sorted.{IsNonDecreasingBy};

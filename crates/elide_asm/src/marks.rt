@@ -1,4 +1,7 @@
-//! Labels by their addresses.
+//! Labels by their addresses: [`marks_of`] sorts them once, and [`standing_at`] then finds those of an address by
+//! halving.
+//!
+//! Those at one address stay in the order of the source or of the table. Names are borrowed, as they are shown.
 
 ghost use Rattle.std.specs.Prelude.{◌≡◌, IfOk, length, map};
 ghost use Rattle.std.specs.List.Sorted.{IsNonDecreasingBy, IsPermutation};

@@ -1,4 +1,8 @@
-//! Bytes in memory, as a text says them.
+//! Bytes in memory, as a text says them: `SUM:COUNT=DIGITS`.
+//!
+//! [`bytes_of`] cuts at the first `=`, and before it at the first `:`. A text of another form is `None` and no fault,
+//! since `conditions` knows which option it is of. The digits are counted before memory is taken for their bytes. That
+//! memory has so many there is asked in `reach`.
 
 ghost use Rattle.std.specs.Prelude.{◌≡◌, IfOk, MatchOption, Ok, length};
 ghost use Rattle.std.specs.Str.{trim};

@@ -1,4 +1,8 @@
-//! Conditions, as a text says them.
+//! Conditions, as a text says them: from the value of an option to its clauses, in their order.
+//!
+//! [`condition_of`] cuts at each `&&`, then looks for an operator; only a part without one is read as bytes. The first
+//! part that says nothing makes the option misused, by the name that is handed in. Which words of it are at fault is
+//! looked for by `misread`; whether a clause holds is asked by `tm_check`.
 
 ghost use Rattle.std.specs.Prelude.{◌≡◌, ◌⊎◌, ◌++◌, ◌∷◌, ℕ, [], Bool, IfOk, List, MatchOption, MatchResult};
 ghost use Rattle.std.specs.Str.{trim};
@@ -69,6 +73,7 @@ pub fn clause_of(
     ensures { IfOk result (λ found. MatchOption found (IsNoClause scope.now.file.now text.now)
         (IsClause scope.now.file.now (is_among scope.now.constants.now.names.items) text.now)) }
 {
+    // First, since `==` has the `=` of bytes.
     if let Some((before, comparison, behind)) = compared(text) {
         return Ok(comparison_of(before, comparison, behind, scope));
     }
@@ -89,6 +94,7 @@ pub fn compared(text: &str) -> Option<(&str, Comparison, &str)>
     if let Some((before, behind)) = cut(text, "!=") {
         return Some((before, Comparison::NotEqual, behind));
     }
+    // Before `<` and `>`, which these begin with.
     if let Some((before, behind)) = cut(text, "<=") {
         return Some((before, Comparison::AtMost, behind));
     }

@@ -1,4 +1,8 @@
-//! Names of numbers.
+//! Names of numbers: which names of a source stand for a number, and not for a place.
+//!
+//! [`Constants::read`] goes over the source once more, behind its assembly, so that the one thing which can be wanting
+//! is memory. It keeps the names alone: their values are symbols of the file, as those of labels are. `items` asks it
+//! what the right side of a comparison is.
 
 ghost use Rattle.std.specs.Prelude.{◌≡◌, ◌++◌, [], List, MatchResult, OnOk, ℕ};
 ghost use Rattle.std.specs.Str.{bytes_eq};

@@ -1,4 +1,8 @@
-//! Counts of a run, as words say them.
+//! Counts of a run, as words say them: `commits` or `aborts`, of a kind or any, and of which cores.
+//!
+//! [`count_of`] is handed what stands on both sides of an `@`; a register was looked for before. Words that say no
+//! count are `None`. That there is such a core is asked in `reach`; searches over all schedules refuse counts in
+//! `ends`.
 
 ghost use Rattle.std.specs.Prelude.{◌≡◌, ◌≢◌, ◌⊎◌, ◌∷◌, [], ◌++◌, List, MatchOption, Ok, ℕ};
 ghost use Rattle.hex.specs.Hex.{decode_of};

@@ -1,4 +1,4 @@
-//! Texts that are cut.
+//! Texts that are cut at a word: [`cut`] takes the first place of it, and leaves spaces where they stand.
 
 ghost use Rattle.std.specs.Prelude.{IfNone, IfSome};
 ghost use Rattle.elide_checks.specs.Cuts.{IsCut, Lacks};

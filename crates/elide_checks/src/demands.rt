@@ -1,4 +1,9 @@
-//! What is checked, as the options say it.
+//! What is checked, as the options of `hunt` say it.
+//!
+//! [`Demands::read`] goes by `--check`, `--forbid`, `--stop`, `--expect-halt`, and within each by the command line: a
+//! check is told by its place in this order. The first that says nothing is the fault, and no check at all is a misuse
+//! of `--check`. It needs the program's symbols, but no machine: whether one has what is looked at is asked by
+//! [`Demands::checks`] once it is known.
 
 ghost use Rattle.std.specs.Prelude.{◌≡◌, ◌≢◌, ◌⊎◌, ◌↔◌, ◌++◌, All, IsTrue, List, MatchOption, MatchResult, OnOk, codes};
 ghost use Rattle.std.specs.List.{AllZip};

@@ -1,4 +1,8 @@
-//! What is checked at the ends of all schedules, as the options say it: conditions on the machine alone.
+//! What is checked at the ends of all schedules, as the options of `outcomes` say it: conditions on the machine alone.
+//!
+//! [`EndChecks::read`] goes by `--check`, then `--forbid`; none is no fault, as a search over all schedules has other
+//! uses. A count is read as in a condition of `hunt`, and refused behind that: an end is of many runs, and has none.
+//! Whether a machine has what is looked at is asked by [`EndChecks::checks`].
 
 ghost use Rattle.std.specs.Prelude.{◌≡◌, ◌⊎◌, ◌↔◌, ◌++◌, All, IfOk, IsTrue, List, MatchOption, MatchResult, codes, map};
 ghost use Rattle.std.specs.List.{AllZip, Contains};
@@ -166,7 +170,7 @@ fn machine_condition_of(
     }
 }
 
-// The same conditions, where all are on a machine.
+// These conditions, where all are on a machine alone; none, where one is on a run's history.
 fn on_machine(alloc: Global, clauses: Vec<RunClause>) -> Result<Option<Vec<Clause>>, AllocError>
     ensures { IfOk result (λ found. MatchOption found
         ((one : RunClauseOf) × Contains clauses.items one × IsOfRun one)

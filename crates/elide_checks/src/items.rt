@@ -1,4 +1,8 @@
-//! Items of a check, as words say them.
+//! Items of a check: what stands on one side of a comparison.
+//!
+//! [`item_of`] looks for an `@` first, and before it for a register, then for a count; else for `&`, and then for a
+//! sum. On the left a sum is an address; on the right it is a number where each of its terms is one. Spaces around the
+//! word are gone already. What an item holds is asked by `tm_check`.
 
 ghost use Rattle.std.specs.Prelude.{◌≡◌, ◌≢◌, ◌∷◌, List, MatchOption, Some, length, ℕ};
 ghost use Rattle.elide_checks.specs.Constants.{is_among};
@@ -143,7 +147,7 @@ fn is_number(term: &[u8], constants: &Constants<'_>) -> bool
     is_number_word(term.trim_ascii(), constants)
 }
 
-// The same of a term without the spaces around it.
+// As [`is_number`], of a term without the spaces around it.
 fn is_number_word(word: &[u8], constants: &Constants<'_>) -> bool
     ensures { result ≡ is_number (is_among constants.now.names.items) word.now }
 {

@@ -1,4 +1,8 @@
-//! Where a text is no condition.
+//! Where a text is no condition, looked for once it is known that one is none.
+//!
+//! [`first_misread`] goes over the conditions again by the calls that read them, and stops at the first part that says
+//! nothing: all of it, where it has no operator, and else its left side, or its right one where the left is an item. It
+//! refuses nothing but for want of memory; the line that a person sees is written by `elide_advice`.
 
 use crate::conditions::{clause_of, compared};
 use crate::constants::Constants;

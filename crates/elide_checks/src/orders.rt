@@ -1,4 +1,9 @@
-//! What is asked of a search.
+//! What is asked of a search of `hunt`: which runs it makes, how they are drawn, how long they are, and on how many
+//! threads.
+//!
+//! [`Orders::read`] goes by `--runs`, `--seed`, `--method`, `--events`, `--limit`, `--jobs`, and tells the first that
+//! is misread. It opens no file, and asks the host for its processors only where no number of threads is said. What the
+//! runs are checked for is `demands`.
 
 ghost use Rattle.std.specs.Prelude.{◌≡◌, ◌≢◌, ◌≤◌, IfErr, IfOk, MatchOption, None, Some, codes};
 ghost use Rattle.std.specs.Option.{option_copied};

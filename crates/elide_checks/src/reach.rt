@@ -1,4 +1,7 @@
-//! Whether what a check looks at is there.
+//! Whether what a check looks at is there: its cores below those of the machine, its bytes within memory.
+//!
+//! [`is_there`] is asked of each check before a run is made, by `demands`; `ends` asks [`has_machine_clauses`]. Both
+//! tell it as 73 `OutOfRange`, which does not say of which check. All cores, and numbers, are always there.
 
 ghost use Rattle.std.specs.Prelude.{◌↔◌, ◌+◌, ◌≤◌, All, IsTrue};
 ghost use Rattle.elide_checks.specs.Reach.{HasCheck, HasClause, HasCores, HasCount, HasItem, HasQuantity, HasRunClause};
@@ -17,7 +20,7 @@ pub fn is_there(check: &Check, size: u32, cores: u8) -> bool
     }
 }
 
-// The same of each of some conditions.
+// Whether a machine has all that each of some conditions looks at, as [`is_there`] has it.
 fn has_clauses(clauses: &[RunClause], size: u32, cores: u8) -> bool
     ensures { IsTrue result ↔ All (HasRunClause size cores) clauses.now }
 {
@@ -40,7 +43,8 @@ fn has_clause(clause: &RunClause, size: u32, cores: u8) -> bool
     }
 }
 
-/// The same of each of some conditions on a machine alone.
+/// Whether a machine with so many cores and a memory of this size has all that each of some conditions on a machine
+/// alone looks at.
 pub fn has_machine_clauses(clauses: &[Clause], size: u32, cores: u8) -> bool
     ensures { IsTrue result ↔ All (HasClause size cores) clauses.now }
 {

@@ -1,4 +1,4 @@
-//! Rows of values.
+//! Rows of values: [`add`], whose clause says what the row holds behind it, and whose one refusal is want of memory.
 
 ghost use Rattle.std.specs.Prelude.{◌≡◌, ◌++◌, ◌∷◌, [], OnOk};
 

@@ -1,4 +1,7 @@
-//! What a command that was not refused came to.
+//! What a command that was not refused came to, and its exit status.
+//!
+//! A call for each kind of end makes an [`Answer`] of it, and drops the device that comes back. A run that is too long
+//! for its page leaves the status as it is: `dispatch` tells it behind the answer.
 
 ghost use Rattle.std.specs.Prelude.{◌≡◌, ◌≤◌};
 ghost use Rattle.elide_command.specs.Answers.{IsAnswered, answer_status, is_unpaged, ran_answer, replayed_answer};

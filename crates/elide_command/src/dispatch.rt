@@ -1,4 +1,8 @@
 //! A whole command, over devices that are handed in.
+//!
+//! [`command`] reads the words: help, and words that make no subcommand, end there. Then `--color` and `--words` are
+//! looked at, before FILE; warnings are told when it is first read, the command is obeyed (`obeying`), and a refusal
+//! has its line and, where that is asked for, what is meant. `test` is not carried out here.
 
 ghost use Rattle.std.specs.Prelude.{◌≤◌};
 
@@ -136,6 +140,7 @@ fn tell_refusal<P: Paths, E: Out>(
 {
     let is_painted = look.colors.errors;
     let status = tell(refusal, is_painted, err);
+    // Behind the line, which takes no memory and so stands in any case.
     if look.tells_words {
         advise(alloc, &line.subcommand, refusal, paths, is_painted, err);
     }

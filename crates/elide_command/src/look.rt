@@ -1,4 +1,7 @@
-//! How what a command writes looks.
+//! How what a command writes looks: by `--color`, by `--words`, and by what stands around it.
+//!
+//! [`Look::new`] refuses nothing: a value that says nothing counts as left out, so that the refusal for it has a look,
+//! too. `--color` is told before `--words`. The refusal is made in `dispatch`, and painting is `elide_color`'s.
 
 use crate::surroundings::Surroundings;
 use elide_args::CommandLine;

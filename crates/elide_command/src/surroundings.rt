@@ -1,4 +1,8 @@
-//! What stands around a command.
+//! What stands around a command, as `elide` finds it once and hands it in; nothing is asked of the system here.
+//!
+//! An option that says `always` or `never` decides alone. Else a terminal does: for colours the device's own, unless no
+//! colours are asked for; for words standard error's, and for names in reasons standard output's. ELIDE_WORDS stands
+//! for both of these.
 
 ghost use Rattle.std.specs.Prelude.{◌≡◌};
 ghost use Rattle.elide_color.specs.Colors.{is_painted};

@@ -1,4 +1,7 @@
 //! How a command's end is told. Takes no memory.
+//!
+//! [`tell`] writes the line of a fault by one call of the device, or that of a misused option, and gives the exit
+//! status whether it was written or not. What is meant comes behind it, by `elide_advice`, which does take memory.
 
 ghost use Rattle.std.specs.Prelude.{◌≡◌, ◌≤◌, ◌+◌, ◌++◌, ◌∷◌, [], ℕ, List, codes, length};
 ghost use Rattle.ia_text.specs.Writing.{Writes};

@@ -1,4 +1,9 @@
-//! The command.
+//! `elide draw`: from its options to a picture.
+//!
+//! [`draw`] is the one call. Faults come in this order: `--record`, the machine's options, the schedule's, `--from` and
+//! `--to`, `--core`, FILE, the program, the labels, the schedule's file, the run, and what of it is asked for. Then the
+//! record is written, and behind it the picture: nothing is printed before the run has ended. How a picture looks is
+//! `tm_timeline`'s.
 
 ghost use Rattle.std.specs.Prelude.{◌≡◌, ℕ, IfOk, List, OnOk, Option};
 ghost use Rattle.elide_setup.specs.ElideProgram.ProgramFile.{IsFile, IsRead};
@@ -203,6 +208,7 @@ fn draw_course<P: Paths, O: Out, G: Progress>(
 ) -> Result<(), Refusal>
     ensures { OnOk result (HasRunCourse (P.content paths.new) setup.now course.now asked.now.path) }
 {
+    // First, as this alone says how many steps there are to choose from.
     let counted = counted(alloc, setup, course, asked.path.is_some(), progress)?;
     let window = asked.extent.window(counted.total)?;
     let scene = ProgramScene {

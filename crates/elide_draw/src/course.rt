@@ -1,4 +1,8 @@
 //! A schedule, run twice: once to count its steps, where it is drawn step by step, and once to watch them.
+//!
+//! [`counted`] comes first, since the part that is drawn depends on how many steps there are; a list is not run for
+//! that. [`watched`] makes the steps again, and tells a timeline of each. What is to be shown of memory is tested
+//! before the second run. The picks of a draw are kept by the first, for the record.
 
 ghost use Rattle.std.specs.Prelude.{◌≡◌, IfOk, List};
 ghost use Rattle.elide_draw.specs.Told.{AreTold, IsToldOf};
@@ -50,7 +54,7 @@ pub fn counted<G: Progress>(
     }
 }
 
-// The same of a course that is drawn.
+// What [`counted`] answers of a course that is drawn.
 fn counted_drawn<G: Progress>(
     alloc: Global,
     setup: &Setup,

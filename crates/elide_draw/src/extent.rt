@@ -1,4 +1,8 @@
-//! What is drawn of a run.
+//! What is drawn of a run: its steps from `--from` to `--to`, and the cores of `--core`.
+//!
+//! [`Extent::read`] and [`rows_of`] come before FILE is read, and refuse what is no number or no core.
+//! [`Extent::window`] comes when the steps are counted, and refuses a beginning that is not there, before an end that
+//! comes too early; an end behind the last step is the last.
 
 ghost use Rattle.std.specs.Prelude.{◌≡◌, ◌+◌, ◌<◌, ◌≤◌, IfOk, MatchOption, min};
 ghost use Rattle.std.specs.Option.{option_copied};

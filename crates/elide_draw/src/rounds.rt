@@ -1,4 +1,8 @@
-//! Steps in which cores wait.
+//! Steps in which cores wait: PAUSE, and rounds of a loop that change no register and no memory.
+//!
+//! [`Rounds::tell`] comes behind each step that is described, once the timeline was told it. A round ends with a step
+//! that goes back, and is forgotten at a step that stores or is not a plain one. Steps are told as waiting, and none is
+//! left out: how they look is the timeline's.
 
 ghost use Rattle.tm_timeline.specs.Told.{SameSteps};
 

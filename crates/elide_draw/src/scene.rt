@@ -1,4 +1,8 @@
 //! What a picture tells of a program: its instructions, and its variables.
+//!
+//! [`Scene::before`] is asked before a step and [`Scene::text`] behind it, both where steps are drawn one by one alone.
+//! The texts are those of a trace, cut to a label's room. Variables are addresses here: what memory holds there is read
+//! in `watch`, and they are named in `course`.
 
 use elide_setup::Machine;
 use ia_text::{ToVec, write_insn};

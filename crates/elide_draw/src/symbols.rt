@@ -1,4 +1,7 @@
-//! What lines of memory are called in pictures.
+//! What lines of memory are called in pictures: [`Symbols`] answers a line's number with the labels on it.
+//!
+//! Names are handed on as they are, since a picture escapes them; what is no text is left out. Where no label stands on
+//! a line, the nearest below is told, as `elide_places` does.
 
 use elide_places::{Naming, Places, SymbolText, push_symbols};
 use std::str;

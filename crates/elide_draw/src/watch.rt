@@ -1,4 +1,8 @@
-//! A step, and whom it hits.
+//! A step, and whom it hits: a machine whose steps a timeline is told.
+//!
+//! [`Watcher`] asks the machine before the step what is told of it, and only where the picture shows steps or lines.
+//! Behind the step the timeline is told the hits, then the step, what it did, and last the variables: a hit is of
+//! transactions that were open before. Which part is drawn, and how, is the timeline's.
 
 ghost use Rattle.std.specs.Prelude.{◌≡◌, ◌∷◌, [], IfOk, OnOk};
 ghost use Rattle.elide_draw.specs.Told.{AreTold};
@@ -76,6 +80,7 @@ fn watch_step<S: Scene>(
         None
     };
     let outcome = machine.make_step(pick)?;
+    // Before the step is told: the timeline still has the transactions that were open before it.
     tell_hits(machine, core, &uses, timeline)?;
     tell_step(machine, pick, outcome, before, timeline, scene, rounds)?;
     tell_variables(machine, scene.variables(), timeline)?;

@@ -1,4 +1,7 @@
-//! The command.
+//! `elide explain`: from FAULT to the texts of the faults that have this number or name.
+//!
+//! [`explain`] looks whether there is one before it prints, so that a misused FAULT leaves the output empty. With none
+//! asked for, the first line of each entry is printed. No file is read: the texts are those of `faults`.
 
 use crate::entry::{head_of, is_asked};
 use crate::faults::FAULTS;

@@ -1,4 +1,8 @@
-//! The command that makes a run of a search again.
+//! The command that makes a run of a search again, by its number: for a schedule that is too long for a command line.
+//!
+//! [`put_hunt`] writes FILE, the machine's options, the checks, how runs are made, where that is not as usual,
+//! `--json`, and last `--runs` of this run alone. `--record` and `--page` are left out: the command writes no file.
+//! Words are quoted by `elide_shell`; which of the two commands is told is chosen in `replay`.
 
 ghost use Rattle.std.specs.Prelude.{◌≡◌, ◌++◌, OnOk};
 ghost use Rattle.std.specs.List.{flat_map};

@@ -1,4 +1,8 @@
-//! Runs that are made side by side.
+//! Runs that are made side by side, each thread some of them with numbers in a row.
+//!
+//! [`Block::made`] waits for all threads, and joins their shares in the order of the numbers: up to the first run that
+//! failed, or a refusal before it. What lies behind that is dropped, so that it does not depend on the threads which
+//! run is told. A run's schedule is not kept: `searching` makes the one that failed once more.
 
 ghost use Rattle.std.specs.Prelude.{◌≡◌, ℕ, ◌+◌, ◌^◌, ◌<◌, ◌≤◌, IfErr, IfOk, length, option_map};
 ghost use Rattle.std.specs.List.{slice_index_or};

@@ -1,4 +1,9 @@
-//! The command.
+//! `elide hunt`: [`hunt`] is the one call.
+//!
+//! Faults come in this order: the machine's options, those of the search, `--record`, `--page`, FILE, the program, the
+//! checks, its loading, what the checks look at, the runs. A run that failed is shortened, and its loop looked for;
+//! then its page is written, its record, and last the lines or the object. A page that cannot be written is told behind
+//! them. Runs are drawn by `tm_pick`, made and shortened by `tm_hunt`.
 
 ghost use Rattle.std.specs.Prelude.{◌≡◌, ◌≤◌, ℕ, Bool, IfErr, IfOk, IfSome, List, OnOk, Option, Some};
 ghost use Rattle.std.specs.Borrow.{Bor};
@@ -86,8 +91,10 @@ pub fn hunt<R: Threads + Sync + AllocGlobal, P: Paths, O: Out + Drop, G: Progres
     let page = page_path(options.page, options.machine.file, options.record, paths)?;
     let text = read_file(options.machine.file, paths)?;
     let made = hunted(rt, options, &settings, &orders, text.as_slice(), progress);
+    // Before a refusal is told, so that no line of progress stays.
     progress.end();
     let (search, beside) = made?;
+    // Not refused yet: what came about is recorded and printed first.
     let paged = write_page(
         rt.alloc(),
         options,
@@ -221,7 +228,7 @@ fn hunted<R: Threads + Sync + AllocGlobal, G: Progress>(
     made
 }
 
-// The same of a program that is loaded.
+// What [`hunted`] does once the program is loaded.
 fn hunted_in<R: Threads + Sync + AllocGlobal, G: Progress>(
     rt: &R,
     demands: &Demands,

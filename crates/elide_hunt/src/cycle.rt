@@ -1,4 +1,7 @@
-//! The loop that a run comes to.
+//! The loop that a run comes to, as a line of its own: how long it is, where it begins, and its steps.
+//!
+//! [`put_cycle`] writes nothing where none was found, and no steps where they are more than 64. It was found by
+//! `tm_hunt`, in `command`; in an object it is `sending`'s.
 
 ghost use Rattle.std.specs.Prelude.{◌≡◌, ◌≤◌, ◌++◌, OnOk};
 ghost use Rattle.std.specs.List.{flat_map};

@@ -1,4 +1,6 @@
-//! The fault that a search is refused with.
+//! The fault that a search is refused with: [`fault_of`] gives those of `tm_hunt` a number.
+//!
+//! A board that is not made keeps its own; want of memory, wherever it came, is told as that of a run.
 
 ghost use Rattle.elide_setup.specs.declared.fault.Refusal.TheVariants as refusal;
 ghost use Rattle.elide_hunt.specs.Refused.{IsHuntFault};

@@ -1,6 +1,8 @@
 //! The object that `--json` prints of a search (docs/JSON.md, "hunt").
 //!
-//! [`tell_object`] is the one call. The whole text is made, and then it is written.
+//! [`tell_object`] is the one call. The command that replays a failure is made first, then the whole text with it, and
+//! only then it is written: want of memory, told as that of a run, leaves no half of it. Its members are sent by
+//! `sending`.
 
 ghost use Rattle.std.specs.Prelude.{◌≡◌, IfErr, IfOk, OnOk, Some, string_bytes};
 ghost use Rattle.std.specs.Io.KnownBytes.{Appends};

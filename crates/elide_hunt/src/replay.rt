@@ -1,4 +1,8 @@
-//! The command that replays a schedule, or makes its run again.
+//! The command that replays a schedule, or makes its run again, in a line or as bytes for an object.
+//!
+//! The file of `--record` is named where there is one; else the steps are written, up to 1000 of them; else `again`
+//! writes the command by the run's number. Handed in are the steps that decide, and no others. Whether the record was
+//! written is not asked here: a search whose record fails prints nothing.
 
 ghost use Rattle.std.specs.Prelude.{◌≡◌, IfOk, OnOk};
 ghost use Rattle.ia_text.specs.Writing.{Wrote};

@@ -1,4 +1,8 @@
-//! What is printed of a search.
+//! What is printed of a search for a failing run, as lines.
+//!
+//! [`tell_lines`] writes one line where no run failed, and else the run and its check, how long its schedule was and
+//! is, the loop, and the command that replays it. All of it is known before the first line: what is told beside the run
+//! is made in `command` and handed in as [`Beside`]. As an object a search is `object`'s.
 
 ghost use Rattle.std.specs.Prelude.{◌≡◌, ◌+◌, ◌≤◌, ◌++◌, OnOk};
 ghost use Rattle.std.specs.Fmt.{decimal};

@@ -1,4 +1,8 @@
-//! Runs on several threads, until one fails.
+//! Runs on several threads, until one fails: block after block, each up to twice as long as the last.
+//!
+//! [`searched`] begins with few runs, so that a failure among the first costs no more, and ends with many, so that
+//! threads seldom wait. A block is joined before the next begins, and progress told between them. The run that failed
+//! is made once more, on this thread, for its schedule. Shortening is not done here, but in `command`.
 
 ghost use Rattle.std.specs.Prelude.{◌^◌, ◌<◌, ◌≤◌, IfErr, IfOk};
 ghost use Rattle.tm_hunt.specs.Attempts.{IsSearch};
@@ -104,6 +108,7 @@ fn searched_in<R: Threads + Sync + AllocGlobal>(
             cut: share.cut,
         });
     };
+    // Made again for its schedule, which the threads do not keep. It is the first of these.
     match first_failing(
         rt.alloc(),
         &block.trial,

@@ -1,4 +1,8 @@
-//! A search as an object, which sends itself to a writer.
+//! A search as an object, which sends itself to a writer: the shape, and its members in their order.
+//!
+//! The command that replays the run is a text already, made by `object`, since it can want memory. A check is sent as
+//! the option that says it, by its place among `--check`, `--forbid`, `--stop`, `--expect-halt`. The exit status in it
+//! is the search's: a page that cannot be written is told later.
 
 ghost use Rattle.std.specs.Prelude.{◌≡◌, OnOk, codes};
 ghost use Rattle.std.specs.Option.{option_copied};

@@ -1,4 +1,7 @@
-//! The cores of a machine.
+//! The cores of a machine: each with its number, state, depth, stop, registers and flags, in this order.
+//!
+//! [`send_cores`] asks the machine while it sends, and keeps no copy; it is refused only by what it sends to. The words
+//! of states and stops are those of `words`.
 
 ghost use Rattle.std.specs.Prelude.{◌≡◌, ◌≤◌, ◌<◌, ◌+◌, ◌++◌, OnOk, codes, length, map};
 ghost use Rattle.arrayvec.specs.ArrayVec.{array_vec_len};

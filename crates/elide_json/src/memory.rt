@@ -1,4 +1,8 @@
-//! What is shown of a memory.
+//! What is shown of a memory: dumps, and behind them doublewords.
+//!
+//! [`Rows::of_memory`] comes first, and makes all rows: the first that passes the memory's end is refused with 73
+//! `OutOfRange`, before a byte is sent. [`send_dumps`] and [`send_shows`] send them. Where a sum leads to was found out
+//! when the program was loaded; the text that asked for it is told as it was given.
 
 ghost use Rattle.std.specs.Prelude.{◌≡◌, ◌+◌, ◌≤◌, ◌++◌, ◌∷◌, [], IfErr, IfOk, OnOk, codes, false, length, map, slice_range, string_bytes};
 ghost use Rattle.std.specs.List.{list_all, zip};

@@ -1,4 +1,8 @@
 //! The objects of commands, and the end of a run's.
+//!
+//! [`put_replay`], [`put_threads`] and [`put_back`] each make the rows of memory, then the whole text, and write it
+//! last, so that want of memory leaves no half of it. The last one writes what stands behind the outcomes, for which
+//! the brace in front is left away: the front and the outcomes are `outcomes`'.
 
 ghost use Rattle.std.specs.Prelude.{◌≡◌, ◌≤◌, IfErr, IfOk, OnOk, codes, drop, if◌then◌else◌, length, string_bytes};
 ghost use Rattle.std.specs.Option.{option_copied};

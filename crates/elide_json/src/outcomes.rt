@@ -1,4 +1,8 @@
 //! The beginning of a run's object: the outcomes of its steps, written as they are made.
+//!
+//! [`put_front`] comes once, then [`put_outcome`] for each step, whose number says whether a comma stands before it;
+//! the caller counts them from 1. Where outcomes are not asked for, there is `null` in place of the list. It is closed
+//! by [`put_back`](crate::put_back).
 
 ghost use Rattle.std.specs.Prelude.{◌≡◌, ◌++◌, IfErr, IfOk, OnOk, codes, if◌then◌else◌, nat_lt, string_bytes};
 ghost use Rattle.ia_text.specs.Writing.{Wrote};

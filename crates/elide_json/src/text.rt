@@ -1,4 +1,7 @@
-//! The text of an object, with no line feed behind it.
+//! The text of an object, with no line feed behind it: [`text_of`], for a row within an object that is still being
+//! written.
+//!
+//! Whole objects, which end a line, are made by `elide_object`.
 
 ghost use Rattle.std.specs.Prelude.{◌≡◌, IfOk, false, string_bytes};
 ghost use Rattle.elide_object.specs.Object.{Sends};

@@ -1,4 +1,7 @@
-//! Words, and members whose value may be missing.
+//! Words, and members whose value may be missing: these are sent as `null`, so that each object has the same members.
+//!
+//! [`send_word`] and [`send_optional`] send a member; the other calls say the word or the number of a state or an
+//! outcome, and where there is none. They send nothing.
 
 ghost use Rattle.std.specs.Prelude.{◌≡◌, OnOk, option_map};
 ghost use Rattle.std.specs.Option.{option_copied};

@@ -1,4 +1,9 @@
-//! The command.
+//! `elide outcomes`: [`outcomes`] is the one call.
+//!
+//! Faults come in this order: `--stop`, the machine's options, `--events`, `--limit`, `--page`, FILE, the program,
+//! `--show`, `--check`, `--forbid`, its loading, what is looked at, the search. Then the outcomes are sorted and
+//! printed, and the page comes last: that it is not written is told behind the outcomes. States are followed by
+//! `tm_outcomes`, on one thread.
 
 ghost use Rattle.std.specs.Prelude.{◌≡◌, ◌≤◌, IfErr, IfOk, MatchResult, OnOk, codes};
 ghost use Rattle.std.specs.Option.{option_copied};
@@ -75,10 +80,12 @@ pub fn outcomes<P: Paths, O: Out + Drop, G: Progress, W: Pages>(
     let mut page = Gathered::new(out);
     let (answer, paged) = outcomes_of_options(alloc, options, paths, pages, &mut page, progress)?;
     let out = page.finish()?;
+    // The page's refusal only now, when the outcomes are handed on.
     Ok((answer, paged?, out))
 }
 
-// The same on a device that is lent. What became of the page is told apart, so that the outcomes are printed before.
+// What [`outcomes`] does, on a device that is lent. What became of the page is told apart, so that the outcomes are
+// printed before.
 fn outcomes_of_options<P: Paths, O: Out, G: Progress, W: Pages>(
     alloc: Global,
     options: &OutcomesOptions<'_>,
@@ -108,7 +115,7 @@ fn outcomes_of_options<P: Paths, O: Out, G: Progress, W: Pages>(
     answer
 }
 
-// The same with the stops that are looked for.
+// What [`outcomes_of_options`] does once the stops that are looked for are read.
 fn outcomes_with_stops<P: Paths, O: Out, G: Progress, W: Pages>(
     alloc: Global,
     options: &OutcomesOptions<'_>,
@@ -138,6 +145,7 @@ fn outcomes_with_stops<P: Paths, O: Out, G: Progress, W: Pages>(
     };
     let text = read_file(options.machine.file, paths)?;
     let made = search_of_text(alloc, &asked, &settings, text.as_slice(), progress);
+    // Here, where a search that was refused comes by, too.
     progress.end();
     let found = made?;
     write(alloc, options, &found, out)?;
@@ -161,7 +169,7 @@ fn write<O: Out>(
     write_words(alloc, options, words.as_slice(), found, out)
 }
 
-// The same with the words of `--show`.
+// What [`write`] does, with the words of `--show`.
 fn write_words<O: Out>(
     alloc: Global,
     options: &OutcomesOptions<'_>,
@@ -203,7 +211,7 @@ fn search_of_text<G: Progress>(
     found
 }
 
-// The same of a program's file that was read.
+// What [`search_of_text`] does once the text is read as a program.
 fn search_of_file<G: Progress>(
     alloc: Global,
     asked: &Asked<'_>,
@@ -254,7 +262,7 @@ fn asks_more(options: &OutcomesOptions<'_>) -> bool
         || options.forbids.len() > 0
 }
 
-// The same of a machine, with what is shown and checked of it.
+// What [`search_of_file`] does once the program is loaded, with what is shown and checked of its machine.
 fn search_of_setup<'x, G: Progress>(
     alloc: Global,
     asked: &'x Asked<'x>,
@@ -283,7 +291,7 @@ fn search_of_setup<'x, G: Progress>(
     sorted(alloc, &trial, asked.most, progress)
 }
 
-// The same of a machine, with what is shown of it: the outcomes stand in the order of their values.
+// Searches, and brings the outcomes into the order of their values.
 fn sorted<G: Progress>(
     alloc: Global,
     trial: &Trial<'_>,

@@ -1,4 +1,5 @@
-//! What was found.
+//! What was found, as it is handed from the search to what prints it: by then the program's file is dropped, and the
+//! labels are copies.
 
 use crate::named::NamedAddress;
 use tm_outcomes::Search;

@@ -1,4 +1,8 @@
-//! What an outcome shows, as the option says it.
+//! What an outcome shows, as `--show` says it: its words, in their order, as items.
+//!
+//! [`items_of`] comes behind the program, whose symbols the sums name; the first word that says none is a misuse. That
+//! one is wanted is told only where nothing else is asked for. Whether the machine has them is asked in `command`,
+//! before the search. Their words are printed as they were given, by `naming`.
 
 ghost use Rattle.std.specs.Prelude.{◌≡◌, ◌⊎◌, ◌++◌, ◌∷◌, [], MatchOption, MatchResult, None, OnOk, Some, codes};
 ghost use Rattle.std.specs.Prelude.{false, true};

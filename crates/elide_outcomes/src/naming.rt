@@ -1,4 +1,7 @@
-//! Names of what is shown.
+//! Names of what is shown, for `--names`: a line of the words of `--show` above the outcomes, and labels behind values.
+//!
+//! [`tell_items`] writes no line where names are not asked for or nothing is shown, and [`tell_name`] nothing where
+//! there is no label. Which label stands at an address is looked for in `names`; without the option there are none.
 
 ghost use Rattle.std.specs.Prelude.{◌++◌, OnOk, codes, option_map};
 ghost use Rattle.std.specs.List.{flat_map};
@@ -39,7 +42,7 @@ fn tell_rest<O: Out>(words: &[&str], out: &mut O) -> Result<(), WriteFault>
     tell_more(words, out)
 }
 
-// The same, word by word.
+// What [`tell_rest`] does, word by word.
 fn tell_more<O: Out>(words: &[&str], out: &mut O) -> Result<(), WriteFault>
     ensures { OnOk result (Wrote (O.device out.old) (O.device out.new) (flat_map (λ word. codes " " ++ word.now) words.now)) }
 {

@@ -1,6 +1,8 @@
 //! The object that `--json` prints of a search (docs/JSON.md, "outcomes").
 //!
-//! [`tell_object`] is the one call. The whole text is made, and then it is written.
+//! [`tell_object`] is the one call. It makes the whole text and then writes it. The outcomes are in their order
+//! already; the exit status in it is the search's, made here, and not that of a page. Labels are not told: values are
+//! numbers.
 
 ghost use Rattle.std.specs.Prelude.{◌≡◌, IfErr, IfOk, OnOk, Some, codes, string_bytes};
 ghost use Rattle.elide_setup.specs.Refused.{IsUntold};

@@ -1,4 +1,8 @@
-//! The page of an outcome.
+//! The page of an outcome: its number and path, and later the page.
+//!
+//! [`PageAsked::read`] comes before FILE is read, and tells a path that is FILE's before a number that is none. How
+//! many outcomes there are is known only behind the search: [`PageAsked::write`] comes when they are printed, and
+//! refuses a number above theirs. The page itself is made by what is handed in ([`Pages`]).
 
 ghost use Rattle.std.specs.Prelude.{◌≡◌, ◌⊎◌, ℕ, IfErr, IfOk, List};
 ghost use Rattle.elide_outcomes.specs.Refused.{IsNoPage, IsNotShown, IsOverProgram, IsPageOf};

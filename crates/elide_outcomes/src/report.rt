@@ -1,4 +1,8 @@
-//! What is printed of a search.
+//! What is printed of a search over all schedules, as lines; `object` has the same as JSON.
+//!
+//! [`sort`] comes first, and then [`tell`]: the words of `--show`, the outcomes, the checks that are violated, the
+//! stops, states without a way to an end, a cycle, and last the counts, which say whether the search was cut. All but
+//! the counts are left out where they are not asked for or not there.
 
 ghost use Rattle.std.specs.Prelude.{◌≡◌, ◌++◌, OnOk, codes, length, true};
 ghost use Rattle.std.specs.List.{flat_map};

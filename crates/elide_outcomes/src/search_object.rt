@@ -1,4 +1,4 @@
-//! A search as an object.
+//! A search as an object: what is borrowed for it. `object` fills it in, once the exit status is known, and sends it.
 
 use elide_args::OutcomesOptions;
 use tm_outcomes::Search;

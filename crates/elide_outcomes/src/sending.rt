@@ -1,4 +1,7 @@
-//! Checks that ends violate, as they are sent in an object.
+//! Checks that ends violate, as they are sent in an object, each with a schedule to such an end.
+//!
+//! [`send_violations`] finds the option of a check by its place: those of `--check` come first, then those of
+//! `--forbid`. The same as lines is `violated`'s.
 
 ghost use Rattle.std.specs.Prelude.{OnOk, codes, slice_get};
 ghost use Rattle.std.specs.Option.{option_copied};

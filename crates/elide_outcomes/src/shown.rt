@@ -1,4 +1,7 @@
-//! The words of `--show`, as they were given.
+//! The words of `--show`, as they were given, for who prints them.
+//!
+//! [`words_of`] parts them where `items` does, at white space, so that there are as many as values. It comes behind the
+//! search, which refused words that say nothing: only memory can be wanting here.
 
 ghost use Rattle.std.specs.Prelude.{◌≡◌, ◌++◌, ◌∷◌, [], IfOk, OnOk};
 ghost use Rattle.std.specs.Option.{option_copied};

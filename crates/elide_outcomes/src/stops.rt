@@ -1,4 +1,6 @@
-//! The reasons to stop that are looked for, as the option says them.
+//! The reasons to stop that are looked for: [`stops_of`] reads the words of `--stop`, before all other options.
+//!
+//! They are the words of `hunt`'s option, and read by the same call. That one is reached is found by the search.
 
 ghost use Rattle.std.specs.Prelude.{◌≡◌, ◌⊎◌, ◌++◌, ◌∷◌, [], MatchResult, OnOk};
 ghost use Rattle.elide_checks.specs.Refused.{IsNoStop};

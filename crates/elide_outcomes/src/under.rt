@@ -1,4 +1,8 @@
-//! What the steps come under, as the option says it.
+//! What the steps come under, as `--events` says it: none, any of some kinds, or always an interrupt.
+//!
+//! [`Under::read`] needs no program. [`Under::listed`] makes the events in an order of its own, whatever the option's
+//! was, and [`Under::events`] lends them to the search. Rates, as `1/64`, are of commands that draw: they are read by
+//! `elide_setup`.
 
 ghost use Rattle.std.specs.Prelude.{◌≡◌, ◌++◌, IfErr, IfOk, OnOk};
 ghost use Rattle.std.specs.Option.{option_copied};

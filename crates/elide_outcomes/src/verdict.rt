@@ -1,4 +1,8 @@
-//! What a search came to.
+//! What a search came to: whether all is told, and whether something is wrong.
+//!
+//! [`Answer::of`] asks first whether the search was cut: then what it found is told all the same, but it is no whole
+//! answer. Cut or faulty, the command ends with 3. States without a way to an end are wrong only where `--stuck` asks
+//! for them.
 
 ghost use Rattle.std.specs.Prelude.{◌≡◌};
 ghost use Rattle.elide_outcomes.specs.Verdict.{answer_of, has_stops, has_violations, is_faulty, search_status};

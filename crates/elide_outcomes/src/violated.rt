@@ -1,4 +1,7 @@
-//! What is printed of checks that ends violate.
+//! What is printed of checks that ends violate: a line each, with a schedule to such an end.
+//!
+//! [`tell_violations`] goes in the order of the search, and names a check by the word of its option. In an object
+//! `sending` has them.
 
 ghost use Rattle.std.specs.Prelude.{◌++◌, OnOk, codes};
 ghost use Rattle.ia_text.specs.Writing.{Wrote};

@@ -1,4 +1,6 @@
-//! How far a search is.
+//! How far a search is: [`Watched`] hands on how many states were found, and not how many were followed.
+//!
+//! It ends no progress: `command` does, whatever the search came to.
 
 use elide_setup::Progress;
 use tm_outcomes::Watching;

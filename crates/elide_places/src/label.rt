@@ -1,4 +1,7 @@
-//! Labels of a program.
+//! Labels of a program: a name, as it is and as it is shown, and an address.
+//!
+//! A name is kept whole, with the label that a local one belongs to in front; what is shown is kept only where it is
+//! another text, which is seldom. `places` makes labels in the order of the program; none is sorted here.
 
 ghost use Rattle.std.specs.Prelude.{◌≡◌, true};
 ghost use Rattle.std.specs.List.{list_all};

@@ -1,4 +1,8 @@
-//! The places of a program's text.
+//! The places of a program's text: which line or symbol stands at an address.
+//!
+//! [`Places::of_text`] reads the text once more, by its form, beside the program that was made of it. A source is gone
+//! over three times: for its base, for the end of its code, and for its places. A text that is refused has no places,
+//! and that is no fault here: who reads the program tells it. Want of memory is the only refusal.
 
 ghost use Rattle.ia_layout.specs.Contents.{IsBounded};
 

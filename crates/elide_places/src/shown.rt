@@ -1,4 +1,7 @@
-//! How the name of a symbol is shown.
+//! How the name of a symbol is shown, so that it drives no terminal and has no space.
+//!
+//! [`shown_name`] makes the text, and [`shown_otherwise`] only where it is not the name itself. Whole names are meant:
+//! cutting one that is long is `symbols`'s. JSON and pictures, which escape on their own, ask for none of this.
 
 ghost use Rattle.std.specs.Prelude.{◌≡◌, ◌++◌, IfOk, OnOk, true};
 ghost use Rattle.std.specs.List.{list_all};
@@ -27,7 +30,8 @@ pub fn shown_name(alloc: Global, name: &[u8]) -> Result<Vec<u8>, AllocError>
     Ok(shown)
 }
 
-/// The same, where that is another text than the name: most names are shown as they are, and need no second text.
+/// What [`shown_name`] answers, where that is another text than the name: most names are shown as they are, and need no
+/// second text.
 pub(crate) fn shown_otherwise(alloc: Global, name: &[u8]) -> Result<Option<Vec<u8>>, AllocError>
     ensures { IfOk result (λ shown. shown_of name.now shown ≡ shown_name name.now) }
 {

@@ -1,4 +1,8 @@
-//! Lines of sources as text.
+//! Lines of sources as text, for instructions of executables that tell where they come from.
+//!
+//! [`push_source_place`] empties the row and writes the last part of the file's name and the line, or nothing. Bytes
+//! that are not plain are shown as `?`, one for one, and not as those of symbols. The line of a source that is
+//! assembled is told by [`Places::line_of`] instead.
 
 ghost use Rattle.std.specs.Prelude.{◌≡◌, true};
 ghost use Rattle.std.specs.List.{list_all};

@@ -1,4 +1,8 @@
-//! The symbols on a line of 64 bytes.
+//! The symbols on a line of 64 bytes, and the one of an instruction, as text of fixed room.
+//!
+//! [`push_symbols`] looks for labels on the line, and only where there are none for the nearest below;
+//! [`push_code_place`] looks for a symbol of the code. Both empty the row first, and tell what goes past its room as
+//! `..`. They take no memory and refuse nothing.
 
 ghost use Rattle.std.specs.Prelude.{◌≡◌, true};
 ghost use Rattle.std.specs.List.{list_all};

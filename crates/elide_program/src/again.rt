@@ -1,4 +1,8 @@
 //! Devices of `std::io` that a signal does not stop.
+//!
+//! [`Again`] is put around a file or a stream where it is opened, so that nothing above knows of signals. A read or a
+//! write that was interrupted has moved no byte, and is made again; any other failure is handed on. A flush is not made
+//! again.
 
 ghost use Rattle.std.specs.Io.KnownBytes.{ReadConsumes, WriteAppends};
 ghost use Rattle.std.specs.Io.{ReadsAtMost, WritesAtMost};

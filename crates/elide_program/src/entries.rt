@@ -1,4 +1,8 @@
-//! Where the cores begin.
+//! Where the cores begin, as `--entry` lists it: one place for all of them, or one each.
+//!
+//! [`EntryList::read`] comes with the options, before FILE is read, and tests the form and the count.
+//! [`EntryList::addresses`] comes with the program, whose symbols it needs; a name that is none is a misuse, as a wrong
+//! form is. That an address is one of code is tested by the loading.
 
 ghost use Rattle.std.specs.Prelude.{◌≡◌, IfErr, IfOk, MatchOption, MatchResult, None, Some, codes, false, length, true, ℕ};
 ghost use Rattle.std.specs.List.{list_all};

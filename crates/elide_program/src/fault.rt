@@ -1,4 +1,8 @@
-//! Why there is no program.
+//! Why there is no program: the faults of reading, assembling and loading FILE, under one type.
+//!
+//! Each keeps the number and the line that it has in its own crate; 80 and 82 are of files and numbered here.
+//! [`ProgramRefusal`] has misused options beside them, which have a name and no number. Want of memory for a file's
+//! bytes is told as that of the loading, but for the source of `asm` as the assembler's.
 
 ghost use Rattle.std.specs.Prelude.{◌≡◌};
 ghost use Rattle.elide_program.specs.Faults.{program_line, program_number, unread};

@@ -1,4 +1,8 @@
 //! FILE as a program: image text, an executable in ELF, or a source that is assembled.
+//!
+//! [`read_file`] reads it whole, and [`ProgramFile::read`] chooses by how it begins: what is neither ELF nor image text
+//! is a source. Then come the entries ([`ProgramFile::starts`]), and last [`ProgramFile::load`], which tests the cores
+//! and the memory, and behind that the zeros of an executable. Warnings of a source are told beside this, by `warned`.
 
 ghost use Rattle.std.specs.Prelude.{◌≡◌, ◌≢◌, ◌<◌, ◌≤◌, ◌↔◌, ◌⊎◌, IfErr, IfOk, IsTrue, List, MatchResult, None, Some, codes, length, min, replicate, ℕ};
 ghost use Rattle.elide_program.specs.Entries.{AreStarts, for_cores};
@@ -207,6 +211,7 @@ impl<'a> ProgramFile<'a> {
         );
         match loaded {
             Ok(program) => {
+                // By this it is known that there are 64 cores at most.
                 let _cores = program.cores();
                 if self.end() > u64::from(settings.memory) {
                     return Err(ProgramRefusal::Fault(ProgramFault::Load(LoadFault::TooLarge)));

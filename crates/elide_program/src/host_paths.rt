@@ -1,4 +1,9 @@
-//! The files of the system.
+//! The files of the system, as commands read and write them.
+//!
+//! Memory for as many bytes as the system says is taken before they are read; a file that turns out to be longer than
+//! the most is told as too long, too. What is written goes beside the file and takes its name at the end (`replacing`),
+//! but for what is no regular file, which is written where it stands. A file that may not be written is not replaced
+//! either.
 
 ghost use Rattle.std.specs.Io.KnownBytes.{Appends};
 ghost use Rattle.std.specs.Prelude.{◌≤◌, ℕ, IfOk, List, None, OnErr, OnOk, length};
@@ -57,6 +62,7 @@ impl<R: Files<File = File> + AllocGlobal> Paths for HostPaths<'_, R> {
     fn write<T: Text>(&mut self, path: &str, text: &mut T) -> Result<(), Failed> {
         match fs::symlink_metadata(self.rt, path) {
             Ok(there) if there.is_file() => {
+                // A rename asks the folder alone, and would pass over the file's own permissions.
                 if !can_write(self.rt, path) {
                     return Err(Failed);
                 }

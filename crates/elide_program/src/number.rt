@@ -1,4 +1,7 @@
-//! Numbers and names of the command line.
+//! Numbers and names of the command line, in the forms that sources have.
+//!
+//! [`word32`] and [`number_in`] answer nothing for what is no number below 2^32; which option that makes misused is
+//! said where it is read. Whether a name is a symbol's is not asked here.
 
 ghost use Rattle.std.specs.Prelude.{◌≡◌};
 ghost use Rattle.std.specs.List.{list_all};
@@ -15,7 +18,7 @@ pub fn word32(word: &str) -> Option<u32>
     number_in(word.as_bytes())
 }
 
-/// The same of bytes.
+/// The number that [`word32`] reads, of bytes.
 pub fn number_in(word: &[u8]) -> Option<u32>
     ensures { result ≡ word32 word.now }
 {

@@ -1,4 +1,8 @@
-//! What is printed of memory.
+//! What is printed of memory: dumps, and doublewords at sums.
+//!
+//! [`is_dump`] tests a form with the options, before FILE is read; [`MemoryParts::of_file`] comes with the program, and
+//! makes addresses of symbols: those of `--dump` first, then those of `--show`. Whether memory has the parts is asked
+//! where they are printed.
 
 ghost use Rattle.std.specs.Prelude.{◌≡◌, ◌++◌, ◌∷◌, [], Contains, IfErr, IfOk, IfSome, List, MatchOption, None, OnOk};
 ghost use Rattle.std.specs.Prelude.{Some, codes, false, ℕ};

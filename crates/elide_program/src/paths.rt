@@ -1,4 +1,8 @@
-//! Files by their paths.
+//! Files by their paths: what a command asks of them, whoever holds them.
+//!
+//! [`Paths`] is read whole and written whole, by a [`Text`] that may be made while it is written, so that no command
+//! opens a file. Which fault a [`ReadFault`] is, with its number, is said by `fault`. The files of the system are
+//! `host_paths`'s.
 
 ghost use Rattle.std.specs.Io.KnownBytes.{Appends};
 ghost use Rattle.std.specs.Prelude.{◌≡◌, ◌≤◌, ℕ, ⊤, Bool, IfOk, IfSome, List, MatchResult, OnErr, OnOk, Option};

@@ -1,4 +1,9 @@
-//! A file that is replaced as a whole.
+//! A file that is replaced as a whole: written beside its path, and renamed when all of it is there.
+//!
+//! [`replace`] first gets a name beside the path that no other command writes, by a lock, then writes, then sets the
+//! permissions, and last renames. Where anything fails the file beside is removed, and what stood at the path stays. In
+//! a folder that takes no new file it is written in place, where that cannot be promised. Whether the path may be
+//! written was asked before, by `host_paths`.
 
 ghost use Rattle.std.specs.Prelude.{None, OnErr, OnOk};
 ghost use Rattle.elide_program.specs.Files.{IsNotWritten, IsWritten};

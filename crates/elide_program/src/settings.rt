@@ -1,4 +1,8 @@
-//! The options that `run`, `threads`, `replay` and `debug` have alike.
+//! The options that `run`, `threads`, `replay` and `debug` have alike, as numbers and lists.
+//!
+//! [`Settings::read`] goes by `--cores`, `--mem`, `--entry`, `--reads`, `--writes`, `--dump`, `--show`, and tells the
+//! first that is misread. It opens no file: names are tested for their form alone. That there are such cores, such a
+//! memory and such limits is tested by who makes the machine.
 
 ghost use Rattle.std.specs.Prelude.{◌≡◌, Contains, IfErr, IfOk, List, MatchResult, None, Some, codes, false, option_map, ℕ};
 ghost use Rattle.std.specs.Option.{option_copied};
@@ -86,7 +90,7 @@ pub fn number_of(text: Option<&str>, name: &'static str) -> Result<u32, ProgramR
     }
 }
 
-// The same of an option that need not be given.
+// What [`number_of`] answers, of an option that need not be given.
 fn number_or(text: Option<&str>, default: u32, name: &'static str) -> Result<u32, ProgramRefusal>
     ensures { MatchResult result
         (λ value. number_or default (option_copied text.entry) ≡ Some value)

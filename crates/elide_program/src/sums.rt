@@ -1,4 +1,8 @@
-//! Sums of symbols and numbers.
+//! Sums of symbols and numbers, as options have them for addresses.
+//!
+//! [`is_sum`] tests the form, without a program; [`sum_of`] has the value, by the program's symbols, and is `None`
+//! where a term is none of them. Signs go from left to right, and values modulo 2^32, so that no sum is too great.
+//! Spaces may stand around each term.
 
 ghost use Rattle.std.specs.Prelude.{◌≡◌, ◌+◌, ◌%◌, ◌^◌, ◌++◌, ◌<◌, ◌≤◌, ℕ, false, length, slice_index, true};
 ghost use Rattle.std.specs.List.{list_all, slice_split};
@@ -17,7 +21,7 @@ pub fn sum_of(text: &str, file: &ProgramFile<'_>) -> Option<u32>
     trimmed_sum(text.as_bytes().trim_ascii(), file)
 }
 
-// The same of a sum without the spaces around it.
+// What [`sum_of`] answers, of a sum without the spaces around it.
 fn trimmed_sum(text: &[u8], file: &ProgramFile<'_>) -> Option<u32>
     ensures { IsTrimmedSum file.now text.now result }
 {

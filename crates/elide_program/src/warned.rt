@@ -1,4 +1,8 @@
-//! The warnings of a program, told as its file is read.
+//! The warnings of a program, told as its file is read: before any fault of its text, and once.
+//!
+//! [`WarnedPaths`] stands between a command and its files, and hands all calls on; when the program's path is first
+//! read, the warnings of its text are written. Image text and executables have none. They are found by `ia_source`, and
+//! no command waits for them or knows of them.
 
 ghost use Rattle.std.specs.Prelude.{◌≡◌, ◌≤◌, ℕ, [], IfOk, List, MatchResult, Option, length};
 ghost use Rattle.elide_program.specs.ProgramFile.{IsSource};

@@ -1,4 +1,8 @@
 //! Whether a board's machine and a serial run ended alike.
+//!
+//! [`agreement_of`] compares memory, then that there are as many cores, then of each its registers and its stop. It
+//! takes no agreement for granted: that a board's own history always agrees is proved of `tm_hist`. Nothing is printed,
+//! and no step is made.
 
 ghost use Rattle.std.specs.Prelude.{◌≡◌, ◌↔◌, ◌<◌, IsTrue, length};
 ghost use Rattle.elide_why.specs.TmHist.Board.{stop_shown};

@@ -1,4 +1,9 @@
-//! `elide replay`.
+//! `elide replay`: [`replay`] is the one call.
+//!
+//! `--json` with reasons is refused first. Then: the path of the record, the options, FILE, its schedule, a board with
+//! just the room for it, the schedule's cores, the steps, what is shown of memory, the history on one memory. The
+//! record is written before the first line is printed, and reasons stand above the state. Steps on one memory are
+//! `tm_hist`'s.
 
 ghost use Rattle.std.specs.Prelude.{◌≡◌, ◌⊎◌, ◌↔◌, ◌++◌, IfErr, IfOk, List, None, OnOk, false, max, true};
 ghost use Rattle.ia_text.specs.Writing.{Wrote};
@@ -121,10 +126,13 @@ fn compared<P: Paths, O: Out + Drop, G: Progress>(
         (schedule_text (picks_of board.now.history))) }
     ensures refused { IfErr result (IsNotCompared setup.now board.now path.entry) }
 {
+    // By this it is known that the machine is the run of the history, which is run again below.
     board.is_run();
     let sums = options.machine.shows.as_slice();
+    // Before the record and the first line: what cannot be shown leaves both away.
     let memory = shown_memory(board.machine().view(), &setup.parts, sums)?;
     let serial = again(alloc, board)?;
+    // Before the first line: a device that fails leaves a whole record.
     write_record(alloc, board, path, paths)?;
     let mut page = Gathered::new(out);
     if let Some(places) = places {

@@ -1,4 +1,9 @@
-//! Runs whose outcomes are told with their instructions.
+//! Runs whose outcomes are told with their instructions: `--trace --code`, with `--why` or without.
+//!
+//! [`run_coded`] and [`run_coded_explained`] test the path of the record first, then read FILE with its schedule, and
+//! make the steps by [`stepped`]. What a step did is known by the machine before it and behind it. With reasons, the
+//! line of `elide_why` is made in memory, so that the reason can stand behind the instruction. The state below the
+//! outcomes is `schedule`'s.
 
 ghost use Rattle.std.specs.Prelude.{◌≡◌, ℕ, IfErr, IfOk, List, true};
 ghost use Rattle.ia_text.specs.Writing.{Wrote};
@@ -49,8 +54,8 @@ pub fn run_coded<P: Paths, O: Out + Drop, G: Progress>(
     Ok((setup, machine, page))
 }
 
-/// The same with the reasons of the aborts, each behind its instruction. `names` says whether code where the subset ends
-/// is named.
+/// What [`run_coded`] does, with the reasons of the aborts, each behind its instruction. `names` says whether code
+/// where the subset ends is named.
 pub fn run_coded_explained<P: Paths, O: Out + Drop, G: Progress>(
     alloc: Global,
     options: &RunOptions<'_>,
@@ -155,6 +160,7 @@ impl StepTeller for ReasonTeller<'_> {
         // The line without the instruction, which ends with the reason.
         let mut line = ToVec::new(Vec::new(self.alloc));
         let told = self.teller.step(machine, pick, &mut line);
+        // First: want of memory for the line would else be told as a device that failed.
         if line.failures > 0 {
             return Err(Refusal::from(AllocError));
         }

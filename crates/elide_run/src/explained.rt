@@ -1,4 +1,8 @@
-//! Runs that tell why transactions abort.
+//! Runs that tell why transactions abort, and the walk of all runs that tell more than outcomes.
+//!
+//! [`run_explained`] tests the path of the record, then reads FILE with its schedule and places. [`stepped`] makes the
+//! machine, and each step by a [`StepTeller`], which writes its line at once. A line that is not written ends the run.
+//! As an object there are no reasons: `object` refuses them.
 
 ghost use Rattle.std.specs.Prelude.{◌≡◌, ℕ, IfErr, IfOk, List, length, true};
 ghost use Rattle.ia_text.specs.Writing.{Wrote};

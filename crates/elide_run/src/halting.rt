@@ -1,4 +1,8 @@
-//! Cores that have not stopped at the end.
+//! Cores that have not stopped at the end: what `--expect-halt` adds below the state.
+//!
+//! [`ending_of`] asks each core, writes a line for each that runs on, and answers whether there was one; the exit
+//! status is made of that above. The run is over by then. In an object they are a list, for which `object` asks
+//! [`has_stopped`].
 
 ghost use Rattle.std.specs.Prelude.{◌≡◌, ◌++◌, ◌<◌, IfErr, IfOk, length};
 ghost use Rattle.arrayvec.specs.ArrayVec.{array_vec_len};

@@ -1,4 +1,9 @@
-//! Runs that are printed as one object. Its outcomes are written as they are made, so that no memory grows with the run.
+//! Runs that are printed as one object. Its outcomes are written as they are made, so that no memory grows with the
+//! run.
+//!
+//! [`run_object`] refuses instructions and reasons first; then comes what runs as lines begin with: the path of the
+//! record, FILE, its schedule, the machine. The object's front is written once the machine is there, and what stands
+//! behind the outcomes when the last step is made. The texts of both are `elide_json`'s.
 
 ghost use Rattle.std.specs.Prelude.{◌≡◌, ◌≤◌, ◌<◌, ◌+◌, ◌++◌, ◌^◌, [], ◌∷◌, cond, length, not, true, IfErr, IfOk, List, OnErr, OnOk, if◌then◌else◌};
 ghost use Rattle.std.specs.Option.{option_copied};

@@ -1,4 +1,7 @@
-//! What a run begins with.
+//! What a run begins with: its machine, and that nothing is wanting for the run's end.
+//!
+//! [`machine_of`] makes the machine, then asks for the cores of a listed schedule, then for what is shown of memory.
+//! All runs pass here before their first step, so that these faults leave the output empty.
 
 ghost use Rattle.std.specs.Prelude.{◌≡◌, ◌<◌, [], All, IfErr, IfOk, length};
 ghost use Rattle.elide_run.specs.Refused.{IsNotReady};

@@ -1,4 +1,9 @@
-//! `elide run`.
+//! `elide run`: [`run`] is the one call, as lines or as an object.
+//!
+//! `--code` without the outcomes is refused first, before any option is read. Then: the path of the record, the other
+//! options, FILE, its schedule, the machine, the steps, each with its line, the state, what is shown of memory, and the
+//! cores that run on. A list is recorded before its first step, a draw as it is made. The output is gathered, and
+//! handed on at the end or where it is much.
 
 ghost use Rattle.std.specs.Prelude.{◌≡◌, ◌⊎◌, IfErr, IfOk, List, false, length, true};
 ghost use Rattle.ia_text.specs.Writing.{Wrote};
@@ -58,7 +63,7 @@ pub fn run<P: Paths, O: Out + Drop, G: Progress>(
     }
 }
 
-// The same as lines.
+// What [`run`] does, as lines.
 fn run_lines<P: Paths, O: Out + Drop, G: Progress>(
     alloc: Global,
     options: &RunOptions<'_>,

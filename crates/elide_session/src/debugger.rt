@@ -1,4 +1,8 @@
 //! A session of the debugger: `elide debug`.
+//!
+//! [`debug`] opens first, and reads labels only for a session that is spoken, whose answers tell them; then it serves
+//! the input to its end. A refusal of the opening comes before a byte is read or written. What commands there are, and
+//! what they answer, is `tm_debug`'s.
 
 ghost use Rattle.std.specs.Prelude.{◌≡◌, IfErr, OnOk};
 ghost use Rattle.elide_session.specs.DebugRefused.{IsRefused};

@@ -1,4 +1,8 @@
 //! A session with gdb: `elide gdb`.
+//!
+//! [`gdb`] opens, always without labels, and then answers packets. Whether a schedule is asked for is told by the
+//! options, and not by its length: one of no steps is one. A fault that ends the session early has the numbers of
+//! `debug`'s. What a packet does is `tm_gdb`'s.
 
 ghost use Rattle.std.specs.Prelude.{◌≡◌, None, OnOk, Some, if◌then◌else◌};
 ghost use Rattle.elide_session.specs.GdbServed.{IsServed};

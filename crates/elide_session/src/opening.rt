@@ -1,4 +1,9 @@
 //! What a session begins with, and the fault that ends it early.
+//!
+//! [`opened`] tells faults in this order: the machine's options, the schedule's, FILE, the program, its schedule, the
+//! cores of a list, the board, a draw, the names. A draw is made before the session begins, on a machine of its own, as
+//! far as a session can ask for it; where no schedule is said, its faults are left out. The board has made no step.
+//! What is asked of it is served by `debugger` and `gdb_server`.
 
 ghost use Rattle.std.specs.Prelude.{◌≡◌, ℕ, IfErr, IfOk, IfSome, List, Option, Some, false, is_some, true};
 ghost use Rattle.elide_session.specs.Opened.{AreDrawn, IsLimitedOut, IsOpened, IsPlan};
@@ -103,7 +108,7 @@ fn says_draw(schedule: &ScheduleOptions<'_>) -> bool
     schedule.events.is_some() || schedule.seed.is_some() || schedule.limit.is_some()
 }
 
-// The same as `opened`, where a schedule is asked for. It is read before the program is loaded.
+// What [`opened`] does where a schedule is asked for. It is read before the program is loaded.
 fn opened_scheduled<P: Paths>(
     alloc: Global,
     machine: &MachineOptions<'_>,

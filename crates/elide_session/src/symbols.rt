@@ -1,4 +1,8 @@
-//! The symbols of a program, in a row of their own.
+//! The symbols of a program, in a row of their own, which outlives FILE's text.
+//!
+//! [`symbols_of`] has each with its value, by which a name in a command is an address; [`labels_of`] has what stands at
+//! addresses, as it is shown, and reads the text once more. Want of memory is all that refuses them. Nothing is sorted:
+//! of several symbols of one name the first counts.
 
 ghost use Rattle.std.specs.Prelude.{◌≡◌, ◌++◌, ◌+◌, ◌<◌, ℕ, List, IfOk, OnOk, length, take};
 ghost use Rattle.debug_command.specs.Symbols.{symbol_in};

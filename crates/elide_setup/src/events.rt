@@ -1,4 +1,8 @@
-//! What `--events` says.
+//! What `--events` says: from its text to the events that a schedule is drawn with.
+//!
+//! [`events_of`] takes the text apart from the left: the `1`, the rate behind `/`, the kinds behind `:`. No part has a
+//! fault of its own: whatever is wrong, the option is misused. Which steps come under an event is drawn by `tm_pick`;
+//! `draw`, which `hunt` alone takes, is read in `elide_checks`.
 
 ghost use Rattle.std.specs.Prelude.{◌≡◌, ◌==◌, ◌<◌, IfErr, IfOk, None, Some, codes};
 ghost use Rattle.std.specs.Option.{option_copied};

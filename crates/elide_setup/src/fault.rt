@@ -1,4 +1,9 @@
-//! Why a command ends without its answer.
+//! Why a command ends without its answer: the faults of all that it does, under one type.
+//!
+//! A fault of a crate below keeps the number, the name and the line that it has there; numbered here are 60, 61, 73, 76
+//! to 78, 81 and 83 to 85, which commands have of their own. A misused option is no fault: it has a name, no number,
+//! and another exit status. How the line is written stands in `told`, and what helps a person beside it in
+//! `elide_advice`.
 
 ghost use Rattle.std.specs.Prelude.{◌≡◌, ◌≤◌};
 ghost use Rattle.elide_setup.specs.Faults.{fault_line, fault_number, refusal_status};

@@ -1,5 +1,9 @@
-//! Text that is gathered in a row of fixed room before it is handed on, so that a line costs no system call, and printing no
-//! memory.
+//! Text that is gathered in a row of fixed room before it is handed on, so that a line costs no system call, and
+//! printing no memory.
+//!
+//! Bytes leave in the order in which they came: the row is handed on before a text that it has no room for, and a text
+//! that is longer than all of it passes it by. Nothing is handed on where a value is dropped: who prints calls
+//! [`Gathered::finish`] last, and knows only by its answer that all was written.
 
 ghost use Rattle.std.specs.Prelude.{◌≡◌, ◌≢◌, ◌⊎◌, [], IfOk, OnErr, OnOk};
 ghost use Rattle.ia_text.specs.Writing.{Stopped, Writes};

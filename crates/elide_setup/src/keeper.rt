@@ -1,4 +1,8 @@
 //! What is kept of the steps of a run that is drawn.
+//!
+//! A [`Keeper`] is handed each step behind its making, with its outcome: an event that aborted nothing is left out by
+//! [`pick_told`]. Here stand the two that need no file, [`Unkept`] and a list in memory; the one that writes a schedule
+//! is in `recording`.
 
 ghost use Rattle.std.specs.Prelude.{◌≡◌, ◌++◌, ◌∷◌, [], ⊤, IfErr, List, OnOk};
 ghost use Rattle.tm_model.specs.Runs.{event_told, pick_of};

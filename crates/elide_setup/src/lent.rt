@@ -1,4 +1,8 @@
-//! A device that is lent.
+//! A device that is lent to a call that takes one by value, by one who goes on with it afterwards.
+//!
+//! [`Lent`] keeps no byte and counts no failure of its own: both are those of the device behind it, at once. Where
+//! bytes are to be held back, it is put below a [`Gathered`](crate::Gathered), whose `finish` then comes before the
+//! lender's next write.
 
 ghost use Rattle.std.specs.Prelude.{◌≡◌};
 

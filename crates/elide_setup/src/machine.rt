@@ -1,4 +1,9 @@
-//! What the commands that make a machine begin with.
+//! What the commands that make a machine begin with: from their options to a machine or a board before its first step.
+//!
+//! [`scheduled`] goes in the order in which faults are told: the machine's options, the schedule's, FILE, the program
+//! in it, and then [`planned`]: the entries, what is printed of memory, the schedule's file, the loading.
+//! [`new_machine`] and [`new_board`] come last, and test the limits of transactions; only the latter tests that what is
+//! printed is in memory. No step is made here: that is `walk`.
 
 ghost use Rattle.std.specs.Prelude.{◌≡◌, ◌≤◌, ℕ, [], IfErr, IfOk, List, length};
 ghost use Rattle.tm_model.specs.declared.outcome.Outcome.{Outcome};
@@ -149,6 +154,7 @@ pub fn new_board(alloc: Global, setup: &Setup, limit: u64) -> Result<Board, Refu
 {
     match Board::new(alloc, &setup.program, setup.limits, limit) {
         Ok(board) => {
+            // Before a step is made: what cannot be shown at the end is refused at once.
             shown_memory(board.machine().view(), &setup.parts, &[])?;
             Ok(board)
         }

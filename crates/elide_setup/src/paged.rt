@@ -1,4 +1,8 @@
 //! Pages of runs that a command finds, as `hunt` and `outcomes` ask for them.
+//!
+//! Before a search, [`page_path`] refuses a path that would overwrite FILE or the record; after it,
+//! [`Pages::write_page`] is handed the picks of the run that was found. The program's text is handed in, as it was read
+//! for the search. What makes a page stands above the commands, in `elide_page`, and comes to them by the trait.
 
 ghost use Rattle.std.specs.Prelude.{◌≡◌, ◌⊎◌, ℕ, IfErr, IfOk, List, Some, true};
 ghost use Rattle.std.specs.Option.{option_copied};

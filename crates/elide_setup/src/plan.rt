@@ -1,4 +1,9 @@
-//! Where a command's schedule comes from.
+//! Where a command's schedule comes from: [`Plan`] is what the options say, [`Course`] what is walked.
+//!
+//! [`Plan::read`] opens no file, so that a misused option is told before FILE is read. It tests whether exactly one way
+//! is taken; beside a list then `--limit`, `--events`, `--seed`, and else `--random`, `--events`, `--seed`, `--limit`.
+//! [`Plan::course`] reads the schedule's file. Whether there is a core for each pick is not asked here, but before a
+//! walk or by its steps; the picks of a draw are made one by one in the walk, by what [`Drawn::picker`] gives.
 
 ghost use Rattle.std.specs.Prelude.{◌≡◌, ℕ, IfErr, IfOk, IfSome, List, MatchResult, None, Ok, OnOk, Option, Some, codes};
 ghost use Rattle.std.specs.Prelude.{is_some, true};

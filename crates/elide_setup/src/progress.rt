@@ -1,4 +1,7 @@
-//! How far long work is.
+//! How far long work is, as the work tells it: [`Progress::tell`] now and then, [`Progress::end`] when it is over.
+//!
+//! Nothing comes back, so that no answer depends on what is told. The line that a person sees is drawn by `elide`,
+//! which hands it in; who shows nothing hands in [`Silent`].
 
 /// A place that is told how far long work is. What it shows of that, and whether anything, is its own: no answer depends on it.
 pub trait Progress {

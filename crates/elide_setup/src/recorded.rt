@@ -1,4 +1,8 @@
-//! Schedules that are written to a file.
+//! Schedules that are written to the file of `--record`, from a list that is at hand.
+//!
+//! [`record_path`] comes early, before FILE is read, so that no run is made whose record would overwrite its program.
+//! [`record`] and [`record_drawn`] write the list, in the form of one that was given or of one that was drawn; no path
+//! is no record. Where the picks are only drawn while the file is written, it is `recording` that writes them.
 
 ghost use Rattle.std.specs.Prelude.{◌≡◌, ℕ, IfErr, IfOk, IfSome, List, OnOk, false};
 ghost use Rattle.tm_schedule.specs.Schedule.{drawn_text, schedule_text};
@@ -49,7 +53,7 @@ pub fn record<P: Paths>(path: Option<&str>, picks: &[Pick], paths: &mut P) -> Re
     }
 }
 
-/// The same of steps that were drawn, one of which may have come under an event.
+/// Writes the schedule as [`record`] does, but of steps that were drawn, one of which may have come under an event.
 #[tactic(auto, using(crate::proofs::Records::held_same))]
 pub fn record_drawn<P: Paths>(
     path: Option<&str>,
@@ -84,7 +88,7 @@ impl Text for Schedule<'_> {
     }
 }
 
-// The same of steps that were drawn.
+// As [`Schedule`], of steps that were drawn: its first line says whether events may come.
 #[derive(Clone, Copy)]
 struct DrawnSchedule<'a> {
     has_events: bool,

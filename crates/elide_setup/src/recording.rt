@@ -1,4 +1,8 @@
-//! The schedule of a run that is drawn, written to a file as its steps are made.
+//! The schedule of a run that is drawn, written to a file as its steps are made, so that no list of them takes memory.
+//!
+//! The run is made while [`Paths::write`] asks for the text, so that a file that is replaced is replaced only once the
+//! last step is made and its schedule written. A refused step ends the text as a failed device does; told is why it was
+//! refused, and 81 `Output` where only the file failed. With no path the steps are made alone.
 
 ghost use Rattle.std.specs.Io.KnownBytes.{Appends};
 ghost use Rattle.std.specs.Prelude.{◌≡◌, ◌≤◌, ◌⊎◌, ◌++◌, [], ℕ, IfErr, IfOk, IfSome, List, is_some, not};
@@ -51,7 +55,7 @@ pub fn walk_written<S: StepMaker, P: Paths, G: Progress>(
     }
 }
 
-// The same with a path.
+// What [`walk_written`] does where there is a path.
 fn walk_to_file<S: StepMaker, P: Paths, G: Progress>(
     drawn: Drawn,
     cores: u8,
@@ -83,6 +87,7 @@ fn walk_to_file<S: StepMaker, P: Paths, G: Progress>(
         Ok(()) => Ok(()),
         Err(_) => match refused {
             Some(refusal) => Err(refusal),
+            // No step was refused, so it is the file that failed.
             None => Err(Refusal::Fault(Fault::Output)),
         },
     }
@@ -128,6 +133,7 @@ impl<S: StepMaker, G: Progress> Text for DrawnText<'_, '_, S, G> {
         ) {
             Ok(()) => recorder.finish(),
             Err(refusal) => {
+                // A text can only say that it failed: why is kept beside it, for [`walk_to_file`].
                 self.refused = Some(refusal);
                 Err(WriteFault::Write)
             }

@@ -1,4 +1,8 @@
-//! What is printed of a machine.
+//! What is printed of a machine: its state lines, the dumps, and the doublewords.
+//!
+//! [`shown_memory`] comes before the state lines, and refuses with 73 `OutOfRange` whatever passes the memory's end,
+//! dumps and doublewords alike: [`show`] then fails only as its device does. Where the parts stand is known already, by
+//! the options and the program's symbols (`elide_program`); the same as JSON is `elide_json`'s.
 
 ghost use Rattle.std.specs.Prelude.{◌≡◌, MatchResult, false, length, true};
 ghost use Rattle.std.specs.List.{list_all};

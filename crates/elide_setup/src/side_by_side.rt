@@ -1,4 +1,7 @@
-//! Steps of one core side by side.
+//! Steps of one core side by side: how many at the front of a list, so that `walk` makes them as one run.
+//!
+//! [`lone_chunks`] counts whole chunks, for speed; the steps behind them the walk counts by [`is_lone`]. A step under
+//! an event is never one of them, as it cannot be made by a run.
 
 ghost use Rattle.std.specs.Prelude.{◌≡◌, ◌≤◌, length, replicate, take, true};
 ghost use Rattle.elide_setup.specs.Schedules.{lone_pick};

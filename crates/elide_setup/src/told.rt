@@ -1,4 +1,7 @@
-//! The parts of the line that tells a fault, around its name.
+//! The parts of the line that tells a fault, around its name, on a row of 160 bytes.
+//!
+//! [`push_front`], then the name, then [`push_back`], which ends the line. The name is added between by who tells the
+//! line (`elide_command`, `elide_test`), which paints the front or not. Nothing is written to a device here.
 
 ghost use Rattle.std.specs.Prelude.{◌≡◌, ◌+◌, ◌≤◌, ◌++◌, length};
 ghost use Rattle.std.specs.Fmt.{decimal};

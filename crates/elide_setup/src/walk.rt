@@ -1,4 +1,10 @@
-//! Runs over a schedule, listed or drawn.
+//! Runs over a schedule, listed or drawn: [`Course::walk`] and [`Course::walk_recorded`], by whatever [`StepMaker`]
+//! makes the steps.
+//!
+//! A list goes by portions, in which steps of one core side by side are made at once; steps that are drawn go one by
+//! one, as the next pick waits for the outcome of the last. A list is recorded before its first step, a draw while it
+//! is made. What a step prints is its maker's own; that all cores of a list exist is asked by [`Course::check_cores`]
+//! before the machine moves, or else by the step.
 
 ghost use Rattle.std.specs.Prelude.{◌≡◌, ◌≤◌, ◌++◌, ◌∷◌, [], if◌then◌else◌, length, replicate, take, true};
 ghost use Rattle.std.specs.Prelude.{◌<◌, ◌⊎◌, ℕ, ⊤, All, Err, IfErr, IfOk, IsErr, List, Ok, OnOk, is_some, not};
@@ -93,6 +99,7 @@ impl StepMaker for Board {
 
     #[inline(always)]
     fn make_step(&mut self, pick: Pick) -> Result<Outcome, Refusal> {
+        // By this it is known, before the step and behind it, that the machine is the run of the history.
         self.is_run();
         let outcome = board_step(self, pick)?;
         self.is_run();
@@ -117,6 +124,7 @@ fn board_steps(board: &mut Board, core: u8, most: u32) -> u32
         × AreBoardSteps board.old steps board.new }
     ensures most { result ≤ most }
 {
+    // As in `make_step`, before the steps and behind them.
     board.is_run();
     if core >= board.cores() {
         return 0;
@@ -165,7 +173,7 @@ fn told(made: Result<Outcome, NoSuchCore>) -> Result<Outcome, Refusal>
     }
 }
 
-// The same of an answer to steps of one core.
+// As [`told`], of a machine's answer to several steps of one core.
 fn ran(made: Result<u32, NoSuchCore>) -> Result<u32, Refusal>
     ensures made { IfOk result (λ count. made ≡ Ok count) }
     ensures refused { IfErr result (λ why. IsErr made × (why ≡ refusal.Fault (fault.Run run.NoSuchCore))) }
@@ -219,11 +227,12 @@ impl Course {
         let mut kept = Vec::new(alloc);
         let walked = self.walk_kept(cores, keeps, &mut kept, maker, progress);
         progress.end();
+        // Only now: the progress has ended for a walk that was refused, too.
         walked?;
         Ok(kept)
     }
 
-    // The same with a list that is empty, for what is kept.
+    // What [`Course::walk`] does, with a list that is empty, for what is kept.
     fn walk_kept<S: StepMaker, G: Progress>(
         &self,
         cores: u8,
@@ -245,8 +254,8 @@ impl Course {
         }
     }
 
-    /// The same, and the schedule that came about is written where there is a path: a list before its steps are made, and
-    /// steps that are drawn as they are made.
+    /// Makes the steps as [`Course::walk`] does, and writes the schedule that came about where there is a path: a list
+    /// before its steps are made, and steps that are drawn as they are made.
     pub fn walk_recorded<S: StepMaker, P: Paths, G: Progress>(
         &self,
         alloc: Global,
@@ -329,7 +338,7 @@ fn walk_list<S: StepMaker, G: Progress>(
     Ok(())
 }
 
-// The same of one portion: steps of one core side by side are made as a run.
+// Makes the steps of one portion, those of one core side by side as a run.
 fn walk_portion<S: StepMaker>(steps: &[Pick], maker: &mut S) -> Result<(), Refusal>
     requires { length steps.now ≤ 65536 }
     ensures refused { IfErr result (IsStepRefused S.takes S.refuses (IsNextOf steps.now) maker.old) }

@@ -1,4 +1,8 @@
-//! What is asked of a machine before a step.
+//! What is asked of a machine before a step: the place, the cause and the lines of the core's transaction.
+//!
+//! [`Asked::before`] comes before the step, which may end that transaction; [`Asked::step`] adds the outcome behind it.
+//! A core that is not there has nothing, since its step is refused anyway; where a step does not abort, its cause
+//! stands for nothing. Whom a step hits is asked in `hits`.
 
 ghost use Rattle.std.specs.Prelude.{◌≡◌};
 ghost use Rattle.std.specs.FinSet as set;

@@ -1,4 +1,8 @@
 //! A report in columns, whose first says what a row tells.
+//!
+//! [`put_columns`] prints the steps, then the transactions by place, their aborts, their sizes, the lines, and the
+//! hits. It only prints: the rows and their order are `report`'s. Columns part at spaces, so that no name has one:
+//! `labels` sees to that. As JSON a report is `json`'s.
 
 ghost use Rattle.std.specs.Prelude.{◌≡◌, ◌++◌, ℕ, List, OnOk};
 ghost use Rattle.std.specs.Fmt.{decimal};

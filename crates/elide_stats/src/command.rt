@@ -1,4 +1,9 @@
-//! The command.
+//! `elide stats`: [`stats`] is the one call.
+//!
+//! Faults come in this order: `--record`, the machine's options, the schedule's, FILE, the program, the loading with
+//! the schedule's file, the machine, the schedule's cores, the steps. The record is written with the run, a list before
+//! it and a draw while it is made; behind it the counts are sorted and printed. The steps of `threads` are counted by
+//! `told`, which makes them again.
 
 ghost use Rattle.std.specs.Prelude.{◌≡◌, [], ℕ, IfErr, List, OnOk, Option, length};
 ghost use Rattle.elide_setup.specs.ElideProgram.Files.{Gives, most_bytes};
@@ -59,8 +64,8 @@ pub fn stats<P: Paths, O: Out, G: Progress>(
     stats_of_path(alloc, plan, &asked, paths, out, progress)
 }
 
-// The same of what was read of the options. What is made in one of these functions is lent to the next, so that each has
-// little to drop.
+// What [`stats`] does once the options are read. What is made in one of these functions is lent to the next, so that
+// each has little to drop.
 fn stats_of_path<P: Paths, O: Out, G: Progress>(
     alloc: Global,
     plan: Plan<'_>,
@@ -82,7 +87,7 @@ fn stats_of_path<P: Paths, O: Out, G: Progress>(
     stats_of_text(alloc, text.as_slice(), plan, asked, paths, out, progress)
 }
 
-// The same of a program's text.
+// What [`stats_of_path`] does once FILE is read, of its text.
 fn stats_of_text<P: Paths, O: Out, G: Progress>(
     alloc: Global,
     text: &[u8],
@@ -105,7 +110,7 @@ fn stats_of_text<P: Paths, O: Out, G: Progress>(
     told
 }
 
-// The same of a program's file that was read.
+// What [`stats_of_text`] does once the text is read as a program.
 fn stats_of_file<P: Paths, O: Out, G: Progress>(
     alloc: Global,
     file: &ProgramFile<'_>,
@@ -126,7 +131,7 @@ fn stats_of_file<P: Paths, O: Out, G: Progress>(
     stats_of_setup(alloc, &setup, &course, file, asked, paths, out, progress)
 }
 
-// The same of a program that was loaded, with its schedule.
+// What [`stats_of_file`] does once the program is loaded, with its schedule.
 fn stats_of_setup<P: Paths, O: Out, G: Progress>(
     alloc: Global,
     setup: &Setup,

@@ -1,4 +1,9 @@
-//! A run whose steps are counted.
+//! A run whose steps are counted, each behind its making.
+//!
+//! [`Counting`] asks the machine before a step what is gone behind it, makes the step, counts first whom it hit, and
+//! then the step itself. A step that is refused is not counted. [`Counting::run_course`] asks for the schedule's cores
+//! before the first step; [`Counting::run_history`] makes those of a board. [`Counting::sort`] is to come before a
+//! report.
 
 ghost use Rattle.std.specs.Prelude.{◌≡◌, [], IfErr, IfOk, List, length};
 ghost use Rattle.elide_setup.specs.Recorded.{IsRecorded};
@@ -43,6 +48,7 @@ impl StepMaker for Counting {
     // Makes a step, and counts it with the transactions that it hits.
     fn make_step(&mut self, pick: Pick) -> Result<Outcome, Refusal> {
         let core = pick.core;
+        // Both before the step: behind it the transactions are gone that it ends or hits.
         let asked = Asked::before(&self.machine, core);
         let hits = Hits::before(&self.machine, core);
         let outcome = self.machine.make_step(pick)?;
@@ -103,6 +109,7 @@ impl Counting {
         ensures ran { IfOk result (λ _. (made : List (Pick × Outcome)) × (picks_made made ≡ picks_of board.now.history)
             × GoOn ⟦<AbortCause as PartialEq>⟧.eq self.old made self.new) }
     {
+        // By this it is known that the machine has the core of each step: only memory can be wanting below.
         board.is_run();
         let history = board.history();
         for index in 0..history.len() {
@@ -157,6 +164,7 @@ fn count_hits(
             return Err(no_memory());
         }
     }
+    // Behind the questions above, which are of the bytes before this step.
     match bytes.told(core, step) {
         Ok(()) => Ok(()),
         Err(_) => Err(no_memory()),

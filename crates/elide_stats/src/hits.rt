@@ -1,4 +1,8 @@
 //! The transactions that steps hit, and the bytes on which they meet.
+//!
+//! [`Hits::before`] comes before the step, as a transaction that is hit is condemned behind it; whether the step was
+//! made at all is known by its outcome. [`CoreBytes`] is told each step, and asked before that whether two cores meet
+//! on a byte. Which steps hit is the machine's to say; counts are `tm_stats`'s.
 
 ghost use Rattle.std.specs.Prelude.{◌≡◌};
 ghost use Rattle.elide_stats.specs.Hits.{hits_made};

@@ -1,4 +1,6 @@
-//! A report as JSON.
+//! A report as JSON: [`json_line`] makes the whole line in memory, with a line feed, and prints nothing.
+//!
+//! Its members are those of the types in `report`, in their order.
 
 use crate::report::Report;
 use std::alloc::{AllocError, Global};

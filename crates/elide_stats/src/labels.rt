@@ -1,4 +1,9 @@
 //! What places and lines of memory are called.
+//!
+//! [`Labels::of_file`] takes the symbols once, in their order, and leaves out those that stand below the image or past
+//! its end, of an executable past all memory; [`Labels::place`] and [`Labels::line`] then look for the nearest. A dash
+//! is told where there is none. In which form names are told is said at the start, as JSON escapes them itself and
+//! columns do not.
 
 use elide_places::{Naming, shown_name};
 use elide_program::ProgramFile;

@@ -1,4 +1,8 @@
-//! What is told of a run, row by row.
+//! What is told of a run, row by row, as columns and JSON have it alike.
+//!
+//! [`Report::of`] makes a row for each count, in the order of the counts, which are sorted already; the steps are
+//! summed here. It prints nothing and makes no step. Addresses and names are texts from here on, so that all that takes
+//! memory is done before a line is printed in columns.
 
 ghost use Rattle.std.specs.Prelude.{◌≡◌, ◌++◌, ◌∷◌, [], IfOk, OnOk, sum, sum_by};
 ghost use Rattle.std.specs.List.{AllZip};

@@ -1,4 +1,8 @@
-//! What is printed of a run that was counted.
+//! What is printed of a run that was counted, for `stats` and for `--stats` of `threads`.
+//!
+//! [`tell_counting`] sorts the counts, reads the labels, makes the report, and then prints it, gathered.
+//! [`tell_counts`] makes the steps of a board again before that, on a machine of its own, since a board's history has
+//! outcomes and no causes. Want of memory for counts and rows is that of a run.
 
 ghost use Rattle.std.specs.Prelude.{[], IfErr, IfOk};
 ghost use Rattle.elide_setup.specs.Runs.{IsRunOf};
@@ -52,8 +56,8 @@ pub fn tell_counting<O: Out>(
     }
 }
 
-// The same with the symbols of the file, of a run whose counts are sorted. It is told by its counts alone: the run is
-// there for the clause.
+// What [`tell_counting`] does once the counts are sorted and the symbols read. It is told by its counts alone: the run
+// is there for the clause.
 fn tell_labelled<O: Out>(
     alloc: Global,
     _run: CountedRun<'_>,
@@ -134,7 +138,7 @@ pub fn tell_counts<O: Out, G: Progress>(
     told
 }
 
-// The same with a machine before its first step.
+// What [`tell_counts`] does, with a machine before its first step.
 fn tell_made<O: Out, G: Progress>(
     alloc: Global,
     board: &Board,

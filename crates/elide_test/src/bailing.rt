@@ -1,4 +1,8 @@
-//! Why nothing more is tried.
+//! Why nothing more is tried: [`refused`], for the first file, in their order, that cannot be.
+//!
+//! The tests of the files before it are told, and behind them `Bail out!` with its name and the fault; as JSON nothing
+//! is printed. The refusal that is given back is told by the command, too; where the device fails, that is told
+//! instead. Faults have their numbers here, and no [`Stop`] is made.
 
 ghost use Rattle.std.specs.Prelude.{◌≡◌, ◌+◌, ◌≤◌, ◌++◌, ℕ, IfOk, List, OnOk};
 ghost use Rattle.std.specs.Io.KnownBytes.{Appends};

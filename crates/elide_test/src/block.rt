@@ -1,4 +1,7 @@
-//! What stands below a test that failed: a block of YAML.
+//! What stands below a test that failed: a block of YAML, which says what was expected where, and what came.
+//!
+//! [`tell_difference`] writes nothing of a test that passed. Texts are quoted where `#` or a colon would end them, and
+//! escaped in both forms. The line above it is `tap`'s.
 
 ghost use Rattle.std.specs.Prelude.{◌≡◌, ◌++◌, OnOk, codes, option_map, string_bytes};
 ghost use Rattle.std.specs.Fmt.{decimal};

@@ -1,4 +1,5 @@
-//! What a command came to.
+//! What a command came to, as `elide_trial` hands it in and `verdict` judges it: all of its output, whether it was
+//! refused or not.
 
 ghost use Rattle.std.specs.Prelude.{◌≤◌};
 

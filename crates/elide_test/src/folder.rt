@@ -1,4 +1,8 @@
-//! Files as they are seen from the folder of a file with tests.
+//! Files as they are seen from the folder of a file with tests, wherever `elide` was started.
+//!
+//! [`folder_of`] parts a path at its last slash. [`FolderPaths`] puts the folder before each relative path, and then
+//! reads; it writes nothing and fails, so that a test leaves no file behind. Want of memory for a path is that for the
+//! file.
 
 ghost use Rattle.std.specs.Prelude.{◌≡◌, ◌≤◌, ◌++◌, IfOk, IfSome, None, length, string_bytes};
 ghost use Rattle.std.specs.Option.{option_copied};

@@ -1,4 +1,7 @@
-//! How many threads try files.
+//! How many threads try files: [`jobs_of`] reads `--jobs`, before any file is looked for.
+//!
+//! The host is asked for its processors only where the option is not given; where it does not tell, it is one. Files
+//! are tried side by side in `elide_trial`, and the tests of one behind each other.
 
 ghost use Rattle.std.specs.Prelude.{◌<◌, IfOk};
 

@@ -1,4 +1,8 @@
-//! The files that are named.
+//! The files that are named: [`names_of`], by the command line first, and then by `--list`.
+//!
+//! A folder stands for what is directly in it, sorted; folders in it are left out. A path that is no folder's is taken
+//! as it is, also twice: whether it can be read shows when it is tried. A list or a folder that cannot be read ends it
+//! all.
 
 use crate::folder::joined;
 use crate::reading::read;

@@ -1,4 +1,4 @@
-//! Files that are read whole.
+//! Files that are read whole, with a refusal that is a [`Stop`]: files with tests, and the one of `--list`.
 
 ghost use Rattle.std.specs.Prelude.{IfOk};
 ghost use Rattle.elide_program.specs.Files.{Gives, most_bytes};

@@ -1,4 +1,7 @@
-//! The line by which a command was refused.
+//! The line by which a command was refused, found among what it wrote on standard error.
+//!
+//! [`refusal_in`] takes the first that begins as a refusal does: warnings stand above it, and what is meant below. It
+//! is told beside the verdict and plays no part in it.
 
 ghost use Rattle.std.specs.Prelude.{◌≡◌, IfOk, map, option_map, string_bytes};
 ghost use Rattle.std.specs.List.{find};

@@ -1,4 +1,7 @@
-//! What tests came to.
+//! What tests came to: the shapes, from an expectation to all files, and whether all passed.
+//!
+//! Reports are made by `verdict`, put together by `elide_trial` and told by `telling`. A file without tests passes,
+//! since none of it fails.
 
 ghost use Rattle.std.specs.Prelude.{◌≡◌};
 ghost use Rattle.std.specs.List.{list_all};

@@ -1,4 +1,7 @@
-//! Files that several threads read.
+//! Files that several threads read: by a shared reference, and never written.
+//!
+//! [`SharedPaths`] reads the files with tests, and those that their commands ask for, which see them by a `FolderPaths`
+//! of their own. The files of the system are in `system`.
 
 ghost use Rattle.std.specs.Prelude.{◌≤◌, ℕ, IfOk, List, MatchResult, Option, length};
 ghost use Rattle.elide_program.specs.Files.{Gives, Refuses};

@@ -1,4 +1,7 @@
-//! Why a file is not tried.
+//! Why a file is not tried: [`Stop`], behind which no file is tried either.
+//!
+//! It comes from reading, from tests that are none, and from want of memory; which fault that is, with its number, is
+//! said by `bailing`. A test that fails is no stop.
 
 use elide_expect::TestFault;
 use elide_program::ReadFault;

@@ -1,4 +1,8 @@
 //! The files of the system, for one thread and for several.
+//!
+//! [`SystemPaths`] keeps nothing between two calls, so that threads share it: each call goes to `HostPaths` of its own.
+//! Nothing is promised of what files hold, which others can change meanwhile. In a folder, names that are no UTF-8 are
+//! left out, and any other failure refuses all of it.
 
 ghost use Rattle.std.specs.Prelude.{◌≤◌, IfOk, None, length};
 

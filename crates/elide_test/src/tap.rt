@@ -1,4 +1,8 @@
 //! Results as text: the Test Anything Protocol, version 14 (docs/FORMATS.md, "Tests").
+//!
+//! [`tell_files`] writes the version, then each test by its number among those of all files, and last the plan, which
+//! counts them. [`tell_until`] leaves the plan away, as `Bail out!` follows. What differed stands below its test, by
+//! `block`.
 
 ghost use Rattle.std.specs.Prelude.{◌≡◌, ◌+◌, ◌^◌, ◌<◌, ◌++◌, IfOk, IfSome, OnOk, OnSome, codes, length};
 ghost use Rattle.std.specs.Fmt.{decimal};

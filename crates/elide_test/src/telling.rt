@@ -1,4 +1,8 @@
-//! What is printed of tests.
+//! What is printed of tests: [`tell`], once all are tried.
+//!
+//! A file that was not tried comes first: then `bailing` tells the others, and the answer is a refusal. Else they are
+//! told as lines or as one object, and the answer is whether each passed. Nothing is handed on before it is whole, or
+//! much.
 
 ghost use Rattle.std.specs.Prelude.{IfOk, IfSome, IsErr};
 ghost use Rattle.std.specs.Io.KnownBytes.{Appends};

@@ -1,4 +1,8 @@
 //! Whether a test passed, and what differed.
+//!
+//! [`report_of`] has the verdict of `elide_expect`, on the status and the output alone, and copies what is told of it,
+//! since the file's text is dropped before. The first expectation that is not met is the one that is told. Nothing is
+//! carried out here.
 
 ghost use Rattle.std.specs.Prelude.{◌≡◌, ◌++◌, IfOk, codes, string_bytes};
 ghost use Rattle.std.specs.Fmt.{decimal};

@@ -1,4 +1,7 @@
-//! The words of a test's command.
+//! The words of a test's command: [`words_of`] puts FILE behind the first one, that of the subcommand.
+//!
+//! Bytes that are no UTF-8 make the command's line none of a test. Where words part is read by `elide_expect`; what
+//! they say is read by the command itself, so that a wrong option is a status and no refusal here.
 
 ghost use Rattle.std.specs.Prelude.{◌≡◌, ◌∷◌, ◌++◌, IfOk, OnOk, [], string_bytes};
 ghost use Rattle.elide_args.specs.Asked.{texts_of};

@@ -1,4 +1,7 @@
-//! The schedule that comes about.
+//! The schedule that comes about, which nobody knows before the workers are back.
+//!
+//! [`Record::reserve`] takes its memory before they start, so that no run is made whose schedule has no room;
+//! [`Record::write`] comes behind them, and fills it with the picks of the history. Without a path neither takes any.
 
 ghost use Rattle.std.specs.Prelude.{◌≡◌, ◌⊎◌, [], IfErr, IfOk, OnOk};
 ghost use Rattle.tm_model.specs.Runs.{picks_of};

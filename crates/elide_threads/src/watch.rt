@@ -1,4 +1,7 @@
-//! How far the workers are, told while they run.
+//! How far the workers are, told while they run: [`Told`] lends one place of progress to all of them.
+//!
+//! No worker waits for another to tell, and what is passed over is told by the next. That the work is over is told by
+//! `workers`, once all are joined.
 
 use elide_setup::Progress;
 use std::sync::Mutex;
@@ -28,6 +31,7 @@ impl<'a, G: Progress + Send> Told<'a, G> {
 impl<'a, G: Progress + Send> Watch for Told<'a, G> {
     fn reached(&self, steps: u64) {
         let before = self.greatest.fetch_max(steps, Ordering::SeqCst);
+        // Not awaited, so that no worker stands still: what is passed over here the next one tells.
         if let Some(mut progress) = self.progress.try_lock() {
             progress.tell(steps.max(before), self.most, "steps");
         }

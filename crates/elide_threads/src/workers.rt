@@ -1,4 +1,9 @@
-//! The workers of a command.
+//! `elide threads`: [`threads`] is the one call.
+//!
+//! Faults come in this order: `--json` with reasons and no counts, the machine's options, `--budget`, `--burst`,
+//! `--events`, `--seed`, `--record`, FILE, the program, the board, room for the record, the workers. Then the record is
+//! written, and only then something printed: the reasons, and below them the counts, or the state and what is shown of
+//! memory. Reasons and counts are made of the history, behind the run; the workers themselves are `tm_work`'s.
 
 ghost use Rattle.std.specs.Prelude.{◌≡◌, ◌*◌, ◌⊎◌, [], ℕ, Bool, IfErr, IfOk, List, MatchResult, None, Option, Some, codes, false};
 ghost use Rattle.std.specs.Prelude.{length, replicate, true};
@@ -131,7 +136,7 @@ impl<'a> Work<'a> {
     }
 }
 
-// The same over the text of FILE.
+// What [`threads`] does once FILE is read, over its text.
 fn threads_of_text<
     R: Threads + Wait + Sync + AllocGlobal,
     P: Paths,
@@ -224,6 +229,7 @@ fn recorded<R: Threads + Wait + Sync + AllocGlobal, P: Paths, G: Progress + Send
         (schedule_text (picks_of last.history))) }
     ensures refused { IfErr result (λ why. IsNotWorked why ⊎ (IsUnrecorded work.entry.path why ⊎ IsAnyWant why)) }
 {
+    // Before the workers: a run that cannot be recorded is not made.
     let record = record_of(rt.alloc(), work.path, &board)?;
     let board = worked(rt, board, work, progress)?;
     record.write(&board, paths)?;
@@ -313,7 +319,7 @@ fn plan_of(options: &ThreadsOptions<'_>) -> Result<EventPlan, Refusal>
     }
 }
 
-// The same where events are asked for.
+// What [`plan_of`] answers where events are asked for.
 fn drawn_plan(text: &str, seed: Option<&str>) -> Result<EventPlan, Refusal>
     ensures { MatchResult result
         (λ plan. plan_said (Some text.now) (option_copied seed.entry) ≡ Some plan)

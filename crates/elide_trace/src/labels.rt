@@ -1,4 +1,7 @@
-//! The labels by which addresses are told.
+//! The labels by which addresses are told, for who has the places of a program already.
+//!
+//! [`labels_of`] copies them as they are shown, in their order, and leaves none out. Which one is nearest to an address
+//! is looked for where a step is written.
 
 use elide_places::Places;
 use std::alloc::{AllocError, Global};

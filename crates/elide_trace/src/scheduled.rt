@@ -1,4 +1,8 @@
-//! A program, its schedule and its labels.
+//! A program, its schedule and its labels, of one reading of FILE.
+//!
+//! [`scheduled_labels`] tells its faults in this order: the machine's options, the schedule's, FILE, the program in it,
+//! and what [`planned`] tells. The labels come last; only memory can be wanting for them. No machine is made: whether
+//! the schedule's cores are there is asked by the run.
 
 ghost use Rattle.std.specs.Prelude.{◌≡◌, ◌⊎◌, ℕ, IfErr, IfOk, IfSome, List, Option, Some};
 ghost use Rattle.tm_model.specs.declared.outcome.Outcome.{Outcome};
@@ -46,7 +50,7 @@ pub fn scheduled_labels<P: Paths>(
     found
 }
 
-// The same of a file of this text.
+// What [`scheduled_labels`] does once FILE is read, of a file of this text.
 fn labels_with<P: Paths>(
     alloc: Global,
     settings: &Settings<'_>,

@@ -1,4 +1,8 @@
-//! Files that are tried side by side.
+//! Files that are tried side by side, a block of as many as there are threads after another.
+//!
+//! [`try_all`] waits for all of a block and takes them in the order of the names, up to the first that was not tried:
+//! those behind it are dropped, though they may have been tried. So what is told does not depend on the threads. One
+//! file is tried by `trial`.
 
 ghost use Rattle.std.specs.Prelude.{◌≡◌, ◌+◌, ◌<◌, ◌≤◌, IfNone, IfOk, OnSome, length, vec_len};
 ghost use Rattle.std.specs.List.{All};
@@ -81,6 +85,7 @@ fn try_from_end<S: SharedPaths, C: Fn(&[&str], FolderPaths<'_, S>, ToVec) -> Com
     requires callable { C.IsAlwaysCallable call.now }
     ensures { IfOk result (IsTried (S.holds paths.now) (CameTo (C.post call.now) paths.now)) }
 {
+    // From the end, so that [`take`] pops the first of them first.
     let name = &names[names.len() - 1 - index];
     try_file(alloc, name.as_str(), paths, call)
 }

@@ -1,4 +1,8 @@
-//! What carries out the commands of tests.
+//! What carries out the commands of tests, in memory: no input, no terminal, no progress.
+//!
+//! [`command_end`] is the call, by `elide_command`; [`carried_out`] makes any such call with an empty device, and gives
+//! what it left there. Output that memory did not hold is not judged: it is refused. Of standard error what memory took
+//! is kept, since it is only told.
 
 ghost use Rattle.std.specs.Prelude.{◌≡◌, IfOk};
 ghost use Rattle.std.specs.Option.{option_copied};

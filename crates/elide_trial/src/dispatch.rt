@@ -1,4 +1,8 @@
-//! The command line.
+//! The command line: `test` is carried out here, and all else by `elide_command`.
+//!
+//! [`command`] reads the words first, and what makes no subcommand ends there. For `test` then come `--color` and
+//! `--words`, that a file is named, `--jobs`, the names, the files. Its commands go to `elide_command` and never back
+//! here, so that a test of `test` is refused and none runs for ever.
 
 ghost use Rattle.std.specs.Prelude.{◌≤◌, IfOk};
 ghost use Rattle.std.specs.Thread.{IsSync};

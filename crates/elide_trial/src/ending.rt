@@ -1,4 +1,6 @@
-//! How a command ended.
+//! How a command ended, with the device that it wrote to, before it is known whether that took all.
+//!
+//! A call gives a [`CommandEnd`], and `carrier` asks its device and makes what `elide_test` judges.
 
 ghost use Rattle.std.specs.Prelude.{◌≤◌};
 

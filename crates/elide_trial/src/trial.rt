@@ -1,4 +1,8 @@
 //! A file, whose tests are carried out one after another.
+//!
+//! [`try_file`] reads the whole file before the first command, so that a line that is no test is told before any is
+//! carried out. FILE of the commands is the file itself, or the one that a `.elide` names on its first line. The first
+//! test that cannot be carried out ends the file; one that fails does not.
 
 ghost use Rattle.std.specs.Prelude.{◌≡◌, ◌∷◌, ◌++◌, [], IfOk, OnOk, map, string_bytes};
 ghost use Rattle.std.specs.List.{AllZip};

@@ -1,4 +1,7 @@
-//! The steps of a board that are told.
+//! The steps of a board that are told, behind its run: a board keeps steps and outcomes, but no reasons.
+//!
+//! [`tell_history`] makes them again from the first one, on a machine of its own, and prints each abort as its step is
+//! made. The board stays as it is. Whether its history ends as it did is not asked here: `elide_replay` does.
 
 ghost use Rattle.std.specs.Prelude.{◌≡◌, ℕ, IfErr, IfOk, List, length};
 ghost use Rattle.ia_text.specs.Writing.{Wrote};
@@ -42,6 +45,7 @@ fn told_steps<O: Out, G: Progress>(
     ensures told { IfOk result (λ _. (text : List ℕ) × Wrote (O.device out.old) (O.device out.new) text) }
     ensures refused { IfErr result (IsNotRetold board.now.limits) }
 {
+    // By this it is known that the machine has the core of each step.
     board.is_run();
     let mut machine = machine_like(alloc, board)?;
     let teller = Teller::new(board.program(), path, &places.places, false);

@@ -1,4 +1,8 @@
-//! The line of an abort from outside of the program.
+//! The line of an abort from outside of the program: what came, the instruction that was next, when the transaction
+//! began.
+//!
+//! [`write_interference`] makes what stands before and behind the instruction, and then writes in the order of the
+//! line. Such an abort has no reason in the program: those that have one are told in `lines`.
 
 ghost use Rattle.std.specs.Prelude.{◌≡◌, ◌+◌, ◌≤◌, ◌++◌};
 ghost use Rattle.arrayvec.specs.ArrayVec.{array_vec_len};

@@ -1,4 +1,8 @@
-//! The line of an abort with its reason.
+//! The line of an abort with its reason, from `aborted` and the status to the line's end.
+//!
+//! [`write_abort`] first makes what stands before and behind the instruction, on pages of fixed room, and then writes
+//! in the order of the line. What is told depends on the cause: of a conflict who hit, of want of room the line, of a
+//! stop where the subset ends the code there. The reason is found by `tm_why`, and its words by `words`.
 
 ghost use Rattle.std.specs.Prelude.{◌≡◌, ◌+◌, ◌≤◌, ◌++◌, length};
 ghost use Rattle.arrayvec.specs.ArrayVec.{array_vec_len};

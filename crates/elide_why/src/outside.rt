@@ -1,4 +1,7 @@
-//! Code that is no instruction of the subset.
+//! Code that is no instruction of the subset, and what is told of it: the shape alone.
+//!
+//! `subset` makes an [`Outside`] of a program's code and writes its text. Its ghost fields keep what the lines need of
+//! it: few bytes, and symbols in printable ASCII.
 
 ghost use Rattle.std.specs.Prelude.{◌≡◌, ◌≤◌, length, true};
 ghost use Rattle.std.specs.List.{list_all};

@@ -1,4 +1,4 @@
-//! Numbers on a page.
+//! Numbers on a page, in decimal digits: [`push_decimal`], for which 40 bytes of room are to be left.
 
 ghost use Rattle.std.specs.Prelude.{◌≡◌, ◌+◌, ◌≤◌, ◌++◌};
 ghost use Rattle.std.specs.Fmt.{decimal};

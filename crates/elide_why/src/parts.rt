@@ -1,4 +1,7 @@
 //! The parts of a line: what stands before an instruction, the instruction, and what stands behind it.
+//!
+//! [`write_parts`] writes them one after another, as an instruction goes to a device and not to a page. Where the
+//! device fails a beginning of the line stands. The two texts around are those of `lines` and `interference`.
 
 ghost use Rattle.std.specs.Prelude.{◌++◌};
 ghost use Rattle.ia_text.specs.Writing.{Writes};

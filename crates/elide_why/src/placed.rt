@@ -1,4 +1,9 @@
-//! What a command that tells of the places of its source begins with.
+//! What a command that tells of the places of its source begins with: program, schedule and places of one reading of
+//! FILE.
+//!
+//! [`scheduled_places`] tells its faults in the order of [`elide_setup::scheduled`]: the machine's options, the
+//! schedule's, FILE, the program, the rest. The places come last, and want of memory is all that can be wrong with
+//! them. `elide_trace` does the same for labels.
 
 ghost use Rattle.std.specs.Prelude.{◌≡◌, ◌⊎◌, ℕ, IfErr, IfOk, IfSome, List, Option, Some};
 ghost use Rattle.tm_model.specs.declared.outcome.Outcome.{Outcome};
@@ -54,7 +59,7 @@ pub fn scheduled_places<P: Paths>(
     found
 }
 
-// The same of a file of this text.
+// What [`scheduled_places`] does once FILE is read, of a file of this text.
 fn places_of_text<P: Paths>(
     alloc: Global,
     settings: &Settings<'_>,

@@ -1,4 +1,8 @@
-//! Where the subset ends: code that is no instruction of it.
+//! Where the subset ends: the code there, up to 15 bytes, its address and place, and what it is.
+//!
+//! [`Outside::at`] takes the bytes that the code has, and [`Outside::named`] asks `ia_foreign` for a name only where
+//! one is wanted. [`write_stop`] is the line of a stop; in that of an abort `lines` has the same text by
+//! [`push_outside`]. Whether a core stops there is the machine's to say.
 
 ghost use Rattle.std.specs.Prelude.{◌≡◌, ◌+◌, ◌≤◌, ◌++◌, None, drop, length, take};
 ghost use Rattle.arrayvec.specs.ArrayVec.{array_vec_len};
@@ -36,7 +40,7 @@ impl<'a> Outside<'a> {
         }
     }
 
-    /// The same with the instruction's name, as `16-bit move`, where it is a known one.
+    /// This code, with the instruction's name, as `16-bit move`, where it is a known one.
     pub fn named(self) -> Outside<'a>
         ensures code { result.code.now ≡ self.entry.code.now }
         ensures address { result.address ≡ self.entry.address }

@@ -1,4 +1,9 @@
-//! Steps that are made and told.
+//! Steps that are made and told: the machine is asked, the step is made, its line is written.
+//!
+//! [`Teller::step`] asks before the step, since the transaction that aborts is gone behind it; a core that the machine
+//! does not have is refused by that. Told is the outcome: an abort from outside comes in place of the step, whatever
+//! its reason would have been. A step that is refused has no line. The texts are those of `lines`, `interference` and
+//! `subset`.
 
 ghost use Rattle.std.specs.Prelude.{ℕ, IfErr, IfOk, List};
 ghost use Rattle.elide_setup.specs.Refused.{IsUnwritten};
@@ -53,8 +58,8 @@ impl<'a> Teller<'a> {
         }
     }
 
-    /// The same, and of code where the subset ends it is told or not what it is, as `16-bit move`, where it is a known
-    /// instruction.
+    /// This teller; of code where the subset ends it tells or does not what it is, as `16-bit move`, where it is a
+    /// known instruction.
     pub fn naming(self, names: bool) -> Teller<'a> {
         Teller { names, ..self }
     }
@@ -85,6 +90,7 @@ impl<'a> Teller<'a> {
         if self.asked.anew(machine, pick.core).is_err() {
             return Err(Refusal::Fault(Fault::Run(RunFault::NoSuchCore)));
         }
+        // Both before the step: behind it no transaction is left to ask about.
         let reason = self.watch.reason(&self.asked);
         let begun = self.watch.begun(&self.asked);
         let outcome = machine.make_step(pick)?;

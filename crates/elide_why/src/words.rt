@@ -1,4 +1,8 @@
-//! What the text of a program says of a reason.
+//! What the text of a program says of a reason: symbols of a line, an instruction and where it stands.
+//!
+//! [`Words::of`] chooses the instruction: that of the core that hit, or else the own one; [`Words::at`] takes that of
+//! an address. A place is a line of the source, or of an executable its symbol, or the address where neither is known.
+//! A path is told up to 1024 bytes. Nothing is written here: `lines` and `interference` do.
 
 ghost use Rattle.std.specs.Prelude.{◌≡◌, true};
 ghost use Rattle.arrayvec.specs.ArrayVec.{array_vec_len};
@@ -61,7 +65,7 @@ impl<'a> Words<'a> {
 }
 
 impl<'a> Words<'a> {
-    /// The same, and of code where the subset ends what it is, where it is a known instruction.
+    /// These words, and of code where the subset ends what it is ([`Outside::named`]), where it is a known instruction.
     pub fn named(self) -> Words<'a> {
         let Words {
             symbols,
