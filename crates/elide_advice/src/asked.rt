@@ -60,6 +60,18 @@ pub fn record_of<'s>(subcommand: &'s Subcommand<'_>) -> Option<&'s str> {
     }
 }
 
+/// The path of `--page`, beside a search.
+pub fn page_of<'s>(subcommand: &'s Subcommand<'_>) -> Option<&'s str> {
+    match subcommand {
+        Subcommand::Hunt(options) => options.page,
+        Subcommand::Outcomes(options) => match options.page.as_slice() {
+            [_, path] => Some(*path),
+            _ => None,
+        },
+        _ => None,
+    }
+}
+
 /// The value of an option that takes a number, where it is given.
 pub fn number_text<'s>(subcommand: &'s Subcommand<'_>, name: &str) -> Option<&'s str> {
     let of_machine = match machine_of(subcommand) {

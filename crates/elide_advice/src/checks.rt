@@ -128,15 +128,13 @@ fn write_misread<O: Out>(misread: &Misread<'_>, name: &str, page: &mut Page<'_, 
             "a sum, as 'count' or '&table+8', a register, as eax@0, or a count, as commits@* or aborts:conflict@1"
         }
     };
+    write!(page, "{name} ")?;
+    page.put_shown(text)?;
     if words.is_empty() {
-        writeln!(
-            page,
-            "{name} {text}: at column {column} stands nothing; it takes {form}"
-        )
+        writeln!(page, ": at column {column} stands nothing; it takes {form}")
     } else {
-        writeln!(
-            page,
-            "{name} {text}: '{words}' at column {column} is not {form}"
-        )
+        write!(page, ": '")?;
+        page.put_shown(words)?;
+        writeln!(page, "' at column {column} is not {form}")
     }
 }
