@@ -1,4 +1,7 @@
 //! What is asked for beside the program and its schedule.
+//!
+//! [`Asked::read`] goes in the order in which faults are told: `--output`, which may not name FILE, `--from` and
+//! `--to`, the notes. Whether their numbers fit the run is tested when its length is known, by `command`.
 
 use crate::notes::{Note, notes_of};
 use elide_args::PageOptions;

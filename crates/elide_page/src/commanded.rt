@@ -1,4 +1,8 @@
-//! The command that makes a page, as the page tells it.
+//! The command that makes a page, as the page tells it, for a reader to copy.
+//!
+//! [`command_of`] writes it from the options as they were given, [`command_of_picks`] for a schedule that a search
+//! found, whose steps then stand in it. Words are quoted as a shell wants them (`elide_shell`). The title, the
+//! notes and `--output` are left out.
 
 use elide_args::{MachineOptions, PageOptions};
 use elide_shell::{put_machine, put_option, put_path, put_schedule, put_word};

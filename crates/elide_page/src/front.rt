@@ -1,4 +1,8 @@
-//! What stands in a page's data before its steps.
+//! What stands in a page's data before its steps: [`put_front`].
+//!
+//! It is written in three pieces: names and limits; the program with its labels and bounds; variables and notes.
+//! Each is made in memory and looked at before it goes out (`page_run`). The machine before the first step comes
+//! behind them, from `page_telling`.
 
 ghost use Rattle.std.specs.Prelude.{◌≡◌, ℕ, IfErr, IfOk, List, OnOk};
 ghost use Rattle.elide_setup.specs.Faults.{want};

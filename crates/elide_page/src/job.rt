@@ -1,4 +1,7 @@
-//! A page that is to be written.
+//! A page that is to be written: a [`Job`] holds all that its parts are made of, borrowed.
+//!
+//! It is put together when the run was surveyed and its window tested, by `command` or `picks`, and handed whole to
+//! `output`. The machine is no part of it: each pass over the run makes its own.
 
 ghost use Rattle.elide_page.specs.Names.{IsNameOf};
 

@@ -1,4 +1,8 @@
 //! Notes of the author, each at a step.
+//!
+//! [`notes_of`] reads them before the run, [`check_notes`] tests them when its length is known, and [`write_notes`]
+//! leaves out those at steps that do not stand in the page. Steps are counted by the run as they are read, and by
+//! the page as they are written.
 
 ghost use Rattle.std.specs.Prelude.{◌≡◌, ◌++◌, ◌∷◌, [], IfOk, MatchResult, OnOk, None, Some, codes, false};
 ghost use Rattle.std.specs.Prelude.{true};

@@ -1,4 +1,9 @@
-//! A page as it goes to a device, or to a file.
+//! A page as it goes to a device ([`write_page`]), or to a file ([`write_page_to`]).
+//!
+//! In this order: the template's head with the title, the front, the steps, the reasons, the tail; steps and
+//! reasons are passes over the run (`page_telling`, `reasons`). A file asks for the page while it is written, so
+//! that what refuses it on the way is kept and told in place of a failed file. The job's window and notes were
+//! tested before.
 
 ghost use Rattle.std.specs.Io.KnownBytes.{Appends};
 ghost use Rattle.std.specs.Prelude.{◌≡◌, ◌⊎◌, ℕ, IfErr, IfOk, IfSome, List, OnOk, Some, true};

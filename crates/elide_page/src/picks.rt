@@ -1,4 +1,8 @@
-//! The page of a schedule that a search found.
+//! The page of a schedule that a search found: [`PageFiles`] writes it for `hunt` and `outcomes`.
+//!
+//! A schedule that is too long for a page is told before anything is read. Then the options are read once more,
+//! with the text that the search ran, and the run is surveyed; all of its steps stand in the page, without notes,
+//! under the file's name. That the path spares FILE is tested before the search, in `elide_setup`.
 
 ghost use Rattle.std.specs.Prelude.{◌≡◌, IfErr};
 ghost use Rattle.elide_setup.specs.Faults.{want};

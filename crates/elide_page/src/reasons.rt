@@ -1,4 +1,8 @@
-//! The third pass over a run: why its steps aborted or stopped.
+//! The third pass over a run: why its steps aborted or stopped, by [`write_reasons`].
+//!
+//! Each step up to the last of the page is made with its line, as `elide_why` tells it, and of a step that has a
+//! reason and stands in the page what follows the outcome's words is written. Steps behind it are made alone. A run
+//! that has another length than in the first pass is refused.
 
 ghost use Rattle.std.specs.Prelude.{◌≡◌, ◌≢◌, ◌+◌, ◌^◌, ◌≤◌, ◌||◌, ℕ, IfErr, IfOk, List, OnErr, OnOk, codes, is_some};
 ghost use Rattle.elide_setup.specs.Refused.{IsUntold, IsUnwritten};
@@ -30,7 +34,7 @@ pub fn write_reasons<O: Out + Drop>(job: &Job<'_>, out: O) -> Result<O, Refusal>
     reasoned(job.stretch, teller, out)
 }
 
-// The same by what tells the reasons.
+// As [`write_reasons`], by what tells the reasons.
 fn reasoned<T: Reasoner + Drop, O: Out + Drop>(
     stretch: Stretch<'_>,
     teller: T,

@@ -1,4 +1,9 @@
-//! The variables that a page shows.
+//! The variables that a page shows, each by its name and address: [`shown_of`] finds them, [`write_shown`] writes
+//! them.
+//!
+//! Those of `--show` are taken as they are. Where there are none, labels of data are taken by the survey: first
+//! those on lines that transactions stored to, then those they loaded from. Values are not written, as the page has
+//! memory itself.
 
 ghost use Rattle.std.specs.Prelude.{OnOk, false};
 ghost use Rattle.ia_text.specs.Writing.{Wrote};

@@ -1,4 +1,7 @@
 //! The description of the target (gdb manual, appendix G, "Target Descriptions"): constant text.
+//!
+//! [`push_description`] adds it as a whole, its registers in the order of their numbers (`register`). What they
+//! hold is told elsewhere, and the parts that gdb reads are cut in `part`.
 
 ghost use Rattle.std.specs.Prelude.{◌≡◌, ◌≤◌, length};
 ghost use Rattle.arrayvec.specs.ArrayVec.{array_vec_len};

@@ -1,4 +1,7 @@
-//! Memory.
+//! Memory as a core sees it: [`push_memory`].
+//!
+//! Whether all bytes are there is asked first, so that a reply is either whole or `E14`. They go out as two hex
+//! digits each. Memory is never written for gdb: that is refused in `tm_gdb`.
 
 ghost use Rattle.std.specs.Prelude.{◌≡◌, ◌+◌, ◌*◌, ◌^◌, ◌≤◌, ◌<◌, ◌++◌, length};
 ghost use Rattle.arrayvec.specs.ArrayVec.{array_vec_len};

@@ -1,4 +1,7 @@
-//! Parts of a text that gdb reads piece by piece.
+//! Parts of a text that gdb reads piece by piece: [`push_part`].
+//!
+//! The whole text is handed in for each part, and nothing is kept from one to the next, as gdb says where it goes
+//! on. From a place behind the end the part is the last, and empty.
 
 ghost use Rattle.std.specs.Prelude.{◌≡◌, ◌++◌};
 ghost use Rattle.arrayvec.specs.ArrayVec.{array_vec_len};

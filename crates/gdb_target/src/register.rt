@@ -1,4 +1,8 @@
-//! Registers.
+//! Registers by the numbers that gdb knows them by, 0 to 37, in the order of the description.
+//!
+//! [`push_register`] adds one and [`push_registers`] all. What no core has, segments and x87, are so many `x` as it
+//! has digits, since gdb wants a place for it; behind these stand those of a transaction. The values are gathered
+//! in `shown`.
 
 ghost use Rattle.std.specs.Prelude.{◌≡◌, ℕ, ◌+◌, ◌≤◌, ◌++◌};
 ghost use Rattle.arrayvec.specs.ArrayVec.{array_vec_len};

@@ -1,4 +1,7 @@
-//! What gdb is shown of a core.
+//! What gdb is shown of a core: [`CoreShown::of`] gathers it anew for each question.
+//!
+//! The machine tells the registers, the state and how large the sets are; the status of the last abort is looked
+//! for in the history (`status`), as no machine keeps it. Memory is not part of it.
 
 ghost use Rattle.std.specs.Prelude.{◌<◌, length};
 

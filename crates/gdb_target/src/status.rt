@@ -1,4 +1,7 @@
-//! The status of a core's last abort.
+//! The status of a core's last abort: [`last_status`].
+//!
+//! The history is gone through from its end, so that the time is that of the steps since then; a core that never
+//! aborted costs the whole of it. What EAX holds now does not matter.
 
 ghost use Rattle.std.specs.Prelude.{◌≡◌};
 ghost use Rattle.std.specs.List.{slice_get};

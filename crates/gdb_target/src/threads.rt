@@ -1,4 +1,7 @@
-//! The list of the cores, each a thread.
+//! The list of the cores, each a thread: threads count from 1 where cores count from 0.
+//!
+//! [`push_threads`] tells their numbers, and [`push_thread_list`] what each of them does, too. Which is selected is
+//! kept in `tm_gdb`; that there is no thread of a number is told there as well.
 
 ghost use Rattle.std.specs.Prelude.{◌≡◌, ◌+◌, ◌≤◌, ◌<◌, ◌∷◌, ◌++◌, []};
 ghost use Rattle.arrayvec.specs.ArrayVec.{array_vec_len};

@@ -1,4 +1,8 @@
 //! The instructions of a program, as a listing has them.
+//!
+//! They are asked for by their distance from the first byte of the code, as what ran is noted by it; [`address_of`]
+//! gives the address. Where no instruction stands there is a byte, `db`, of length 1. Which of them make the rows
+//! of a listing is said in `listing`.
 
 use elide_places::Places;
 use elide_setup::Setup;

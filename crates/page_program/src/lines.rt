@@ -1,4 +1,7 @@
-//! The lines of a source.
+//! The lines of a source: [`write_lines`], and [`line_count`], which counts what that writes.
+//!
+//! A line ends at a line feed, and a carriage return before it is left out; what stands behind the last line feed
+//! is a line if it is not empty. What a string of the data escapes and how much of it there is, is `page_text`'s.
 
 ghost use Rattle.std.specs.Prelude.{◌<◌, ◌≤◌, length};
 

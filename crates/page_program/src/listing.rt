@@ -1,4 +1,8 @@
 //! A listing: its rows, and which of them are shown.
+//!
+//! [`Listing::of`] decides it all before anything is written: the rows, of a long listing those near what ran, and
+//! of these the ones that stand in a source instead. [`write_listing`] and [`write_spots`] then go over the rows
+//! with one kind of cursor, so that an instruction's line is the one that was written.
 
 use crate::code::{Loaded, address_of, length_at, text_at, write_text_at};
 use crate::sources::Sources;

@@ -1,4 +1,8 @@
-//! The program of a page, and where its instructions stand in it.
+//! The program of a page, and where its instructions stand in it: [`write_program`].
+//!
+//! The lines come first, then the place of each instruction among them: of a source its own lines, of anything else
+//! a listing, below the sources that stand beside an executable (`sources`). What ran is known before, by the
+//! survey. Labels and the bounds of the code are written by `elide_page`.
 
 use crate::code::{Loaded, address_of, insn_at};
 use crate::lines::write_lines;

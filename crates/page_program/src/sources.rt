@@ -1,4 +1,8 @@
-//! The sources that stand beside an executable.
+//! The sources that stand beside an executable: [`Sources::beside`] looks for them, of the code that ran.
+//!
+//! A name of the table of lines is taken only if it is a source's and names no other folder. A file that cannot be
+//! read, or is no text, is not shown and refuses nothing; it is not asked for again. The rows go on from one source
+//! to the next, and a listing stands below them all.
 
 use crate::code::{Loaded, address_of};
 use crate::lines::{line_count, write_lines};
@@ -112,7 +116,7 @@ impl Sources {
         self.rows
     }
 
-    /// The row of the line that the instruction at a distance from the first byte of the code comes from, where it is shown.
+    /// The row of the line that the instruction at an address comes from, where it is shown.
     pub fn row_of(&self, loaded: Loaded<'_>, address: u32) -> Option<u64> {
         let place = loaded.places.source_of(address)?;
         let source = self.named(place.file)?;

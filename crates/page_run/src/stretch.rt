@@ -1,4 +1,7 @@
-//! Some steps of a run.
+//! Some steps of a run, as each pass over it is handed them: [`Stretch`].
+//!
+//! It is made once the survey has told how long the run is, and its window fits that length. A pass makes the run
+//! from its first step, whatever the window is. What the survey found beside the length is handed on by itself.
 
 use crate::window::Window;
 use elide_setup::{Course, Setup};

@@ -1,4 +1,8 @@
 //! The first pass over a run: how long it is, which lines of memory it touches, and which code it runs.
+//!
+//! [`surveyed`] makes a machine, tests the schedule's cores and what is shown of memory, and then walks the whole
+//! schedule; no step of it is kept. Which steps stand in the page is known only behind it, so it goes by what is
+//! asked for (`window`). Lines of variables are added afterwards, by [`note_shown`].
 
 ghost use Rattle.std.specs.Prelude.{◌≡◌, Err, IfErr, length};
 ghost use Rattle.elide_setup.specs.Faults.{want};
@@ -120,6 +124,7 @@ impl StepMaker for Surveyor {
 
     fn make_step(&mut self, pick: Pick) -> Result<Outcome, Refusal> {
         let made = self.survey.made;
+        // Before the step: behind it the machine tells only of the next.
         if self.extent.reaches(made) {
             self.survey.note_reach(&self.machine, pick.core);
         } else if made > 0 && self.extent.reaches(made - 1) {

@@ -1,4 +1,8 @@
 //! Which steps of a run stand in its page.
+//!
+//! [`Extent::read`] comes before the run, and takes any numbers; [`Extent::window`] behind the first pass, when
+//! they can be tested: `--from` first, then `--to`. [`Window::check`] then refuses a page that is too long. Which
+//! step is written where is said in `page_telling`.
 
 ghost use Rattle.std.specs.Prelude.{◌≡◌, ◌+◌, ◌-◌, ◌<◌, ◌≤◌, ◌&&◌, ◌⊎◌, codes, IfErr, IfOk, MatchOption, OnErr, OnOk, min, nat_eq, nat_le, nat_lt};
 ghost use Rattle.std.specs.Option.{option_copied};

@@ -1,4 +1,8 @@
 //! The members of a step's object, each of which is left out where it says nothing.
+//!
+//! [`write_members`] writes them in one order, that of page/README.md; the first that there is opens the object, so
+//! that a step with none has no object either. A load is left out where the outcome says that it was not made. The
+//! registers stand before the object (`step`).
 
 ghost use Rattle.std.specs.Prelude.{◌≡◌, ◌+◌, ◌≤◌, [], IfOk, OnOk, codes, if◌then◌else◌, false, is_some, length, nat_eq};
 ghost use Rattle.std.specs.Cmp.Lexicographic.{pointwise};

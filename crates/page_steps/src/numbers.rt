@@ -1,4 +1,6 @@
-//! Lists of numbers.
+//! Lists of numbers in brackets: [`write_numbers`], `[]` where there is none.
+//!
+//! Nothing is put around or between lists here. Bytes with their addresses have a shorter form (`stored`).
 
 ghost use Rattle.std.specs.Prelude.{◌++◌, ◌∷◌, OnOk, decimal};
 ghost use Rattle.std.specs.List.{flat_map};

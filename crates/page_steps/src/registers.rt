@@ -1,4 +1,7 @@
 //! Registers by their numbers: EAX, ECX, EDX, EBX, ESP, EBP, ESI, EDI, EIP and the flags, 0 to 9.
+//!
+//! [`register_values`] has all ten in this order, for a machine before a page's first step; [`changed_registers`]
+//! those that a step changed, each behind its number. Both are rows of fixed room, which `numbers` writes.
 
 ghost use Rattle.std.specs.Prelude.{◌≡◌, ◌+◌, ◌≤◌, ◌++◌, option_map};
 ghost use Rattle.arrayvec.specs.ArrayVec.{array_vec_len};

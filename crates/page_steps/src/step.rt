@@ -1,4 +1,8 @@
-//! The line of a step.
+//! The line of a step: [`write_step`].
+//!
+//! It is an array: the core, a letter for what the step was, the registers that changed, and the object of
+//! `members`, where there is one. The end of the line and the comma between two are written by `page_telling`. What
+//! the core did before is handed in, since a delta has only what it does behind.
 
 ghost use Rattle.std.specs.Prelude.{OnOk};
 ghost use Rattle.ia_text.specs.Writing.{Wrote};

@@ -1,4 +1,7 @@
 //! Bytes that were stored: of those that stand side by side the address of the first, and all of them in hex.
+//!
+//! [`write_stored`] takes them in the order in which they are handed in, and sorts nothing: a byte joins only the
+//! one just before it. Whether they are memory's or a transaction's own is said by the member's name (`members`).
 
 ghost use Rattle.std.specs.Prelude.{◌≡◌, ◌+◌, ◌++◌, OnOk, codes, nat_eq};
 ghost use Rattle.ia_text.specs.Writing.{Wrote};

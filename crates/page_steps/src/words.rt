@@ -1,4 +1,7 @@
-//! What a step was, and what a core does, in words.
+//! What a step was, and what a core does, in words: [`kind_letter`] and [`write_state`].
+//!
+//! A letter says no more than the kind of an outcome: why a core stopped is part of its state, and what aborted
+//! from outside a member of its own. The words of states are those of `tm_hist`, as the debugger prints them.
 
 ghost use Rattle.std.specs.Prelude.{◌≡◌, OnOk};
 ghost use Rattle.ia_text.specs.Writing.{Wrote};

@@ -1,4 +1,8 @@
 //! The bytes that transactions keep for themselves, by their cores and addresses.
+//!
+//! [`Kept::take`] comes behind each step, with what its delta stored: a step inside adds to its core's, any other
+//! step of the core ends them. Of a core that is condemned they stay until its abort, so who writes them asks the
+//! machine whether it is open. What stands at an address is never kept here.
 
 ghost use Rattle.std.specs.Prelude.{◌≡◌, ℕ, ◌≤◌, ◌||◌, ◌&&◌, ◌++◌, ◌∷◌, [], IfOk, OnOk, if◌then◌else◌, length, nat_eq, true};
 ghost use Rattle.tm_page.specs.Applied.{is_listed};

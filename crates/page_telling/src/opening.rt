@@ -1,4 +1,8 @@
 //! The machine as it is before the first step of a page.
+//!
+//! [`put_opening`] writes, in this order, registers and states, the transactions that are open, and the lines of
+//! memory that a step uses and that are not zero. It is made in memory and looked at as one piece before it goes
+//! out. When its moment has come is said in `telling`.
 
 ghost use Rattle.std.specs.Prelude.{IfErr, OnOk};
 ghost use Rattle.elide_setup.specs.Refused.{IsUntold};

@@ -1,4 +1,9 @@
-//! The second pass over a run: its steps, written as they are made.
+//! The second pass over a run: its steps, written as they are made, by [`write_steps`].
+//!
+//! Steps before the window are made with their deltas too, which tell what transactions keep, but without lines;
+//! those behind it are made alone. Where the window begins, the machine is written (`opening`), before the first
+//! step or behind the one before it. A run that has another length than in the first pass is refused. Reasons are a
+//! pass of their own, in `elide_page`.
 
 ghost use Rattle.std.specs.Prelude.{◌≡◌, ◌+◌, ◌<◌, ◌≤◌, ◌≢◌, ◌⊎◌, ℕ, IfErr, IfOk, List, OnErr, OnOk, codes};
 ghost use Rattle.ia_text.specs.Writing.{Wrote};
@@ -205,6 +210,7 @@ fn step_told(
     let state = state_of(machine, pick)?;
     let before = before_of(alloc, machine, pick.core)?;
     let outcome = machine.make_step(pick)?;
+    // By what was kept before the step: a commit writes it, and keeps it no longer.
     let delta = difference(alloc, &behind.kept, &before, outcome, machine)?;
     behind.watch.told(&before.asked, outcome);
     behind

@@ -1,4 +1,9 @@
-//! What is checked of a run at its end.
+//! Checks of a run at its end: conditions that have to hold or not to, a stop that is not to be, and that all cores
+//! stop.
+//!
+//! [`first_violated`] asks them in their order, and answers the first that is violated. Conditions are judged only
+//! where each core has stopped, and whether all cores stop only where the history is full. What a condition is
+//! stands in `clause`; a check of a machine without a history is `tm_condition`'s.
 
 ghost use Rattle.std.specs.Prelude.{◌≡◌, ◌↔◌, ◌<◌, IsTrue, IsNone, IfSome};
 ghost use Rattle.tm_hist.specs.Board.{stop_shown};

@@ -1,4 +1,7 @@
-//! Conditions on a run's end.
+//! Conditions on a run's end, among whose values counts of its history may be.
+//!
+//! [`RunClause::holds`] makes a number of each count, and leaves the comparing to `tm_condition`. Whether the run
+//! has come to an end is asked before, by `check`.
 
 ghost use Rattle.std.specs.Prelude.{◌≡◌, ◌↔◌, IsTrue};
 ghost use Rattle.tm_check.specs.Checks.{HoldsAt, item_of};

@@ -1,4 +1,7 @@
-//! How often something came about in a run.
+//! How often a run's transactions committed or aborted: of all cores or of one, for any cause or for one kind.
+//!
+//! [`Count::of`] goes through the whole history at each call, and asks the outcomes alone: aborts of one status are
+//! of one kind, whatever hit them. Who hit whom is not known here, but by `tm_why`.
 
 ghost use Rattle.std.specs.Prelude.{◌≡◌, ◌≤◌, length};
 ghost use Rattle.tm_hist.specs.History.{pairs_of};
@@ -40,6 +43,7 @@ impl Count {
     pub fn of(self, board: &Board) -> u32
         ensures { result ≡ count_in self board.now.history }
     {
+        // For its contract: the history is short enough to be counted in 32 bits.
         let _few = board.made();
         self.of_steps(board.history())
     }

@@ -1,4 +1,8 @@
-//! What is checked of a machine.
+//! What is checked of a machine: that some conditions all hold, or that they do not.
+//!
+//! [`Check::is_violated`] asks of the machine as it stands; at which moments it is asked is decided by who
+//! searches. Checks of a whole run, which may count its outcomes, are `tm_check`'s, and the text of both is read in
+//! `elide_checks`.
 
 ghost use Rattle.std.specs.Prelude.{◌↔◌, IsTrue};
 ghost use Rattle.tm_condition.specs.Conditions.{Violates, seen_of};

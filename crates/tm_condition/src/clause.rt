@@ -1,4 +1,8 @@
-//! Conditions.
+//! Conditions: two values of a machine compared, or bytes that stand at an address.
+//!
+//! [`all_hold`] goes through a list from the left, and ends at the first that does not hold; all of none hold. A
+//! condition with a value or a byte that is not there does not hold, `!=` no more than the others. What a value is
+//! stands in `item`.
 
 ghost use Rattle.std.specs.Prelude.{◌↔◌, All, IsTrue};
 ghost use Rattle.tm_condition.specs.Conditions.{Holds, StandsAt, seen_of};

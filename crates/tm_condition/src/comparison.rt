@@ -1,4 +1,6 @@
-//! How numbers are compared.
+//! The six ways to compare two numbers, all of them without sign.
+//!
+//! [`Comparison::holds`] is asked once both numbers are there. That one may be missing is met before, in `clause`.
 
 ghost use Rattle.std.specs.Prelude.{◌≡◌};
 ghost use Rattle.tm_condition.specs.Conditions.{compares};

@@ -1,4 +1,8 @@
-//! Values of a machine.
+//! Values of a machine: a register of a core, a doubleword of memory, or a number that is no machine's.
+//!
+//! [`Item::value`] sees nothing of an open transaction: the registers are those before it, and memory is without
+//! its bytes. Where there is no such core or register, or not all four bytes, it is None, and what comes of that is
+//! said in `clause`.
 
 ghost use Rattle.std.specs.Prelude.{◌≡◌};
 ghost use Rattle.tm_condition.specs.Conditions.{doubleword_of, seen_of, value_of};

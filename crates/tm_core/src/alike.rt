@@ -1,4 +1,8 @@
-//! Whether two machines show a core alike.
+//! Whether two machines show a core alike: [`Machine::is_core_alike`].
+//!
+//! What the core is doing and its registers before a transaction are compared first; of the rest only what that
+//! makes it show: the kept value between two steps, and in a transaction the registers now, the bytes and the
+//! lines. Memory and the other cores are not compared here.
 
 ghost use Rattle.std.specs.Prelude.{◌≡◌, ◌↔◌, ◌<◌, IsTrue, length};
 ghost use Rattle.tm_model.specs.Setting.{Setting};
@@ -34,6 +38,7 @@ fn is_alike<S: Sets>(cpu: &Cpu, sets: &S, twin: &Cpu, twin_sets: &S, core: u8) -
     if cpu.state != twin.state || cpu.base != twin.base {
         return false;
     }
+    // Where a core does not show `regs` or `kept`, they may differ.
     match cpu.state {
         CoreState::Running | CoreState::Condemned(_) | CoreState::Stopped(_) => true,
         CoreState::Mid => cpu.kept == twin.kept,

@@ -68,6 +68,7 @@ fn copy_core<S: Sets>(cpu: &mut Cpu, sets: &mut S, twin: &Cpu, twin_sets: &S, co
     ensures held { IsHeld ((S.content sets.new).fixed.room Write) (kept_of (S.content sets.new) core cpu.new) }
     ensures elsewhere { Elsewhere (S.content sets.old) (S.content sets.new) core }
 {
+    // The sets first: they tell the slots that the buffer's lines get.
     sets.copy_core(twin_sets, core);
     copy_buffer(&mut cpu.buffer, &twin.buffer, sets, core);
     cpu.base = twin.base;

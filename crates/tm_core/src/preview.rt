@@ -1,5 +1,8 @@
-//! What a machine tells of a core's next step, asked once: of the step under no event. Where an event then aborts the
-//! core, the step is not made: it hits nobody and reaches nothing.
+//! What a machine tells of a core's next step, planned once: of the step under no event. Where an event then aborts
+//! the core, the step is not made: it hits nobody and reaches nothing.
+//!
+//! [`Machine::preview`] plans (`foretell`), and [`Machine::hit_by`] then looks into the sets for one victim after
+//! another; [`Machine::may_hit`] saves that where no victim is hit. The machine must not change between.
 
 ghost use Rattle.std.specs.Prelude.{◌≡◌, ◌<◌, ℕ, Option, false, length, None, IfOk, IsOk, ◌↔◌};
 ghost use Rattle.tm_model.specs.Explained.{IsHitTold, IsReachTold, abort_reason};

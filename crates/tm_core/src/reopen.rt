@@ -1,4 +1,8 @@
-//! A machine that is taken back before its first step, in place of a new one.
+//! A machine that is taken back before its first step, in place of a new one: [`Machine::reopen`].
+//!
+//! All of memory is written, then each core, whose lines are given up; the code, its rows and the limits stay, and
+//! no memory is asked for. That the program is the machine's own is for the caller to see to. Where the changed
+//! lines are known, `reopen_lines` takes less time.
 
 ghost use Rattle.std.specs.Prelude.{◌≡◌, ◌<◌, ◌≤◌, ℕ, None, length};
 ghost use Rattle.std.specs.FinSet as set;

@@ -1,4 +1,7 @@
 //! A machine that is taken back before its first step by the lines of memory that may have changed.
+//!
+//! [`Machine::reopen_lines`] writes these lines from an opening memory that the caller keeps, and the cores as
+//! `reopen` does. Which lines have changed is not found out here: a line that is not listed stays as it is.
 
 ghost use Rattle.std.specs.Prelude.{◌≡◌, ◌/◌, ◌<◌, ◌≤◌, ℕ, None, length, slice_index};
 ghost use Rattle.tm_model.specs.IaImage.Program.{opening_memory as memory_of};

@@ -1,4 +1,8 @@
-//! A step of a core under an event that may befall it.
+//! A step of a core under an event that may befall it: [`Machine::step_under`].
+//!
+//! A core in a transaction that is not condemned aborts, its next instruction unread; nobody else is hit by that.
+//! Of any other core the step is that of [`Machine::step`]. Which steps come under an event is not decided here,
+//! but by a schedule or by `tm_pick`.
 
 ghost use Rattle.std.specs.Prelude.{◌≡◌, ◌<◌, ◌≤◌, ◌++◌, ◌∷◌, ◌↔◌, ℕ, List, [], Option, Some, length, false};
 ghost use Rattle.std.specs.Prelude.{IfNone, IfOk, IfSome, IsOk, OnErr};

@@ -1,4 +1,8 @@
-//! What a command answers.
+//! What most commands answer: a step, breakpoints, registers, memory and listings.
+//!
+//! A call tests its numbers first; what is out of range is refused in a line, and changes nothing. The steps of a
+//! run are in `run`, and what needs memory for its answer in `back`, `sets` and `why`. Which call a line leads to
+//! is said in `session`.
 
 ghost use Rattle.std.specs.Prelude.{◌≡◌, ◌==◌, ◌++◌, ◌<◌, IfSome, length};
 ghost use Rattle.std.specs.List.{position};

@@ -1,4 +1,8 @@
-//! Steps that are taken back.
+//! Steps that are taken back: [`back`].
+//!
+//! The steps before them are made once more on a board of its own (`tm_hist`), and that takes the place of the
+//! session's when it is there: where memory is refused nothing has changed. Whose turn it is then follows from the
+//! history that is left. Breakpoints stop nothing on the way.
 
 ghost use Rattle.std.specs.Prelude.{◌≡◌, ◌≤◌, OnErr, OnOk, length};
 ghost use Rattle.ia_text.specs.Writing.{Writes};

@@ -1,4 +1,7 @@
-//! What the commands are.
+//! The answer to `help`: a line for each command, the same in each manner.
+//!
+//! How a command is written is read by `debug_command`, and what it may be refused for is told when it is: here
+//! stands constant text.
 
 ghost use Rattle.std.specs.Prelude.{◌≡◌};
 ghost use Rattle.ia_text.specs.Writing.{Writes};

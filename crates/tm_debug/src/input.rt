@@ -1,4 +1,8 @@
 //! Devices that give bytes, each of which counts its failures.
+//!
+//! [`In::get`] gives what is there, perhaps fewer bytes than there is room for, and none at the end. By the count a
+//! contract tells an input that failed from one that ended. Lines are made of the bytes in `line`; devices that
+//! take bytes are `ia_text`'s.
 
 ghost use Rattle.std.specs.Prelude.{◌≡◌, ℕ, ◌+◌, ◌<◌, ◌≤◌, List, Option, None, Ok, length};
 ghost use Rattle.tm_debug.specs.Reading.{Reads};

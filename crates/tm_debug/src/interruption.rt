@@ -1,4 +1,7 @@
-//! What interrupts a session.
+//! What interrupts a session, as a command answers it.
+//!
+//! An [`Interruption`] has no board, as commands work on a state that is lent to them: `session` makes a fault of
+//! it, with the board. A command that is refused interrupts nothing: the refusal is its answer.
 
 ghost use Rattle.std.specs.Prelude.{◌≡◌, Err};
 ghost use Rattle.tm_debug.specs.Session.{answer_result};

@@ -1,4 +1,8 @@
-//! Lines of the input.
+//! Lines of the input: [`read_line`].
+//!
+//! A byte is read at a time, so that what stands behind a line is left for who reads next. A line ends with a line
+//! feed, a carriage return before that does not count, and the last needs none. One that is too long is read up to
+//! its end and not kept. What a line requests is made out in `session`.
 
 ghost use Rattle.std.specs.Prelude.{◌≡◌, ◌++◌, ◌∷◌, ℕ, List, [], IfOk, OnErr, OnOk, Option, Some, None, if◌then◌else◌};
 ghost use Rattle.std.specs.Prelude.{option_to_list};

@@ -1,4 +1,7 @@
 //! The prompt of a spoken session.
+//!
+//! It stands before the first line is read, and then behind each answer but the last. A plain session has none, so
+//! that what it writes is answers alone.
 
 ghost use Rattle.std.specs.Prelude.{◌≡◌};
 ghost use Rattle.tm_debug.specs.Serving.{Prompts};

@@ -1,4 +1,8 @@
-//! Steps of a run, round by round or along the plan.
+//! Steps of a run, round by round or along the plan: [`run`].
+//!
+//! The count is tested first, and then before each step whether the run ends there (`state`). Each step's line is
+//! written before the next step is made. Why a run ended before its count is told by `answer`; a run that made all
+//! its steps says no more.
 
 ghost use Rattle.std.specs.Prelude.{◌≡◌, ◌<◌, ◌≤◌, List, ℕ, OnErr, OnOk, length};
 ghost use Rattle.ia_text.specs.Writing.{Wrote};

@@ -1,4 +1,9 @@
-//! A session: lines are read and answered one after another.
+//! A session: lines are read and answered one after another, by [`Session::serve`] or [`serve_in`].
+//!
+//! A line is read, what it requests made out and done, its answer written, and then in a spoken session the prompt:
+//! a next line is read only when all of that stands. `quit`, the end of the input and an [`Interruption`] end it,
+//! and each gives the board back. What is answered stands in `answer`, `run` and the modules that have a command's
+//! name.
 
 ghost use Rattle.std.specs.Prelude.{◌≡◌, ℕ, List, Err, IfErr, IfOk, MatchResult, OnOk};
 ghost use Rattle.ia_text.specs.Writing.{Rose, Stopped, Writes, Wrote};

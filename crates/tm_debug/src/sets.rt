@@ -1,4 +1,7 @@
-//! The lines of a core's sets.
+//! The answer to `sets`: the lines of a core's read set and write set.
+//!
+//! The whole line is made in memory before a byte of it is written, so that want of memory leaves no half of it.
+//! Lines are told by their numbers, ascending; a core in no transaction has none.
 
 ghost use Rattle.std.specs.Prelude.{◌≡◌, ◌∷◌, ◌++◌, ◌<◌, [], IfOk, OnOk, length};
 ghost use Rattle.std.specs.FinSet as set;

@@ -1,4 +1,8 @@
-//! What a session keeps between two lines.
+//! What a session keeps between two lines, and what is tested before a step of a run.
+//!
+//! [`SessionState::check_run`] asks in this order whether there is a next pick, whether its core exists, whether
+//! there is room for the step, and whether the core is at a breakpoint. [`SessionState::step`] asks nothing of
+//! this, as for a step that was requested by itself, and notes whose turn is next. Nothing is read or written here.
 
 ghost use Rattle.std.specs.Prelude.{◌≡◌, ◌↔◌, ℕ, ◌+◌, ◌<◌, ◌≤◌, ◌^◌, ◌++◌, ◌∷◌, [], Err, IfOk, IfSome, OnErr, Some, is_some};
 ghost use Rattle.std.specs.Prelude.{length};
@@ -125,7 +129,7 @@ impl SessionState {
         }
     }
 
-    /// The same of a session that speaks plainly and has no plan and no names.
+    /// [`SessionState::new`] of a session that speaks plainly and has no plan and no names.
     pub fn plain(alloc: Global, board: Board) -> SessionState
         ensures { value_of result ≡ start board }
     {
@@ -226,6 +230,7 @@ impl SessionState {
             return RunCheck::Full;
         }
         let eip = self.eip(pick.core);
+        // The first step is made, or no run would leave a breakpoint; a second of two steps begins nothing.
         if !first && !self.is_midway(pick.core) && self.breakpoints.contains(&eip) {
             RunCheck::AtBreakpoint(pick.core, eip)
         } else {

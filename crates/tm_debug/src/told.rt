@@ -1,4 +1,8 @@
 //! Steps, and their lines: in a spoken session each goes on with what the step did.
+//!
+//! [`told_step`] looks at the machine before the step and behind it (`tm_trace`), where that is told, and
+//! [`write_told`] writes it afterwards: a step whose line cannot be written was made. A step that the board refuses
+//! is no step, and its refusal is told by the caller.
 
 ghost use Rattle.std.specs.Prelude.{◌≡◌, ◌↔◌, ◌<◌, ◌≤◌, Err, IfOk, IfSome, None, OnErr, length};
 ghost use Rattle.ia_text.specs.Writing.{Writes};

@@ -1,4 +1,8 @@
-//! Why the next step of a core is an abort.
+//! The answer to `why`: the reason of a core's next step, or that it is no abort.
+//!
+//! All steps of the history are made once more for it, on a board of its own, as only that tells who hit whom
+//! (`tm_why`); the session's board is not stepped. Where memory is wanting for that, nothing of the answer was
+//! written.
 
 ghost use Rattle.std.specs.Prelude.{◌≡◌, ◌++◌};
 ghost use Rattle.arrayvec.specs.ArrayVec.{array_vec_len};

@@ -1,4 +1,8 @@
-//! The answer to a command.
+//! The answer to a command of gdb: [`carry_out`].
+//!
+//! A question changes nothing but the event that it may name for the next step, and that only once its answer is
+//! made. A move that names a thread which there is not is refused before a step is made. Where memory is refused,
+//! the target is as before. Moves are made in `moves`, `run` and `back`; `session` puts packets around the answers.
 
 ghost use Rattle.std.specs.Prelude.{◌≡◌, ◌≤◌, [], OnErr, OnOk, codes, false, length, true};
 ghost use Rattle.tm_hist.specs.Board.{SameBoard};

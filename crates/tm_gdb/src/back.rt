@@ -1,4 +1,8 @@
-//! Moves back.
+//! Moves back: [`Target::step_back`] and [`Target::go_back`].
+//!
+//! No board is stepped backwards: its first steps are made once more on another (`tm_hist`), which takes its place
+//! when it is there. A run back first makes the whole history so, to find the latest step that a point stops, and
+//! then the steps before that one.
 
 ghost use Rattle.std.specs.Prelude.{◌≡◌, ◌+◌, ◌<◌, ◌≤◌, ◌==◌, Err, IfNone, IfOk, IfSome, OnErr, OnOk, Some, false};
 ghost use Rattle.std.specs.Prelude.{length, true};
@@ -131,6 +135,7 @@ impl Target {
         ensures same { SameBoard self.old.board self.new.board }
     {
         let _cores = core_count(&self.board);
+        // What the core sees behind its step, while there is a board that shows it.
         let sights = self.points.sights(self.board.machine(), core);
         self.board = board;
         let _cores = core_count(&self.board);
@@ -234,6 +239,7 @@ impl Target {
             stop: Stop::Begin,
         };
         'steps: for made in 0..self.board.made() {
+            // A later place takes that of an earlier one: backwards it is met first.
             place = self.again(&mut board, made, place)?;
         }
         Ok(place)

@@ -1,4 +1,8 @@
-//! What `monitor` tells.
+//! What `monitor` tells: [`monitor_text`], a text of fixed room.
+//!
+//! What has no room is left out, so that no answer is refused for its length; want of memory for the sets or the
+//! history's reasons is handed on. An event is only told here: `answer` notes it for the next step. The words are
+//! not promised.
 
 use crate::target::Target;
 use crate::text::Text;

@@ -1,4 +1,8 @@
 //! Steps of one core, and what `vCont`, `s` and `c` do.
+//!
+//! [`Target::advance`] makes each step forward: it looks at the watchpoints before, uses up the event that was
+//! named, and looks again behind it. [`Target::resume`] lets one core step, if one is to, and no other then;
+//! otherwise those go on that are to (`run`). Whether actions name threads that there are is asked in `answer`.
 
 ghost use Rattle.std.specs.Prelude.{◌≡◌, ◌↔◌, ◌++◌, ◌∷◌, [], ◌<◌, ◌≤◌, Err, IfOk, IfSome, OnErr, Some, length, true};
 ghost use Rattle.tm_hist.specs.Board.{IsFull, IsOwedNext, SameBoard};

@@ -1,4 +1,8 @@
-//! Breakpoints and watchpoints.
+//! Breakpoints and watchpoints: the lists, and what a core meets of them.
+//!
+//! [`Points::stands`] is asked before a core's step; [`Points::sights`] before it too, for [`first_changed`] behind
+//! it. Bytes are compared as the core that steps sees them, so that a store in a transaction counts for its own
+//! core at once. What gdb is told of it stands in `stop`.
 
 ghost use Rattle.std.specs.Prelude.{◌≡◌, ◌==◌, ◌+◌, ◌<◌, ◌≤◌, ◌++◌, [], MatchOption, false, filter, length, not, true};
 ghost use Rattle.std.specs.List.{list_any};

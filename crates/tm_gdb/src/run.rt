@@ -1,4 +1,8 @@
 //! Runs: steps of the cores that go on, up to what ends them.
+//!
+//! [`Target::go_on`] asks before each step whose turn it is, whether there is room, and whether the core stands at
+//! a breakpoint that was not told last; then the step may itself end the run (`moves`). Only a run of all cores
+//! goes along the schedule; any other goes round by round (`turns`).
 
 ghost use Rattle.std.specs.Prelude.{◌≡◌, ◌+◌, ◌<◌, IfSome, Some, false, length, true};
 ghost use Rattle.tm_hist.specs.Board.{IsFull, SameBoard};

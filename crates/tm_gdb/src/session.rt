@@ -1,4 +1,8 @@
-//! A session: bytes are read, and the packets among them answered.
+//! A session: bytes are read, and the packets among them answered: [`serve`].
+//!
+//! A byte is heard at a time. A packet that is whole is acknowledged first, so that gdb knows of it while a run
+//! goes on; then it is carried out (`answer`), and its answer written and kept, in case gdb asks to hear it once
+//! more. How packets and commands are read is `gdb_packet`'s.
 
 ghost use Rattle.std.specs.Prelude.{◌≡◌, ◌∷◌, ◌++◌, ℕ, Bool, List, Err, IfErr, IfOk, IfSome, None, OnErr, OnOk, Some};
 ghost use Rattle.std.specs.Prelude.{[], not};
@@ -186,6 +190,7 @@ impl Session {
         let command = read_command(packet);
         self.acknowledge(out)?;
         self.reply(alloc, &command, out)?;
+        // Behind the answer: the packet that wants no more of them is still acknowledged.
         self.acknowledges = acknowledges_behind(&command, self.acknowledges);
         Ok(!is_end(&command))
     }

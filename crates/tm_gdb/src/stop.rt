@@ -1,4 +1,7 @@
-//! Why a target stands.
+//! Why a target stands, and the reply that tells it: [`push_stop`].
+//!
+//! Each move ends with a [`Stop`], made in `moves`, `run` or `back`; the reply has its signal, its reason and the
+//! thread. A core that stops by HLT ends nothing ([`stop_of`]), as others may go on.
 
 ghost use Rattle.std.specs.Prelude.{◌≡◌, ◌+◌, ◌≤◌, ◌<◌, ◌++◌, ◌∷◌, [], codes};
 ghost use Rattle.arrayvec.specs.ArrayVec.{array_vec_len};

@@ -1,4 +1,7 @@
-//! A board that gdb looks at and moves.
+//! A board that gdb looks at and moves, with all that gdb selected and set.
+//!
+//! Questions and moves have a core each, and moves take that of the questions where none was chosen for them. A
+//! [`Target`] makes no step here: steps forward are in `moves` and `run`, those back in `back`.
 
 ghost use Rattle.std.specs.Prelude.{◌≡◌, ◌<◌, IfSome, length};
 ghost use Rattle.tm_gdb.specs.Values.{core_in, core_of, moved_core, picks_in, start_with, thread_core, value_of};

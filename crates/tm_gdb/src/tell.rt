@@ -1,4 +1,7 @@
-//! What is told of a board.
+//! What is told of a board to the questions for registers, memory, the description and the cores.
+//!
+//! Each call is about the selected core, and puts its answer together by `gdb_target`, which says its form. A text
+//! that gdb reads in parts is made as a whole for each part. Nothing is changed.
 
 ghost use Rattle.std.specs.Prelude.{◌≡◌, []};
 ghost use Rattle.tm_gdb.specs.Answers.{TellsMemory, TellsRegister, TellsRegisters};

@@ -1,4 +1,8 @@
-//! The text of an answer to `monitor`.
+//! The text of an answer to `monitor`: a device in memory of fixed room.
+//!
+//! A text that would not fit is a failure, by which its writer ends; what was put before stands. [`Text::push`]
+//! makes hex of it for the packet, and `OK` of an empty text, since an empty packet says that the command is not
+//! known.
 
 ghost use Rattle.std.specs.Prelude.{◌≡◌, [], None};
 

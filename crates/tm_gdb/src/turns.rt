@@ -1,4 +1,7 @@
-//! Whose turn it is.
+//! Whose turn it is: who steps and who goes on by gdb's actions, and the next of these.
+//!
+//! [`turn_pick`] goes on behind the core of the history's last step, round by round, so that it needs no state and
+//! holds behind steps back. Cores that have stopped are passed over. A schedule is asked before, in `run`.
 
 ghost use Rattle.std.specs.Prelude.{◌≡◌, ◌+◌, ◌^◌, ◌<◌, ◌≤◌, IfSome, length};
 ghost use Rattle.gdb_packet.specs.Actions.{action_of};

@@ -1,4 +1,7 @@
-//! Why transactions abort.
+//! The answer to `monitor why`: a line for each core whose next step is an abort.
+//!
+//! The history is made once more for a watch (`tm_why`), once for all cores; the board is not stepped. A line that
+//! the text has no room for is left out.
 
 use ia_text::{Out, WriteFault};
 use itoa::Buffer;

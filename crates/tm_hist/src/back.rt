@@ -1,4 +1,8 @@
-//! The first steps of a history, made once more.
+//! The first steps of a history, made once more: [`first_steps`].
+//!
+//! A second board of the same program and limits is opened, and its steps are made one by one, each under the event
+//! that its outcome tells of. The board that is given stays as it is. The outcomes are not compared with those of
+//! the history: both boards are runs of the same steps ([`Board::is_run`]).
 
 ghost use Rattle.std.specs.Prelude.{◌≡◌, ◌↔◌, ◌+◌, ◌++◌, ◌<◌, ◌≤◌, ◌∷◌, [], Err, IfOk, OnErr, OnOk, false, length, true};
 ghost use Rattle.tm_core.specs.Machine.{bad_limits};
@@ -80,6 +84,7 @@ fn follow_step(board: &Board, made: u64, first: &mut Board) -> Result<(), Strang
     ensures ok { OnOk result (IsFirst board.now (made + 1) first.new) }
     ensures err { OnErr result (HasStranger board.now) }
 {
+    // Neither call does anything: their contracts say that the step that follows is owed.
     board.is_run();
     let _made = board.made();
     let Some(pick) = board.history().pick_at(made as usize) else {

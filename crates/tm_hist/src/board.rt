@@ -1,4 +1,9 @@
-//! A machine with the history of its steps.
+//! A machine with the history of its steps: no step is made that is not kept.
+//!
+//! [`Board::new`] tests the limit on steps, makes the machine, which tests its own limits, and then asks for the
+//! room of the whole history and for a copy of the program, so that no step takes memory. A step asks whether there
+//! is such a core before it asks whether the history is full. How its pairs are kept stands in `pair`, and the run
+//! of a history on one memory in `one_memory`.
 
 ghost use Rattle.std.specs.Prelude.{◌≡◌, ◌↔◌, ◌⊎◌, ◌<◌, ◌≤◌, ℕ, List, [], ◌∷◌, ◌++◌, Err, IfErr, IfOk, IsTrue, OnErr};
 ghost use Rattle.std.specs.Prelude.{◌-◌, None, Some, false, length, min, true};
@@ -258,6 +263,7 @@ impl Board {
     {
         let mut made = 0;
         while made < most {
+            // What no other core sees first, then a transaction as a whole, and one step where there is neither.
             made += self.go_on(core, most - made);
             if made == most || self.is_stopped(core) {
                 return made;
@@ -292,6 +298,7 @@ impl Board {
         ensures none { result ≡ 0 → self.new ≡ self.old }
     {
         let room = self.room(most);
+        // The room is looked at before: what the machine has made must all be kept.
         match self.machine.transact(core, room) {
             Some(inside) => {
                 push_transaction(&mut self.made, core, inside);

@@ -1,4 +1,8 @@
 //! Lists of steps, each the number of a core and its outcome.
+//!
+//! A [`History`] borrows the pairs that a caller has, or those of a board, which are packed (`pair`), and answers
+//! alike of both. A list of a caller may be no run: that is found out by [`serial`](crate::serial), not here. The
+//! event of a step is known only by an outcome that tells of it.
 
 ghost use Rattle.std.specs.Prelude.{◌≡◌, ◌==◌, length, map};
 ghost use Rattle.std.specs.List.{slice_get};

@@ -1,4 +1,7 @@
-//! Want of memory for a board's history.
+//! Want of memory for a board's history, as a type of its own.
+//!
+//! Only `board` makes a [`HistoryMemory`], and only behind its machine, so that fault 51 is never told in place of
+//! 41.
 
 use tm_core::Machine;
 

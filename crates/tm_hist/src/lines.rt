@@ -1,4 +1,8 @@
-//! The lines that are printed of a run.
+//! The lines that are printed of a run: of an outcome, of the cores' states, and of bytes in memory.
+//!
+//! Each line is put together in a row of fixed room and handed to the device as one, so that printing takes no
+//! memory; the first that the device refuses ends the call. Their forms are those of docs/FORMATS.md. Which cores
+//! and bytes are printed, and in which order with other text, is for the caller to say.
 
 ghost use Rattle.std.specs.Prelude.{◌≡◌, ◌+◌, ◌-◌, ◌*◌, ◌%◌, ◌^◌, ◌≤◌, ◌<◌, ◌++◌, length};
 ghost use Rattle.arrayvec.specs.ArrayVec.{array_vec_len};

@@ -1,4 +1,8 @@
-//! The run of a history on one flat memory, without buffers, sets or marks.
+//! The run of a history on one flat memory, without buffers, sets or marks: [`serial`].
+//!
+//! Memory and the cores are made first, as before the first step; then each pair is a step of its core (`step`),
+//! and the first that is none ends the run with its index. No board is asked: whatever list comes in, it is a run
+//! or it is refused.
 
 ghost use Rattle.std.specs.Prelude.{◌≡◌, ◌⊎◌, ◌-◌, ◌≤◌, ◌<◌, [], ◌∷◌, ◌++◌, length, map, replicate, Some, IfOk, OnOk};
 ghost use Rattle.std.specs.Prelude.{IfErr};
@@ -45,7 +49,7 @@ fn run_made(
     Ok(())
 }
 
-// The same of steps that were given.
+// [`run_made`] of steps that were given, each packed when its turn comes.
 fn run_given(
     lines: &[Line],
     code: &Code<'_>,

@@ -1,4 +1,7 @@
-//! One step of a history, in six bytes.
+//! One step of a history, in six bytes: [`Pair::new`] packs it, and [`Pair::outcome`] gives back the same outcome.
+//!
+//! A board asks for room for up to 16,777,216 of them before its first step. Lists that a caller has are not
+//! packed, but step by step as they are run (`one_memory`).
 
 ghost use Rattle.std.specs.Prelude.{◌≡◌};
 ghost use Rattle.tm_hist.specs.History.{outcome_of, pair_of};

@@ -1,4 +1,7 @@
-//! What a serial run answers.
+//! What a serial run answers: a [`Serial`], or the [`SerialFault`] for which there is none.
+//!
+//! Of a core that is in a transaction at the end, its registers are those before the XBEGIN, as nothing of its body
+//! was run. Bytes of open transactions are nowhere in memory. The run itself stands in `one_memory`.
 
 ghost use Rattle.std.specs.Prelude.{◌≡◌, ◌↔◌, ◌<◌, length, IfOk, IsOk};
 ghost use Rattle.tm_hist.specs.Serial.{serial_code};

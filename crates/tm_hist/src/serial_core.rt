@@ -1,4 +1,8 @@
-//! A core in a serial run.
+//! A core in a serial run, as far as its next step depends on it.
+//!
+//! In a transaction just the registers before the XBEGIN and the number of steps since are kept: the body is run at
+//! its commit (`flat`). A condemned core is not known as such: its next outcome is an abort, which any open core
+//! may have.
 
 ghost use Rattle.std.specs.Prelude.{◌≡◌};
 ghost use Rattle.tm_hist.specs.Serial.{base_of, core_of, stop_of};

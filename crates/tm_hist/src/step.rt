@@ -1,4 +1,9 @@
-//! One step of a run on one flat memory.
+//! One step of a run on one flat memory: whether a core may have this outcome now, and what it is then.
+//!
+//! [`step`] tries the usual step first, which changes nothing where it is none (`usual`), and then what the rules
+//! say of the core as it stands. A step inside a transaction is only counted, and run at the commit by `flat`; at
+//! an abort the registers are restored, with the status that the outcome says. Whether a transaction would have
+//! been hit or had room is not asked.
 
 ghost use Rattle.std.specs.Prelude.{◌≡◌, ℕ, ◌+◌, ◌<◌, ◌^◌, ◌≤◌, length, map, Some, None, IfSome, option_map};
 ghost use Rattle.std.specs.Prelude.{if◌then◌else◌};
@@ -95,7 +100,7 @@ fn store_step(
     }
 }
 
-// The same, of what stands at its EIP.
+// [`store_step`] of what stands at EIP.
 fn finish_step(
     code: &Code<'_>,
     size: u32,

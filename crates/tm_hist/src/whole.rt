@@ -1,4 +1,7 @@
-//! Steps that were made at once, as a history keeps them.
+//! Steps that were made at once, as a history keeps them: one pair for each, as if they had been made one by one.
+//!
+//! They are added behind the machine's call. The room for them was asked for when the board was made, and `board`
+//! lets no more be made than it has: nothing is refused here.
 
 ghost use Rattle.std.specs.Prelude.{◌≡◌, ◌≤◌, ◌+◌, ◌++◌, map, vec_capacity, vec_len};
 ghost use Rattle.tm_core.specs.Theorem.{plain_steps, transaction_of};

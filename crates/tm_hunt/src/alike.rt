@@ -1,4 +1,7 @@
-//! Machines that are shown alike.
+//! Machines that are shown alike: their cores, and all bytes of memory.
+//!
+//! [`are_alike`] looks at memory only where the cores are alike, since that takes longest. Who compares two
+//! machines time and again asks [`are_same_at`] first, at the place where [`first_difference`] was the last time.
 
 ghost use Rattle.std.specs.Prelude.{◌≡◌, ◌≤◌, IsTrue, length};
 ghost use Rattle.tm_hunt.specs.Cycle.{AreAlike, AreCoresAlike};

@@ -1,4 +1,8 @@
-//! Runs, and whether they failed.
+//! A run, and whether it failed: [`try_run`].
+//!
+//! The run is made (`one_run`), and then the checks are asked in their order; a run that violates none has ended or
+//! was cut at the limit. Its picks are copied from the history only where it fails, as the board goes on to the
+//! next run. [`usual_length`] makes a run that is not judged.
 
 ghost use Rattle.std.specs.Prelude.{◌≡◌, ◌≤◌, IfErr, IfOk};
 ghost use Rattle.tm_hist.specs.TmModel.Runs.{picks_of};

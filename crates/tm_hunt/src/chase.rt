@@ -1,4 +1,9 @@
-//! Two machines on one walk, of which one goes twice as fast, until they are shown alike (Floyd's way to find a loop).
+//! Two machines on one walk, of which one goes twice as fast, until they are shown alike (Floyd's way to find a
+//! loop).
+//!
+//! [`Chase::cycle`] lets them meet in whole rounds, then looks for the fewest rounds that lead back, and then sends
+//! both out again, as far apart, to find where the loop begins. No memory is asked for. That it is a loop is not
+//! promised here: `cycle` makes it once more.
 
 ghost use Rattle.tm_hunt.specs.Chase.{IsChaseOf, SameChase};
 

@@ -1,4 +1,7 @@
-//! How simple a schedule is.
+//! How simple a schedule is: the fewer steps, switches and events, the simpler.
+//!
+//! [`cost`] counts a switch and an event as four steps each, and is compared in `shortening`. It says nothing of
+//! what the schedule comes to.
 
 ghost use Rattle.std.specs.Prelude.{◌≡◌, length};
 ghost use Rattle.tm_hunt.specs.Cost.{cost_of, events_in, switches_of};

@@ -1,5 +1,8 @@
-//! Schedules from which steps or events are cut. What they come to is tried; promised is that their events are of the
-//! kinds that were there.
+//! Schedules from which steps or events are cut. What they come to is tried; promised is that their events are of
+//! the kinds that were there.
+//!
+//! Each call makes a new list, as a try that does not fail leaves the old one standing. Indices behind the end cut
+//! nothing. Which cuts are made, and in what order, is said in `shortening`.
 
 ghost use Rattle.std.specs.Prelude.{IfOk, IfSome};
 ghost use Rattle.tm_hunt.specs.Kept.{KeepsKinds};

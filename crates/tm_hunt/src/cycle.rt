@@ -1,4 +1,8 @@
-//! The loop that a run which never ends comes to.
+//! The loop that a run which never ends comes to: [`find_cycle`].
+//!
+//! The steps behind those that decide are taken as rounds (`rounds`), a loop of whole rounds is looked for among
+//! them (`chase`), and what is found is made from before the first step on: to the loop, and once around. Where all
+//! steps decide there are no rounds and no machine is made. That none is found does not say that there is none.
 
 ghost use Rattle.std.specs.Prelude.{◌≡◌, ◌<◌, ◌≤◌, IfErr, IfOk, IfSome, IsTrue, length};
 ghost use Rattle.tm_core.specs.Theorem.{SameMachine};
@@ -80,6 +84,7 @@ fn told(
     let Chase { slow, fast, .. } = chase;
     let Walker { machine: shown, .. } = slow;
     let Walker { mut machine, .. } = fast;
+    // That the machines met proves nothing: what is told was made.
     if cycle.start >= front && cycle.is_made(trial, &shown, &mut machine, picks, round) {
         Some(cycle)
     } else {

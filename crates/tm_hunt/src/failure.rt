@@ -1,4 +1,7 @@
-//! A run that fails.
+//! A run that fails: its picks, the check that it violates, and how many of its steps decide.
+//!
+//! `attempt` makes a [`Failure`] of a run that was just made, and lets all of its steps decide; of a run at the
+//! limit `shortening` says that fewer do. What is printed of it is the commands' to say.
 
 ghost use Rattle.std.specs.Prelude.{◌≤◌, length};
 

@@ -1,4 +1,8 @@
-//! One run.
+//! One run on the board of a trial: [`run`].
+//!
+//! The board is taken back before its first step. Then a step is picked and made, and its core taken out where it
+//! stopped, until no core is left, a core has stopped for a reason that violates a check, or the history is full.
+//! Whether the run failed is asked behind it, by `attempt`.
 
 ghost use Rattle.std.specs.Prelude.{◌≡◌, ◌≢◌, ◌↔◌, ◌<◌, ◌+◌, ◌++◌, ◌∷◌, ◌⊎◌, [], ℕ, All, Contains, IfErr, IfOk, IsTrue};
 ghost use Rattle.std.specs.Prelude.{None, Some, length};
@@ -129,7 +133,7 @@ fn make_step(board: &mut Board, pick: Pick) -> Outcome
     }
 }
 
-// The same under no event.
+// As [`make_step`], under no event.
 fn step_alone(board: &mut Board, core: u8) -> Outcome
     requires is_core { core < length board.old.program.entries }
     requires room { length board.old.history < board.old.limit }
@@ -144,7 +148,7 @@ fn step_alone(board: &mut Board, core: u8) -> Outcome
     }
 }
 
-// The same under this event.
+// As [`make_step`], under this event.
 #[tactic(auto, using(crate::proofs::Told::told_as_shown))]
 fn step_under(board: &mut Board, core: u8, event: Event) -> Outcome
     requires is_core { core < length board.old.program.entries }

@@ -1,4 +1,8 @@
 //! Rounds, in which each core that has not stopped steps once.
+//!
+//! [`round_at_end`] says how long the rounds at the end of a list would be, by the last core alone. [`are_rounds`]
+//! then tests a list, one round against the cores of a machine as it stands before, and the others against the
+//! first. What the steps come to is not asked.
 
 ghost use Rattle.std.specs.Prelude.{◌≡◌, ◌<◌, IsTrue, length};
 ghost use Rattle.tm_hist.specs.Board.{stop_shown};

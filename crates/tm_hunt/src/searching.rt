@@ -1,4 +1,8 @@
-//! Runs by chance, until one fails.
+//! Runs by their numbers, one after another, until one fails: [`first_failing`].
+//!
+//! All are made on one board. The run of a number is a function of the plan and the number, so that a search may be
+//! parted among callers by numbers; it is picked by a [`RunSource`] and judged by `attempt`. A run that is found is
+//! not made shorter here, but by `shortening`.
 
 ghost use Rattle.std.specs.Prelude.{IfErr, IfOk};
 ghost use Rattle.tm_hunt.specs.Attempts.{IsAttempt, IsRefusal, IsSearch};

@@ -1,4 +1,8 @@
-//! A shorter schedule that fails.
+//! A shorter schedule that fails by the same check: [`shorten`].
+//!
+//! In this order the end is cut off, then events, bursts and steps; bursts are put side by side, and steps cut once
+//! more, by at most 4096 tries of each. A try (`cuts`) is the run of a front with what comes behind it, so that
+//! whatever is kept was made and fails. A run at the limit keeps its rounds: their loop is looked for by `cycle`.
 
 ghost use Rattle.std.specs.Prelude.{◌≡◌, ◌≤◌, IfErr, IfOk, IfSome};
 ghost use Rattle.tm_hunt.specs.Attempts.{IsFailure, IsRefusal};
@@ -153,6 +157,7 @@ fn try_front(
     if failure.check != best.check {
         return Ok(false);
     }
+    // It is not the best, but it fails: what is cut from it next may be simpler.
     if cost(failure.deciding()) > cost(best.deciding()) {
         *front = other;
         return Ok(true);

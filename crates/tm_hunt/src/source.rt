@@ -1,4 +1,8 @@
-//! What makes runs, and the steps of a run.
+//! What makes the runs of a search, and the steps of a run.
+//!
+//! A [`RunSource`] is asked for a run by its number, and the [`StepSource`] that it gives for one pick after
+//! another, with the machine as it stands before the step; [`PlannedRuns`] asks `tm_pick`. Steps are made by
+//! `one_run`, which also says which cores are left.
 
 ghost use Rattle.std.specs.Prelude.{◌≡◌, ◌<◌, ◌≤◌, ℕ, List, Contains, length};
 ghost use Rattle.tm_core.specs.Theorem.{ShownMachine};

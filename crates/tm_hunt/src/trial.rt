@@ -1,4 +1,7 @@
-//! What is tried.
+//! What is tried: a program, its limits, and the checks of its runs.
+//!
+//! A [`Trial`] is lent to all calls, and holds nothing of a run. Its limits are tested where a board or a machine
+//! is made (`one_run`, `walker`). By what its steps are picked does not belong to it.
 
 use ia_image::Program;
 use tm_check::Check;

@@ -1,4 +1,8 @@
-//! A machine that makes the steps of a list.
+//! A machine that makes the steps of a list, without a history, forth and back to before the first one.
+//!
+//! [`Walker::go_on`] makes the steps whatever comes of them. [`makes_all`] goes on only as long as each step comes
+//! to be as its pick says, so that an event that aborted nothing ends it. Where to stand, and what is compared
+//! there, is said by `chase` and `cycle`.
 
 ghost use Rattle.std.specs.Prelude.{◌≡◌, ◌-◌, ◌∷◌, [], IfErr, IfOk, IsTrue, length};
 ghost use Rattle.tm_core.specs.Theorem.{SameMachine};
@@ -97,7 +101,7 @@ pub fn makes(machine: &mut Machine, pick: Pick) -> bool
     }
 }
 
-// The same of a step under no event.
+// As [`makes`], of a step under no event.
 fn makes_alone(machine: &mut Machine, pick: Pick) -> bool
     ensures same { SameMachine machine.old machine.new }
     ensures made { IsTrue result → Makes machine.old machine.new (pick ∷ []) }
@@ -108,7 +112,7 @@ fn makes_alone(machine: &mut Machine, pick: Pick) -> bool
     }
 }
 
-// The same of a step under this event.
+// As [`makes`], of a step under this event.
 fn makes_under(machine: &mut Machine, pick: Pick, event: Event) -> bool
     ensures same { SameMachine machine.old machine.new }
     ensures made { IsTrue result → Makes machine.old machine.new (pick ∷ []) }

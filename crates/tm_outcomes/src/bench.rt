@@ -1,4 +1,8 @@
-//! The machines that a search works with.
+//! The machines that a search works with: three, made once.
+//!
+//! [`Bench::come_to`] brings `start` to the node that is gone on from, once for all of its steps, and
+//! [`Bench::set_out`] copies it to `here`, which makes one of them. [`Bench::find`] then brings `other` to each
+//! node of the same digest, until one is alike. The list of lines that may differ belongs to all three.
 
 ghost use Rattle.std.specs.Prelude.{◌≡◌, ◌<◌, ◌^◌, [], ℕ, IfErr, IfOk, IfSome, IsTrue, List, None, OnOk, false, length};
 ghost use Rattle.tm_model.specs.declared.outcome.Pick.{Pick};

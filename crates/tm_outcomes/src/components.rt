@@ -221,7 +221,7 @@ fn note_links(graph: &Graph<'_>, numbers: &[u32], states: &[u32], has_link: &mut
     }
 }
 
-// The same of one of them.
+// As [`note_links`], of one of these states.
 fn note_links_of(graph: &Graph<'_>, numbers: &[u32], state: u32, has_link: &mut Vec<bool>) {
     let (start, end) = graph.span(state);
     for link in start..end {

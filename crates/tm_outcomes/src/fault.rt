@@ -1,4 +1,7 @@
-//! Why a search was not made.
+//! Why a search was not made to its end: limits that are out of range, or want of memory.
+//!
+//! The limits are tested by the first machine, before a state is looked at. A search that ends at its limit on
+//! states is no fault, but says so: [`Search::is_cut`](crate::Search::is_cut).
 
 ghost use Rattle.std.specs.Prelude.{◌≡◌};
 ghost use Rattle.tm_outcomes.specs.declared.fault.SearchFault.TheVariants.{NoMemory};

@@ -1,4 +1,9 @@
 //! What was found at the states of a search.
+//!
+//! [`Findings::show`] is called for each state when it is gone on from: it takes up stops of any state, and of an
+//! end the checks that it violates, its node, and then its outcome. States come in the order in which they were
+//! met, so the first schedule that shows something has the fewest steps that are followed. Whether an end can be
+//! reached is asked when the search is over, by `verdict`.
 
 ghost use Rattle.std.specs.Prelude.{◌≡◌, ◌<◌, ◌^◌, ◌++◌, ◌∷◌, [], IfErr, IfOk, List, OnOk, length};
 ghost use Rattle.tm_model.specs.declared.outcome.Pick.{Pick};
@@ -68,6 +73,7 @@ impl Findings {
         ensures err { IfErr result (IsRefusal trial.now) }
     {
         bench.come_to(alloc, trial, nodes, index)?;
+        // A core may stop while others go on for ever: this is no matter of ends.
         take_up_stops(alloc, trial, nodes, index, &bench.start, &mut self.stops)?;
         if !bench.start.has_ended() {
             return Ok(());

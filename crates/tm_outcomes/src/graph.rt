@@ -1,4 +1,7 @@
 //! The links of a search, by the state from which they lead, with the cores whose steps they are.
+//!
+//! `components` and `laps` go along them by [`Graph::target`], which leaves out steps under events that need not
+//! come. `marks`, which asks whether an end can be reached at all, does not come here, and goes by all links.
 
 use crate::links::Link;
 use std::alloc::{AllocError, Global};

@@ -1,4 +1,7 @@
 //! Laps: links that lead from a state round to it again, with one of each core that is to have one.
+//!
+//! [`lap_of`] adds one leg after another, each the shortest to a link of a core that has none yet, and last the
+//! shortest back; all stay within the component. Nothing is promised of a lap: `cycle` makes its steps.
 
 use crate::components::Components;
 use crate::graph::Graph;

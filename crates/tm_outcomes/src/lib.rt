@@ -16,10 +16,10 @@
 //! Two states count as one where memory and what is shown of each core are the same: the machine's steps are a
 //! function of these. Behind each step that is followed, the steps of all cores are made at once that no other core
 //! sees and none changes (`specs/Unseen.antt`): whatever comes between them, the same states follow, so no schedule
-//! is lost that way. A state is kept as the last steps of a schedule that leads there. Two machines are kept, each of
-//! which comes to a state by a run of its schedule, from before the first step on. A digest says which states may
-//! be the same: they are compared before one is dropped. States that are the same have the same digest
-//! (`specs/Digests.antt`), so that none is kept twice.
+//! is lost that way. A state is kept as the last steps of a schedule that leads there. Three machines are kept, which
+//! come to a state by a run of its schedule, from before the first step on, or by a copy of one that stands there. A
+//! digest says which states may be the same: they are compared before one is dropped. States that are the same have
+//! the same digest (`specs/Digests.antt`), so that none is kept twice.
 #![tactic(auto)]
 
 mod bench;

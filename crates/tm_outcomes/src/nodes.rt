@@ -1,4 +1,8 @@
-//! The states that were met.
+//! The states that were met, each kept as the last steps of a schedule that leads there.
+//!
+//! [`schedule_of`] puts the whole schedule together from the node back to the opening one; [`place_of`] brings a
+//! machine there by making it (`replay`). Whether two nodes are one state is not known from this: `bench` compares
+//! machines.
 
 ghost use Rattle.std.specs.Prelude.{◌≡◌, ◌<◌, ◌≤◌, ◌^◌, ◌++◌, All, List, IfErr, IfOk, length, reverse};
 ghost use Rattle.tm_model.specs.declared.outcome.Pick.{Pick};

@@ -1,4 +1,8 @@
-//! A machine at the end of a schedule.
+//! A machine at the end of a schedule, and what a search asks of it.
+//!
+//! [`Place::digest`] is asked first, and [`Place::is_alike`] where digests are the same, as it leaves out why a
+//! core stopped and what a transaction has touched and stored. Memory is looked at on the lines alone that steps
+//! store to (`written`). Schedules are made by `replay`, unseen steps by `rest`.
 
 ghost use Rattle.std.specs.Prelude.{◌≡◌, ◌↔◌, ◌+◌, ◌*◌, ◌^◌, ◌<◌, ◌++◌, ◌∷◌, [], List, IfErr, IfOk, IsOk, IsTrue, false, length, map};
 ghost use Rattle.tm_core.specs.Reopening.{IsSameElsewhere};

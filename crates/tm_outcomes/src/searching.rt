@@ -1,4 +1,9 @@
-//! The search.
+//! The search: [`outcomes`], and [`outcomes_watched`], which tells how far it is.
+//!
+//! States are gone on from in the order in which they were met. Of each, what it shows is taken up (`findings`);
+//! then each core makes its next step, under each event that may come, with the unseen steps behind it (`rest`),
+//! and the state there is looked for among those of its digest before it counts as new. A new one above the limit
+//! cuts the search; otherwise its links are judged (`verdict`).
 
 ghost use Rattle.std.specs.Prelude.{◌≡◌, ◌<◌, ◌≤◌, ◌+◌, ◌++◌, ◌∷◌, ◌^◌, [], ℕ, All, IfErr, IfOk, List, OnOk, false, length};
 ghost use Rattle.std.specs.HashMap.{Updates};
@@ -188,7 +193,7 @@ impl Searching {
         self.follow_here(alloc, trial, bench, index, pick, most)
     }
 
-    // The same where the state that goes on stands at the node.
+    // [`Searching::follow`], where the state that goes on stands at the node already.
     fn follow_here(
         &mut self,
         alloc: Global,
@@ -221,6 +226,7 @@ impl Searching {
         ensures err { IfErr result (IsRefusal trial.now) }
     {
         let was_open = bench.here.is_open(pick.core);
+        // Before the step: behind it the machine tells no more what it could store to.
         bench.noted.note(alloc, &bench.here.machine, pick.core)?;
         let steps = bench.here.advance(alloc, trial, pick)?;
         let digest = bench.here.digest(&bench.noted);
@@ -232,6 +238,7 @@ impl Searching {
                 was_open,
             });
         }
+        // Only a state that is new counts against the limit.
         if self.nodes.len() >= most as usize {
             return Ok(Followed {
                 progress: Progress::IsCut,
@@ -295,8 +302,8 @@ impl Searching {
         Ok(Progress::GoesOn)
     }
 
-    // The same, and that under none. Where the core is in no transaction that an event aborts, its step is the same under
-    // each of them, and leads nowhere else.
+    // As [`Searching::follow_each`], and before it the state under none. Where the core is in no transaction that
+    // an event aborts, its step is the same under each of them, and leads nowhere else.
     fn follow_any(
         &mut self,
         alloc: Global,
@@ -466,7 +473,7 @@ impl Searching {
         })
     }
 
-    // The same where it was cut.
+    // As [`Searching::whole`], where it was cut: its links are not judged.
     fn cut(self) -> Search
         requires { length self.nodes.items < 2 ^ 32 }
         ensures { IsCutOf self result }
@@ -564,7 +571,7 @@ pub fn outcomes(alloc: Global, trial: &Trial<'_>, most: u32) -> Result<Search, S
     outcomes_watched(alloc, trial, most, &mut Unwatched)
 }
 
-/// The same, which tells on its way how far it is.
+/// [`outcomes`], which tells on its way how far it is.
 pub fn outcomes_watched<W: Watching>(
     alloc: Global,
     trial: &Trial<'_>,

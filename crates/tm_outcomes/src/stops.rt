@@ -1,4 +1,7 @@
 //! The stops that were looked for, and found.
+//!
+//! [`take_up_stops`] is called for each state, whether it is an end or not, and keeps of each reason the schedule
+//! of the first state that shows it. A stop that the trial does not look for is not kept.
 
 ghost use Rattle.std.specs.Prelude.{◌≡◌, ◌≢◌, ◌↔◌, ◌<◌, All, Contains, IfErr, IfOk, IsTrue, List, OnOk, length};
 ghost use Rattle.std.specs.List.{AllPairs};

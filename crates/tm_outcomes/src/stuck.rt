@@ -1,4 +1,7 @@
 //! The states from which no schedule leads to an end.
+//!
+//! [`stuck_of`] is called once a search is over that was not cut, with the marks of all nodes (`marks`), counts
+//! those without one, and tells the schedule of the first. No step is made for it.
 
 ghost use Rattle.std.specs.Prelude.{◌≡◌, ◌<◌, ◌≤◌, ◌^◌, ℕ, IfNone, IfOk, IfSome, length};
 ghost use Rattle.tm_outcomes.specs.Marks.{IsMarked, unmarked};

@@ -1,4 +1,7 @@
-//! The outcomes that were found.
+//! The outcomes that were found, each once.
+//!
+//! [`take_up`] is handed the values that an end shows, with its schedule. Values that are there already are counted
+//! and keep the schedule that they have; others come behind the last.
 
 ghost use Rattle.std.specs.Prelude.{◌≡◌, ◌<◌, ℕ, All, IfNone, IfOk, IfSome, List, Some, length, slice_get};
 ghost use Rattle.tm_outcomes.specs.Outcomes.{AreDistinct, AreTold, IsOutcome, IsSparing, IsTold};

@@ -1,4 +1,7 @@
-//! What is searched, and what is shown.
+//! What is searched, and what is shown: a program, its limits, its items, its events, its stops and its checks.
+//!
+//! A [`Trial`] is lent to all calls, and holds nothing of a search. Whoever makes it asks [`Trial::has_all`] before
+//! the search, which takes for granted that its items are there; the limits are tested by the first machine.
 
 ghost use Rattle.std.specs.Prelude.{◌↔◌, IsTrue};
 ghost use Rattle.tm_outcomes.specs.Outcomes.{AreThere, IsThere};

@@ -1,4 +1,8 @@
-//! What the links of a search that is over say.
+//! What the links of a search that is over say: which states cannot end, and which need not.
+//!
+//! [`verdict_of`] marks the nodes that lead to an end (`marks`), tells those that are not marked (`stuck`), and
+//! looks among the others for a cycle (`cycle`). Of a search that was cut it is not asked, since links are wanting
+//! there.
 
 ghost use Rattle.std.specs.Prelude.{◌<◌, ◌^◌, All, IfErr, IfOk, length};
 ghost use Rattle.tm_outcomes.specs.Links.{LiesWithin};

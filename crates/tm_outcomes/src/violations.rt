@@ -1,4 +1,7 @@
 //! The checks that an end violates.
+//!
+//! [`take_up_checks`] is called for ends alone, and keeps of each check the schedule of the first end that violates
+//! it; a check that was violated before is not asked again. How a check is judged stands in `tm_condition`.
 
 ghost use Rattle.std.specs.Prelude.{◌≡◌, ◌↔◌, ◌<◌, ℕ, IfOk, IsTrue, List, OnOk, Some, length, slice_get};
 ghost use Rattle.tm_condition.specs.Conditions.{Violates, seen_of};

@@ -1,4 +1,7 @@
-//! How far a search is.
+//! How far a search is, for whoever wants to hear it.
+//!
+//! [`Watching::at`] is called before a state is gone on from, at the first and then at each 256th, and answers
+//! nothing. How it is shown to a person is the command's to say.
 
 /// A place that is told how far a search is. What it makes of that is its own: no answer depends on it.
 pub trait Watching {

@@ -1,4 +1,8 @@
 //! The lines of memory that steps store to.
+//!
+//! [`Written::note`] is called before each step that is followed, as only then the machine tells what the step can
+//! store to; unseen steps store nothing. A line stays on the list for the whole search: on these lines alone
+//! machines are compared, copied and taken back (`place`).
 
 ghost use Rattle.std.specs.Prelude.{◌≡◌, ◌↔◌, ◌/◌, ◌<◌, ◌^◌, ℕ, Contains, IfOk, OnOk, false, length, true};
 ghost use Rattle.tm_core.specs.IaImage.Program.{opening_memory as memory_of};

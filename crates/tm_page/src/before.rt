@@ -1,4 +1,8 @@
-//! What the machine shows of a core before its step.
+//! What the machine shows of a core before its step, as far as the step may change it.
+//!
+//! [`Before::of`] is called just before the step, and asks for the lines of the sets, which alone need memory, and
+//! for what is said of the step (`tm_why`). The bytes that a transaction keeps for itself are not among it: they
+//! come to `difference` as a list of addresses.
 
 ghost use Rattle.std.specs.Prelude.{IfOk};
 ghost use Rattle.tm_page.specs.Before.{IsBefore};

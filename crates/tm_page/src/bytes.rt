@@ -1,4 +1,8 @@
-//! Bytes that a step stored.
+//! Bytes that a step stored, read behind it: memory's, or those that its core sees.
+//!
+//! [`accessed_bytes`] and [`memory_bytes`] are for what all cores see, [`private_bytes`] for a step in a
+//! transaction. An address outside of memory gives no byte. Which of them a step's outcome asks for stands in
+//! `difference`.
 
 ghost use Rattle.std.specs.Prelude.{◌≡◌, ◌<◌, ℕ, IfOk, OnOk, Some, None, if◌then◌else◌, length, nat_eq, slice_index};
 ghost use Rattle.tm_core.specs.Seen.{byte_seen};

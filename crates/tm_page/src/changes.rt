@@ -1,4 +1,7 @@
-//! Registers before and behind a step.
+//! Registers before and behind a step: [`changes`] has those that differ, by their new values.
+//!
+//! A register that was written with its own value is none of them. Of which core they are, and that an abort puts
+//! back more than a step writes, is not known here.
 
 ghost use Rattle.std.specs.Prelude.{◌≡◌, unwrap_or};
 ghost use Rattle.tm_page.specs.Applied.{patched, patched_list};

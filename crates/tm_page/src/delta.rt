@@ -1,4 +1,8 @@
-//! What a step changes.
+//! What a step changes, as values: a [`PageDelta`] and its parts.
+//!
+//! They are made in `difference` and read by who writes a page; what is done with one is said in words in
+//! `specs/Applied.antt`. It holds nothing that stays as it was, so it means something only behind the page before
+//! it.
 
 use ia_regs::Flags;
 use tm_model::{CoreState, Hit, Outcome};

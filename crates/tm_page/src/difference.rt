@@ -1,4 +1,8 @@
-//! What is other behind a step.
+//! What is other behind a step: [`delta_of`], of what was shown before it, its outcome, and the machine behind it.
+//!
+//! The lists come first, as they need memory; then the rest is put together, which does not. The outcome decides
+//! which bytes count as stored, and that a step in whose place an abort from outside came hit nobody. The step is
+//! made by the caller.
 
 ghost use Rattle.std.specs.Prelude.{◌≡◌, ◌<◌, ◌&&◌, not, ℕ, IfOk, Ok, Some, None, if◌then◌else◌, length, slice_index_or};
 ghost use Rattle.std.specs.FinSet as set;
@@ -118,6 +122,7 @@ fn stored_by(
     match outcome {
         Outcome::Inside => private_bytes(alloc, machine, before.asked.core, before.reach.store),
         Outcome::Plain => accessed_bytes(alloc, machine.view(), before.reach.store),
+        // Not what the XEND reaches, but all that the transaction kept.
         Outcome::Committed => memory_bytes(alloc, machine.view(), kept),
         Outcome::Loaded
         | Outcome::Stopped(_)

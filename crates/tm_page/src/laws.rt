@@ -1,4 +1,8 @@
-//! Laws of pages. The functions do nothing: their contracts are the laws.
+//! Laws of pages: of the deltas of a whole run, of private bytes, of a difference, and of the cores that a delta
+//! names.
+//!
+//! The functions do nothing: their contracts are the laws, of the definitions alone. What a single call makes is
+//! promised beside it, in `difference`.
 
 ghost use Rattle.tm_page.specs.Difference.{DifferencesAreDeltas, NamesCondemned};
 ghost use Rattle.tm_page.specs.Shows.{SeesPrivate, StatesStand};

@@ -1,4 +1,7 @@
-//! Lines of the sets of a core.
+//! Lines of the sets of a core: those of now, and those that joined a list.
+//!
+//! [`joined`] tells no line that left: a set grows step by step, and is given up as a whole, which the outcome or a
+//! hit says. Lines are numbers of 64 bytes each, and are told in the order of the new list.
 
 ghost use Rattle.std.specs.Prelude.{◌≡◌, ◌&&◌, ◌||◌, IfOk, OnOk, nat_eq, not, true, ℕ};
 ghost use Rattle.std.specs.FinSet as set;

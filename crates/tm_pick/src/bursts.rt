@@ -1,4 +1,8 @@
 //! Bursts: steps of one core side by side, whose length is drawn.
+//!
+//! The mean is drawn once, by [`Bursts::new`]. [`Bursts::next`] then draws at each step whether the core goes on,
+//! and where it does not, or has stopped, draws one of all cores, which may be the same again. A core at a PAUSE
+//! gets no other chance.
 
 ghost use Rattle.std.specs.Prelude.{◌≤◌, ◌<◌, Contains, length};
 
@@ -37,6 +41,7 @@ impl Bursts {
         ensures among { Contains going.now result }
         ensures drawn { IsOfBursts self.old going.now result self.new }
     {
+        // Drawn also where the core has stopped.
         let goes_on = self.chance.below(self.mean) != 0;
         if goes_on && going.contains(self.last) {
             return self.last;

@@ -1,4 +1,7 @@
-//! Numbers by chance.
+//! Numbers by chance: generators that are a function of the seed and the number of a run alone.
+//!
+//! [`Chance::of_run`] draws the cores of a run and [`Chance::of_events`] its events, so that neither moves the
+//! other's numbers. Nothing is asked of the system; the seed itself comes with a schedule's options.
 
 ghost use Rattle.std.specs.Prelude.{◌≡◌, ◌<◌, ◌^◌, Contains, IsPermutation, length};
 ghost use Rattle.rand.specs.Shuffle.{shuffled};

@@ -1,4 +1,7 @@
-//! How the events of a run are drawn.
+//! Which events the runs of a search come under: none, those of a rate that is said, or of one that each run draws.
+//!
+//! [`Events::of_run`] makes an [`Interferer`] for one run; where all is drawn, the rate comes before the kinds.
+//! What is drawn at each step stands in `lot`, and the text of the option is read in `elide_setup`.
 
 ghost use Rattle.std.specs.Prelude.{◌≡◌, ◌<◌};
 ghost use Rattle.tm_pick.specs.Begun.{AreEventsOf, IsDrawnLot, kinds_at};

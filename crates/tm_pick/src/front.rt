@@ -1,4 +1,8 @@
 //! A schedule that is given, and what comes behind it.
+//!
+//! [`Front::next`] goes through the list from the left, past the steps of cores that have stopped, and each pick
+//! has the event that the list says. Once the list is used up the cores run to their ends (`tail`) or in turn
+//! (`turn`), under no event. Events that are drawn besides are put in by `picker`.
 
 ghost use Rattle.std.specs.Prelude.{◌≡◌, ◌<◌, Contains, IfSome, length};
 

@@ -1,4 +1,8 @@
-//! The cores that have not stopped.
+//! The cores that have not stopped, in the order of their numbers.
+//!
+//! No machine is looked at here: who makes the steps takes a core out with [`Going::remove`] when it has stopped. A
+//! core is asked for only while one is left. What picks may hold cores that have stopped since, and asks
+//! [`Going::contains`].
 
 ghost use Rattle.std.specs.Prelude.{◌≡◌, ◌≢◌, ◌↔◌, ◌<◌, ◌≤◌, All, AllPairs, Contains, IfNone, IfSome, IsTrue, ℕ, List};
 ghost use Rattle.std.specs.Prelude.{length, slice_index};

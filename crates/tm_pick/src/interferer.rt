@@ -1,4 +1,8 @@
-//! The events of one run.
+//! The events of one run, for who picks its cores in another way.
+//!
+//! [`Interferer::next`] is asked once for each step, or [`Interferer::steps_before`] for many, which draws the same
+//! numbers, so that the steps under no event can be made as one run. Where there are no events, nothing is drawn.
+//! By what they are drawn is `lot`'s.
 
 ghost use Rattle.std.specs.Prelude.{◌≡◌, ◌<◌, ◌≤◌, IfNone, IfSome, None};
 ghost use Rattle.tm_pick.specs.Kinds.{IsOfKinds, no_kinds};

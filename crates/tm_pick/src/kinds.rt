@@ -1,4 +1,7 @@
-//! The kinds of events.
+//! The kinds of events that may come, and which of them comes.
+//!
+//! One number is drawn among the kinds that are said, in the order interrupt, eviction, snoop; where none is said
+//! there is no event and no number is drawn. Whether a step comes under an event at all is drawn before, in `lot`.
 
 ghost use Rattle.std.specs.Prelude.{◌≡◌, ◌<◌, ◌≤◌, true};
 ghost use Rattle.tm_pick.specs.Befalls.{kind_at, kind_count, kind_drawn};

@@ -1,4 +1,7 @@
-//! The draw of a run's events.
+//! The draw of a run's events: for each step whether it comes under one, and then of which kind.
+//!
+//! [`Lot::steps_before`] draws as [`Lot::next`] would for one step after another, and no further than the first
+//! event. The rate and the kinds are chosen before the run, by `events`.
 
 ghost use Rattle.std.specs.Prelude.{◌≡◌, ◌<◌, ◌≤◌, IfNone, IfSome};
 

@@ -1,4 +1,8 @@
-//! The ways to pick.
+//! The ways to pick, under one type, and what each is told of the core of the step before.
+//!
+//! [`Manner::heeds`] is asked of the machine behind that step, and its answer handed to [`Manner::next`]; a way
+//! that heeds nothing asks nothing of the machine. Just a list has events of its own: those that are drawn are
+//! `picker`'s. Which way a run by chance takes is said by `method`.
 
 ghost use Rattle.std.specs.Prelude.{◌≡◌, ◌<◌, Contains, IfNone, IfSome, None, Some, false, length};
 

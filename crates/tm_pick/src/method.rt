@@ -1,4 +1,7 @@
-//! How the steps of a run by chance are drawn.
+//! By which method a run by chance draws its cores, and from which numbers.
+//!
+//! [`Plan::run`] takes the method that is asked for, or of the mix the one that the run's number says, gives it the
+//! generator of the run, and then the events theirs. How each method draws stands in the module of its name.
 
 ghost use Rattle.std.specs.Prelude.{◌≡◌, ◌≢◌, ◌≤◌};
 ghost use Rattle.tm_pick.specs.Begun.{AreCoresOf, AreEventsOf};

@@ -1,4 +1,8 @@
-//! What picks each step.
+//! What picks each step: a way to pick cores, and beside it the draw of events.
+//!
+//! Of each step, [`Picker::heeds`] comes first, of the machine behind the step before, and then [`Picker::next`]
+//! with its answer and the cores that have not stopped. An event of a list goes before one that is drawn. The step
+//! is made by the caller, who also takes stopped cores out of [`Going`].
 
 ghost use Rattle.std.specs.Prelude.{◌≡◌, ◌<◌, ◌≤◌, ℕ, Contains, IfNone, IfSome, None, Some, false, length};
 ghost use Rattle.tm_pick.specs.Befalls.{IsDrawnEvent};
@@ -153,7 +157,7 @@ impl<'a> Picker<'a> {
         Picker { manner, lot: None }
     }
 
-    /// The same picks, under these events besides those of its list.
+    /// What this one picks, under these events besides those of its list.
     pub fn under(self, interferer: Interferer) -> Picker<'a>
         ensures kinds { self.entry.kinds ≡ no_kinds → result.kinds ≡ interferer }
         ensures turn { result.turn ≡ self.entry.turn }
@@ -162,7 +166,7 @@ impl<'a> Picker<'a> {
         self.under_lot(interferer.into_lot())
     }
 
-    // The same, with events that are drawn by this, where there is one.
+    // As [`Picker::under`], with events that are drawn by this, where there is one.
     #[tactic(auto, using(crate::proofs::OfKinds::draw_alone))]
     pub(crate) fn under_lot(self, lot: Option<Lot>) -> Picker<'a>
         ensures kinds { self.entry.kinds ≡ no_kinds → result.kinds ≡ kinds_drawn lot }
@@ -190,6 +194,7 @@ impl<'a> Picker<'a> {
         ensures drawn { is_listed self.old.manner ≡ false → IsDrawnEvent self.old.lot result.event self.new.lot }
         ensures picked { IsPicked told self.old.manner going.now result.core self.new.manner }
     {
+        // Drawn for each step, also where the list has an event, so that no event moves those behind it.
         let drawn = next_event(&mut self.lot);
         let pick = self.manner.next(going, told);
         Pick {

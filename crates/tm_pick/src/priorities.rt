@@ -1,4 +1,8 @@
-//! Random priorities (PCT).
+//! Random priorities (PCT): an order of the cores, of which the first that has not stopped steps.
+//!
+//! The order is drawn first and then the steps at which a core falls behind, all of it in [`Priorities::new`];
+//! [`Priorities::next`] draws nothing. A fall comes before the step is picked, and moves the core of the step
+//! before. Whether that is at a PAUSE is told by the caller (`waiting`).
 
 ghost use Rattle.std.specs.List.{range_with_len};
 ghost use Rattle.std.specs.Prelude.{◌≡◌, ◌≤◌, ◌<◌, ℕ, Contains, IsPermutation, false, length};

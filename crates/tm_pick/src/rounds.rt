@@ -1,4 +1,8 @@
-//! Rounds whose order is drawn.
+//! Rounds whose order is drawn: each core once, then a new order.
+//!
+//! [`Rounds::next`] passes over cores that have stopped since the round was drawn, and draws the next round only
+//! when this one is used up. A round counts the steps for which `seen` asks, not those of a core that goes on
+//! without a draw.
 
 ghost use Rattle.std.specs.Prelude.{◌≡◌, ◌<◌, [], Contains, length};
 ghost use Rattle.tm_pick.specs.Chances.{words_of};

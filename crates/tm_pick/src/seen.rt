@@ -1,4 +1,8 @@
-//! Draws where other cores see a step.
+//! Draws where other cores see a step, and none where they do not.
+//!
+//! [`Seen::next`] is told whether the next step of the core that stepped last is unseen (`unseen`): then this core
+//! goes on, up to so many steps in a row. Otherwise a core is drawn, each alike or in rounds (`rounds`), and it
+//! makes its step whether it is seen or not.
 
 ghost use Rattle.std.specs.Prelude.{◌≡◌, ◌<◌, Contains, length};
 ghost use Rattle.tm_pick.specs.Chances.{words_of};

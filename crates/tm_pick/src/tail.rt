@@ -1,4 +1,8 @@
-//! Letting the cores run to their ends.
+//! Letting the cores run to their ends, one after another, behind a list.
+//!
+//! [`Tail::next`] keeps to a core until it has stopped, is at a PAUSE or has made its most steps in a row, and then
+//! takes the next one by number. Nothing is drawn. [`most_in_a_row`], the bound for this, holds for `priorities`
+//! and `seen` too.
 
 ghost use Rattle.std.specs.Prelude.{◌≡◌, ◌<◌, Contains, length};
 ghost use Rattle.tm_pick.specs.Rows.{longest_row};

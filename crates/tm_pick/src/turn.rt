@@ -1,4 +1,7 @@
-//! Round by round.
+//! Round by round: each core one step, in the order of their numbers.
+//!
+//! [`Turn::next`] goes on behind the core that it picked last, also where that one has stopped since. It draws
+//! nothing and heeds nothing; where a round begins is said by [`Turn::behind`].
 
 ghost use Rattle.std.specs.Prelude.{◌≡◌, ◌<◌, Contains, Some, length};
 ghost use Rattle.tm_pick.specs.Turns.{IsInTurn};

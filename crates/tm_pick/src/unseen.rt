@@ -1,4 +1,8 @@
-//! Steps that no other core sees.
+//! Which next steps no other core sees: [`is_unseen`].
+//!
+//! Asked before the step, of the machine as it stands, for `seen` alone; that a step is unseen changes only which
+//! cores are drawn. Of steps in a transaction just the abort of one that is condemned counts as such.
+//! `tm_outcomes`, whose search rests on unseen steps, has a definition of its own.
 
 use tm_core::{CoreState, Machine, Program};
 use tm_rule::{Code, fetch, load_at, row};

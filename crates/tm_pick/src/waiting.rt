@@ -1,4 +1,7 @@
-//! Cores that wait.
+//! Which cores wait for another: [`is_waiting`].
+//!
+//! Asked of the machine before the core's next step, for those ways to pick by which a core gives way at a PAUSE
+//! (`priorities`, `tail`). A loop that waits without one is not known as such, and ends by the most steps in a row.
 
 use ia_insn::Op;
 use ia_word::BareOp;

@@ -1,4 +1,8 @@
 //! What a step does, told from the machine before it and behind it.
+//!
+//! [`Before::of`] is asked first, and keeps what the core sees where the step loads, as the step may store there.
+//! Behind the step [`Before::deed`] looks at where it stored, and leaves out both where the outcome says that the
+//! instruction did not go on. The step is made by the caller between the two.
 
 ghost use Rattle.std.specs.Prelude.{◌≡◌, ◌↔◌, ◌<◌, ℕ, IfSome, IsSome, Option, length, true};
 ghost use Rattle.tm_core.specs.Seen.{byte_seen};

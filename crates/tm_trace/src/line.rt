@@ -1,4 +1,8 @@
 //! The outcome line of a step that goes on with what the step did.
+//!
+//! [`write_step`] is the whole line; [`write_front`], [`write_deed`] and [`write_values`] are its parts, for who
+//! puts something between or writes lines of another form. The front is that of an outcome line (`tm_hist`), with
+//! the address behind it.
 
 ghost use Rattle.std.specs.Prelude.{◌≡◌, ◌+◌, ◌≤◌, ◌++◌, codes};
 ghost use Rattle.arrayvec.specs.ArrayVec.{array_vec_len};

@@ -1,4 +1,9 @@
-//! What a machine says of a step before it is made.
+//! What a machine says of a core's step before it is made: whom it hits, on which line, and why it is an abort, if
+//! it is one.
+//!
+//! The step is planned once, and the cores are gone through only where it may hit one. [`Asked::of`] makes a row of
+//! hits and [`Asked::anew`] fills one that is there, for who asks before every step. That an event comes in place
+//! of the step is not known yet: `row` leaves its hits out by the outcome.
 
 ghost use Rattle.std.specs.Prelude.{◌≡◌, ℕ, ◌↔◌, ◌<◌, ◌≤◌, IfOk, IsOk, None, OnErr, OnOk, length, slice_index_or};
 ghost use Rattle.tm_core.specs.Previewed.{IsPreview};
@@ -78,6 +83,7 @@ impl Asked {
             return Err(NoSuchCore);
         }
         let preview = machine.preview(core)?;
+        // Before `below` changes, which says how far the row is filled.
         clear(&mut self.hits, self.below);
         self.below = hits_of(machine, &preview, &mut self.hits);
         self.core = core;
@@ -115,7 +121,7 @@ fn hits_of(machine: &Machine, preview: &Preview, hits: &mut [Option<Hit>; MOST_C
     }
 }
 
-// The same of a step that may hit a core.
+// As [`hits_of`], of a step that may hit a core: each core is asked for.
 fn put_hits(machine: &Machine, preview: &Preview, hits: &mut [Option<Hit>; MOST_CORES]) -> u8
     requires preview { IsPreview machine.now preview.now }
     requires empty { (k : ℕ) → slice_index_or hits.old k None ≡ None }

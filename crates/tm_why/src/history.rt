@@ -1,4 +1,9 @@
-//! The steps of a history, of which a watch is told.
+//! A watch behind the history of a board ([`watched`]), and the reason of the step that would be next
+//! ([`reason_of`]).
+//!
+//! The steps are made once more on a board of their own, the machine asked before each (`asked`), as the board that
+//! is given tells only outcomes; it is not stepped. Who makes the steps anyway tells a [`Watch`] of them, and needs
+//! nothing of this.
 
 ghost use Rattle.std.specs.Prelude.{◌≡◌, ◌↔◌, ◌+◌, ◌++◌, ◌<◌, ◌∷◌, [], Err, IfOk, OnOk, length};
 ghost use Rattle.tm_hist.specs.Back.{IsFirst};
@@ -66,6 +71,7 @@ fn watch_step(
     ensures first { OnOk result (IsFirst board.now (made + 1) first.new) }
     ensures told { OnOk result (IsWatchOf board.now (made + 1) watch.new) }
 {
+    // These calls do nothing: their contracts say that the step that follows is owed.
     board.is_run();
     first.is_run();
     let _made = board.made();

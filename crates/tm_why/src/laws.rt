@@ -1,4 +1,7 @@
-//! Laws of what is watched. The function does nothing: its contract is the law.
+//! The law of what is watched: a hit stands on a core exactly while the core is doomed.
+//!
+//! The function does nothing: its contract is the law, of the definitions alone, for owed steps whose hits are
+//! told. That a watch keeps what they say is promised by [`Watch::told`](crate::Watch::told).
 
 ghost use Rattle.tm_why.specs.Standing.{HitsStand};
 

@@ -1,4 +1,8 @@
 //! The line that tells why a core's next step is an abort.
+//!
+//! [`write_reason`] puts it together in a row of fixed room and hands it to the device as one: the core, the
+//! machine's reason, the hit, if one stands, and when the transaction began. Which steps have such a line, and what
+//! stands around it, is for the commands to say.
 
 ghost use Rattle.std.specs.Prelude.{◌≡◌, ◌+◌, ◌≤◌, ◌++◌, length};
 ghost use Rattle.arrayvec.specs.ArrayVec.{array_vec_len};

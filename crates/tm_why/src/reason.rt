@@ -1,4 +1,7 @@
-//! Why a step was an abort.
+//! Why a step was an abort, as a value: the machine's reason, with what was watched of the transaction.
+//!
+//! `watch` makes a [`Reason`] before the step is taken in, and `line` writes it. An abort from outside has none, as
+//! its outcome says all.
 
 use crate::row::Watched;
 use tm_core::AbortReason;

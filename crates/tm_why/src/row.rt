@@ -1,4 +1,8 @@
-//! What is kept of a core.
+//! What a watch keeps of one core: when its open transaction began, and the hit that condemned it.
+//!
+//! [`row_after`] says it for each core, [`take_own`] for the one that steps, in place. A hit that stands is not
+//! replaced by a later one, and only the core's own step takes it away. A step in whose place an abort from outside
+//! came has hit nobody.
 
 ghost use Rattle.std.specs.Prelude.{◌≡◌, ◌<◌};
 ghost use Rattle.tm_why.specs.Rows.{row_after, row_after_other, row_after_own};

@@ -1,4 +1,7 @@
-//! A run that is watched.
+//! A run that is watched: a [`Watch`] is told of each step, in their order, with what the machine said before it.
+//!
+//! [`Watch::reason`] and [`Watch::begun`] are asked before [`Watch::told`], which may end the transaction that they
+//! speak of. No machine is asked and no step made here: `asked` and the caller do that.
 
 ghost use Rattle.std.specs.Prelude.{◌≡◌, ℕ, ◌<◌, ◌^◌, ◌-◌, ◌∷◌, [], List, length, slice_index_or};
 ghost use Rattle.tm_why.specs.Watched.{outside};

@@ -1,4 +1,8 @@
-//! The desk that threads share.
+//! The desk that threads share: a board under a lock, with a seat for each core.
+//!
+//! [`Desk::open`] takes all memory and gives out the seats; [`Desk::turn`] and its like make steps of one seat
+//! while they have the lock; [`Desk::close`] takes the board back and holds the seats against the ledger. How a
+//! step is made and noted stands in `desk_state`. Threads are started by `workers`: a desk knows of none.
 
 ghost use Rattle.std.specs.Prelude.{◌≡◌, ◌≢◌, ◌+◌, ◌<◌, ◌≤◌, true, ◌++◌, ◌∷◌, [], length, All, IfOk, IfErr, IfSome, IfNone};
 ghost use Rattle.std.specs.Prelude.{None};
@@ -134,7 +138,7 @@ impl<J: DeskIdentity> Desk<J> {
         state.into_board()
     }
 
-    // The same of seats in two lists.
+    // As [`Desk::close`], of seats in two lists.
     pub(crate) fn close_both(self, seats: Vec<Seat<J>>, others: VecDeque<Seat<J>>) -> Board
         ensures goes_on { GoesOn J.given result }
         ensures events { IsDisturbed J.events J.given result }

@@ -1,4 +1,8 @@
-//! What lies under the desk's lock.
+//! What lies under the desk's lock: the board, and a ledger of what each seat knows of it.
+//!
+//! A turn makes a step and then notes it, in the seat and in the ledger; a row of turns makes its steps first and
+//! notes them once. Where no step is to be made the seat learns that it has ended. For how long the lock is kept is
+//! decided by `desk` and `manner`.
 
 ghost use Rattle.std.specs.Prelude.{◌≡◌, ◌≢◌, ◌↔◌, ◌+◌, ◌<◌, ◌≤◌, ◌⊎◌, ℕ, true, [], ◌∷◌, ◌++◌, length, All};
 ghost use Rattle.std.specs.Prelude.{Err, IfOk, IfSome, IfNone};

@@ -1,4 +1,7 @@
-//! Why no work was done, or not all of it.
+//! Why no work was done, or not all of it: no memory (61), or a thread that was not made (60).
+//!
+//! Memory is asked for before the first thread is started. Either fault gives the board back: as it was, or with
+//! the steps of those who worked. That a core has stopped or the history is full is none, but ends a worker.
 
 ghost use Rattle.std.specs.Prelude.{◌≡◌};
 ghost use Rattle.tm_work.specs.Faults.{work_number};

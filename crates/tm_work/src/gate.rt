@@ -1,4 +1,7 @@
-//! What a worker tells the world.
+//! What a worker tells the world around each of its turns, and may wait for there.
+//!
+//! [`Gate::before`] and [`Gate::after`] are called without the desk's lock, so that others' turns may come between
+//! either and the turn. Workers that make several steps under one lock have no gate: of them a `watch` hears.
 
 use tm_hist::Outcome;
 

@@ -1,4 +1,8 @@
-//! How a worker makes its steps.
+//! How a worker makes its steps, until its budget is used or its core makes none.
+//!
+//! [`Gated`] calls a gate, makes one turn, and calls it again. [`Steady`] meets the others (`meeting`), makes a
+//! burst of turns under one lock, each under the event that comes with it (`plan`), and tells its watch now and
+//! then. The threads are `workers`'.
 
 ghost use Rattle.std.specs.Prelude.{◌≡◌, ◌<◌};
 ghost use Rattle.tm_pick.specs.declared.events.Events.{Events};

@@ -1,4 +1,8 @@
-//! Where workers wait for each other.
+//! Where workers wait for each other, so that short programs are not run one core after another.
+//!
+//! [`Meeting::meet`] is called before a burst, and never under the desk's lock; [`Meeting::leave`] by who comes no
+//! more or was never started. Nothing that is promised depends on it: it ends by itself where somebody does not
+//! come.
 
 use std::hint::spin_loop;
 use std::sync::atomic::{AtomicU64, Ordering};

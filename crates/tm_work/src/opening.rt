@@ -1,4 +1,8 @@
-//! A board that is about to be shared.
+//! A board that is about to be shared, with the ledger for its seats.
+//!
+//! [`Opening::new`] comes before the call that is generic in the desk's identity, so that the contract of this call
+//! can speak of the board and of the identity that the ledger can get. [`Opening::named`] then gives both to the
+//! desk. No seat is made here.
 
 ghost use Rattle.std.specs.Prelude.{◌≡◌, [], IfErr, IfOk};
 ghost use Rattle.tm_work.specs.Faults.{IsNoMemory, board_in};

@@ -1,4 +1,7 @@
 //! A lock that is waited for in rests.
+//!
+//! [`PatientLock::lock`] waits asleep; [`PatientLock::take`] looks, rests and looks again, and in the end waits as
+//! the other does. Which is asked for when is said in `desk`. Who has the lock next is promised by neither.
 
 use std::hint::spin_loop;
 use std::sync::atomic::AtomicU64;
@@ -43,7 +46,8 @@ impl<T: Drop> PatientLock<T> {
         self.value.lock(rt)
     }
 
-    /// The same after rests, where somebody has it. Who has rested often waits as for `lock`, so that nobody waits for long.
+    /// As [`PatientLock::lock`], after rests, where somebody has it. Who has rested often waits as for `lock`, so
+    /// that nobody waits for long.
     pub(crate) fn take<'a>(&'a self, rt: &'a impl Wait) -> MutexGuard<'a, T> {
         for _ in 0..MOST_RESTS {
             if let Some(value) = self.look() {

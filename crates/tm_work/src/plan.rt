@@ -1,4 +1,7 @@
 //! Which events come with the workers' steps.
+//!
+//! [`EventPlan::of_core`] gives each core draws of its own, as of the run of its number, so that they depend on no
+//! thread; between which steps of other cores an event comes does. The drawing is `tm_pick`'s.
 
 ghost use Rattle.tm_pick.specs.Drawn.{AreDrawn};
 

@@ -1,4 +1,7 @@
-//! What is known of one core's turns.
+//! What is known of one core's turns: how many steps, the last of them, and whether there is no more.
+//!
+//! A [`Progress`] is kept twice, by the seat and by the ledger, and both are written at once (`seat`). Of the steps
+//! of other cores it says nothing, but that the last one's place in the history counts them.
 
 use tm_hist::Outcome;
 

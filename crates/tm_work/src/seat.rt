@@ -1,4 +1,8 @@
 //! Seats, and the desk that they belong to.
+//!
+//! A [`Seat`] goes into its worker's thread and comes back with what its turns came to. It is written under the
+//! desk's lock alone, together with its line in the ledger; reading it needs no lock. A seat of another desk does
+//! not fit: the identity is part of its type.
 
 ghost use Rattle.std.specs.Prelude.{◌≡◌, ◌<◌, length, Some, slice_get, slice_set};
 ghost use Rattle.tm_work.specs.Seats.{seat_with};
@@ -67,6 +71,7 @@ impl<J: DeskIdentity> Seat<J> {
         ensures seat { self.new ≡ seat_with self.old.core progress }
         ensures core { self.old.core < length J.given.program.entries }
     {
+        // Noting uses the token up and gives another, so that no old progress is noted over a new one.
         let Some(token) = self.token.take() else {
             unreachable!()
         };

@@ -1,4 +1,8 @@
-//! One worker a core, each in a thread of its own.
+//! One worker a core, each in a thread of its own: [`run_workers`] and [`run_steadily`].
+//!
+//! All memory is asked for, the desk opened, and the threads started in the order of the cores while the desk is
+//! held; then they are joined, and the desk closed. Where a thread is not made, those before it work to their ends,
+//! and the fault gives the board back. What a worker does is its `manner`.
 
 ghost use Rattle.std.specs.Prelude.{◌≡◌, ◌<◌, ◌≤◌, ◌+◌, [], ℕ, length, IfOk, IfErr, Some, slice_get, slice_index};
 ghost use Rattle.std.specs.Prelude.{vec_capacity, vec_len, IfNone, IfSome};
@@ -74,11 +78,12 @@ pub fn run_workers<G: Gate, R: Threads + Wait + Sync>(
     run_at::<Brand, Gated<'_, G>, R>(rt, alloc, opening, budgets, &Gated { gate })
 }
 
-/// The same without a gate, and with several steps under one lock: [`Desk::turns`] in place of turns one by one, as many
-/// at a time as the burst says. Before its first bursts each worker waits a while for the others, so that they make
-/// these side by side. Each step comes under the event that the plan has for it, a function of the plan, the core and the
-/// number of the core's steps before; without events none is aborted from outside of the program. While they work, the watch
-/// hears now and then how long the history is; of a worker with few steps it hears nothing.
+/// As [`run_workers`], without a gate, and with several steps under one lock: [`Desk::turns`] in place of turns one
+/// by one, as many at a time as the burst says. Before its first bursts each worker waits a while for the others,
+/// so that they make these side by side. Each step comes under the event that the plan has for it, a function of
+/// the plan, the core and the number of the core's steps before; without events none is aborted from outside of the
+/// program. While they work, the watch hears now and then how long the history is; of a worker with few steps it
+/// hears nothing.
 pub fn run_steadily<W: Watch + Sync, R: Threads + Wait + Sync>(
     rt: &R,
     alloc: Global,
@@ -115,6 +120,7 @@ fn run_at<J: DeskIdentity + Send + Sync, M: Manner, R: Threads + Wait + Sync>(
     ensures events { IfOk result (λ r. IsDisturbed J.events opening.given r.board) }
     ensures fault_events { IfErr result (λ e. IsDisturbed J.events opening.given (board_in e)) }
 {
+    // All lists first: a thread that was started has to be joined and told of.
     let count = budgets.len();
     let Ok(handles) = Vec::with_capacity(alloc, count) else {
         return Err(WorkFault::NoMemory(opening.into_board()));
