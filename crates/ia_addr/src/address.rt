@@ -20,9 +20,11 @@ pub fn address_of(place: &Mem, regs: &Regs) -> u32
         scale,
         disp,
     } = *place;
-    let sum = u64::from(part(base, regs))
-        + u64::from(part(index, regs)) * u64::from(scale)
-        + u64::from(disp);
+    let start = u64::from(part(base, regs)) + u64::from(disp);
+    let sum = match index {
+        None => start,
+        Some(number) => start + u64::from(regs.get(number)) * u64::from(scale),
+    };
     (sum % 0x1_0000_0000) as u32
 }
 
