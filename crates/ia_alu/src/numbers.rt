@@ -29,20 +29,8 @@ pub(crate) fn as_signed(width: Width, operand: u32) -> i64
     ensures high { result <ℤ pos (2 ^ 31) }
 {
     match width {
-        Width::B => {
-            if operand < 0x80 {
-                i64::from(operand)
-            } else {
-                i64::from(operand) - 0x100
-            }
-        }
-        Width::D => {
-            if operand < 0x8000_0000 {
-                i64::from(operand)
-            } else {
-                i64::from(operand) - 0x1_0000_0000
-            }
-        }
+        Width::B => i64::from((operand as u8).cast_signed()),
+        Width::D => i64::from(operand.cast_signed()),
     }
 }
 
