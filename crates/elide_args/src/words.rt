@@ -140,7 +140,7 @@ fn any_named<'a>(alloc: Global, name: &str, options: &ArgMatches<'a>) -> Option<
     }
 }
 
-// The same but for those of several values of their own. None, too, where there is no memory.
+// `any_named` for the subcommands that it does not name: each takes FILE. None, too, where there is no memory.
 fn subcommand_named<'a>(
     alloc: Global,
     name: &str,
@@ -208,7 +208,7 @@ fn hunt_of<'a>(alloc: Global, options: &ArgMatches<'a>) -> Option<HuntOptions<'a
     })
 }
 
-// The options of `outcomes`, the same.
+// The options of `outcomes`, where there is memory for those that are given several times.
 fn search_of<'a>(alloc: Global, options: &ArgMatches<'a>) -> Option<OutcomesOptions<'a>>
     ensures { IfSome result (IsSearch (found_of options.now)) }
 {

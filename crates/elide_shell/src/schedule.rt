@@ -28,7 +28,7 @@ pub fn put_schedule<O: Out>(path: Option<&str>, picks: &[Pick], out: &mut O) -> 
     }
 }
 
-// The same of a schedule that was not.
+// `put_schedule` of a schedule that was not recorded.
 fn put_steps<O: Out>(picks: &[Pick], out: &mut O) -> Result<(), Failed>
     ensures { OnOk result (Wrote (O.device out.old) (O.device out.new) (steps_option picks.now)) }
 {

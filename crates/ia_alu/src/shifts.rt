@@ -37,7 +37,7 @@ pub fn shift(op: ShiftOp, a: u32, count: u8, flags: Flags) -> (u32, Flags)
     }
 }
 
-// The same for a count from 1 to 31.
+// `shift` for a count from 1 to 31.
 #[tactic(auto, unfolding(crate::specs::Shifts::moved_value, crate::specs::Shifts::moved_flags))]
 fn moved(op: ShiftOp, a: u32, by: u32, flags: Flags) -> (u32, Flags)
     requires some { 0 < by }

@@ -33,7 +33,7 @@ fn take_code<'t>(
     Ok(taken)
 }
 
-/// Their bytes and symbols.
+/// The bytes and the symbols of the entries of a source that is laid out.
 fn take_program<'t, 'a: 't>(
     alloc: Global,
     layout: &'t ProgramLayout,
@@ -53,7 +53,7 @@ fn take_program<'t, 'a: 't>(
     Ok(taken)
 }
 
-/// Their lines in the listing.
+/// The lines that the entries of a source that is laid out have in the listing.
 fn take_lines<'t>(
     alloc: Global,
     layout: &'t ProgramLayout,
@@ -69,7 +69,7 @@ fn take_lines<'t>(
     Ok(taken)
 }
 
-/// Their bytes, symbols and lines in the listing.
+/// The bytes, the symbols and the lines in the listing of the entries of a source that is laid out.
 fn take_everything<'t, 'a: 't>(
     alloc: Global,
     layout: &'t ProgramLayout,

@@ -268,7 +268,7 @@ fn not_read<'a>(piece: &Piece<'a>) -> Option<Suspect<'a>> {
     Some(Suspect::plain(Finding::at(piece, meaning)))
 }
 
-// The same of another width in place of a register or a size word.
+// A register or a size word, where the line is read with one of another width in its place.
 fn width<'a>(piece: &Piece<'a>) -> Option<Suspect<'a>> {
     let (others, meaning) = other_width(piece)?;
     Some(Suspect::cured(Finding::at(piece, meaning), piece, others))

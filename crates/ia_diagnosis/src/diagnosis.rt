@@ -53,7 +53,7 @@ fn found<'a>(
     finding
 }
 
-// The same among the pieces of a line.
+// `found` among the pieces of the line.
 fn found_among<'a>(
     alloc: Global,
     line: FaultyLine<'a>,

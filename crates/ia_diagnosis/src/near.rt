@@ -28,7 +28,7 @@ impl<'w, 'a> Nearest<'w, 'a> {
         }
     }
 
-    /// The same with one more name.
+    /// The nearest with one more name, which counts where it is nearer than the one so far.
     pub fn with(self, alloc: Global, name: &'a [u8]) -> Result<Nearest<'w, 'a>, AllocError> {
         match distance(alloc, self.word, name, self.below)? {
             Some(away) if away < self.below => Ok(Nearest {

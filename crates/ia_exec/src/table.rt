@@ -34,7 +34,7 @@ pub fn finish(insn: &Insn, len: u8, regs: &Regs, loaded: u32, depth: u8) -> Done
     }
 }
 
-/// The same with the registers in place. A fault, HLT and an abort leave them as they were; an XBEGIN and an XEND leave
+/// [`finish`] with the registers in place. A fault, HLT and an abort leave them alone; an XBEGIN and an XEND leave
 /// EIP behind the instruction, and the rest as it was.
 #[tactic(auto, unfolding(crate::specs::Table::finish_of))]
 pub fn finish_in(insn: &Insn, len: u8, regs: &mut Regs, loaded: u32, depth: u8) -> Finished
@@ -52,7 +52,7 @@ pub fn finish_in(insn: &Insn, len: u8, regs: &mut Regs, loaded: u32, depth: u8) 
     finished
 }
 
-// The same with EIP already behind the instruction, where it stays.
+// `finish_in` with EIP already behind the instruction, where it stays.
 #[tactic(auto, unfolding(crate::specs::Table::done_of))]
 fn finish_behind(op: &Op, regs: &mut Regs, loaded: u32, depth: u8) -> Finished
     requires { IsTrue (encodable op.now) }

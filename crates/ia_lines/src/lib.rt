@@ -2,7 +2,8 @@
 //! section 6.2, "Line Number Information").
 //!
 //! [`read_lines`] goes over the units of `.debug_line` in order: header, tables of files, line number program. It
-//! refuses nothing: a unit that is damaged, of another version or of 64 bits gives no lines, and the others stand.
+//! refuses nothing: a unit that is damaged or of another version gives no lines, and the others stand. At one of 64
+//! bits, or that goes past the section, reading ends.
 //!
 //! Promises that the row of an address is the first of the table that covers it (`specs/Table.antt`); that an opcode is
 //! read, and does to the registers and the table, what the standard says (`specs/Opcodes.antt`, `specs/Machine.antt`);

@@ -1,4 +1,7 @@
-//! A buffer that takes over another's lines.
+//! A buffer that takes over another's lines with their bytes, one line a call, in their order.
+//!
+//! [`Buffer::copy_next`] is told the slot of each, as the sets of the two need not have given a line the same one. It
+//! is how a machine becomes as another one is (`tm_core`): the buffer is emptied before.
 
 ghost use Rattle.std.specs.Prelude.{◌≡◌, ◌+◌, ◌*◌, ◌/◌, ◌<◌, ◌≤◌, ◌==◌, ◌++◌, ◌∷◌, [], ℕ, Some, if◌then◌else◌, length};
 ghost use Rattle.std.specs.Prelude.{slice_index, take};

@@ -1,4 +1,7 @@
-//! Why a store is not taken, or a buffer not made.
+//! Why a store is not taken (30), or a buffer not made (33): a type for each, as no call can end in both ways.
+//!
+//! A store by slots is never refused: who has slots for its lines has room. So a machine, whose sets refuse a line
+//! before (`tm_sets`), never sees 30.
 
 ghost use Rattle.std.specs.Prelude.{◌≡◌};
 

@@ -1,4 +1,7 @@
-//! Whether two buffers have stored the same bytes.
+//! Whether two buffers have stored the same bytes: [`Buffer::is_same`], line by line, by masks and then by bytes.
+//!
+//! Each line of one is looked for in the other, first at its own place; then each line of the other must be here, or
+//! have no byte. The order of lines, their slots and what stands beside the masks make no difference.
 
 ghost use Rattle.std.specs.Prelude.{◌≡◌, ◌↔◌, ◌<◌, ℕ, IsTrue, None, length, slice_index};
 ghost use Rattle.std.specs.Int.{bit_at};

@@ -1,4 +1,7 @@
 //! Lines with their masks and bytes, as plain rows: each at its place, in the order of the first stores.
+//!
+//! What reads and writes a row without changing which lines there are stands here: a line's place, a byte or four of
+//! them, and the writing of all to memory ([`drain`]). Places are given, and slots kept, in `stored`.
 
 ghost use Rattle.std.specs.Prelude.{◌≡◌, ◌==◌, ◌+◌, ◌*◌, ◌/◌, ◌%◌, ◌^◌, ◌<◌, ◌≤◌, ℕ, ◌&&◌, if◌then◌else◌, length};
 ghost use Rattle.std.specs.Prelude.{slice_index, Some, IfSome};

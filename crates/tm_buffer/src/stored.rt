@@ -1,4 +1,8 @@
-//! The buffer.
+//! The buffer: stores, loads over memory, and the writing of all bytes at a commit.
+//!
+//! A store comes in two ways: [`Buffer::put`] searches for its lines and may be refused, [`Buffer::put_at`] is told
+//! their slots and may not; loads likewise. A byte of a place counts only where its mask has it, so clearing forgets
+//! lines and touches no byte. That memory has the addresses is the caller's to see to.
 
 ghost use Rattle.std.specs.Prelude.{◌≡◌, ◌+◌, ◌/◌, ◌^◌, ◌<◌, ◌≤◌, ◌==◌, [], ◌∷◌, ◌++◌, length, slice_index, nat_lt};
 ghost use Rattle.std.specs.Prelude.{is_err, if◌then◌else◌, IfOk, IfSome, OnOk, OnErr, IsSome, IsNone, IsTrue, unwrap_or};
@@ -136,7 +140,7 @@ impl Buffer {
         Ok(())
     }
 
-    /// The same store, by the slots of the access's lines: the first for the line of its first byte and, where it
+    /// [`Buffer::put`] by the slots of the access's lines: the first for the line of its first byte and, where it
     /// crosses a line's end, the second for that of its last. Asked with a slot for each line: the one that the line
     /// holds, or for a new line one that no line holds, and another for each. Slots may come in any order. There is
     /// room for each slot, so that nothing is refused.
@@ -199,7 +203,7 @@ impl Buffer {
         }
     }
 
-    /// The same load, by the slots of the access's lines, in the order of `put_at`. Asked with the slot that a line
+    /// [`Buffer::overlay`] by the slots of the access's lines, in the order of `put_at`. Asked with the slot a line
     /// holds; for a line that has no byte with none, or with one that no line holds.
     #[inline(always)]
     pub fn overlay_at(
@@ -280,7 +284,7 @@ impl Buffer {
         }
     }
 
-    /// The same, or of none where no slot is given.
+    /// What `place_at` answers for a slot, and none where no slot is given.
     #[inline(always)]
     fn place_or_none(&self, line: u32, slot: Option<u32>) -> Option<usize>
         requires { IsSlotOrNone self.now line slot }

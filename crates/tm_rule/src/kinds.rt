@@ -1,4 +1,8 @@
-//! What the tests speak of.
+//! What the tests speak of: the code, why a core stops, and what one instruction comes to outside of transactions and
+//! inside.
+//!
+//! Results come in two forms, with the registers or beside registers that are changed in place, which is what a step
+//! uses. What stops a core outside is a cause of an abort inside, and no stop.
 
 ghost use Rattle.ia_decode.specs.Offsets.{AreDecoded};
 

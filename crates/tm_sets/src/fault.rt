@@ -1,4 +1,7 @@
-//! Why a line is not added, or a list not made.
+//! Why a line is not added (31), or the sets or a list not made (32).
+//!
+//! `Full` is what a transaction's capacity means: the machine aborts it for that (`tm_core`). Want of memory comes only
+//! when sets are made and when lines are listed.
 
 ghost use Rattle.std.specs.Prelude.{◌≡◌};
 

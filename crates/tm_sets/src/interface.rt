@@ -1,4 +1,8 @@
-//! What every representation of the sets answers.
+//! What every representation of the sets answers, by what it contains and not by how it is kept.
+//!
+//! That cores and lines are below the numbers that the sets were made for is asked for and not tested. The questions of
+//! a step count the entries that they visit, which bounds what they cost; `holds` asks without a count, and changes
+//! nothing. Which line an access touches is known to `ia_word`, what follows from a conflict to `tm_core`.
 
 ghost use Rattle.std.specs.Prelude.{◌≡◌, ◌<◌, ◌≤◌, ◌^◌, ℕ, Bool, ◌&&◌, not, nat_eq, true, is_err, Option, IsSome, IfOk};
 ghost use Rattle.std.specs.Prelude.{OnOk, OnErr, IsTrue};

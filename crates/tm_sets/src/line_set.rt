@@ -1,4 +1,7 @@
-//! A bounded set of lines, kept as a plain list.
+//! A bounded set of lines, kept as a plain list, each line once and in the order in which they came.
+//!
+//! A line's place does not change until all are taken away, so that it serves as the line's slot. Room is reserved when
+//! the set is made; a listing is sorted, the list never is. It is used by `plain` alone.
 
 ghost use Rattle.std.specs.Prelude.{◌≡◌, ◌<◌, ◌≤◌, ◌&&◌, not, nat_le, length, is_err, is_some, IsSome, ℕ, [], IfOk};
 ghost use Rattle.std.specs.Prelude.{IfSome, OnOk};

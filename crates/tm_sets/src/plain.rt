@@ -1,4 +1,8 @@
 //! The sets as plain lists of lines, one a core and kind.
+//!
+//! A question for a line searches the lists, core by core, and costs what they hold; a slot is a place in the list of
+//! written lines. Beside `threaded` they show that what a machine promises does not hang on the way in which its sets
+//! are kept.
 
 ghost use Rattle.std.specs.Prelude.{◌≡◌, ◌<◌, ◌≤◌, ◌^◌, ℕ, Bool, ◌&&◌, ◌||◌, not, nat_eq, length, [], is_err, IfOk};
 ghost use Rattle.std.specs.Prelude.{IfSome};

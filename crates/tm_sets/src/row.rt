@@ -1,4 +1,7 @@
-//! The entries of a directory, in one row of fixed length.
+//! The entries of a directory, in one row of fixed length, and the two calls that change it.
+//!
+//! [`hook`] puts an entry in front of both its lists, [`unhook`] takes it off both and onto the free list, which goes
+//! by the field of the core's list. The heads of the lists, and how many lines a core has, are `threaded`'s to keep.
 
 ghost use Rattle.std.specs.Prelude.{◌≡◌, ◌+◌, ◌^◌, ◌<◌, ◌≤◌, length};
 ghost use Rattle.tm_sets.specs.Row.{entry_at, hooked, unhooked};

@@ -1,4 +1,8 @@
 //! The sets as one row of entries, each on the list of its core and on the list of its line.
+//!
+//! An entry comes to the front of both lists, and is freed from the front of its core's: nothing is searched to clear a
+//! core. A slot is how many lines the core had written before. All memory is taken by [`Directory::new`], a head for
+//! each line of memory with it.
 
 ghost use Rattle.std.specs.Prelude.{◌≡◌, ◌+◌, ◌-◌, ◌*◌, ◌^◌, ◌<◌, ◌≤◌, ℕ, true, false, Bool, not, ◌&&◌, nat_eq};
 ghost use Rattle.std.specs.Prelude.{◌==◌, if◌then◌else◌, length, slice_index, slice_set, is_some, IfOk, IfSome};

@@ -1,4 +1,7 @@
 //! Why a transaction aborts, and what its status tells of it.
+//!
+//! A [`Cause`] is one thing that happened in the machine; [`Causes`] are the bits by which a program finds out, which
+//! tell less, and may be those of any word. Between them goes `word`.
 
 /// Why a transaction aborts.
 #[derive(Clone, Copy, PartialEq, Eq, Debug)]

@@ -1,4 +1,7 @@
-//! Statuses as words.
+//! Statuses as words: [`status`] of a cause, and [`causes`] of any word.
+//!
+//! Want of room and too deep a nesting have the same bits, and many causes none, so the way back does not end at the
+//! cause. Which bits say that it may succeed on a retry is decided here: for a conflict alone.
 
 ghost use Rattle.std.specs.Prelude.{◌≡◌, ◌<◌};
 ghost use Rattle.tm_status.specs.Status.{status_of, causes_of, told_by, has_bit};

@@ -113,7 +113,7 @@ pub fn write_schedule<O: Out>(picks: &[Pick], out: &mut O) -> Result<(), WriteFa
     write_drawn(has_event(picks), picks, out)
 }
 
-/// The same of steps that were drawn: in the third form, where one of them may have come under an event.
+/// [`write_schedule`] of steps that were drawn: in the third form, where one of them may have come under an event.
 pub fn write_drawn<O: Out>(has_events: bool, picks: &[Pick], out: &mut O) -> Result<(), WriteFault>
     ensures { Writes (O.device out.old) (O.device out.new) (drawn_text has_events picks.now) result }
 {
