@@ -13,10 +13,11 @@ use ia_round_trip::{
     source_assembles_to_its_bytes, source_reads_back, text_has_its_tokens, text_is_one_line,
 };
 use ia_source::entries;
-use ia_text::{Out, ToVec, write_insn};
+use ia_text::write_insn;
 use ia_word::{AluOp, Condition, Width};
 use std::alloc::Global;
 use std::test::Fail;
+use text_out::{Out, ToVec};
 
 /// The instruction that a text asks for, with its numbers left out.
 fn read(alloc: Global, text: &[u8]) -> Option<Insn> {

@@ -6,9 +6,9 @@ use elide_advice::advise;
 use elide_args::{ExplainOptions, Subcommand};
 use elide_program::{Obstacle, Paths, ReadFault, Text};
 use elide_setup::{Fault, Refusal};
-use ia_text::{Failed, ToVec};
 use std::alloc::Global;
 use std::process::Abort;
+use text_out::{Failed, ToVec};
 
 // Files of which none is there.
 #[derive(Clone, Copy, Debug)]

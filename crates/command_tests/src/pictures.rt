@@ -1,10 +1,10 @@
 //! Pictures of runs that are told by hand.
 
 use crate::markup::elements_of;
-use ia_text::ToVec;
 use std::alloc::{AllocError, Global};
 use std::str;
 use std::test::Fail;
+use text_out::ToVec;
 use tm_model::{Interference, Outcome};
 use tm_timeline::{Label, LineLabels, LineUse, Rows, Timeline, Window};
 

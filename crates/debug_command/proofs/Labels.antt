@@ -8,8 +8,8 @@ use Rattle.ia_text.specs.Listing.{listing_line}
 use Rattle.debug_command.specs.Places.{labelled_line, names_text}
 use Rattle.std.proofs.lemmas.Grind.{flat_map-append}
 use Rattle.std.proofs.lemmas.List.{take-append-drop}
-use Rattle.ia_text.specs.Writing.{Device, Stopped, Wrote}
-use Rattle.ia_text.proofs.Writing.{stopped_first, stopped_then}
+use Rattle.text_out.specs.Writing.{Device, Stopped, Wrote}
+use Rattle.text_out.proofs.Writing.{stopped_first, stopped_then}
 
 -- the parts before i were written, and a beginning of the part at i
 pub stopped_at : {X : Type 0} {a b c : Device} (f : X → List ℕ) (xs : List X) (i : ℕ) (x : X) → i < length xs → x ≡ get_or xs i x → Wrote a b (flat_map f (take i xs)) → Stopped b c (f x) → Stopped a c (flat_map f xs)

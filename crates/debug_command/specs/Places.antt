@@ -3,7 +3,7 @@ use Rattle.std.specs.Prelude.{ℕ, ◌-◌, ◌==◌, if◌then◌else◌, List,
 use Rattle.std.specs.Prelude.{max, nat_le, Option, Some, None}
 use Rattle.std.specs.List.{flat_map, reduce}
 use Rattle.ia_text.specs.Listing.{listing_line}
-use Rattle.ia_text.specs.Number.{number}
+use Rattle.text_out.specs.Number.{number}
 use Rattle.debug_command.specs.declared.symbol.Symbol.{Symbol}
 
 -- the greatest address of a label up to this one

@@ -1,6 +1,6 @@
 -- The refusals of a line: their numbers, and the lines that tell them (docs/FORMATS.md, "Debugger").
 use Rattle.std.specs.Prelude.{ℕ, List, ◌++◌, codes}
-use Rattle.ia_text.specs.TextLine.{line_end, number_text}
+use Rattle.text_out.specs.TextLine.{line_end, number_text}
 use Rattle.debug_command.specs.declared.command.CommandName.{CommandName}
 use Rattle.debug_command.specs.declared.command.CommandName.TheVariants as name
 use Rattle.debug_command.specs.declared.manner.Manner.{Manner}

@@ -2,7 +2,7 @@
 //!
 //! Promised: a line is the command, or the refusal, that `specs/Commands.antt` says, by the symbols of a program; the
 //! lines that tell a refusal, plainly or with words; and which label tells an address. Stands on `ia_lex` (numbers),
-//! `tm_schedule` (the word of a step) and `ia_text` (listings, and devices that are written to); takes no memory.
+//! `tm_schedule` (the word of a step), `ia_text` (listings) and `text_out` (devices); takes no memory.
 #![tactic(auto)]
 
 mod address;

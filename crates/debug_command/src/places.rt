@@ -5,13 +5,14 @@ ghost use Rattle.std.specs.Option.{option_copied};
 ghost use Rattle.debug_command.specs.declared.symbol.Symbol.{Symbol};
 ghost use Rattle.arrayvec.specs.ArrayVec.{array_vec_len};
 ghost use Rattle.ia_text.specs.Listing.{shown_bytes};
-ghost use Rattle.ia_text.specs.Writing.{Writes};
+ghost use Rattle.text_out.specs.Writing.{Writes};
 ghost use Rattle.debug_command.specs.Places.{distance_text, label_near, label_text, labelled_line, name_line, names_text, nearest};
 ghost use Rattle.debug_command.specs.Places.{place_text};
 
 use crate::symbol::Symbol;
-use ia_text::page::{Page, push, push_number};
-use ia_text::{Out, WriteFault, write_line};
+use ia_text::write_line;
+use text_out::page::{Page, push, push_number};
+use text_out::{Out, WriteFault};
 
 // The greatest address of a label up to this one.
 fn nearest(labels: &[Symbol], address: u32) -> Option<u32>

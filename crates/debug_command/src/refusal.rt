@@ -2,15 +2,15 @@
 
 ghost use Rattle.std.specs.Prelude.{◌≡◌, ◌++◌};
 ghost use Rattle.arrayvec.specs.ArrayVec.{array_vec_len};
-ghost use Rattle.ia_text.specs.Writing.{Writes};
+ghost use Rattle.text_out.specs.Writing.{Writes};
 ghost use Rattle.debug_command.specs.Refusals.{arguments_line, cores_line, plain_line, range_line, refusal_code, refusal_line};
 ghost use Rattle.debug_command.specs.Refusals.{spoken_line};
 
 use crate::command::CommandName;
 use crate::manner::Manner;
-use ia_text::page::push;
-use ia_text::text_line::{TextLine, push_number};
-use ia_text::{Out, WriteFault};
+use text_out::page::push;
+use text_out::text_line::{TextLine, push_number};
+use text_out::{Out, WriteFault};
 use thiserror::Error;
 
 /// The numbers that a command takes within a range.

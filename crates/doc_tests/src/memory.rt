@@ -4,9 +4,9 @@ ghost use Rattle.std.specs.Prelude.{◌≤◌, IfOk, None, length};
 
 use elide_command::{Obstacle, Paths, ReadFault, Text};
 use elide_trial::SharedPaths;
-use ia_text::{Failed, ToVec};
 use std::alloc::{AllocError, Global};
 use std::collections::BTreeMap;
+use text_out::{Failed, ToVec};
 
 /// What stands under a name.
 #[derive(Drop)]

@@ -3,12 +3,12 @@
 use doc_lines::{Devices, Room, Told};
 use elide_command::{Paths, Silent, Surroundings, Terminals};
 use elide_trial::{SharedPaths, command};
-use ia_text::ToWriter;
 use std::alloc::{AllocError, Global};
 use std::io;
 use std::io::{Read, Write};
 use std::sync::Wait;
 use std::thread::Threads;
+use text_out::ToWriter;
 use tm_debug::FromReader;
 
 /// The exit status, and what was written.

@@ -14,11 +14,11 @@ use arguments::{USUAL_ROOM, Words, read_words};
 use elide_command::{Again, Surroundings, Terminals};
 use elide_trial::{SystemPaths, command};
 use environment::{asks_for_no_colors, asks_for_words};
-use ia_text::{Out, ToWriter};
 use progress::ProgressLine;
 use std::io;
 use std::io::IsTerminal;
 use std::process::ExitCode;
+use text_out::{Out, ToWriter};
 use tm_debug::FromReader;
 
 fn main(rt: HostRuntime) -> ExitCode {

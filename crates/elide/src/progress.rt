@@ -6,9 +6,9 @@
 
 use arrayvec::ArrayString;
 use elide_command::Progress;
-use ia_text::Out;
 use std::fmt::Write;
 use std::time::{Clock, Duration, Instant};
+use text_out::Out;
 
 /// Work of fewer milliseconds tells nothing.
 const LONG: u64 = 2000;

@@ -18,10 +18,10 @@ use elide_args::Subcommand;
 use elide_program::{Paths, ProgramFault};
 use elide_setup::{BoardFault, Fault, MachineFault, Refusal, RunFault, StepFault};
 use ia_image::ImageFault;
-use ia_text::Out;
 use std::alloc::Global;
 use std::fmt;
 use std::fmt::Write;
+use text_out::Out;
 
 /// Writes where the fault of a command stands and what is meant, for a person at a terminal. FILE and a schedule's file are read
 /// again. Nothing is written where there is nothing to add, and it ends where no memory is left or the device fails. Painted

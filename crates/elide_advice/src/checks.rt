@@ -9,10 +9,10 @@ use crate::symbols::{advise_unknown, unknown_in};
 use elide_args::Subcommand;
 use elide_checks::{Misread, Wanted, first_misread};
 use elide_program::{MOST_BYTES, Paths, ProgramFile};
-use ia_text::Out;
 use std::alloc::Global;
 use std::fmt;
 use std::fmt::Write;
+use text_out::Out;
 
 /// What is asked of a search by `--check` or `--forbid`.
 #[derive(Clone, Copy)]

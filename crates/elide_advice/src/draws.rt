@@ -6,9 +6,9 @@
 use crate::asked::schedule_of;
 use crate::page::Page;
 use elide_args::Subcommand;
-use ia_text::Out;
 use std::fmt;
 use std::fmt::Write;
+use text_out::Out;
 
 /// Writes what `--events` takes.
 pub fn advise_events<O: Out>(subcommand: &Subcommand<'_>, page: &mut Page<'_, O>) -> fmt::Result {

@@ -5,9 +5,9 @@
 
 use crate::page::Page;
 use elide_color::Style;
-use ia_text::Out;
 use std::fmt;
 use std::fmt::{Display, Write};
+use text_out::Out;
 
 /// The most bytes of a line that are shown.
 const WIDTH: usize = 100;

@@ -8,9 +8,9 @@ use crate::asked::{file_of, page_of, record_of, schedule_of};
 use crate::page::Page;
 use elide_args::Subcommand;
 use elide_program::{MOST_BYTES, Paths, ReadFault};
-use ia_text::Out;
 use std::fmt;
 use std::fmt::Write;
+use text_out::Out;
 
 // The path of the schedule.
 fn schedule_path<'s>(subcommand: &'s Subcommand<'_>) -> Option<&'s str> {

@@ -9,9 +9,9 @@ use crate::page::Page;
 use elide_args::{MachineOptions, Subcommand};
 use elide_program::number_of;
 use ia_image::LoadFault;
-use ia_text::Out;
 use std::fmt;
 use std::fmt::Write;
+use text_out::Out;
 
 /// The bytes of the least memory of a core, and of a machine's own.
 const PAGE: u64 = 4096;

@@ -9,9 +9,9 @@ use crate::machine::cores_of;
 use crate::page::Page;
 use elide_args::{ScheduleOptions, Subcommand};
 use elide_program::number_of;
-use ia_text::Out;
 use std::fmt;
 use std::fmt::Write;
+use text_out::Out;
 
 /// Writes how an option is used.
 pub fn advise_misuse<O: Out>(

@@ -6,9 +6,9 @@
 use elide_color::{ENDING, Style};
 use elide_setup::{Gathered, Lent};
 use elide_shell::{Mark, put_escaped};
-use ia_text::Out;
 use std::fmt;
 use std::fmt::{Display, Write};
+use text_out::Out;
 
 /// A device that text is formatted to, painted or not.
 #[derive(Drop)]

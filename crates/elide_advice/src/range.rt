@@ -7,9 +7,9 @@ use crate::asked::machine_of;
 use crate::machine::{cores_of, memory_of};
 use crate::page::Page;
 use elide_args::Subcommand;
-use ia_text::Out;
 use std::fmt;
 use std::fmt::Write;
+use text_out::Out;
 
 /// Writes which value of an option asks for memory or a core that is not there. Of several values the fault does not tell which.
 pub fn advise_range<O: Out>(subcommand: &Subcommand<'_>, page: &mut Page<'_, O>) -> fmt::Result {

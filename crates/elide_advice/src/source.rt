@@ -10,10 +10,10 @@ use elide_color::Style;
 use elide_program::{MOST_BYTES, Paths};
 use ia_asm::AsmFault;
 use ia_diagnosis::{Diagnosis, diagnose};
-use ia_text::Out;
 use std::alloc::Global;
 use std::fmt;
 use std::fmt::Write;
+use text_out::Out;
 
 /// Writes where the faults of a source stand and what is meant. The first one was told.
 pub fn advise_source<P: Paths, O: Out>(

@@ -11,10 +11,10 @@ use crate::page::Page;
 use elide_args::Subcommand;
 use elide_program::{MOST_BYTES, Paths};
 use ia_lex::first_line;
-use ia_text::Out;
 use std::alloc::Global;
 use std::fmt;
 use std::fmt::Write;
+use text_out::Out;
 use tm_schedule::{ScheduleFault, read_schedule, read_steps};
 
 /// Writes which step names a core that is not there.

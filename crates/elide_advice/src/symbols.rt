@@ -11,10 +11,10 @@ use elide_args::{MachineOptions, Subcommand};
 use elide_program::{MOST_BYTES, Paths, ProgramFile};
 use ia_asm::ProgramImage;
 use ia_diagnosis::Meaning;
-use ia_text::Out;
 use std::alloc::{AllocError, Global};
 use std::fmt;
 use std::fmt::Write;
+use text_out::Out;
 
 /// Names that are longer are near none.
 const MOST: usize = 64;

@@ -17,10 +17,10 @@ use crate::subcommand::{
 };
 use clap::error::ErrorKind;
 use clap::{ArgMatches, Error};
-use ia_text::Out;
 use std::alloc::{AllocError, Global};
 use std::fmt;
 use std::fmt::Write;
+use text_out::Out;
 
 /// What words come to that make no subcommand.
 #[derive(Clone, Copy, PartialEq, Eq, Debug)]

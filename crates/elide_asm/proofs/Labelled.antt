@@ -5,8 +5,8 @@ use Rattle.std.proofs.lemmas.Bool.Decides.{nat_tests}
 use Rattle.std.proofs.lemmas.List.{get_or-take, get_or-drop, take-append-drop, take_more}
 use Rattle.std.proofs.lemmas.List.Concat.{flat_map-append}
 use Rattle.std.proofs.lemmas.List.Elements.{filter-append}
-use Rattle.ia_text.proofs.Writing.{wrote_then}
-use Rattle.ia_text.specs.Writing.{Device, Wrote}
+use Rattle.text_out.proofs.Writing.{wrote_then}
+use Rattle.text_out.specs.Writing.{Device, Wrote}
 
 -- ---- what a test leaves of a list
 

@@ -1,7 +1,7 @@
 -- The lines of a listing with labels, one behind the other.
 use Rattle.std.proofs.Common.{◌≡◌, ℕ, ◌+◌, ◌-◌, ◌<◌, ◌≤◌, Bool, true, false, leb, if◌then◌else◌, List, ◌++◌, Option, Some, None, refl, sym, arith, subst, length, take, drop, length-drop, length-take, leb-true, unwrap_or}
 use Rattle.ia_foreign.specs.Length.{foreign_length, length_by_maps, within}
-use Rattle.ia_text.proofs.Writing.{rest_is}
+use Rattle.text_out.proofs.Writing.{rest_is}
 use Rattle.elide_asm.specs.Labelled.{IsLine, IsListed, address_of, foreign_bytes, mark_lines, marks_at}
 use Rattle.elide_asm.specs.declared.marks.Mark.{Mark}
 

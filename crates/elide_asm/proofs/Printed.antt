@@ -1,7 +1,7 @@
 -- What comes of a source that FILE holds.
 use Rattle.std.proofs.Common.{ℕ, Bool, List, Option, Result, MatchResult, inr}
 use Rattle.std.proofs.lemmas.Result.{MatchResult-weaker}
-use Rattle.ia_text.specs.Writing.{Device}
+use Rattle.text_out.specs.Writing.{Device}
 use Rattle.elide_program.specs.Files.{Gives, most_bytes}
 use Rattle.elide_program.specs.declared.fault.ProgramRefusal.{ProgramRefusal}
 use Rattle.elide_asm.specs.Printed.{IsAssembly, Prints, PrintsAssembly, RefusesAssembly, RefusesSource}

@@ -10,7 +10,7 @@ use Rattle.ia_decode.specs.IaInsn.Reading.{decoding_of}
 use Rattle.ia_foreign.specs.Length.{foreign_length, is_foreign_code}
 use Rattle.ia_foreign.specs.declared.words.Words.{Words}
 use Rattle.ia_text.specs.Listing.{in_places, listing_line, shown_bytes}
-use Rattle.ia_text.specs.Number.{eight_digits, number}
+use Rattle.text_out.specs.Number.{eight_digits, number}
 use Rattle.elide_asm.specs.declared.marks.Mark.{Mark}
 
 -- ---- labels

@@ -6,8 +6,8 @@ use Rattle.ia_asm.specs.declared.assembly.CodeImage.{CodeImage}
 use Rattle.ia_asm.specs.declared.fault.AsmFault.{AsmFault}
 use Rattle.ia_image.specs.ImageText.{image_text}
 use Rattle.ia_text.specs.Listing.{listing}
-use Rattle.ia_text.specs.Writing.{Device, Stopped, Wrote}
-use Rattle.ia_text.specs.declared.out.WriteFault.{WriteFault}
+use Rattle.text_out.specs.Writing.{Device, Stopped, Wrote}
+use Rattle.text_out.specs.declared.out.WriteFault.{WriteFault}
 use Rattle.elide_program.specs.Faults.{unread_source}
 use Rattle.elide_program.specs.Files.{Gives, Tells, most_bytes}
 use Rattle.elide_program.specs.ProgramFile.{IsFile, file_base, file_bytes, file_code_len}

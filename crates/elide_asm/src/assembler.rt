@@ -12,8 +12,8 @@ use elide_args::AsmOptions;
 use elide_program::{Paths, ProgramFault, ProgramRefusal, read_source};
 use ia_asm::{assemble_code, assemble_listing};
 use ia_image::write_image;
-use ia_text::{Out, WriteFault};
 use std::alloc::Global;
+use text_out::{Out, WriteFault};
 
 /// Prints the image text of a source, or its listing.
 pub fn asm<P: Paths, O: Out>(

@@ -14,8 +14,9 @@ use elide_args::DisOptions;
 use elide_places::Places;
 use elide_program::{Paths, ProgramFault, ProgramFile, ProgramRefusal, read_file};
 use ia_image::LoadFault;
-use ia_text::{Out, disassemble};
+use ia_text::disassemble;
 use std::alloc::Global;
+use text_out::Out;
 
 /// Prints the listing of the code, with its labels where they are asked for, and gives the device back.
 pub fn dis<P: Paths, O: Out + Drop>(

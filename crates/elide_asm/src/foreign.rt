@@ -8,13 +8,13 @@ ghost use Rattle.std.specs.Prelude.{◌≡◌, ◌+◌, ◌<◌, ◌≤◌, ◌+
 ghost use Rattle.arrayvec.specs.ArrayVec.{array_vec_len};
 ghost use Rattle.ia_decode.specs.IaInsn.Reading.{decoding_of};
 ghost use Rattle.ia_text.specs.Listing.{in_places};
-ghost use Rattle.ia_text.specs.Writing.{Writes};
+ghost use Rattle.text_out.specs.Writing.{Writes};
 ghost use Rattle.elide_asm.specs.Labelled.{db_text, foreign_line, name_text, next_byte, outcome_text};
 
 use ia_decode::{DecodeFault, decode};
 use ia_foreign::Words;
-use ia_text::page::{Page, push, push_bytes, push_eight, push_number};
-use ia_text::{Out, WriteFault};
+use text_out::page::{Page, push, push_bytes, push_eight, push_number};
+use text_out::{Out, WriteFault};
 
 /// What comes of code that the decoder refuses, where a core comes to it: an instruction that takes no LOCK has one, or
 /// it is none of the subset.

@@ -14,8 +14,8 @@ use crate::marks::{Mark, marks_of};
 use elide_places::Places;
 use elide_program::{ProgramFault, ProgramRefusal};
 use elide_setup::Gathered;
-use ia_text::{Out, WriteFault};
 use std::alloc::Global;
+use text_out::{Out, WriteFault};
 
 /// Writes the listing of some code at an address with these places' labels, and gives the device back.
 ///

@@ -6,13 +6,14 @@
 
 ghost use Rattle.std.specs.Prelude.{◌≡◌, ◌<◌, ◌≤◌, ℕ, IfOk, List, length};
 ghost use Rattle.std.specs.List.Sorted.{IsNonDecreasingBy};
-ghost use Rattle.ia_text.specs.Writing.{Wrote, Writes};
+ghost use Rattle.text_out.specs.Writing.{Wrote, Writes};
 ghost use Rattle.elide_asm.specs.Labelled.{IsBeforeLabel, IsLine, IsListed, mark_lines, marks_at, name_line};
 
 use crate::foreign::{outcome_text, write_foreign};
 use crate::marks::{Mark, standing_at};
 use ia_foreign::foreign_in;
-use ia_text::{Out, WriteFault, write_line};
+use ia_text::write_line;
+use text_out::{Out, WriteFault};
 
 /// Writes the listing of some code at an address, with these labels, which stand in the order of their addresses.
 pub fn write_listing<O: Out>(

@@ -5,7 +5,7 @@ ghost use Rattle.arrayvec.specs.ArrayVec.{array_vec_len};
 ghost use Rattle.elide_color.specs.Painting.{beginning, painted};
 
 use arrayvec::ArrayVec;
-use ia_text::page::push;
+use text_out::page::push;
 
 /// What a text is, which tells its colour.
 #[derive(Clone, Copy, PartialEq, Eq)]

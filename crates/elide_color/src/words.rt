@@ -2,13 +2,13 @@
 
 ghost use Rattle.std.specs.Prelude.{◌≡◌, ◌+◌, ◌≤◌, MatchResult};
 ghost use Rattle.arrayvec.specs.ArrayVec.{array_vec_len};
-ghost use Rattle.ia_text.specs.Writing.{Rose};
+ghost use Rattle.text_out.specs.Writing.{Rose};
 ghost use Rattle.elide_color.specs.Painting.{held};
 
 use crate::style::{ENDING, Style};
 use arrayvec::ArrayVec;
-use ia_text::page::push;
-use ia_text::{Failed, Out};
+use text_out::page::push;
+use text_out::{Failed, Out};
 
 /// How many bytes are gathered before they are handed on.
 const ROOM: usize = 1024;

@@ -16,10 +16,10 @@ use elide_args::{CommandLine, NotASubcommand, Subcommand, command_line_of};
 use elide_color::When;
 use elide_program::{Paths, WarnedPaths};
 use elide_setup::{Fault, Progress, Refusal};
-use ia_text::Out;
 use std::alloc::Global;
 use std::sync::Wait;
 use std::thread::Threads;
+use text_out::Out;
 use tm_debug::In;
 
 /// Does what the words say, and gives the exit status: 0, 1 for a fault, 2 for a misused command line, 3 where a run failed what

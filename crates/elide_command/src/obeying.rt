@@ -23,10 +23,10 @@ use elide_session::{debug, gdb};
 use elide_setup::{Lent, Progress, Refusal, Terminals};
 use elide_stats::stats;
 use elide_threads::threads;
-use ia_text::Out;
 use std::alloc::Global;
 use std::sync::Wait;
 use std::thread::Threads;
+use text_out::Out;
 use tm_debug::In;
 
 /// Does what is asked for. `test`, whose commands come here, is misused.

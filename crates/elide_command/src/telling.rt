@@ -4,7 +4,7 @@
 //! status whether it was written or not. What is meant comes behind it, by `elide_advice`, which does take memory.
 
 ghost use Rattle.std.specs.Prelude.{◌≡◌, ◌≤◌, ◌+◌, ◌++◌, ◌∷◌, [], ℕ, List, codes, length};
-ghost use Rattle.ia_text.specs.Writing.{Writes};
+ghost use Rattle.text_out.specs.Writing.{Writes};
 ghost use Rattle.arrayvec.specs.ArrayVec.{array_vec_len};
 ghost use Rattle.elide_color.specs.Painting.{painted};
 ghost use Rattle.elide_color.specs.declared.style.Style.TheVariants as style;
@@ -15,9 +15,9 @@ ghost use Rattle.elide_setup.specs.Told.{fault_back, fault_front};
 use arrayvec::{ArrayString, ArrayVec};
 use elide_color::{Style, push_painted};
 use elide_setup::{Fault, Refusal, push_back, push_front};
-use ia_text::page::push;
-use ia_text::{Failed, Out};
 use std::fmt::Write;
+use text_out::page::push;
+use text_out::{Failed, Out};
 
 // The line that tells a fault.
 type Line = ArrayVec<u8, 160>;

@@ -25,8 +25,8 @@ use elide_setup::{
     read_file, record_path,
 };
 use elide_trace::labels_of;
-use ia_text::Out;
 use std::alloc::Global;
+use text_out::Out;
 use tm_timeline::{Label, Rows, Timeline};
 
 // What is asked for beside the program and its schedule.

@@ -5,9 +5,10 @@
 //! in `watch`, and they are named in `course`.
 
 use elide_setup::Machine;
-use ia_text::{ToVec, write_insn};
+use ia_text::write_insn;
 use std::alloc::{AllocError, Global};
 use std::str;
+use text_out::ToVec;
 use tm_model::Program;
 use tm_timeline::{Label, StepText};
 use tm_trace::{Before, Deed, Symbol, write_place, write_values};

@@ -6,7 +6,7 @@ use Rattle.std.specs.Cmp.Lexicographic.{pointwise}
 use Rattle.std.specs.List.{flat_map, list_all}
 use Rattle.ia_lex.specs.Lines.{onto}
 use Rattle.ia_lex.specs.Numbers.{word_number}
-use Rattle.ia_text.specs.Number.{eight_digits}
+use Rattle.text_out.specs.Number.{eight_digits}
 use Rattle.elide_expect.specs.declared.fronts.FrontReader.{FrontReader}
 use Rattle.elide_expect.specs.Words.{texts, words_of}
 

@@ -8,8 +8,8 @@ ghost use Rattle.elide_expect.specs.Words.{texts};
 use crate::words::words_of;
 use arrayvec::ArrayVec;
 use ia_lex::word_number;
-use ia_text::page::{push, push_eight};
 use std::alloc::{AllocError, Global};
+use text_out::page::{push, push_eight};
 
 /// The fronts of a beginning of the words.
 #[derive(Drop)]

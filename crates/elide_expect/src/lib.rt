@@ -6,7 +6,7 @@
 //!
 //! Promised: the tests that are read are those that `specs/Tests.antt` states for the text, or the first line that
 //! cannot be read; and a verdict is `Passes` exactly where the status and the lines are those that are expected, as
-//! `specs/Judged.antt` states. Stands on `ia_lex` (lines and numbers) and `ia_text` (hex digits); carries nothing out.
+//! `specs/Judged.antt` states. Stands on `ia_lex` (lines and numbers) and `text_out` (hex digits); carries nothing out.
 #![tactic(auto)]
 
 mod comment;

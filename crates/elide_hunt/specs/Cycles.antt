@@ -2,7 +2,7 @@
 use Rattle.std.specs.Prelude.{ℕ, nat_eq, nat_lt, List, [], ◌∷◌, ◌++◌, codes, length, Option, Some, None, if◌then◌else◌}
 use Rattle.std.specs.Fmt.{decimal}
 use Rattle.std.specs.List.{flat_map}
-use Rattle.ia_text.specs.TextLine.{line_end}
+use Rattle.text_out.specs.TextLine.{line_end}
 use Rattle.tm_model.specs.declared.outcome.Pick.{Pick}
 use Rattle.tm_schedule.specs.Picks.{pick_word}
 use Rattle.tm_hunt.specs.Cycle.{loop_of}

@@ -6,7 +6,7 @@ use Rattle.std.specs.Fmt.{decimal}
 use Rattle.elide_args.specs.declared.hunt_options.HuntOptions.{HuntOptions}
 use Rattle.elide_shell.specs.Options.{machine_text, schedule_text}
 use Rattle.elide_shell.specs.Shell.{path_word}
-use Rattle.ia_text.specs.TextLine.{line_end}
+use Rattle.text_out.specs.TextLine.{line_end}
 use Rattle.tm_model.specs.declared.outcome.Pick.{Pick}
 use Rattle.tm_hunt.specs.Cost.{events_in, switches_of}
 use Rattle.tm_hunt.specs.Deciding.{deciding}

@@ -7,15 +7,15 @@
 ghost use Rattle.std.specs.Prelude.{◌≡◌, ◌++◌, OnOk};
 ghost use Rattle.std.specs.List.{flat_map};
 ghost use Rattle.arrayvec.specs.ArrayVec.{array_vec_len};
-ghost use Rattle.ia_text.specs.Writing.{Wrote};
+ghost use Rattle.text_out.specs.Writing.{Wrote};
 ghost use Rattle.elide_hunt.specs.Again.{demand_text, demands_text, flag_text, hunt_command, plan_text, runs_text};
 ghost use Rattle.elide_shell.specs.Shell.{shell_word};
 
-use crate::report::{Line, push_decimal};
+use crate::report::Line;
 use elide_args::HuntOptions;
 use elide_shell::{put_machine, put_option, put_path, put_word};
-use ia_text::page::push;
-use ia_text::{Failed, Out};
+use text_out::page::{push, push_decimal};
+use text_out::{Failed, Out};
 
 /// Writes the command that makes the run of this number again: that of the options, without a record.
 pub fn put_hunt<O: Out>(options: &HuntOptions<'_>, run: u32, out: &mut O) -> Result<(), Failed>

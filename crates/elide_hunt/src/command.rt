@@ -43,9 +43,9 @@ use elide_checks::{
     record, record_path,
 };
 use elide_setup::{Paged, Pages, page_path};
-use ia_text::Out;
 use std::alloc::Global;
 use std::thread::Threads;
+use text_out::Out;
 use tm_hunt::{Cycle, Failure, Found, Search, Trial, find_cycle, shorten, usual_length};
 use tm_pick::Plan;
 

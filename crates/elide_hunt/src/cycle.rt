@@ -6,14 +6,14 @@
 ghost use Rattle.std.specs.Prelude.{◌≡◌, ◌≤◌, ◌++◌, OnOk};
 ghost use Rattle.std.specs.List.{flat_map};
 ghost use Rattle.arrayvec.specs.ArrayVec.{array_vec_len};
-ghost use Rattle.ia_text.specs.Writing.{Wrote};
+ghost use Rattle.text_out.specs.Writing.{Wrote};
 ghost use Rattle.elide_hunt.specs.Cycles.{cycle_front, cycle_text, from_text, loop_text, told_loop, word_text};
 ghost use Rattle.tm_hunt.specs.Cycle.{loop_of};
 
-use crate::report::{Line, push_decimal};
+use crate::report::Line;
 use elide_shell::step_word;
-use ia_text::page::push;
-use ia_text::{Failed, Out};
+use text_out::page::{push, push_decimal};
+use text_out::{Failed, Out};
 use tm_hunt::Cycle;
 use tm_model::Pick;
 

@@ -17,9 +17,9 @@ use crate::sending::{FailureObject, HuntObject};
 use elide_args::HuntOptions;
 use elide_checks::{Fault, Refusal, RunFault};
 use elide_object::object_line;
-use ia_text::Out;
 use std::alloc::{AllocError, Global};
 use std::str;
+use text_out::Out;
 use tm_hunt::{Found, Search};
 
 /// Prints the object of a search, with what is told beside its failure.

@@ -5,14 +5,14 @@
 //! written is not asked here: a search whose record fails prints nothing.
 
 ghost use Rattle.std.specs.Prelude.{◌≡◌, IfOk, OnOk};
-ghost use Rattle.ia_text.specs.Writing.{Wrote};
+ghost use Rattle.text_out.specs.Writing.{Wrote};
 ghost use Rattle.elide_hunt.specs.Lines.{is_short, replay_command, told_command, told_line};
 
 use crate::again::put_hunt;
 use elide_args::HuntOptions;
 use elide_shell::{put_machine, put_path, put_schedule};
-use ia_text::{Failed, Out, ToVec};
 use std::alloc::{AllocError, Global};
+use text_out::{Failed, Out, ToVec};
 use tm_model::Pick;
 
 /// The most steps of a schedule that is printed in a command line.

@@ -5,9 +5,8 @@
 //! is made in `command` and handed in as [`Beside`]. As an object a search is `object`'s.
 
 ghost use Rattle.std.specs.Prelude.{◌≡◌, ◌+◌, ◌≤◌, ◌++◌, OnOk};
-ghost use Rattle.std.specs.Fmt.{decimal};
 ghost use Rattle.arrayvec.specs.ArrayVec.{array_vec_len};
-ghost use Rattle.ia_text.specs.Writing.{Wrote};
+ghost use Rattle.text_out.specs.Writing.{Wrote};
 ghost use Rattle.elide_hunt.specs.Lines.{check_text, counts_line, counts_of, counts_text, deciding_text};
 ghost use Rattle.elide_hunt.specs.Lines.{events_text, failure_text, front_text, none_line, run_front, search_text, some_text};
 
@@ -15,9 +14,8 @@ use crate::cycle::put_cycle;
 use crate::replay::put_line;
 use arrayvec::ArrayVec;
 use elide_args::HuntOptions;
-use ia_text::page::push;
-use ia_text::{Failed, Out};
-use itoa::Buffer;
+use text_out::page::{push, push_decimal};
+use text_out::{Failed, Out};
 use tm_hunt::{Cycle, Found, Search, events, switches};
 use tm_model::Pick;
 
@@ -91,15 +89,6 @@ fn push_none(line: &mut Line, ended: u32, cut: u32)
     push(line, b" ended, ");
     push_decimal(line, u64::from(cut));
     push(line, b" reached the limit\n");
-}
-
-/// Adds a number in decimal digits.
-pub fn push_decimal(line: &mut Line, number: u64)
-    requires { array_vec_len line.old + 20 ≤ 320 }
-    ensures text { line.new.items ≡ line.old.items ++ decimal number }
-    ensures len { array_vec_len line.new ≤ array_vec_len line.old + 20 }
-{
-    push(line, Buffer::new().format(number).as_bytes());
 }
 
 // Tells the run that failed, what it failed, how long its schedule was and is, how much of it decides, the loop that it

@@ -6,7 +6,7 @@
 
 ghost use Rattle.std.specs.Prelude.{◌≡◌, ◌≤◌, IfErr, IfOk, OnOk, codes, drop, if◌then◌else◌, length, string_bytes};
 ghost use Rattle.std.specs.Option.{option_copied};
-ghost use Rattle.ia_text.specs.Writing.{Wrote};
+ghost use Rattle.text_out.specs.Writing.{Wrote};
 ghost use Rattle.elide_object.specs.Object.{SendsMember, object_text};
 ghost use Rattle.serde_json.specs.Events.{SendsValue};
 ghost use Rattle.elide_json.specs.Objects.{replay_value, run_members, running_value, threads_value};
@@ -23,9 +23,9 @@ use crate::words::send_word;
 use elide_object::{object_line, send_flag, send_number, send_numbers, send_text};
 use elide_program::MemoryParts;
 use elide_setup::Refusal;
-use ia_text::Out;
 use serde::{Described, Serialize, Serializer};
 use std::alloc::Global;
+use text_out::Out;
 use tm_hist::Machine;
 
 // A machine, and the rows of its memory.

@@ -5,7 +5,7 @@
 //! by [`put_back`](crate::put_back).
 
 ghost use Rattle.std.specs.Prelude.{◌≡◌, ◌++◌, IfErr, IfOk, OnOk, codes, if◌then◌else◌, nat_lt, string_bytes};
-ghost use Rattle.ia_text.specs.Writing.{Wrote};
+ghost use Rattle.text_out.specs.Writing.{Wrote};
 ghost use Rattle.serde_json.specs.Events.{SendsValue};
 ghost use Rattle.serde_json.specs.Written.{comma_if, compact_text};
 ghost use Rattle.elide_json.specs.Outcomes.{outcome_value, row_text, run_front};
@@ -17,9 +17,9 @@ use crate::words::{
 };
 use elide_object::{send_number, send_text};
 use elide_setup::Refusal;
-use ia_text::Out;
 use serde::{Described, Serialize, Serializer};
 use std::alloc::{AllocError, Global};
+use text_out::Out;
 use tm_model::Outcome;
 
 // What a step of a core was.

@@ -1,7 +1,7 @@
 //! The line of an object.
 
 ghost use Rattle.std.specs.Prelude.{◌≡◌, ◌++◌, IfOk, false, string_bytes};
-ghost use Rattle.ia_text.specs.TextLine.{line_end};
+ghost use Rattle.text_out.specs.TextLine.{line_end};
 ghost use Rattle.serde_json.specs.Data.{Data};
 ghost use Rattle.serde_json.specs.Written.{has_float};
 ghost use Rattle.elide_object.specs.Object.{Sends, object_text};

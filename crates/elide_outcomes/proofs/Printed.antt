@@ -1,7 +1,7 @@
 -- What is printed behind what the device held, of which a copy is gathered.
 use Rattle.std.proofs.Common.{ℕ, Bool, List, Option, append-nil, subst}
 use Rattle.std.specs.Io.KnownBytes.{Appends, Keeps}
-use Rattle.ia_text.proofs.Writing.{appends_same, appends_then}
+use Rattle.text_out.proofs.Writing.{appends_same, appends_then}
 use Rattle.elide_args.specs.declared.subcommand.OutcomesOptions.{OutcomesOptions}
 use Rattle.elide_program.specs.declared.file.ProgramFile.{ProgramFile}
 use Rattle.tm_outcomes.specs.declared.trial.Trial.{Trial}

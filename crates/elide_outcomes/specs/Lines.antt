@@ -6,8 +6,8 @@ use Rattle.std.specs.Fmt.{decimal}
 use Rattle.std.specs.List.{flat_map}
 use Rattle.std.specs.Ordering.{nat_cmp}
 use Rattle.elide_args.specs.declared.subcommand.OutcomesOptions.{OutcomesOptions}
-use Rattle.ia_text.specs.Number.{eight_digits}
-use Rattle.ia_text.specs.TextLine.{line_end}
+use Rattle.text_out.specs.Number.{eight_digits}
+use Rattle.text_out.specs.TextLine.{line_end}
 use Rattle.elide_setup.specs.TmHist.Lines.{stop_word}
 use Rattle.tm_model.specs.declared.outcome.Pick.{Pick}
 use Rattle.tm_outcomes.specs.declared.cycle.Cycle.{Cycle}

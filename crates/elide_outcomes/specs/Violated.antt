@@ -3,7 +3,7 @@ use Rattle.std.specs.Prelude.{ℕ, ◌-◌, List, [], ◌++◌, codes, length, s
 use Rattle.std.specs.Borrow.{Bor}
 use Rattle.std.specs.List.{flat_map}
 use Rattle.elide_args.specs.declared.subcommand.OutcomesOptions.{OutcomesOptions}
-use Rattle.ia_text.specs.TextLine.{line_end}
+use Rattle.text_out.specs.TextLine.{line_end}
 use Rattle.tm_model.specs.declared.outcome.Pick.{Pick}
 use Rattle.tm_outcomes.specs.declared.violations.Violation.{Violation}
 use Rattle.tm_schedule.specs.Picks.{pick_word}

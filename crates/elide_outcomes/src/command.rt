@@ -41,8 +41,8 @@ use elide_program::{Paths, ProgramFile, Settings, number_of, read_file};
 use elide_setup::{
     Fault, Gathered, MachineFault, Paged, Pages, Progress, Refusal, RunFault, Setup,
 };
-use ia_text::Out;
 use std::alloc::Global;
+use text_out::Out;
 use tm_outcomes::{Events, Item, Search, SearchFault, Stop, Trial, outcomes_watched};
 
 /// The most states by default: at some 50 bytes a state and 9 a link, of two cores some 70 million bytes.

@@ -6,10 +6,10 @@
 ghost use Rattle.std.specs.Prelude.{◌++◌, OnOk, codes, option_map};
 ghost use Rattle.std.specs.List.{flat_map};
 ghost use Rattle.elide_args.specs.Asked.{texts_of};
-ghost use Rattle.ia_text.specs.Writing.{Wrote};
+ghost use Rattle.text_out.specs.Writing.{Wrote};
 ghost use Rattle.elide_outcomes.specs.Lines.{items_line, name_text, words_line, words_text};
 
-use ia_text::{Out, WriteFault};
+use text_out::{Out, WriteFault};
 
 /// The line of the items, by the words of `--show`, where names are asked for.
 pub fn tell_items<O: Out>(is_asked: bool, words: &[&str], out: &mut O) -> Result<(), WriteFault>

@@ -21,9 +21,9 @@ use elide_object::{
     object_line, send_flag, send_number, send_numbers, send_schedule, send_text, send_texts,
 };
 use elide_setup::{Fault, Refusal, RunFault};
-use ia_text::Out;
 use serde::{Described, Serialize, Serializer};
 use std::alloc::{AllocError, Global};
+use text_out::Out;
 use tm_outcomes::{Cycle, ReachedStop, Search, Stop, Stuck, Told};
 
 /// Prints the object of a search whose outcomes stand in the order in which they are told, with the words of `--show`.

@@ -7,8 +7,8 @@
 ghost use Rattle.std.specs.Prelude.{◌≡◌, ◌++◌, OnOk, codes, length, true};
 ghost use Rattle.std.specs.List.{flat_map};
 ghost use Rattle.arrayvec.specs.ArrayVec.{array_vec_len};
-ghost use Rattle.ia_text.specs.Number.{eight_digits};
-ghost use Rattle.ia_text.specs.Writing.{Wrote, Writes};
+ghost use Rattle.text_out.specs.Number.{eight_digits};
+ghost use Rattle.text_out.specs.Writing.{Wrote, Writes};
 ghost use Rattle.std.specs.Fmt.{decimal};
 ghost use Rattle.elide_args.specs.Asked.{texts_of};
 ghost use Rattle.elide_outcomes.specs.Lines.{AreInOrder, count_line, counts_text, cut_text, cycle_line, cycle_lines, cycle_text};
@@ -23,10 +23,10 @@ use crate::violated::tell_violations;
 use elide_args::OutcomesOptions;
 use elide_setup::stop_text;
 use elide_shell::step_word;
-use ia_text::page::{push, push_eight};
-use ia_text::text_line::TextLine;
-use ia_text::{Out, WriteFault};
 use itoa::Buffer;
+use text_out::page::{push, push_eight};
+use text_out::text_line::TextLine;
+use text_out::{Out, WriteFault};
 use tm_outcomes::{Cycle, Pick, ReachedStop, Search, Stuck, Told};
 
 /// Puts outcomes in the order of their values.

@@ -4,12 +4,12 @@
 //! `sending` has them.
 
 ghost use Rattle.std.specs.Prelude.{◌++◌, OnOk, codes};
-ghost use Rattle.ia_text.specs.Writing.{Wrote};
+ghost use Rattle.text_out.specs.Writing.{Wrote};
 ghost use Rattle.elide_outcomes.specs.Violated.{check_words, violation_line, violation_lines};
 
 use crate::report::tell_steps;
 use elide_args::OutcomesOptions;
-use ia_text::{Out, WriteFault};
+use text_out::{Out, WriteFault};
 use tm_outcomes::Violation;
 
 /// The line of each check that an end violates.

@@ -1,8 +1,8 @@
 -- The parts of a page, one behind the other.
 use Rattle.std.proofs.Common.{◌≡◌, ℕ, List, [], ◌++◌, Option, append-nil, refl, subst}
 use Rattle.std.specs.Io.KnownBytes.{Appends, Keeps}
-use Rattle.ia_text.proofs.Writing.{appends_same, appends_then}
-use Rattle.ia_text.specs.Writing.{Device, Wrote}
+use Rattle.text_out.proofs.Writing.{appends_same, appends_then}
+use Rattle.text_out.specs.Writing.{Device, Wrote}
 use Rattle.page_telling.specs.Told.{AreLinesWritten}
 use Rattle.page_run.specs.declared.stretch.Stretch.{Stretch}
 use Rattle.page_template.specs.declared.template.TheConstants.{TAIL}

@@ -3,8 +3,8 @@ use Rattle.std.proofs.Common.{◌≡◌, ◌∙◌, ℕ, List, [], ◌++◌, ◌
 use Rattle.std.proofs.lemmas.List.Folds.{list_all-append}
 use Rattle.std.specs.List.{list_all}
 use Rattle.std.specs.Prelude.{Err, Ok, OnOk, Result}
-use Rattle.ia_text.proofs.Writing.{wrote_none}
-use Rattle.ia_text.specs.Writing.{Device, Wrote}
+use Rattle.text_out.proofs.Writing.{wrote_none}
+use Rattle.text_out.specs.Writing.{Device, Wrote}
 use Rattle.page_run.specs.Plain.{ArePlain, is_unmarked}
 
 pub both_plain : (x y : List ℕ) → ArePlain x → ArePlain y → ArePlain (x ++ y)

@@ -1,6 +1,6 @@
 -- The page of a job (docs/FORMATS.md, "Pages").
 use Rattle.std.specs.Prelude.{◌≡◌, ℕ, List, [], ◌++◌, Some}
-use Rattle.ia_text.specs.Writing.{Device}
+use Rattle.text_out.specs.Writing.{Device}
 use Rattle.page_telling.specs.Told.{AreLinesWritten}
 use Rattle.page_template.specs.declared.template.TheConstants.{HEAD, MIDDLE, TAIL}
 use Rattle.page_text.specs.Escaped.{title_text}

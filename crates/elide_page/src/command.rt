@@ -19,10 +19,10 @@ use elide_places::Places;
 use elide_setup::{
     Course, Paths, Plan, ProgramFile, Progress, Refusal, Settings, Setup, read_file,
 };
-use ia_text::Out;
 use page_program::{Form, Loaded, Sources};
 use page_run::{Stretch, Survey, surveyed};
 use std::alloc::Global;
+use text_out::Out;
 
 /// Runs a schedule of core steps, and writes the page of the steps that are asked for: to a file, as a whole or not at all,
 /// where there is a path, and else on the device, which it gives back.

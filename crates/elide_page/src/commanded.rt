@@ -6,8 +6,8 @@
 
 use elide_args::{MachineOptions, PageOptions};
 use elide_shell::{put_machine, put_option, put_path, put_schedule, put_word};
-use ia_text::{Failed, Out, ToVec};
 use std::alloc::{AllocError, Global};
+use text_out::{Failed, Out, ToVec};
 use tm_model::Pick;
 
 /// The command of these options, without its title, its notes and where the page is written.

@@ -7,7 +7,7 @@
 ghost use Rattle.std.specs.Prelude.{◌≡◌, ℕ, IfErr, IfOk, List, OnOk};
 ghost use Rattle.elide_setup.specs.Faults.{want};
 ghost use Rattle.elide_setup.specs.Refused.{IsUntold};
-ghost use Rattle.ia_text.specs.Writing.{Wrote};
+ghost use Rattle.text_out.specs.Writing.{Wrote};
 ghost use Rattle.page_run.specs.Plain.{ArePlain, WrotePlain};
 ghost use Rattle.elide_page.specs.Fronts.{IsFrontOf, cores_text, file_text, form_word, kind_text, limits_text};
 ghost use Rattle.elide_page.specs.Fronts.{lists_text, names_text, reads_text, sets_text, subject_text};
@@ -17,11 +17,11 @@ use crate::job::{Job, Subject, name_of};
 use crate::notes::write_notes;
 use crate::shows::{Shown, write_shown};
 use elide_setup::Refusal;
-use ia_text::{Out, ToVec, WriteFault};
 use page_program::{Form, write_program};
 use page_run::{put_piece, put_plain};
 use page_text::{NAME, NOTE, TITLE, write_number, write_string};
 use std::alloc::AllocError;
+use text_out::{Out, ToVec, WriteFault};
 
 /// Writes the data up to the machine as it is before the first step that stands there.
 pub fn put_front<O: Out>(job: &Job<'_>, shows: &[Shown<'_>], out: &mut O) -> Result<(), Refusal>

@@ -9,15 +9,15 @@ ghost use Rattle.std.specs.Prelude.{true};
 ghost use Rattle.std.specs.List.{list_any};
 ghost use Rattle.elide_args.specs.Asked.{texts_of};
 ghost use Rattle.elide_setup.specs.Misuse.{IsMisuse};
-ghost use Rattle.ia_text.specs.Writing.{Wrote};
+ghost use Rattle.text_out.specs.Writing.{Wrote};
 ghost use Rattle.elide_page.specs.Notes.{AreNotes, comma_if, is_behind, is_outside, note_said, note_text, notes_text};
 ghost use Rattle.elide_page.specs.Notes.{piece_text, some_with};
 
 use elide_setup::{Refusal, number_of};
-use ia_text::{Out, WriteFault};
 use page_run::Window;
 use page_text::{NOTE, write_number, write_string};
 use std::alloc::{AllocError, Global};
+use text_out::{Out, WriteFault};
 
 /// A note.
 #[derive(Clone, Copy)]

@@ -20,11 +20,11 @@ use crate::job::Job;
 use crate::reasons::write_reasons;
 use crate::shows::{Shown, shown_of};
 use elide_setup::{Fault, Gathered, Paths, Refusal, Text};
-use ia_text::{Out, WriteFault};
 use page_run::{LineUse, note_shown};
 use page_telling::write_steps;
 use page_template::{write_head, write_tail};
 use std::alloc::AllocError;
+use text_out::{Out, WriteFault};
 
 /// Writes a page to a file, as a whole or not at all. It goes there as it is made, so that no memory grows with its
 /// run. What refuses it on the way is told, and 81 `Output` where the file cannot be written.

@@ -6,7 +6,7 @@
 
 ghost use Rattle.std.specs.Prelude.{◌≡◌, ◌≢◌, ◌+◌, ◌^◌, ◌≤◌, ◌||◌, ℕ, IfErr, IfOk, List, OnErr, OnOk, codes, is_some};
 ghost use Rattle.elide_setup.specs.Refused.{IsUntold, IsUnwritten};
-ghost use Rattle.ia_text.specs.Writing.{Wrote};
+ghost use Rattle.text_out.specs.Writing.{Wrote};
 ghost use Rattle.elide_setup.specs.Runs.{IsMachineStep};
 ghost use Rattle.page_run.specs.Plain.{ArePlain};
 ghost use Rattle.page_run.specs.Refused.{IsNotTold};
@@ -17,10 +17,10 @@ ghost use Rattle.elide_page.specs.Refused.{IsUnreasoned};
 use crate::job::Job;
 use elide_setup::{Machine, Outcome, Pick, Refusal, Silent, StepMaker, new_machine};
 use elide_why::Teller;
-use ia_text::{Out, ToVec, WriteFault};
 use page_run::{Stretch, Window, put_plain};
 use page_text::{REASON, write_number, write_string};
 use std::alloc::{AllocError, Global};
+use text_out::{Out, ToVec, WriteFault};
 
 /// Writes why steps aborted or stopped, each by its number in the page. Gives the device back.
 pub fn write_reasons<O: Out + Drop>(job: &Job<'_>, out: O) -> Result<O, Refusal>

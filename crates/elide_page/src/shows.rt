@@ -6,17 +6,17 @@
 //! memory itself.
 
 ghost use Rattle.std.specs.Prelude.{OnOk, false};
-ghost use Rattle.ia_text.specs.Writing.{Wrote};
+ghost use Rattle.text_out.specs.Writing.{Wrote};
 ghost use Rattle.elide_page.specs.Fronts.{shown_text, shows_text};
 
 use crate::notes::write_comma;
 use elide_places::{Label, Places};
 use elide_setup::Setup;
-use ia_text::{Out, WriteFault};
 use page_program::Loaded;
 use page_run::{LineUse, Survey};
 use page_text::{NAME, write_number, write_string};
 use std::alloc::AllocError;
+use text_out::{Out, WriteFault};
 
 /// The most variables that are shown where none are asked for.
 const MOST: usize = 6;

@@ -8,7 +8,7 @@ use Rattle.std.proofs.lemmas.Bool.{and_from, and_parts}
 use Rattle.std.proofs.lemmas.Bool.Decides.{nat_tests}
 use Rattle.std.proofs.lemmas.Int.Digits.{all_below_base_digits_of}
 use Rattle.std.proofs.lemmas.List.Folds.{list_all-append}
-use Rattle.ia_text.specs.Number.{hex_digits, number}
+use Rattle.text_out.specs.Number.{hex_digits, number}
 use Rattle.elide_places.specs.Shown.{behind_backslash, is_plain, is_printable, letter_of, octal, octal_digit, shown_byte, shown_name}
 
 -- ---- a name

@@ -12,8 +12,8 @@ use crate::places::Places;
 use crate::shown::is_plain;
 use crate::symbols::{SymbolText, push_cut, push_where_room};
 use arrayvec::ArrayVec;
-use ia_text::page::push;
 use itoa::Buffer;
+use text_out::page::push;
 
 /// The name of a file: the longest has 255 bytes.
 type FileText = ArrayVec<u8, 256>;

@@ -12,7 +12,7 @@ ghost use Rattle.elide_places.specs.declared.symbols.Naming.TheVariants.{Shown};
 use crate::label::Label;
 use crate::places::Places;
 use arrayvec::ArrayVec;
-use ia_text::page::{Page, push, push_number};
+use text_out::page::{Page, push, push_number};
 
 /// How many bytes of names are told of a line.
 const NAMES: usize = 96;

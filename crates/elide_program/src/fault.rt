@@ -11,8 +11,8 @@ use crate::paths::ReadFault;
 use ia_asm::AsmFault;
 use ia_elf::ElfFault;
 use ia_image::{ImageFault, LoadFault};
-use ia_text::WriteFault;
 use std::alloc::AllocError;
+use text_out::WriteFault;
 use thiserror::Error;
 
 /// A fault of FILE or of its loading, with a number, told on one line. It owns nothing, so that it goes through `?` at no cost.

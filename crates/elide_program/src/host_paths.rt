@@ -12,12 +12,12 @@ ghost use Rattle.elide_program.specs.Files.{IsNotWritten, IsWritten};
 use crate::again::Again;
 use crate::paths::{Obstacle, Paths, ReadFault, Text};
 use crate::replacing::replace;
-use ia_text::{Failed, ToWriter};
 use std::fs::{File, OpenFile, OpenOptions};
 use std::io::{ErrorKind, Read};
 use std::os::unix::fs::MetadataExt;
 use std::rt::Files;
 use std::{fs, io};
+use text_out::{Failed, ToWriter};
 
 /// The files of the system. Paths are UTF-8.
 #[derive(Drop)]

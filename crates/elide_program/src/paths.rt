@@ -9,7 +9,7 @@ ghost use Rattle.std.specs.Prelude.{◌≡◌, ◌≤◌, ℕ, ⊤, Bool, IfOk, 
 ghost use Rattle.std.specs.Prelude.{length};
 ghost use Rattle.elide_program.specs.Files.{Gives, IsNotWritten, IsWritten, Refuses};
 
-use ia_text::{Failed, Out, WriteFault};
+use text_out::{Failed, Out, WriteFault};
 use thiserror::Error;
 
 /// What stands in the way of opening or reading a file, as far as it is known.

@@ -11,13 +11,13 @@ ghost use Rattle.elide_program.specs.Files.{IsNotWritten, IsWritten};
 use crate::host_paths::{write_all, write_in_place};
 use crate::paths::Text;
 use arrayvec::ArrayString;
-use ia_text::Failed;
 use std::fmt::Write;
 use std::fs::{File, OpenOptions, Permissions, TryLockError};
 use std::io::ErrorKind;
 use std::os::unix::fs::MetadataExt;
 use std::rt::Files;
 use std::{fs, io};
+use text_out::Failed;
 
 // A path that stands beside another one.
 type Beside = ArrayString<4096>;

@@ -7,13 +7,13 @@
 ghost use Rattle.std.specs.Prelude.{◌≡◌, ◌≤◌, ℕ, [], IfOk, List, MatchResult, Option, length};
 ghost use Rattle.elide_program.specs.ProgramFile.{IsSource};
 ghost use Rattle.ia_source.specs.Warnings.{warnings};
-ghost use Rattle.ia_text.specs.Writing.{Writes};
+ghost use Rattle.text_out.specs.Writing.{Writes};
 
 use crate::file::is_source;
 use crate::paths::{Paths, ReadFault, Text};
 use elide_color::{PaintedWords, Painting};
 use ia_source::warn;
-use ia_text::{Failed, Out};
+use text_out::{Failed, Out};
 
 /// The files of a command. When its program's file is first read, the warnings of the text are told.
 #[derive(Drop)]

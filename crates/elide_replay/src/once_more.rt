@@ -6,7 +6,7 @@
 //! `tm_hist`'s.
 
 ghost use Rattle.std.specs.Prelude.{◌≡◌, ◌⊎◌, ◌↔◌, ◌++◌, IfErr, IfOk, List, None, OnOk, false, max, true};
-ghost use Rattle.ia_text.specs.Writing.{Wrote};
+ghost use Rattle.text_out.specs.Writing.{Wrote};
 ghost use Rattle.tm_model.specs.declared.outcome.Outcome.{Outcome};
 ghost use Rattle.tm_model.specs.declared.outcome.Pick.{Pick};
 ghost use Rattle.tm_model.specs.Runs.{picks_of};
@@ -35,8 +35,8 @@ use elide_why::{
     ShownMemory, record, record_path, scheduled, scheduled_places, show, shown_memory,
     tell_history,
 };
-use ia_text::Out;
 use std::alloc::{AllocError, Global};
+use text_out::Out;
 use tm_model::Pick;
 
 /// Runs a schedule on a board, and its history again on one memory; prints the aborts with their reasons where they are

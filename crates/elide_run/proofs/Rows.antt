@@ -5,8 +5,8 @@ use Rattle.elide_json.specs.Outcomes.{row_text, rows_text, run_front, run_rows}
 use Rattle.elide_setup.specs.Runs.{AreMachineSteps}
 use Rattle.elide_setup.specs.TmCore.Theorem.{ShownMachine as Machine}
 use Rattle.elide_setup.specs.Walks.{Leads, PartsLead, steps_in}
-use Rattle.ia_text.proofs.Writing.{wrote_then}
-use Rattle.ia_text.specs.Writing.{Device, Wrote}
+use Rattle.text_out.proofs.Writing.{wrote_then}
+use Rattle.text_out.specs.Writing.{Device, Wrote}
 use Rattle.tm_model.specs.declared.outcome.Outcome.{Outcome}
 use Rattle.tm_model.specs.declared.outcome.Pick.{Pick}
 use Rattle.elide_run.proofs.Steps.{same_device}

@@ -4,8 +4,8 @@ use Rattle.std.proofs.lemmas.List.Concat.{flat_map-append}
 use Rattle.std.proofs.lemmas.List.Folds.{list_all-append}
 use Rattle.std.proofs.lemmas.List.FromFn.{map-range_with_len_more}
 use Rattle.std.specs.List.{flat_map, list_all, range_with_len}
-use Rattle.ia_text.proofs.Writing.{wrote_then}
-use Rattle.ia_text.specs.Writing.{Device, Wrote}
+use Rattle.text_out.proofs.Writing.{wrote_then}
+use Rattle.text_out.specs.Writing.{Device, Wrote}
 use Rattle.elide_setup.specs.TmCore.Theorem.{ShownMachine as Machine, view_at}
 use Rattle.elide_run.specs.Halting.{is_stopped, running_line, running_text}
 use Rattle.elide_run.specs.declared.halting.Ending.{Ending}

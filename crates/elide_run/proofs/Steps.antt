@@ -1,8 +1,8 @@
 -- Steps that are made and told: the machine goes on by each, and their lines stand one behind the other.
 use Rattle.std.proofs.Common.{◌≡◌, ℕ, Bool, true, false, List, [], ◌∷◌, ◌++◌, sym, ap, subst, append-nil}
 use Rattle.std.proofs.lemmas.List.Concat.{flat_map-append}
-use Rattle.ia_text.proofs.Writing.{wrote_none, wrote_then}
-use Rattle.ia_text.specs.Writing.{Device, Wrote}
+use Rattle.text_out.proofs.Writing.{wrote_none, wrote_then}
+use Rattle.text_out.specs.Writing.{Device, Wrote}
 use Rattle.elide_setup.specs.Runs.{AreMachineSteps}
 use Rattle.elide_setup.specs.TmCore.Theorem.{ShownMachine as Machine}
 use Rattle.elide_setup.specs.TmHist.Lines.{outcome_line}

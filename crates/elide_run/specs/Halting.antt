@@ -2,8 +2,8 @@
 -- that has not stopped, and whether there is one.
 use Rattle.std.specs.Prelude.{ℕ, Bool, List, [], ◌++◌, codes, if◌then◌else◌, is_some, length}
 use Rattle.std.specs.List.{flat_map, list_all, range_with_len}
-use Rattle.ia_text.specs.Number.{eight_digits}
-use Rattle.ia_text.specs.TextLine.{line_end, number_text}
+use Rattle.text_out.specs.Number.{eight_digits}
+use Rattle.text_out.specs.TextLine.{line_end, number_text}
 use Rattle.elide_setup.specs.TmCore.Theorem.{ShownMachine as Machine, view_at}
 use Rattle.elide_setup.specs.TmHist.Board.{stop_shown}
 use Rattle.elide_run.specs.declared.halting.Ending.{Ending}

@@ -6,7 +6,7 @@
 //! outcomes is `schedule`'s.
 
 ghost use Rattle.std.specs.Prelude.{◌≡◌, ℕ, IfErr, IfOk, List, true};
-ghost use Rattle.ia_text.specs.Writing.{Wrote};
+ghost use Rattle.text_out.specs.Writing.{Wrote};
 ghost use Rattle.elide_setup.specs.Refused.{IsNoCore};
 ghost use Rattle.elide_run.specs.Printed.{IsRunAsAsked};
 ghost use Rattle.elide_run.specs.Refused.{IsRefused};
@@ -18,8 +18,8 @@ use elide_why::{
     Fault, Gathered, Machine, Outcome, Paths, Progress, Refusal, RunFault, Setup, StepMaker,
     Teller, record_path, scheduled_places, write_outcome,
 };
-use ia_text::{Out, ToVec, WriteFault};
 use std::alloc::{AllocError, Global};
+use text_out::{Out, ToVec, WriteFault};
 use tm_model::{Pick, Program};
 use tm_trace::{Before, Deed, Symbol, write_deed, write_front, write_step};
 

@@ -5,7 +5,7 @@
 //! As an object there are no reasons: `object` refuses them.
 
 ghost use Rattle.std.specs.Prelude.{◌≡◌, ℕ, IfErr, IfOk, List, length, true};
-ghost use Rattle.ia_text.specs.Writing.{Wrote};
+ghost use Rattle.text_out.specs.Writing.{Wrote};
 ghost use Rattle.elide_setup.specs.Rounds.{IsOut};
 ghost use Rattle.elide_setup.specs.Runs.{AreMachineSteps, IsMachineStep, IsRunOf};
 ghost use Rattle.elide_setup.specs.Recorded.{IsRecorded};
@@ -21,8 +21,8 @@ use elide_why::{
     Course, Gathered, Machine, Outcome, Paths, Progress, Refusal, Setup, StepMaker, Teller,
     record_path, scheduled_places,
 };
-use ia_text::Out;
 use std::alloc::Global;
+use text_out::Out;
 use tm_model::Pick;
 
 /// Makes a run's steps, and prints the line of each abort with its reason, and the other outcomes where they are asked

@@ -6,15 +6,15 @@
 
 ghost use Rattle.std.specs.Prelude.{◌≡◌, ◌++◌, ◌<◌, IfErr, IfOk, length};
 ghost use Rattle.arrayvec.specs.ArrayVec.{array_vec_len};
-ghost use Rattle.ia_text.specs.Writing.{Wrote, Writes};
+ghost use Rattle.text_out.specs.Writing.{Wrote, Writes};
 ghost use Rattle.elide_setup.specs.Refused.{IsUnwritten};
 ghost use Rattle.elide_setup.specs.TmCore.Theorem.{view_at};
 ghost use Rattle.elide_run.specs.Halting.{halt_ending, halt_lines, is_stopped, running_line};
 
 use elide_why::{CoreState, Machine, Refusal};
-use ia_text::page::{push, push_eight};
-use ia_text::text_line::{TextLine, push_number};
-use ia_text::{Out, WriteFault};
+use text_out::page::{push, push_eight};
+use text_out::text_line::{TextLine, push_number};
+use text_out::{Out, WriteFault};
 
 /// What a run came to.
 #[derive(Clone, Copy, PartialEq, Eq, Debug)]

@@ -8,7 +8,7 @@
 ghost use Rattle.std.specs.Prelude.{◌≡◌, ◌≤◌, ◌<◌, ◌+◌, ◌++◌, ◌^◌, [], ◌∷◌, cond, length, not, true, IfErr, IfOk, List, OnErr, OnOk, if◌then◌else◌};
 ghost use Rattle.std.specs.Option.{option_copied};
 ghost use Rattle.arrayvec.specs.ArrayVec.{array_vec_len};
-ghost use Rattle.ia_text.specs.Writing.{Wrote};
+ghost use Rattle.text_out.specs.Writing.{Wrote};
 ghost use Rattle.elide_json.specs.Objects.{run_members};
 ghost use Rattle.elide_json.specs.Outcomes.{rows_text, run_back, run_front, run_rows};
 ghost use Rattle.elide_json.specs.Refused.{IsUnsaid, IsUnsent};
@@ -32,8 +32,8 @@ use elide_why::{
     Course, Fault, Gathered, Machine, Outcome, Paths, Progress, Refusal, RunFault, Setup,
     StepMaker, record_path, scheduled,
 };
-use ia_text::Out;
 use std::alloc::Global;
+use text_out::Out;
 use tm_model::Pick;
 
 // The numbers of cores.

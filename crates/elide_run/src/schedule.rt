@@ -6,7 +6,7 @@
 //! handed on at the end or where it is much.
 
 ghost use Rattle.std.specs.Prelude.{◌≡◌, ◌⊎◌, IfErr, IfOk, List, false, length, true};
-ghost use Rattle.ia_text.specs.Writing.{Wrote};
+ghost use Rattle.text_out.specs.Writing.{Wrote};
 ghost use Rattle.elide_setup.specs.Recorded.{IsRecorded};
 ghost use Rattle.elide_setup.specs.Refused.{IsUnwritten};
 ghost use Rattle.elide_setup.specs.Rounds.{IsOut};
@@ -29,8 +29,8 @@ use elide_why::{
     Course, Gathered, Machine, Outcome, Paths, Progress, Refusal, Setup, StepMaker, record_path,
     scheduled, show, shown_memory, write_outcome,
 };
-use ia_text::Out;
 use std::alloc::Global;
+use text_out::Out;
 use tm_model::Pick;
 
 /// Runs a schedule of core steps, and prints the outcomes where they are asked for, with their instructions, the reasons of the aborts where these

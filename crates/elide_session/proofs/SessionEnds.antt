@@ -1,6 +1,6 @@
 -- Why a session ends early, by the number of its fault.
 use Rattle.std.proofs.Common.{◌≡◌, ℕ, List, Option, ap}
-use Rattle.ia_text.specs.Writing.{Device, Rose}
+use Rattle.text_out.specs.Writing.{Device, Rose}
 use Rattle.elide_args.specs.declared.subcommand.SessionOptions.{SessionOptions}
 use Rattle.elide_setup.specs.declared.fault.Fault.{Fault}
 use Rattle.elide_setup.specs.declared.fault.Refusal.TheVariants as refusal

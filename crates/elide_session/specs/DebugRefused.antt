@@ -1,6 +1,6 @@
 -- Why `elide debug` is refused, or ends early (docs/FAULTS.md).
 use Rattle.std.specs.Prelude.{◌≡◌, ℕ, List, Option}
-use Rattle.ia_text.specs.Writing.{Device, Rose}
+use Rattle.text_out.specs.Writing.{Device, Rose}
 use Rattle.elide_args.specs.declared.subcommand.SessionOptions.{SessionOptions}
 use Rattle.elide_setup.specs.declared.fault.Fault.TheVariants as fault
 use Rattle.elide_setup.specs.declared.fault.Refusal.{Refusal}

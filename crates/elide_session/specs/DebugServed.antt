@@ -1,6 +1,6 @@
 -- A session of the debugger on the machine that the options say.
 use Rattle.std.specs.Prelude.{◌≡◌, ℕ, ◌&&◌, if◌then◌else◌, List, Option}
-use Rattle.ia_text.specs.Writing.{Device}
+use Rattle.text_out.specs.Writing.{Device}
 use Rattle.debug_command.specs.declared.manner.Manner.{Manner}
 use Rattle.debug_command.specs.declared.manner.Manner.TheVariants.{Plain, Spoken}
 use Rattle.debug_command.specs.declared.symbol.Symbol.{Symbol}

@@ -1,6 +1,6 @@
 -- A session with gdb on the machine that the options say.
 use Rattle.std.specs.Prelude.{ℕ, if◌then◌else◌, List, Option, Some, None}
-use Rattle.ia_text.specs.Writing.{Device}
+use Rattle.text_out.specs.Writing.{Device}
 use Rattle.elide_args.specs.declared.subcommand.SessionOptions.{SessionOptions}
 use Rattle.tm_model.specs.declared.outcome.Pick.{Pick}
 use Rattle.tm_gdb.specs.Serving.{ServesInput, start}

@@ -11,9 +11,9 @@ ghost use Rattle.elide_session.specs.DebugServed.{IsServed, manner_at};
 use crate::opening::{opened, session_fault};
 use elide_args::SessionOptions;
 use elide_setup::{Paths, Refusal, Terminals};
-use ia_text::Out;
 use std::alloc::Global;
 use std::sync::Wait;
+use text_out::Out;
 use tm_debug::{In, Manner, serve_in};
 
 /// Answers the commands of the input. The machine is that of the options, and the session can make 1,000,000 steps.

@@ -2,8 +2,8 @@
 use Rattle.std.proofs.Common.{◌≡◌, ℕ, List, [], Option, arith, inl, refl}
 use Rattle.std.specs.Io.KnownBytes.{Appends, append_known}
 use Rattle.std.specs.Prelude.{Result, IsErr}
-use Rattle.ia_text.specs.Writing.{Writes}
-use Rattle.ia_text.proofs.Writing.{appends_none, writes_err}
+use Rattle.text_out.specs.Writing.{Writes}
+use Rattle.text_out.proofs.Writing.{appends_none, writes_err}
 use Rattle.elide_setup.specs.Gathering.{told}
 
 -- it holds what it held

@@ -1,6 +1,5 @@
 pub mod Alone
 pub mod Boards
-mod Decimal
 pub mod Drawing
 pub mod DueCores
 mod EventTexts

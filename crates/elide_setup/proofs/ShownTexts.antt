@@ -3,7 +3,7 @@ use Rattle.std.proofs.Common.{◌≡◌, ◌∙◌, ℕ, ◌-◌, ◌<◌, ◌�
 use Rattle.std.proofs.Common.{slice_index_or as get_or}
 use Rattle.std.specs.Prelude.{Result}
 use Rattle.elide_program.specs.declared.parts.Dump.{Dump}
-use Rattle.ia_text.specs.Writing.{Device, Writes}
+use Rattle.text_out.specs.Writing.{Device, Writes}
 use Rattle.elide_setup.specs.Shown.{doubleword, dump_text, dumps_text, value_line, values_text}
 
 abbrev pub others_of : {A : Type 0} → List A → List A

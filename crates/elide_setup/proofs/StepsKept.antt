@@ -4,7 +4,7 @@ use Rattle.std.specs.Prelude.{◌⊎◌, Err, IfErr, IfOk, IfSome, Ok, OnErr, Re
 use Rattle.elide_program.specs.Files.{IsNotWritten, broken, lost, untold}
 use Rattle.std.proofs.lemmas.Result.{IfErr-weaker, IfOk-weaker}
 use Rattle.std.specs.Io.KnownBytes.{Appends, Keeps}
-use Rattle.ia_text.proofs.Writing.{appends_none, appends_then}
+use Rattle.text_out.proofs.Writing.{appends_none, appends_then}
 use Rattle.tm_model.specs.declared.outcome.Outcome.{Outcome}
 use Rattle.tm_model.specs.declared.outcome.Pick.{Pick}
 use Rattle.tm_schedule.specs.Schedule.{drawn_text, runs_text, title_line}

@@ -11,7 +11,7 @@ use Rattle.elide_program.specs.declared.fault.ProgramFault.TheVariants as progra
 use Rattle.elide_program.specs.declared.fault.ProgramRefusal.{ProgramRefusal}
 use Rattle.elide_program.specs.declared.fault.ProgramRefusal.TheVariants as program
 use Rattle.ia_image.specs.declared.fault.LoadFault.TheVariants as load
-use Rattle.ia_text.specs.declared.out.WriteFault.{WriteFault}
+use Rattle.text_out.specs.declared.out.WriteFault.{WriteFault}
 use Rattle.elide_setup.specs.declared.fault.Fault.{Fault}
 use Rattle.elide_setup.specs.declared.fault.Fault.TheVariants as fault
 use Rattle.elide_setup.specs.declared.fault.Refusal.{Refusal}

@@ -35,7 +35,7 @@ use Rattle.elide_setup.specs.TmCore.Limits.{Limits}
 use Rattle.elide_setup.specs.TmCore.Theorem.{ShownMachine as Machine}
 use Rattle.elide_setup.specs.TmHist.Board.{IsFull, IsNew, ShownBoard as Board, bad_limit as is_bad_limit}
 use Rattle.elide_setup.specs.Walks.{Leads}
-use Rattle.ia_text.specs.declared.out.WriteFault.{WriteFault}
+use Rattle.text_out.specs.declared.out.WriteFault.{WriteFault}
 use Rattle.tm_core.specs.Machine.{bad_limits}
 use Rattle.tm_core.specs.declared.fault.MachineFault.{MachineFault}
 use Rattle.tm_core.specs.declared.fault.MachineFault.TheVariants as machine

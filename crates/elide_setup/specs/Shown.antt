@@ -3,8 +3,8 @@ use Rattle.std.specs.Prelude.{◌≡◌, ℕ, ◌+◌, ◌++◌, ◌&&◌, Bool,
 use Rattle.std.specs.Borrow.{Bor}
 use Rattle.std.specs.Fmt.{decimal}
 use Rattle.std.specs.List.{flat_map, list_all}
-use Rattle.ia_text.specs.Number.{eight_digits}
-use Rattle.ia_text.specs.TextLine.{line_end}
+use Rattle.text_out.specs.Number.{eight_digits}
+use Rattle.text_out.specs.TextLine.{line_end}
 use Rattle.ia_word.specs.Operand.{operand_of}
 use Rattle.ia_word.specs.declared.width.Width.TheVariants.{D}
 use Rattle.tm_hist.specs.TmCore.Theorem.{ShownMachine as Machine}

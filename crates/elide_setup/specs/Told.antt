@@ -1,7 +1,7 @@
 -- The line that tells a fault: `fault`, its number, its name, and the line of a text that it is told of, if any.
 use Rattle.std.specs.Prelude.{ℕ, List, [], ◌++◌, codes, Option, Some, None}
 use Rattle.std.specs.Fmt.{decimal}
-use Rattle.ia_text.specs.TextLine.{line_end, number_text}
+use Rattle.text_out.specs.TextLine.{line_end, number_text}
 use Rattle.elide_setup.specs.Faults.{fault_line, fault_number}
 use Rattle.elide_setup.specs.declared.fault.Fault.{Fault}
 

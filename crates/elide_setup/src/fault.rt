@@ -10,8 +10,8 @@ ghost use Rattle.elide_setup.specs.Faults.{fault_line, fault_number, refusal_sta
 
 use elide_program::{ProgramFault, ProgramRefusal};
 use ia_image::LoadFault;
-use ia_text::{Failed, WriteFault};
 use std::alloc::AllocError;
+use text_out::{Failed, WriteFault};
 use thiserror::Error;
 use tm_hist::{BoardFault, MachineFault, RunFault, SerialFault, StepFault};
 use tm_schedule::ScheduleFault;
@@ -169,7 +169,7 @@ impl From<AllocError> for Refusal {
 
 impl From<Failed> for Refusal {
     ghost use Rattle.elide_setup.specs.Faults.{not_written};
-    ghost use Rattle.ia_text.specs.declared.out.WriteFault.TheVariants as failed;
+    ghost use Rattle.text_out.specs.declared.out.WriteFault.TheVariants as failed;
 
     ghost from_gives = { λ _ given. given ≡ not_written failed.Write };
 

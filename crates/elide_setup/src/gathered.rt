@@ -6,12 +6,12 @@
 //! [`Gathered::finish`] last, and knows only by its answer that all was written.
 
 ghost use Rattle.std.specs.Prelude.{◌≡◌, ◌≢◌, ◌⊎◌, [], IfOk, OnErr, OnOk};
-ghost use Rattle.ia_text.specs.Writing.{Stopped, Writes};
+ghost use Rattle.text_out.specs.Writing.{Stopped, Writes};
 ghost use Rattle.elide_setup.specs.Gathering.{told};
 
 use arrayvec::ArrayVec;
-use ia_text::{Failed, Out};
 use std::snapshot::Snapshot;
+use text_out::{Failed, Out};
 
 /// How many bytes are gathered before they are handed on.
 const ROOM: usize = 16384;

@@ -6,7 +6,7 @@
 
 ghost use Rattle.std.specs.Prelude.{◌≡◌};
 
-use ia_text::{Failed, Out};
+use text_out::{Failed, Out};
 
 /// A device that is lent to what takes one by value.
 #[derive(Drop)]

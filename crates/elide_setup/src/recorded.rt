@@ -12,7 +12,7 @@ ghost use Rattle.elide_setup.specs.Refused.{AreOne, IsOverProgram, IsUnrecorded}
 use crate::fault::{Fault, Refusal};
 use crate::gathered::Gathered;
 use elide_program::{Paths, Text};
-use ia_text::{Out, WriteFault};
+use text_out::{Out, WriteFault};
 use tm_model::Pick;
 use tm_schedule::{write_drawn, write_schedule};
 

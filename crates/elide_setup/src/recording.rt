@@ -26,7 +26,7 @@ use crate::plan::Drawn;
 use crate::progress::Progress;
 use crate::walk::{StepMaker, walk_drawn};
 use elide_program::{Paths, Text};
-use ia_text::{Out, WriteFault};
+use text_out::{Out, WriteFault};
 use tm_hist::Outcome;
 use tm_model::Pick;
 use tm_schedule::ScheduleWriter;

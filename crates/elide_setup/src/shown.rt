@@ -6,17 +6,17 @@
 
 ghost use Rattle.std.specs.Prelude.{◌≡◌, MatchResult, false, length, true};
 ghost use Rattle.std.specs.List.{list_all};
-ghost use Rattle.ia_text.specs.Writing.{Writes};
+ghost use Rattle.text_out.specs.Writing.{Writes};
 ghost use Rattle.elide_setup.specs.Shown.{IsShownOf, IsWhole, are_held, doubleword, dump_text, dumps_text, is_dump_held, is_held};
 ghost use Rattle.elide_setup.specs.Shown.{is_value_held, parts_text, shown_text, value_line, value_text, values_text};
 
 use crate::fault::{Fault, Refusal};
 use elide_program::{Dump, MemoryParts};
-use ia_text::page::{push, push_eight};
-use ia_text::text_line::TextLine;
-use ia_text::{Out, WriteFault};
 use ia_word::Width;
 use itoa::Buffer;
+use text_out::page::{push, push_eight};
+use text_out::text_line::TextLine;
+use text_out::{Out, WriteFault};
 use tm_hist::memory::read;
 use tm_hist::{Machine, write_dump, write_state};
 

@@ -3,14 +3,13 @@
 //! [`push_front`], then the name, then [`push_back`], which ends the line. The name is added between by who tells the
 //! line (`elide_command`, `elide_test`), which paints the front or not. Nothing is written to a device here.
 
-ghost use Rattle.std.specs.Prelude.{◌≡◌, ◌+◌, ◌≤◌, ◌++◌, length};
-ghost use Rattle.std.specs.Fmt.{decimal};
+ghost use Rattle.std.specs.Prelude.{◌≡◌, ◌+◌, ◌≤◌, ◌++◌};
 ghost use Rattle.arrayvec.specs.ArrayVec.{array_vec_len};
 ghost use Rattle.elide_setup.specs.Told.{fault_back, fault_front, line_words};
 
 use crate::fault::Fault;
-use ia_text::page::push;
-use ia_text::text_line::{TextLine, push_number};
+use text_out::page::{push, push_decimal};
+use text_out::text_line::{TextLine, push_number};
 
 /// Adds what stands before a fault's name: `fault` and its number.
 pub fn push_front(row: &mut TextLine, fault: Fault)
@@ -40,20 +39,6 @@ fn push_place(row: &mut TextLine, line: Option<usize>)
 {
     if let Some(number) = line {
         push(row, b" line ");
-        push_decimal(row, number);
-    }
-}
-
-// A number in decimal digits.
-fn push_decimal(row: &mut TextLine, number: usize)
-    requires { array_vec_len row.old + length (decimal number) ≤ 160 }
-    ensures text { row.new.items ≡ row.old.items ++ decimal number }
-    ensures len { array_vec_len row.new ≡ array_vec_len row.old + length (decimal number) }
-{
-    if number < 10 {
-        push(row, &[b'0' + number as u8]);
-    } else {
-        push_decimal(row, number / 10);
-        push(row, &[b'0' + (number % 10) as u8]);
+        push_decimal(row, number as u64);
     }
 }

@@ -4,7 +4,7 @@ use Rattle.std.proofs.lemmas.Bool.{ltb-false, ltb-true}
 use Rattle.std.proofs.lemmas.Fmt.{decimal_digit, decimal_step}
 use Rattle.std.specs.Fmt.{decimal}
 use Rattle.std.specs.Prelude.{IsOk, OnOk, Result, Ok, Err}
-use Rattle.ia_text.specs.TextLine.{number_text}
+use Rattle.text_out.specs.TextLine.{number_text}
 
 cases : (P : List ℕ → Type 0) (b c : Bool) (x y z : List ℕ) → (b ≡ true → P x) → (b ≡ false → c ≡ true → P y) →
     (b ≡ false → c ≡ false → P z) → P (if b then x else if c then y else z)

@@ -1,12 +1,12 @@
 //! Texts from outside, with C's escapes in place of control characters.
 
 ghost use Rattle.std.specs.Prelude.{◌≡◌, OnOk};
-ghost use Rattle.ia_text.specs.Writing.{Wrote};
+ghost use Rattle.text_out.specs.Writing.{Wrote};
 ghost use Rattle.elide_shell.specs.Controls.{before_mark, ends_control, escape, escaped, escaped_behind, escaped_byte};
 ghost use Rattle.elide_shell.specs.Controls.{first_escaped, has_control, is_c1, is_of_control, letter_of, mark_byte};
 ghost use Rattle.elide_shell.specs.Controls.{octal_digit};
 
-use ia_text::{Failed, Out};
+use text_out::{Failed, Out};
 
 /// What else a text that is shown does not have by itself.
 #[derive(Clone, Copy)]

@@ -1,12 +1,12 @@
 //! The options that make a machine.
 
 ghost use Rattle.std.specs.Prelude.{◌++◌, OnOk};
-ghost use Rattle.ia_text.specs.Writing.{Wrote};
+ghost use Rattle.text_out.specs.Writing.{Wrote};
 ghost use Rattle.elide_shell.specs.Options.{machine_text, option_text};
 
 use crate::words::put_word;
 use elide_args::MachineOptions;
-use ia_text::{Failed, Out};
+use text_out::{Failed, Out};
 
 /// Writes the options of the machine that are not those by default, each behind a space.
 pub fn put_machine<O: Out>(machine: &MachineOptions<'_>, out: &mut O) -> Result<(), Failed>

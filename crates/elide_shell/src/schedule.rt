@@ -2,13 +2,13 @@
 
 ghost use Rattle.std.specs.Prelude.{◌++◌, ◌∷◌, OnOk};
 ghost use Rattle.std.specs.List.{flat_map};
-ghost use Rattle.ia_text.specs.Writing.{Wrote};
+ghost use Rattle.text_out.specs.Writing.{Wrote};
 ghost use Rattle.tm_schedule.specs.Picks.{pick_word};
 ghost use Rattle.elide_shell.specs.Options.{schedule_text, steps_option, steps_text};
 
 use crate::step::step_word;
 use crate::words::put_path;
-use ia_text::{Failed, Out};
+use text_out::{Failed, Out};
 use tm_model::Pick;
 
 /// The most steps of a schedule that is printed in a command line.

@@ -2,12 +2,12 @@
 
 ghost use Rattle.std.specs.Prelude.{◌≡◌, ◌++◌, OnOk, codes};
 ghost use Rattle.std.specs.List.{flat_map, list_all};
-ghost use Rattle.ia_text.specs.Writing.{Wrote};
+ghost use Rattle.text_out.specs.Writing.{Wrote};
 ghost use Rattle.elide_shell.specs.Shell.{begins_with_dash, is_plain, is_plain_word, path_word, quoted, quoted_byte};
 ghost use Rattle.elide_shell.specs.Shell.{quoted_with_escapes, shell_word};
 
 use crate::escapes::{Mark, has_control, put_escaped};
-use ia_text::{Failed, Out};
+use text_out::{Failed, Out};
 
 /// Writes a word, between quotes where a byte of it would not stand for itself. They are `$'..'` where it has a control
 /// character, so that no word drives a terminal or ends a line.

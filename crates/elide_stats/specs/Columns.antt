@@ -2,7 +2,7 @@
 use Rattle.std.specs.Prelude.{ℕ, Bool, List, ◌++◌, codes, if◌then◌else◌, string_bytes}
 use Rattle.std.specs.Fmt.{decimal}
 use Rattle.std.specs.List.{flat_map}
-use Rattle.ia_text.specs.TextLine.{line_end}
+use Rattle.text_out.specs.TextLine.{line_end}
 use Rattle.elide_stats.specs.declared.report.AbortRow.{AbortRow}
 use Rattle.elide_stats.specs.declared.report.HitRow.{HitRow}
 use Rattle.elide_stats.specs.declared.report.LineRow.{LineRow}

@@ -7,14 +7,14 @@
 ghost use Rattle.std.specs.Prelude.{◌≡◌, ◌++◌, ℕ, List, OnOk};
 ghost use Rattle.std.specs.Fmt.{decimal};
 ghost use Rattle.std.specs.List.{flat_map};
-ghost use Rattle.ia_text.specs.Writing.{Wrote};
+ghost use Rattle.text_out.specs.Writing.{Wrote};
 ghost use Rattle.elide_stats.specs.Columns.{columns_text, conflicts_text, counts_text, ending, inner_text, numbered};
 ghost use Rattle.elide_stats.specs.Columns.{places_text, sharing_text, spread_text, symbols_text, transactions_text};
 ghost use Rattle.elide_stats.specs.Columns.{abort_text, hit_text, line_text, place_text, size_text, steps_text, worded};
 
 use crate::report::{AbortRow, HitRow, LineRow, PlaceRow, Report, SizeRow, StepsRow};
-use ia_text::{Failed, Out};
 use itoa::Buffer;
+use text_out::{Failed, Out};
 
 /// Prints a report, a row a line. Takes no memory.
 pub fn put_columns<O: Out>(report: &Report, out: &mut O) -> Result<(), Failed>

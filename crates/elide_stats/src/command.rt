@@ -27,8 +27,8 @@ use elide_setup::{
     Course, Paths, Plan, ProgramFile, Progress, Refusal, Settings, Setup, new_machine, planned,
     read_file, record_path,
 };
-use ia_text::Out;
 use std::alloc::Global;
+use text_out::Out;
 use tm_stats::AbortCause;
 
 // What is asked for beside the program and its schedule.

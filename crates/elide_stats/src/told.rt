@@ -20,8 +20,8 @@ use elide_places::Naming;
 use elide_setup::{
     Board, Course, Fault, Gathered, Lent, Machine, ProgramFile, Progress, Refusal, Setup,
 };
-use ia_text::Out;
 use std::alloc::Global;
+use text_out::Out;
 use tm_stats::AbortCause;
 
 /// The run whose steps are counted.

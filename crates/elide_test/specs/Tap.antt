@@ -7,7 +7,7 @@ use Rattle.elide_setup.specs.Told.{fault_back, fault_front}
 use Rattle.elide_setup.specs.declared.fault.Fault.{Fault}
 use Rattle.elide_shell.specs.Controls.{escaped}
 use Rattle.elide_shell.specs.declared.escapes.Mark.TheVariants.{Backslash, DoubledQuote, Hash}
-use Rattle.ia_text.specs.TextLine.{line_end}
+use Rattle.text_out.specs.TextLine.{line_end}
 use Rattle.elide_test.specs.declared.report.Difference.{Difference}
 use Rattle.elide_test.specs.declared.report.FileReport.{FileReport}
 use Rattle.elide_test.specs.declared.report.TestReport.{TestReport}

@@ -7,7 +7,7 @@
 ghost use Rattle.std.specs.Prelude.{◌≡◌, ◌+◌, ◌≤◌, ◌++◌, ℕ, IfOk, List, OnOk};
 ghost use Rattle.std.specs.Io.KnownBytes.{Appends};
 ghost use Rattle.arrayvec.specs.ArrayVec.{array_vec_len};
-ghost use Rattle.ia_text.specs.Writing.{Wrote};
+ghost use Rattle.text_out.specs.Writing.{Wrote};
 ghost use Rattle.elide_setup.specs.Told.{fault_back, fault_front};
 ghost use Rattle.elide_test.specs.Tap.{bail_line, bail_text};
 
@@ -18,9 +18,9 @@ use arrayvec::{ArrayString, ArrayVec};
 use elide_program::ProgramFault;
 use elide_setup::{Fault, Gathered, Refusal, push_back, push_front};
 use ia_image::LoadFault;
-use ia_text::page::push;
-use ia_text::{Out, WriteFault};
 use std::fmt::Write;
+use text_out::page::push;
+use text_out::{Out, WriteFault};
 
 // The line that tells a fault.
 type Line = ArrayVec<u8, 160>;

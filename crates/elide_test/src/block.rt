@@ -6,8 +6,8 @@
 ghost use Rattle.std.specs.Prelude.{◌≡◌, ◌++◌, OnOk, codes, option_map, string_bytes};
 ghost use Rattle.std.specs.Fmt.{decimal};
 ghost use Rattle.std.specs.List.{list_any};
-ghost use Rattle.ia_text.specs.TextLine.{line_end};
-ghost use Rattle.ia_text.specs.Writing.{Wrote};
+ghost use Rattle.text_out.specs.TextLine.{line_end};
+ghost use Rattle.text_out.specs.Writing.{Wrote};
 ghost use Rattle.elide_shell.specs.Controls.{escaped};
 ghost use Rattle.elide_shell.specs.declared.escapes.Mark.TheVariants.{DoubledQuote};
 ghost use Rattle.elide_test.specs.Tap.{block_text, difference_text, is_special, refusal_text, scalar};
@@ -15,8 +15,8 @@ ghost use Rattle.elide_test.specs.Tap.{block_text, difference_text, is_special, 
 use crate::report::{Difference, TestReport};
 use crate::tap::{tell_number, tell_text};
 use elide_shell::{Mark, put_escaped};
-use ia_text::{Out, WriteFault};
 use itoa::Buffer;
+use text_out::{Out, WriteFault};
 
 /// Prints what differed of a test, if it failed.
 pub fn tell_difference<O: Out>(report: &TestReport, out: &mut O) -> Result<(), WriteFault>

@@ -10,8 +10,8 @@ ghost use Rattle.elide_test.specs.Folder.{IsIn, in_folder, is_rooted, seen};
 
 use crate::shared::SharedPaths;
 use elide_program::{Paths, ReadFault, Text};
-use ia_text::Failed;
 use std::alloc::{AllocError, Global};
+use text_out::Failed;
 
 /// The folder of a path, if it names one, and the file's name in it.
 pub fn folder_of(path: &str) -> (Option<&str>, &str)

@@ -12,9 +12,9 @@ ghost use Rattle.elide_test.specs.Object.{refusal_value, unmet_value};
 use crate::report::{Difference, FileReport, TestReport, all_pass};
 use elide_object::{object_line, send_flag, send_number, send_text};
 use elide_setup::Refusal;
-use ia_text::Out;
 use serde::{Described, Serialize, Serializer};
 use std::alloc::{AllocError, Global};
+use text_out::Out;
 
 /// Prints the object of what the tests of files came to, on a line of its own.
 pub fn tell_object<O: Out>(alloc: Global, files: &[FileReport], out: &mut O) -> Result<(), Refusal>

@@ -8,12 +8,12 @@ ghost use Rattle.std.specs.Prelude.{◌≤◌, IfOk, None, length};
 
 use crate::shared::SharedPaths;
 use elide_program::{HostPaths, Paths, ReadFault, Text};
-use ia_text::Failed;
 use std::alloc::Global;
 use std::fs;
 use std::fs::File;
 use std::io::ErrorKind;
 use std::rt::Files;
+use text_out::Failed;
 
 /// The files of the system. Paths are UTF-8.
 #[derive(Drop)]

@@ -6,7 +6,7 @@
 
 ghost use Rattle.std.specs.Prelude.{◌≡◌, ◌+◌, ◌^◌, ◌<◌, ◌++◌, IfOk, IfSome, OnOk, OnSome, codes, length};
 ghost use Rattle.std.specs.Fmt.{decimal};
-ghost use Rattle.ia_text.specs.Writing.{Wrote};
+ghost use Rattle.text_out.specs.Writing.{Wrote};
 ghost use Rattle.elide_shell.specs.Controls.{escaped};
 ghost use Rattle.elide_shell.specs.declared.escapes.Mark.TheVariants.{Backslash, Hash};
 ghost use Rattle.elide_test.specs.Tap.{count_of, file_text, files_text, line_text, named_text, none_text, tap_text};
@@ -15,8 +15,8 @@ ghost use Rattle.elide_test.specs.Tap.{test_text, tests_text, verdict_text};
 use crate::block::tell_difference;
 use crate::report::{Difference, FileReport, TestReport};
 use elide_shell::{Mark, put_escaped};
-use ia_text::{Out, WriteFault};
 use itoa::Buffer;
+use text_out::{Out, WriteFault};
 
 /// Prints the tests of files, and below how many there are.
 pub fn tell_files<O: Out>(files: &[FileReport], out: &mut O) -> Result<(), WriteFault>

@@ -16,8 +16,8 @@ use crate::object::tell_object;
 use crate::report::{Answer, FileReport, Trials};
 use crate::tap::tell_files;
 use elide_setup::{Gathered, Refusal};
-use ia_text::Out;
 use std::alloc::Global;
+use text_out::Out;
 
 /// Prints what was tried, or why nothing more was, and answers whether each test passed. Gives the device back.
 pub fn tell<O: Out + Drop>(

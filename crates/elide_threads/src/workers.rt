@@ -8,7 +8,7 @@
 ghost use Rattle.std.specs.Prelude.{◌≡◌, ◌*◌, ◌⊎◌, [], ℕ, Bool, IfErr, IfOk, List, MatchResult, None, Option, Some, codes, false};
 ghost use Rattle.std.specs.Prelude.{length, replicate, true};
 ghost use Rattle.std.specs.Option.{option_copied};
-ghost use Rattle.ia_text.specs.Writing.{Wrote};
+ghost use Rattle.text_out.specs.Writing.{Wrote};
 ghost use Rattle.elide_setup.specs.ElideProgram.Files.{Gives, most_bytes};
 ghost use Rattle.elide_setup.specs.ElideProgram.ProgramFile.{IsFile};
 ghost use Rattle.elide_setup.specs.ElideProgram.ProgramFileType.{ProgramFile};
@@ -44,10 +44,10 @@ use elide_setup::{
 };
 use elide_stats::tell_counts;
 use elide_why::{NamedPlaces, tell_history};
-use ia_text::Out;
 use std::alloc::Global;
 use std::sync::Wait;
 use std::thread::Threads;
+use text_out::Out;
 use tm_pick::Events;
 use tm_work::{Burst, EventPlan, WorkFault, run_steadily};
 

@@ -5,7 +5,7 @@ use Rattle.std.specs.Option.{option_copied}
 use Rattle.elide_args.specs.Asked.{texts_of}
 use Rattle.elide_test.specs.declared.ended.Ended.{Ended}
 use Rattle.elide_test.specs.declared.folder.FolderPaths.{FolderPaths}
-use Rattle.ia_text.specs.declared.out.ToVec.{ToVec}
+use Rattle.text_out.specs.declared.out.ToVec.{ToVec}
 use Rattle.elide_trial.specs.declared.ending.CommandEnd.{CommandEnd}
 
 -- a call with these words, with these files as they are seen from this folder, if there is one, and with an empty

@@ -12,10 +12,10 @@ ghost use Rattle.elide_trial.specs.Came.{CameTo};
 use crate::ending::CommandEnd;
 use crate::trial::try_file;
 use elide_test::{FileReport, FolderPaths, SharedPaths, Stop, Trials};
-use ia_text::ToVec;
 use std::alloc::{AllocError, Global};
 use std::thread;
 use std::thread::Threads;
+use text_out::ToVec;
 
 /// Tries files, so many side by side, up to the first that cannot be tried. Each command is carried out by a call.
 pub fn try_all<

@@ -12,10 +12,10 @@ ghost use Rattle.elide_trial.specs.Came.{CameTo};
 use crate::ending::CommandEnd;
 use elide_command::{Silent, Surroundings, command};
 use elide_test::{Ended, FolderPaths, SharedPaths};
-use ia_text::{Failed, ToVec};
 use std::alloc::{AllocError, Global};
 use std::sync::Wait;
 use std::thread::Threads;
+use text_out::{Failed, ToVec};
 use tm_debug::In;
 
 /// Carries out a command: its words without the program's name, the files that it reads, and the device that it writes to. It has no

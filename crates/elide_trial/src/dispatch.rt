@@ -16,9 +16,9 @@ use elide_args::{CommandLine, Subcommand, TestOptions, command_line_of};
 use elide_command::{Paths, Progress, Surroundings, carry_out, end_early, misused, refuse};
 use elide_setup::{Lent, Refusal};
 use elide_test::{Answer, FolderPaths, SharedPaths, jobs_of, names_of, tell};
-use ia_text::{Out, ToVec};
 use std::sync::Wait;
 use std::thread::Threads;
+use text_out::{Out, ToVec};
 use tm_debug::In;
 
 /// Does what the words say, and gives the exit status, as `elide_command` does, but for `test`, which ends with 0 where each test

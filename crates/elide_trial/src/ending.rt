@@ -4,7 +4,7 @@
 
 ghost use Rattle.std.specs.Prelude.{◌≤◌};
 
-use ia_text::ToVec;
+use text_out::ToVec;
 
 /// How a command ended, and the device that it wrote to.
 #[derive(Drop)]

@@ -18,8 +18,8 @@ use elide_test::{
     FileReport, FolderPaths, SharedPaths, Stop, TestReport, folder_of, read, report_of, text_of,
     words_of,
 };
-use ia_text::ToVec;
 use std::alloc::{AllocError, Global};
+use text_out::ToVec;
 
 /// Carries out the tests of a file.
 pub fn try_file<S: SharedPaths, C: Fn(&[&str], FolderPaths<'_, S>, ToVec) -> CommandEnd>(

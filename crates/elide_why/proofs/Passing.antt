@@ -1,7 +1,7 @@
 -- What is written on a device that gathers, behind what the other one held.
 use Rattle.std.proofs.Common.{ℕ, List, ◌++◌, Option, None, Some, ap, ◌∙◌}
 use Rattle.std.specs.Io.KnownBytes.{Appends, Keeps}
-use Rattle.ia_text.proofs.Writing.{appends_then}
+use Rattle.text_out.proofs.Writing.{appends_then}
 
 pub kept_first : (first begun last : Option (List ℕ)) (text : List ℕ) → Keeps first begun → Appends begun last text → Appends first last text
 kept_first None begun last text h k = tt

@@ -2,8 +2,8 @@
 use Rattle.std.specs.Prelude.{ℕ, List, [], ◌++◌, codes, Option, Some, None}
 use Rattle.std.specs.Fmt.{decimal}
 use Rattle.ia_insn.specs.declared.op.Insn.{Insn}
-use Rattle.ia_text.specs.Number.{eight_digits}
-use Rattle.ia_text.specs.TextLine.{line_end}
+use Rattle.text_out.specs.Number.{eight_digits}
+use Rattle.text_out.specs.TextLine.{line_end}
 use Rattle.elide_why.specs.Lines.{begun_text, insn_words}
 use Rattle.elide_why.specs.declared.words.Words.{Words}
 

@@ -2,9 +2,9 @@
 use Rattle.std.specs.Prelude.{ℕ, List, [], ◌++◌, codes, Option, Some, None}
 use Rattle.std.specs.Fmt.{decimal}
 use Rattle.ia_insn.specs.declared.op.Insn.{Insn}
-use Rattle.ia_text.specs.Number.{eight_digits, hex_digits}
+use Rattle.text_out.specs.Number.{eight_digits, hex_digits}
 use Rattle.ia_text.specs.Text.{insn_text}
-use Rattle.ia_text.specs.TextLine.{line_end}
+use Rattle.text_out.specs.TextLine.{line_end}
 use Rattle.elide_setup.specs.TmHist.Lines.{stop_word}
 use Rattle.tm_sets.specs.declared.interface.Kind.{Kind}
 use Rattle.tm_sets.specs.declared.interface.Kind.TheVariants.{Read, Write}

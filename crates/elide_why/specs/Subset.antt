@@ -5,8 +5,8 @@ use Rattle.std.specs.Fmt.{decimal}
 use Rattle.hex.specs.Hex.{encode_lower}
 use Rattle.ia_foreign.specs.declared.words.Words.{Words}
 use Rattle.elide_setup.specs.IaImage.Program.{ProgramValue, code_of}
-use Rattle.ia_text.specs.Number.{eight_digits}
-use Rattle.ia_text.specs.TextLine.{line_end}
+use Rattle.text_out.specs.Number.{eight_digits}
+use Rattle.text_out.specs.TextLine.{line_end}
 use Rattle.elide_why.specs.declared.outside.Outside.{Outside}
 
 -- the code from an address on, as many bytes as an instruction has at most (SDM vol. 2, 2.3.11)

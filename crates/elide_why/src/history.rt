@@ -4,15 +4,15 @@
 //! made. The board stays as it is. Whether its history ends as it did is not asked here: `elide_replay` does.
 
 ghost use Rattle.std.specs.Prelude.{◌≡◌, ℕ, IfErr, IfOk, List, length};
-ghost use Rattle.ia_text.specs.Writing.{Wrote};
+ghost use Rattle.text_out.specs.Writing.{Wrote};
 ghost use Rattle.elide_setup.specs.Refused.{IsNoMachine};
 ghost use Rattle.elide_why.specs.Refused.{IsNotRetold};
 
 use crate::placed::NamedPlaces;
 use crate::teller::Teller;
 use elide_setup::{Board, Fault, Machine, Progress, Refusal};
-use ia_text::Out;
 use std::alloc::Global;
+use text_out::Out;
 
 /// After how many steps it is told how far the run is.
 const PORTION: usize = 65536;

@@ -12,7 +12,6 @@ mod history;
 mod interference;
 mod lines;
 mod outside;
-mod page;
 mod parts;
 mod placed;
 mod subset;

@@ -6,17 +6,16 @@
 
 ghost use Rattle.std.specs.Prelude.{◌≡◌, ◌+◌, ◌≤◌, ◌++◌, length};
 ghost use Rattle.arrayvec.specs.ArrayVec.{array_vec_len};
-ghost use Rattle.ia_text.specs.Writing.{Writes};
+ghost use Rattle.text_out.specs.Writing.{Writes};
 ghost use Rattle.elide_why.specs.Lines.{abort_back, abort_front, abort_line, begun_text, begun_told, cause_text};
 ghost use Rattle.elide_why.specs.Lines.{hit_words, line_text, no_room_text, outside_words, use_word};
 
-use crate::page::push_decimal;
 use crate::parts::write_parts;
 use crate::subset::{push_outside, push_symbols};
 use crate::words::Words;
 use elide_setup::{AbortReason, stop_text};
-use ia_text::page::{Page, push, push_eight, push_hex};
-use ia_text::{Out, WriteFault};
+use text_out::page::{Page, push, push_decimal, push_eight, push_hex};
+use text_out::{Out, WriteFault};
 use tm_sets::Kind;
 use tm_why::{Reason, StandingHit};
 

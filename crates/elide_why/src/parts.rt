@@ -4,12 +4,13 @@
 //! device fails a beginning of the line stands. The two texts around are those of `lines` and `interference`.
 
 ghost use Rattle.std.specs.Prelude.{◌++◌};
-ghost use Rattle.ia_text.specs.Writing.{Writes};
+ghost use Rattle.text_out.specs.Writing.{Writes};
 ghost use Rattle.elide_why.specs.Lines.{insn_words};
 
 use crate::words::Words;
 use ia_insn::Insn;
-use ia_text::{Out, WriteFault, write_insn};
+use ia_text::write_insn;
+use text_out::{Out, WriteFault};
 
 /// Writes what stands before an instruction, the one that is told, if one is, and what stands behind it.
 ///

@@ -6,16 +6,15 @@
 
 ghost use Rattle.std.specs.Prelude.{◌≡◌, ◌+◌, ◌≤◌, ◌++◌, None, drop, length, take};
 ghost use Rattle.arrayvec.specs.ArrayVec.{array_vec_len};
-ghost use Rattle.ia_text.specs.Writing.{Writes};
+ghost use Rattle.text_out.specs.Writing.{Writes};
 ghost use Rattle.elide_why.specs.Subset.{code_from, code_text, name_text, outside_text, stop_line, symbols_text};
 
 use crate::outside::Outside;
-use crate::page::push_decimal;
 use elide_places::{Places, SymbolText, push_code_place, push_source_place};
 use elide_setup::Program;
 use ia_foreign::{Words as ForeignWords, foreign_in};
-use ia_text::page::{Page, push, push_bytes, push_eight};
-use ia_text::{Out, WriteFault};
+use text_out::page::{Page, push, push_bytes, push_decimal, push_eight};
+use text_out::{Out, WriteFault};
 
 /// The most bytes that an instruction has (SDM vol. 2, 2.3.11).
 const LONGEST: usize = 15;

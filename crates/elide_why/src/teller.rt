@@ -9,7 +9,7 @@ ghost use Rattle.std.specs.Prelude.{ℕ, IfErr, IfOk, List};
 ghost use Rattle.elide_setup.specs.Refused.{IsUnwritten};
 ghost use Rattle.elide_setup.specs.Runs.{IsMachineStep};
 ghost use Rattle.elide_why.specs.Refused.{IsUntoldStep};
-ghost use Rattle.ia_text.specs.Writing.{Wrote};
+ghost use Rattle.text_out.specs.Writing.{Wrote};
 
 use crate::interference::write_interference;
 use crate::lines::write_abort;
@@ -21,7 +21,7 @@ use elide_setup::{
     Fault, Interference, Machine, Outcome, Pick, Program, Refusal, RunFault, StepMaker, Stop,
     write_outcome,
 };
-use ia_text::Out;
+use text_out::Out;
 use tm_why::{Asked, Reason, Watch};
 
 /// Makes the steps of a run and tells of each that aborts why it does, of each that stops where the subset ends which code stands

@@ -15,8 +15,8 @@ use arrayvec::ArrayVec;
 use elide_places::{Naming, Places, SymbolText, push_code_place, push_source_place, push_symbols};
 use elide_setup::{AbortReason, Program, Stop};
 use ia_insn::Insn;
-use ia_text::page::{push, push_eight};
 use itoa::Buffer;
+use text_out::page::{push, push_eight};
 use tm_why::Reason;
 
 /// How many bytes of a path are told.

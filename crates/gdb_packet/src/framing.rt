@@ -3,13 +3,13 @@
 ghost use Rattle.std.specs.Prelude.{◌≡◌, ◌+◌, ◌*◌, ◌≤◌, ◌∷◌, ◌++◌, [], Some, length};
 ghost use Rattle.arrayvec.specs.ArrayVec.{array_vec_len};
 ghost use Rattle.hex.specs.Hex.{encode_lower};
-ghost use Rattle.ia_text.specs.Writing.{Writes};
+ghost use Rattle.text_out.specs.Writing.{Writes};
 ghost use Rattle.gdb_packet.specs.Packet.{checksum, checksum_digits, escaped, escaped_byte, framed, is_bound, is_escaped};
 ghost use Rattle.gdb_packet.specs.Packet.{unescaped};
 
 use arrayvec::ArrayVec;
-use ia_text::page::push;
-use ia_text::{Out, WriteFault};
+use text_out::page::push;
+use text_out::{Out, WriteFault};
 
 /// The most bytes that a packet tells or has as its text: `PacketSize` of `qSupported`.
 pub const MOST_BYTES: usize = 16384;

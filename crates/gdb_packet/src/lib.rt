@@ -7,7 +7,7 @@
 //! What [`read_command`] tells of a packet is what its letters write, by `IsToldBy` of `specs/Commands`: of the letters
 //! `? g p m T D k G P M X s c b H Z z`, and of `vCont` with its actions. [`Actions::of`] gives the leftmost action that
 //! names a thread, else the leftmost one without a thread. Each other packet is a question, of which nothing more is
-//! promised. Stands on `ia_text` (devices that are written to), `hex` and `tm_model` (events); takes no memory.
+//! promised. Stands on `text_out` (devices that are written to), `hex` and `tm_model` (events); takes no memory.
 #![tactic(auto)]
 
 mod command;

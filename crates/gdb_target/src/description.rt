@@ -7,7 +7,7 @@ ghost use Rattle.std.specs.Prelude.{◌≡◌, ◌≤◌, length};
 ghost use Rattle.arrayvec.specs.ArrayVec.{array_vec_len};
 
 use gdb_packet::Bytes;
-use ia_text::page::push;
+use text_out::page::push;
 
 fn head() -> &'static [u8]
     ensures { length result.now ≤ 700 }

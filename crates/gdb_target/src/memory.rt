@@ -8,7 +8,7 @@ ghost use Rattle.arrayvec.specs.ArrayVec.{array_vec_len};
 ghost use Rattle.gdb_target.specs.Memory.{bytes_text, is_readable, memory_text};
 
 use gdb_packet::Bytes;
-use ia_text::page::{push, push_bytes};
+use text_out::page::{push, push_bytes};
 use tm_hist::Machine;
 
 fn is_readable(machine: &Machine, at: u64, count: u64) -> bool

@@ -8,7 +8,7 @@ ghost use Rattle.arrayvec.specs.ArrayVec.{array_vec_len};
 ghost use Rattle.gdb_target.specs.Parts.{part_of, part_room};
 
 use gdb_packet::Bytes;
-use ia_text::page::push;
+use text_out::page::push;
 
 fn part_room(count: u32) -> usize
     ensures { result ≡ part_room count }

@@ -13,7 +13,7 @@ use crate::shown::CoreShown;
 use bitflags::Flags as _;
 use gdb_packet::Bytes;
 use ia_regs::Flags;
-use ia_text::page::{push, push_bytes};
+use text_out::page::{push, push_bytes};
 use tm_hist::CoreState;
 
 /// How many registers there are.

@@ -8,8 +8,8 @@ ghost use Rattle.arrayvec.specs.ArrayVec.{array_vec_len};
 ghost use Rattle.hex.specs.Hex.{encode_lower};
 
 use gdb_packet::Bytes;
-use ia_text::page::{push, push_bytes};
-use ia_text::text_line::{TextLine, push_number};
+use text_out::page::{push, push_bytes};
+use text_out::text_line::{TextLine, push_number};
 use tm_hist::{CoreState, Machine, push_state};
 
 /// Adds the number of the thread that a core is, in two hex digits: 1 for the first core.

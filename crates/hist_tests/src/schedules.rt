@@ -1,6 +1,6 @@
 //! Schedules as texts: what is written, what is read, and what is refused.
 
-use ia_text::{ToVec, WriteFault};
+use text_out::{ToVec, WriteFault};
 use tm_core::{Event, Interference, Pick};
 use tm_schedule::{
     ScheduleFault, ScheduleWriter, pick_of_word, read_schedule, read_steps, write_schedule,

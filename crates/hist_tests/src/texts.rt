@@ -2,8 +2,8 @@
 //! dumps the worked rows of `doc_tests` show.
 
 use ia_image::{LoadFault, Program, load};
-use ia_text::{ToVec, WriteFault};
 use std::alloc::Global;
+use text_out::{ToVec, WriteFault};
 use tm_core::Outcome;
 use tm_hist::{History, SerialFault, serial, write_dump, write_outcome};
 use tm_rule::Stop;

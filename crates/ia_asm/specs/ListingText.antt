@@ -5,7 +5,7 @@ use Rattle.std.specs.Prelude.{None, List, []}
 use Rattle.std.specs.Prelude.{◌∷◌, ◌++◌, codes, drop, length, take}
 use Rattle.std.specs.List.{flat_map, range_with_len}
 use Rattle.hex.specs.Hex.{encode_lower}
-use Rattle.ia_text.specs.Number.{eight_digits}
+use Rattle.text_out.specs.Number.{eight_digits}
 use Rattle.ia_text.specs.Listing.{listing_line}
 use Rattle.ia_item.specs.Expressions.{Env}
 use Rattle.ia_item.specs.declared.item.Item.{Item}

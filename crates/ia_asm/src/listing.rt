@@ -12,9 +12,10 @@ ghost use Rattle.ia_asm.specs.Lister.{row_text, row_line, listing_with};
 use ia_item::Item;
 use ia_layout::{PlacedEntry, Taker, push_bytes, push_item};
 use ia_resolve::Table;
-use ia_text::page::{Page, push, push_bytes as push_hex_bytes, push_eight};
-use ia_text::{ToVec, write_line};
+use ia_text::write_line;
 use std::alloc::{AllocError, Global};
+use text_out::ToVec;
+use text_out::page::{Page, push, push_bytes as push_hex_bytes, push_eight};
 
 /// Where a line of `db` or `dd` begins.
 #[derive(Clone, Copy)]

@@ -10,7 +10,7 @@ use Rattle.std.specs.List.{list_all, starts_with}
 use Rattle.hex.specs.Hex.{IsBytes, encode_lower, is_hex_digit}
 use Rattle.hex.proofs.HexLemmas.{decode_of-encode_lower, decode_of-ok}
 use Rattle.ia_lex.specs.Lines.{lines_of, onto}
-use Rattle.ia_text.specs.Number.{hex_digits}
+use Rattle.text_out.specs.Number.{hex_digits}
 use Rattle.ia_image.specs.ImageText.{behind, bytes_of_line, bytes_of_lines, code_len_of, content_behind, content_of, content_of_lines, digit_rows, header_of, image_read, image_text, is_hex, number_in_front, numbers_of, rows}
 use Rattle.ia_image.proofs.Fronts.{both}
 use Rattle.ia_image.proofs.Written.{IsWritten, hex_written, number_again}

@@ -4,8 +4,8 @@ use Rattle.std.proofs.Math.ListN.{drop_of_length-le}
 use Rattle.std.proofs.lemmas.Bool.{cases_lt}
 use Rattle.std.proofs.lemmas.List.{drop-drop, take_all}
 use Rattle.hex.specs.Hex.{encode_lower}
-use Rattle.ia_text.specs.Writing.{Device, Making}
-use Rattle.ia_text.proofs.Writing.{making_none, making_more}
+use Rattle.text_out.specs.Writing.{Device, Making}
+use Rattle.text_out.proofs.Writing.{making_none, making_more}
 use Rattle.ia_image.specs.ImageText.{digit_rows, header_line, image_text, rows}
 
 -- the header stands on the page

@@ -4,8 +4,8 @@ use Rattle.std.specs.Prelude.{◌==◌, cond, nat_lt, nat_le, codes}
 use Rattle.std.proofs.Math.Seq.{take-append_seam}
 use Rattle.std.specs.List.{list_all, prefix_len}
 use Rattle.std.specs.Str.Parse.{digits_value}
-use Rattle.ia_text.specs.Number.{hex_digits}
-use Rattle.ia_text.proofs.Digits.{digits, hex_map_length, hex_short, some_digits, hex_all, value_again}
+use Rattle.text_out.specs.Number.{hex_digits}
+use Rattle.text_out.proofs.Digits.{digits, hex_map_length, hex_short, some_digits, hex_all, value_again}
 use Rattle.ia_image.specs.ImageText.{is_hex, number_in_front}
 use Rattle.ia_image.proofs.Fronts.{both}
 

@@ -7,7 +7,7 @@ use Rattle.std.specs.Char.{is_digit}
 use Rattle.std.specs.List.{prefix_len, starts_with}
 use Rattle.std.specs.Str.Parse.{digits_value}
 use Rattle.hex.specs.Hex.{decode_of, encode_lower}
-use Rattle.ia_text.specs.Number.{hex_digits}
+use Rattle.text_out.specs.Number.{hex_digits}
 use Rattle.hex.specs.declared.error.FromHexError.{FromHexError}
 use Rattle.ia_lex.specs.Lines.{lines_of}
 use Rattle.ia_image.specs.declared.fault.ImageFault.{ImageFault}

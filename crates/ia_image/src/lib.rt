@@ -3,7 +3,7 @@
 //! Promises that a program which loads is sound (each core has an entry in the code and a stack, and the image lies in
 //! memory), that of several faults the first in a fixed order is told, and that an image text that was written is read
 //! back. A program keeps its code decoded, also as the flat rows of `ia_row`, so that a machine decodes no instruction
-//! twice. Stands on `ia_decode`, on `ia_row`, on `ia_text` for writing and on `ia_lex` for lines; takes memory for the
+//! twice. Stands on `ia_decode`, on `ia_row`, on `text_out` for writing and on `ia_lex` for lines; takes memory for the
 //! image and the decoded code alone.
 #![tactic(auto)]
 

@@ -4,10 +4,10 @@ ghost use Rattle.std.specs.Prelude.{◌≡◌, ◌+◌, ◌*◌, ◌≤◌, ◌<
 ghost use Rattle.arrayvec.specs.ArrayVec.{array_vec_len};
 ghost use Rattle.hex.specs.Hex.{encode_lower};
 ghost use Rattle.ia_image.specs.ImageText.{digit_rows, header_line, image_read, image_text};
-ghost use Rattle.ia_text.specs.Writing.{Writes};
+ghost use Rattle.text_out.specs.Writing.{Writes};
 
-use ia_text::page::{Page, make_room, push, push_bytes, push_hex};
-use ia_text::{Out, WriteFault};
+use text_out::page::{Page, make_room, push, push_bytes, push_hex};
+use text_out::{Out, WriteFault};
 
 /// How many bytes a line shows.
 const ROW: usize = 32;

@@ -8,8 +8,8 @@ use Rattle.std.specs.Int.Digits.{digits_of}
 use Rattle.std.specs.Str.Parse.{digits_value}
 use Rattle.ia_lex.specs.Chars.{is_name}
 use Rattle.ia_lex.specs.Numbers.{number_of, small, all_digits, suffixed}
-use Rattle.ia_text.specs.Number.{hex_digits, number}
-use Rattle.ia_text.proofs.Digits.{digits, some_digits, hex_all, value_again}
+use Rattle.text_out.specs.Number.{hex_digits, number}
+use Rattle.text_out.proofs.Digits.{digits, some_digits, hex_all, value_again}
 use Rattle.ia_lex.specs.Tokens.{Number}
 use Rattle.ia_round_trip.proofs.TokenLemmas.{all_by, Open, open_number}
 

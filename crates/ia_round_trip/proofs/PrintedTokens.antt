@@ -25,7 +25,7 @@ use Rattle.ia_insn.specs.declared.mnemonic.Mnemonic.TheVariants as name
 use Rattle.ia_insn.specs.Mnemonics.{mnemonic_of, name_of}
 use Rattle.ia_text.specs.Names.{register_name, size_name}
 use Rattle.ia_text.specs.Arguments.{first_arg, second_arg, third_arg}
-use Rattle.ia_text.specs.Number.{number}
+use Rattle.text_out.specs.Number.{number}
 use Rattle.ia_text.specs.Text.{base_text, scale_text, index_text, disp_text, mem_text, arg_text, behind, op_text, insn_text}
 use Rattle.ia_round_trip.specs.PrintedTokens.{base_tokens, scale_value, index_tokens, disp_tokens, mem_tokens, arg_tokens, behind_tokens, op_tokens, insn_tokens, TextHasItsTokens}
 use Rattle.ia_round_trip.proofs.TokenLemmas.{all_by, Stops, IsStart, Open, Shut, open_word, open_number, shut_open, shut_shut, open_open, open_shut, shut_blank, shut_left, shut_right, shut_plus, shut_times, shut_comma, with_front_none}

@@ -5,7 +5,7 @@ use Rattle.std.proofs.lemmas.Bool.{lt-ltb}
 use Rattle.ia_item.specs.declared.item.Section.TheVariants as section
 use Rattle.ia_lex.specs.Numbers.{small}
 use Rattle.ia_lex.specs.Tokens.{Word, Number, tokens_from, tokens_of, with_front}
-use Rattle.ia_text.specs.Number.{number}
+use Rattle.text_out.specs.Number.{number}
 use Rattle.ia_text.specs.Text.{insn_text}
 use Rattle.ia_source.specs.Contents.{Org}
 use Rattle.ia_insn.specs.Operations.{arithmetic, moves, jumps, bare_names, conditions, other_names, other_conditions}

@@ -4,7 +4,7 @@ use Rattle.ia_insn.specs.declared.op.Insn.{Insn}
 use Rattle.ia_insn.specs.Encoding.{is_encodable}
 use Rattle.ia_item.specs.declared.item.Section.TheVariants as section
 use Rattle.ia_lex.specs.Terms.{TermContent}
-use Rattle.ia_text.specs.Number.{number}
+use Rattle.text_out.specs.Number.{number}
 use Rattle.ia_text.specs.Text.{insn_text}
 use Rattle.ia_source.specs.Contents.{EntryContent, Code, Org}
 use Rattle.ia_source.specs.Source.{entries_of}

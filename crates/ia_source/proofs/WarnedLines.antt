@@ -2,8 +2,8 @@
 use Rattle.std.proofs.Common.{◌≡◌, ℕ, ◌+◌, ◌≤◌, List, [], ◌∷◌, ◌++◌, refl, sym, ◌∙◌, ap, append-nil, drop, length}
 use Rattle.std.proofs.lemmas.List.{drop-drop, drop_all}
 use Rattle.ia_lex.specs.Lines.{lines_of}
-use Rattle.ia_text.specs.Writing.{Device, Making, Stopped, Wrote}
-use Rattle.ia_text.proofs.Writing.{making_more, making_room, making_stopped}
+use Rattle.text_out.specs.Writing.{Device, Making, Stopped, Wrote}
+use Rattle.text_out.proofs.Writing.{making_more, making_room, making_stopped}
 use Rattle.ia_source.specs.Warnings.{line_warning, lone_label, warnings_from}
 
 -- a part of the rest was written

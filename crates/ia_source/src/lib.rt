@@ -14,7 +14,7 @@
 //! none of these lines, and warning reads none of their items: each goes over the source by itself.
 //!
 //! It stands on `ia_lex` for lines, tokens and expressions, on `ia_names` for the numbers of names, on `ia_item` for what it
-//! gives, and on `ia_text` for the device that warnings are told on.
+//! gives, and on `text_out` for the device that warnings are told on.
 #![tactic(auto)]
 
 mod budget;

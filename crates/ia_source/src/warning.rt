@@ -2,12 +2,12 @@
 
 ghost use Rattle.std.specs.Prelude.{◌≡◌, option_map};
 ghost use Rattle.ia_source.specs.Warnings.{line_warning, lone_label, warning, warnings};
-ghost use Rattle.ia_text.specs.Writing.{Writes};
+ghost use Rattle.text_out.specs.Writing.{Writes};
 
 use crate::head::is_label;
 use ia_lex::{first_line, only_word};
-use ia_text::{Failed, Out};
 use itoa::Buffer;
+use text_out::{Failed, Out};
 
 // The label that stands alone on a line, without a colon.
 fn lone_label(line: &[u8]) -> Option<&[u8]>

@@ -2,8 +2,8 @@
 
 use ia_image::{ImageFault, LoadFault, load, read_image, write_image};
 use ia_row::Row;
-use ia_text::{Out, ToVec};
 use std::test::Fail;
+use text_out::{Out, ToVec};
 
 #[test]
 fn a_program(rt: HostRuntime) -> Result<(), Fail> {

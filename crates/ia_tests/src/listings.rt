@@ -1,8 +1,9 @@
 //! A line of a listing, and devices that fail.
 
-use ia_text::{Out, ToVec, ToWriter, WriteFault, disassemble, write_line};
+use ia_text::{disassemble, write_line};
 use std::io::{self, ErrorKind, Write};
 use std::test::Fail;
+use text_out::{Out, ToVec, ToWriter, WriteFault};
 
 const PROGRAM: &[u8] =
     b"\xc7\xf8\x0f\x00\x00\x00\xa1\x00\x10\x00\x00\x40\xa3\x00\x10\x00\x00\x0f\x01\xd5\xf4\xf4";

@@ -2,8 +2,9 @@
 
 use ia_decode::decode;
 use ia_insn::Insn;
-use ia_text::{ToVec, write_insn};
+use ia_text::write_insn;
 use std::alloc::Global;
+use text_out::ToVec;
 
 /// Whether an instruction is printed like this at address 0.
 pub(crate) fn is_printed(alloc: Global, insn: &Insn, text: &str) -> bool {

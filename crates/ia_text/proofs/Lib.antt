@@ -1,4 +1,2 @@
-pub mod Writing
-pub mod Digits
 mod Lines
 mod Rows

@@ -1,7 +1,7 @@
 -- Listing lines.
 use Rattle.std.proofs.Common.{◌≡◌, ℕ, ◌+◌, ◌-◌, ◌%◌, ◌^◌, ◌<◌, ◌≤◌, List, [], ◌∷◌, ◌++◌, refl, sym, ◌∙◌, ap, arith, length, length-drop, length-take, drop, take, zero, suc}
 use Rattle.std.proofs.lemmas.List.{drop-drop}
-use Rattle.ia_text.proofs.Writing.{rest_is}
+use Rattle.text_out.proofs.Writing.{rest_is}
 use Rattle.std.proofs.Math.ListN.{drop_of_length-le}
 use Rattle.ia_decode.specs.IaInsn.Reading.{decoding_of}
 use Rattle.ia_text.specs.Listing.{count_of, line_text, listing_from, listing_line, shown_bytes}

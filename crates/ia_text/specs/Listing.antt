@@ -5,7 +5,7 @@ use Rattle.hex.specs.Hex.{encode_lower}
 use Rattle.ia_decode.specs.IaInsn.DecodeFault.{DecodeFault}
 use Rattle.ia_decode.specs.IaInsn.Insn.{Insn}
 use Rattle.ia_decode.specs.IaInsn.Reading.{decoding_of}
-use Rattle.ia_text.specs.Number.{eight_digits, number}
+use Rattle.text_out.specs.Number.{eight_digits, number}
 use Rattle.ia_text.specs.Text.{insn_text}
 
 -- how many bytes a line shows: those of the instruction, or one where there is none

@@ -8,7 +8,7 @@ use Rattle.ia_decode.specs.IaInsn.Op.{Op}
 use Rattle.ia_decode.specs.IaInsn.Mem.{Mem}
 use Rattle.ia_text.specs.declared.arg.Arg.{Arg}
 use Rattle.ia_text.specs.declared.arg.Arg.TheVariants as arg
-use Rattle.ia_text.specs.Number.{number}
+use Rattle.text_out.specs.Number.{number}
 use Rattle.ia_decode.specs.IaInsn.Mnemonics.{mnemonic_of, name_of}
 use Rattle.ia_text.specs.Names.{register_name, size_name}
 use Rattle.ia_text.specs.Arguments.{first_arg, second_arg, third_arg}

@@ -3,12 +3,12 @@
 ghost use Rattle.std.specs.Prelude.{◌≡◌, ◌+◌, ◌-◌, ◌*◌, ◌<◌, ◌≤◌, ◌++◌, ◌∷◌, [], IfOk, MatchResult, length, replicate};
 ghost use Rattle.arrayvec.specs.ArrayVec.{array_vec_len};
 ghost use Rattle.ia_text.specs.Listing.{count_of, entry_text, in_places, line_text, listing, listing_line, shown_bytes};
-ghost use Rattle.ia_text.specs.Writing.{Stopped, Writes, Wrote};
+ghost use Rattle.text_out.specs.Writing.{Stopped, Writes, Wrote};
 
-use crate::out::{Out, WriteFault};
-use crate::page::{Page, make_room, push, push_bytes, push_eight, push_number};
 use crate::print::push_insn;
 use ia_decode::{DecodeFault, Insn, decode};
+use text_out::page::{Page, make_room, push, push_bytes, push_eight, push_number};
+use text_out::{Out, WriteFault};
 
 /// The most bytes that a line takes.
 const LINE: usize = 147;
@@ -95,7 +95,7 @@ fn push_line(page: &mut Page, code: &[u8], at: u32) -> u8
 /// Writes the first listing line of some code at an address, and tells how many bytes of the code it shows: those of
 /// the instruction in front, or one where there is none, which is written as `db`. Of no bytes it writes nothing and
 /// tells 0. On 5 `Write` a beginning of the line was written, and the count of failures rose.
-#[tactic(auto, using(crate::proofs::Lines::no_line, crate::proofs::Lines::none_shown, crate::proofs::Writing::wrote_none))]
+#[tactic(auto, using(crate::proofs::Lines::no_line, crate::proofs::Lines::none_shown, text_out::proofs::Writing::wrote_none))]
 pub fn write_line<O: Out>(code: &[u8], at: u32, out: &mut O) -> Result<u8, WriteFault>
     ensures text { Writes (O.device out.old) (O.device out.new) (listing_line code.now at) result }
     ensures shown { IfOk result (λ n. n ≡ shown_bytes code.now) }
@@ -113,7 +113,7 @@ pub fn write_line<O: Out>(code: &[u8], at: u32, out: &mut O) -> Result<u8, Write
 
 /// Writes the listing of some code at an address. Takes no memory; lines are written several at a time. On 5 `Write` a
 /// beginning of the listing was written, and the count of failures rose.
-#[tactic(auto, using(crate::proofs::Writing::making_none))]
+#[tactic(auto, using(text_out::proofs::Writing::making_none))]
 pub fn disassemble<O: Out>(code: &[u8], base: u32, out: &mut O) -> Result<(), WriteFault>
     ensures { Writes (O.device out.old) (O.device out.new) (listing code.now base) result }
 {

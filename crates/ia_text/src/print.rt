@@ -2,17 +2,17 @@
 
 ghost use Rattle.std.specs.Prelude.{◌≡◌, ◌+◌, ◌≤◌, ◌++◌, length};
 ghost use Rattle.arrayvec.specs.ArrayVec.{array_vec_len};
-ghost use Rattle.ia_text.specs.Writing.{Writes};
+ghost use Rattle.text_out.specs.Writing.{Writes};
 ghost use Rattle.ia_text.specs.Text.{plus, base_text, scale_text, index_text, disp_text, mem_text, arg_text, behind};
 ghost use Rattle.ia_text.specs.Text.{op_text, insn_text};
 
 use crate::arg::Arg;
 use crate::arguments::arguments_of;
 use crate::names::{register, size};
-use crate::out::{Out, WriteFault};
-use crate::page::{Page, push, push_number};
 use ia_decode::{Insn, Mem, Op};
 use ia_word::Width;
+use text_out::page::{Page, push, push_number};
+use text_out::{Out, WriteFault};
 
 fn push_plus(page: &mut Page, before: bool)
     requires { array_vec_len page.old + 1 ≤ 4096 }

@@ -7,10 +7,11 @@
 use elide_places::Places;
 use elide_setup::Setup;
 use ia_insn::Insn;
-use ia_text::page::{Page, push, push_number};
-use ia_text::{Out, ToVec, WriteFault, write_insn};
+use ia_text::write_insn;
 use page_text::{LINE, write_string};
 use std::alloc::Global;
+use text_out::page::{Page, push, push_number};
+use text_out::{Out, ToVec, WriteFault};
 
 /// A program, and what is known of its places.
 #[derive(Clone, Copy)]

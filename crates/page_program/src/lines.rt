@@ -5,8 +5,8 @@
 
 ghost use Rattle.std.specs.Prelude.{◌<◌, ◌≤◌, length};
 
-use ia_text::{Out, WriteFault};
 use page_text::{LINE, write_string};
+use text_out::{Out, WriteFault};
 
 /// Writes the lines of a source, each a string.
 pub fn write_lines<O: Out>(text: &[u8], out: &mut O) -> Result<(), WriteFault> {

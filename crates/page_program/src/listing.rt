@@ -7,10 +7,10 @@
 use crate::code::{Loaded, address_of, length_at, text_at, write_text_at};
 use crate::sources::Sources;
 use elide_places::{Label, SymbolText, push_source_place};
-use ia_text::page::{Page, push, push_eight};
-use ia_text::{Out, WriteFault};
 use page_text::{LINE, write_number, write_string};
 use std::alloc::{AllocError, Global};
+use text_out::page::{Page, push, push_eight};
+use text_out::{Out, WriteFault};
 
 /// The most rows of a listing that is shown as a whole.
 const WHOLE: usize = 160;

@@ -9,7 +9,7 @@ use crate::lines::write_lines;
 use crate::listing::{Listing, write_listing, write_spot, write_spots};
 use crate::sources::Sources;
 use elide_setup::Refusal;
-use ia_text::{Out, WriteFault};
+use text_out::{Out, WriteFault};
 
 /// What a program is written as.
 #[derive(Clone, Copy, PartialEq, Eq, Debug)]

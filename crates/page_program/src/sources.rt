@@ -7,9 +7,9 @@
 use crate::code::{Loaded, address_of};
 use crate::lines::{line_count, write_lines};
 use elide_setup::Paths;
-use ia_text::{Out, WriteFault};
 use page_text::{LINE, write_number, write_string};
 use std::alloc::{AllocError, Global};
+use text_out::{Out, WriteFault};
 
 /// The most bytes of a source that is shown.
 const MOST_BYTES: usize = 262_144;

@@ -1,7 +1,7 @@
 -- What is written as a page's data.
 use Rattle.std.specs.Prelude.{◌≡◌, ℕ, Bool, true, not, ◌==◌, List}
 use Rattle.std.specs.List.{list_all}
-use Rattle.ia_text.specs.Writing.{Device, Wrote}
+use Rattle.text_out.specs.Writing.{Device, Wrote}
 
 -- no `<`, which could end the element that the data stands in (HTML, 13.2.5.4)
 abbrev pub is_unmarked : ℕ → Bool

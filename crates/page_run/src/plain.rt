@@ -6,12 +6,12 @@
 ghost use Rattle.std.specs.Prelude.{◌≡◌, ◌⊎◌, Err, IfErr, OnOk, true};
 ghost use Rattle.std.specs.List.{list_all};
 ghost use Rattle.elide_setup.specs.Refused.{IsUntold, IsUnwritten};
-ghost use Rattle.ia_text.specs.Writing.{Wrote};
+ghost use Rattle.text_out.specs.Writing.{Wrote};
 ghost use Rattle.page_run.specs.Plain.{ArePlain, WrotePlain, is_unmarked};
 
 use elide_setup::Refusal;
-use ia_text::{Out, ToVec, WriteFault};
 use std::alloc::AllocError;
+use text_out::{Out, ToVec, WriteFault};
 
 /// Writes a piece of the data. One with a `<` is refused as a device that fails is, 5 `Write`: none is made.
 pub fn put_plain<O: Out>(text: &[u8], out: &mut O) -> Result<(), Refusal>

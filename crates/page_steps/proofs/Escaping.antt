@@ -6,7 +6,7 @@ use Rattle.std.proofs.lemmas.Grind.{flat_map-append}
 use Rattle.std.specs.Prelude.{nat_lt, if◌then◌else◌, slice_index, ◌==◌}
 use Rattle.hex.specs.Hex.{encode_lower, encode_with, lower_digits}
 use Rattle.json.specs.Print.{escape, escape_byte, escape_letter}
-use Rattle.ia_text.specs.TextLine.{number_text}
+use Rattle.text_out.specs.TextLine.{number_text}
 use Rattle.tm_hist.specs.Lines.{interference_word, state_word, stop_word}
 use Rattle.page_steps.specs.Reading.{HasDepth}
 use Rattle.page_steps.specs.Types.{Aborted, AbortedBy, AtStop, Begun, Committed, Condemned, CoreState, Idle, Inside, Interference}

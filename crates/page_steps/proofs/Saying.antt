@@ -2,7 +2,7 @@
 use Rattle.std.proofs.Common.{◌≡◌, ℕ, ◌+◌, ◌≤◌, Bool, true, false, List, [], ◌∷◌, ◌++◌, Option, Some, None, arith, codes, length, refl, subst}
 use Rattle.std.specs.List.{list_any}
 use Rattle.std.specs.Prelude.{OnOk, Result, is_some}
-use Rattle.ia_text.specs.Writing.{Device, Wrote}
+use Rattle.text_out.specs.Writing.{Device, Wrote}
 use Rattle.page_steps.specs.Members.{hits_from, lead, member_text, members_text, named, some_then}
 use Rattle.page_steps.specs.Types.{Hit}
 use Rattle.page_steps.proofs.Texts.{then_on_ok}

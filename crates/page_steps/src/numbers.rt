@@ -4,11 +4,11 @@
 
 ghost use Rattle.std.specs.Prelude.{◌++◌, ◌∷◌, OnOk, decimal};
 ghost use Rattle.std.specs.List.{flat_map};
-ghost use Rattle.ia_text.specs.Writing.{Wrote};
+ghost use Rattle.text_out.specs.Writing.{Wrote};
 ghost use Rattle.page_steps.specs.Numbers.{behind_comma, numbers_inner, numbers_text};
 
-use ia_text::{Out, WriteFault};
 use page_text::write_number;
+use text_out::{Out, WriteFault};
 
 /// Writes numbers in brackets, with commas between. On 5 `Write` a beginning of them was written.
 pub fn write_numbers<O: Out>(numbers: &[u32], out: &mut O) -> Result<(), WriteFault>

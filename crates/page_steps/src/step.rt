@@ -5,7 +5,7 @@
 //! the core did before is handed in, since a delta has only what it does behind.
 
 ghost use Rattle.std.specs.Prelude.{OnOk};
-ghost use Rattle.ia_text.specs.Writing.{Wrote};
+ghost use Rattle.text_out.specs.Writing.{Wrote};
 ghost use Rattle.page_steps.specs.Reading.{IsInRange, ReadsAs};
 ghost use Rattle.page_steps.specs.Steps.{step_text};
 
@@ -13,8 +13,8 @@ use crate::members::write_members;
 use crate::numbers::write_numbers;
 use crate::registers::changed_registers;
 use crate::words::kind_letter;
-use ia_text::{Out, WriteFault};
 use page_text::write_number;
+use text_out::{Out, WriteFault};
 use tm_model::CoreState;
 use tm_page::PageDelta;
 

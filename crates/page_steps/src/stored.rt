@@ -4,13 +4,13 @@
 //! one just before it. Whether they are memory's or a transaction's own is said by the member's name (`members`).
 
 ghost use Rattle.std.specs.Prelude.{◌≡◌, ◌+◌, ◌++◌, OnOk, codes, nat_eq};
-ghost use Rattle.ia_text.specs.Writing.{Wrote};
+ghost use Rattle.text_out.specs.Writing.{Wrote};
 ghost use Rattle.page_steps.specs.Stored.{digits_of_byte, first_text, inner_text, joint_text, more_text, stored_text};
 
 use arrayvec::ArrayVec;
-use ia_text::page::push_bytes;
-use ia_text::{Out, WriteFault};
 use page_text::write_number;
+use text_out::page::push_bytes;
+use text_out::{Out, WriteFault};
 use tm_page::StoredByte;
 
 /// Writes bytes with their addresses, in brackets: one that stands behind the byte before it goes on with its digits. On 5

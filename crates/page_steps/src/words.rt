@@ -4,12 +4,12 @@
 //! from outside a member of its own. The words of states are those of `tm_hist`, as the debugger prints them.
 
 ghost use Rattle.std.specs.Prelude.{◌≡◌, OnOk};
-ghost use Rattle.ia_text.specs.Writing.{Wrote};
+ghost use Rattle.text_out.specs.Writing.{Wrote};
 ghost use Rattle.page_steps.specs.Words.{letter_of, quoted_state};
 
-use ia_text::page::push;
-use ia_text::text_line::TextLine;
-use ia_text::{Out, WriteFault};
+use text_out::page::push;
+use text_out::text_line::TextLine;
+use text_out::{Out, WriteFault};
 use tm_hist::push_state;
 use tm_model::{CoreState, Outcome};
 

@@ -5,8 +5,8 @@ use Rattle.std.proofs.lemmas.List.{length-map}
 use Rattle.std.proofs.lemmas.List.Folds.{list_all-append}
 use Rattle.std.specs.List.{list_all}
 use Rattle.std.specs.Prelude.{codes, map, nat_eq, nat_le, nat_lt, if◌then◌else◌}
-use Rattle.ia_text.proofs.Writing.{wrote_none, wrote_then}
-use Rattle.ia_text.specs.Writing.{Device, Wrote}
+use Rattle.text_out.proofs.Writing.{wrote_none, wrote_then}
+use Rattle.text_out.specs.Writing.{Device, Wrote}
 use Rattle.tm_model.specs.declared.outcome.Outcome.{Outcome}
 use Rattle.tm_model.specs.declared.outcome.Pick.{Pick}
 use Rattle.elide_setup.specs.Runs.{IsRunOf}

@@ -1,7 +1,7 @@
 -- A machine that tells its steps as it makes them.
 use Rattle.std.specs.Prelude.{◌≡◌, ℕ, ◌+◌, ◌<◌, ◌≤◌, ◌&&◌, nat_eq, nat_le, nat_lt, List, [], ◌∷◌, Option}
 use Rattle.std.specs.Prelude.{if◌then◌else◌, length}
-use Rattle.ia_text.specs.Writing.{Device, Wrote}
+use Rattle.text_out.specs.Writing.{Device, Wrote}
 use Rattle.tm_model.specs.declared.outcome.Outcome.{Outcome}
 use Rattle.tm_model.specs.declared.outcome.Pick.{Pick}
 use Rattle.elide_setup.specs.Runs.{IsMachineStep}

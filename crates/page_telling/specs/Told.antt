@@ -1,6 +1,6 @@
 -- The steps of a run as they stand in a page: a line for each of them, by its own delta (page/README.md, "steps").
 use Rattle.std.specs.Prelude.{◌≡◌, ℕ, Bool, true, false, List, [], ◌∷◌, ◌++◌, codes, drop, length, map, if◌then◌else◌}
-use Rattle.ia_text.specs.Writing.{Device, Wrote}
+use Rattle.text_out.specs.Writing.{Device, Wrote}
 use Rattle.tm_model.specs.declared.outcome.Outcome.{Outcome}
 use Rattle.tm_model.specs.declared.outcome.Pick.{Pick}
 use Rattle.elide_setup.specs.Runs.{IsMachineStep, IsRunOf}

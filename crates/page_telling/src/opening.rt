@@ -10,12 +10,12 @@ ghost use Rattle.page_run.specs.Plain.{WrotePlain};
 
 use crate::kept::Kept;
 use elide_setup::{CoreState, Fault, Kind, Machine, Refusal, RunFault};
-use ia_text::page::{Page, push_hex};
-use ia_text::{Out, ToVec, WriteFault};
 use page_run::{LineUse, put_piece};
 use page_steps::{register_values, write_numbers, write_state, write_stored};
 use page_text::{write_hex, write_number};
 use std::alloc::{AllocError, Global};
+use text_out::page::{Page, push_hex};
+use text_out::{Out, ToVec, WriteFault};
 use tm_page::StoredByte;
 use tm_why::{Asked, Watch};
 

@@ -6,7 +6,7 @@
 //! pass of their own, in `elide_page`.
 
 ghost use Rattle.std.specs.Prelude.{◌≡◌, ◌+◌, ◌<◌, ◌≤◌, ◌≢◌, ◌⊎◌, ℕ, IfErr, IfOk, List, OnErr, OnOk, codes};
-ghost use Rattle.ia_text.specs.Writing.{Wrote};
+ghost use Rattle.text_out.specs.Writing.{Wrote};
 ghost use Rattle.tm_page.specs.Applied.{is_listed};
 ghost use Rattle.tm_page.specs.Before.{IsBefore};
 ghost use Rattle.tm_page.specs.Difference.{IsDifference};
@@ -25,10 +25,10 @@ use crate::opening::{Behind, put_opening};
 use elide_setup::{
     CoreState, Fault, Machine, Outcome, Pick, Refusal, RunFault, Silent, StepMaker, new_machine,
 };
-use ia_text::{Out, ToVec, WriteFault};
 use page_run::{LineUse, Stretch, Window, put_plain};
 use page_steps::write_step;
 use std::alloc::{AllocError, Global};
+use text_out::{Out, ToVec, WriteFault};
 use tm_page::{Before, PageDelta, delta_of};
 use tm_why::Watch;
 

@@ -6,14 +6,14 @@
 #![tactic(auto)]
 
 ghost use Rattle.std.specs.Prelude.{◌++◌};
-ghost use Rattle.ia_text.specs.Writing.{Writes};
+ghost use Rattle.text_out.specs.Writing.{Writes};
 ghost use Rattle.page_text.specs.Escaped.{title_text};
 
 pub mod template;
 
 use crate::template::{HEAD, MIDDLE, TAIL};
-use ia_text::{Out, WriteFault};
 use page_text::write_title;
+use text_out::{Out, WriteFault};
 
 /// Writes the page up to its data, with its title, of which at most [`page_text::TITLE`] characters stand. On 5 `Write` a
 /// beginning of it was written, and the count of failures rose.

@@ -1,12 +1,12 @@
 //! The steps of a small run as deltas, and their lines.
 
 use ia_image::load;
-use ia_text::ToVec;
 use page_steps::{
     kind_letter, register_values, write_numbers, write_state, write_step, write_stored,
 };
 use std::alloc::Global;
 use std::test::Fail;
+use text_out::ToVec;
 use tm_core::{CoreState, Limits, Machine, Outcome};
 use tm_page::{Before, StoredByte, delta_of};
 

@@ -1,9 +1,9 @@
 //! Texts, numbers, and the page round its data.
 
-use ia_text::ToVec;
 use page_template::{write_head, write_tail};
 use page_text::{write_hex, write_number, write_string, write_title};
 use std::test::Fail;
+use text_out::ToVec;
 
 #[test]
 fn a_string(rt: HostRuntime) -> Result<(), Fail> {

@@ -16,7 +16,7 @@ use Rattle.json.specs.Text.{content, plain, after_u, after_high, prepend, code_u
 use Rattle.bstr.specs.Utf8.{decoded, lossy_chars, or_replacement}
 use Rattle.bstr.proofs.lemmas.PieceLemmas.{lossy_chars-step, lossy_chars-nil, piece-bounds}
 use Rattle.bstr.proofs.lemmas.SoundLemmas.{SpellsChar-decoded}
-use Rattle.ia_text.specs.Number.{hex_digits}
+use Rattle.text_out.specs.Number.{hex_digits}
 use Rattle.page_text.specs.declared.escape.Escape.{Escape}
 use Rattle.page_text.specs.declared.escape.Escape.TheVariants.{Json, Markup}
 use Rattle.page_text.specs.Shown.{by_number, is_hidden, shown, shown_char, shown_chars}

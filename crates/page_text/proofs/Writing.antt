@@ -10,12 +10,12 @@ use Rattle.std.proofs.lemmas.Grind.{flat_map-append}
 use Rattle.std.proofs.lemmas.List.{drop-drop, take-append-drop}
 use Rattle.std.specs.Prelude.{Result, slice_index}
 use Rattle.hex.specs.Hex.{encode_lower, encode_with, lower_digits}
-use Rattle.ia_text.specs.Writing.{Device, Making, Writes}
+use Rattle.text_out.specs.Writing.{Device, Making, Writes}
 use Rattle.std.proofs.Math.ListN.{drop_of_length-le}
 use Rattle.bstr.specs.Utf8.{decoded, lossy_chars, or_replacement}
 use Rattle.bstr.proofs.lemmas.PieceLemmas.{lossy_chars-step, lossy_chars-nil, piece-bounds}
-use Rattle.ia_text.specs.Number.{hex_digits}
-use Rattle.ia_text.proofs.Writing.{rest_is, wrote_none, writes_then}
+use Rattle.text_out.specs.Number.{hex_digits}
+use Rattle.text_out.proofs.Writing.{rest_is, wrote_none, writes_then}
 use Rattle.page_text.specs.declared.escape.Escape.{Escape}
 use Rattle.page_text.specs.declared.escape.Escape.TheVariants.{Json, Markup}
 use Rattle.page_text.specs.Shown.{by_number, dots_if, shown_char, shown_chars}

@@ -4,7 +4,7 @@ use Rattle.std.specs.Prelude.{ℕ, ◌+◌, ◌-◌, ◌/◌, ◌%◌, Bool, not
 use Rattle.std.specs.Char.{digit_char}
 use Rattle.std.specs.Int.{is_in_range}
 use Rattle.hex.specs.Hex.{encode_lower}
-use Rattle.ia_text.specs.Number.{hex_digits}
+use Rattle.text_out.specs.Number.{hex_digits}
 use Rattle.page_text.specs.declared.escape.Escape.{Escape}
 use Rattle.page_text.specs.declared.escape.Escape.TheVariants.{Json, Markup}
 use Rattle.page_text.specs.Shown.{shown}

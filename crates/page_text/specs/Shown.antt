@@ -2,7 +2,7 @@
 use Rattle.std.specs.Prelude.{ℕ, zero, suc, Bool, ◌||◌, if◌then◌else◌, List, [], ◌∷◌, ◌++◌, codes}
 use Rattle.std.specs.Int.{is_in_range}
 use Rattle.bstr.specs.Utf8.{lossy_chars}
-use Rattle.ia_text.specs.Number.{hex_digits}
+use Rattle.text_out.specs.Number.{hex_digits}
 
 -- a control character (Unicode Standard, 23.1) other than the tab, or DEL
 abbrev pub is_control : ℕ → Bool

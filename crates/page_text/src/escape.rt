@@ -5,7 +5,7 @@ ghost use Rattle.std.specs.Char.{digit_char};
 ghost use Rattle.arrayvec.specs.ArrayVec.{array_vec_len};
 ghost use Rattle.page_text.specs.Escaped.{escaped_char, is_plain, number_text, unit_text, units_text};
 
-use ia_text::page::{Page, push, push_hex};
+use text_out::page::{Page, push, push_hex};
 
 /// Where a text stands.
 #[derive(Clone, Copy, PartialEq, Eq, Debug)]

@@ -5,7 +5,7 @@
 //! of text stands by its number, and of a long text a front stands, with `..` behind it. Then each character is escaped
 //! (`specs/Escaped.antt`), so that all bytes are printable ASCII and none of them is `<` or `>`: no text ends the element,
 //! and none is markup. A string has no `&` either, and reads back: its value, by the grammar of JSON, is what is shown.
-//! Takes no memory. Stands on `ia_text` and `bstr`.
+//! Takes no memory. Stands on `text_out` and `bstr`.
 #![tactic(auto)]
 
 mod escape;

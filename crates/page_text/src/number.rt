@@ -1,13 +1,13 @@
 //! Numbers, and bytes in hex.
 
 ghost use Rattle.std.specs.Prelude.{decimal};
-ghost use Rattle.ia_text.specs.Writing.{Writes};
+ghost use Rattle.text_out.specs.Writing.{Writes};
 ghost use Rattle.page_text.specs.Escaped.{hex_text};
 
 use crate::text::put_last;
-use ia_text::page::{Page, make_room, push, push_bytes};
-use ia_text::{Out, WriteFault};
 use itoa::Buffer;
+use text_out::page::{Page, make_room, push, push_bytes};
+use text_out::{Out, WriteFault};
 
 /// How many bytes go to a page at a time.
 const CHUNK: usize = 32;

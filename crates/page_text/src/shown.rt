@@ -7,7 +7,7 @@ ghost use Rattle.page_text.specs.Shown.{by_number, shown_char};
 
 use crate::escape::{Escape, push_escaped};
 use crate::hidden::is_hidden;
-use ia_text::page::{Page, push, push_hex};
+use text_out::page::{Page, push, push_hex};
 
 /// The most bytes that stand for a character.
 pub(crate) const ROOM: usize = 24;

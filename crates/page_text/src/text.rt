@@ -2,7 +2,7 @@
 
 ghost use Rattle.std.specs.Prelude.{◌≡◌, ◌≤◌, ◌++◌, Some, encode_utf8_all, drop, length, true};
 ghost use Rattle.std.specs.List.{list_all};
-ghost use Rattle.ia_text.specs.Writing.{Writes};
+ghost use Rattle.text_out.specs.Writing.{Writes};
 ghost use Rattle.json.specs.Text.{content, plain};
 ghost use Rattle.page_text.specs.Escaped.{escaped, is_safe, is_unmarked, string_text, title_text};
 ghost use Rattle.page_text.specs.Shown.{dots_if, shown};
@@ -10,8 +10,8 @@ ghost use Rattle.page_text.specs.Shown.{dots_if, shown};
 use crate::escape::Escape;
 use crate::shown::{ROOM, push_shown};
 use bstr::decode_lossy;
-use ia_text::page::{Page, make_room, push};
-use ia_text::{Out, WriteFault};
+use text_out::page::{Page, make_room, push};
+use text_out::{Out, WriteFault};
 
 /// Writes a text as a string of JSON, with its quotes: at most `most` characters, and two dots behind them where there are
 /// more. On 5 `Write` a beginning of it was written, and the count of failures rose.

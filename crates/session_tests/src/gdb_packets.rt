@@ -1,8 +1,8 @@
 //! Packets of real sessions, and escapes whose checksums were added up by hand.
 
 use gdb_packet::{Heard, Reader, write_packet};
-use ia_text::ToVec;
 use std::test::Fail;
+use text_out::ToVec;
 
 #[test]
 fn packets_are_written(rt: HostRuntime) -> Result<(), Fail> {

@@ -3,12 +3,12 @@
 
 use gdb_packet::write_packet;
 use ia_image::load;
-use ia_text::{Out, ToVec};
 use std::alloc::Global;
 use std::io::Cursor;
 use std::process::Abort;
 use std::sync::Wait;
 use std::test::Fail;
+use text_out::{Out, ToVec};
 use tm_core::Limits;
 use tm_debug::FromReader;
 use tm_gdb::serve;

@@ -4,11 +4,11 @@
 mod broken;
 
 use ia_image::load;
-use ia_text::ToVec;
 use std::alloc::Global;
 use std::io::Cursor;
 use std::process::Abort;
 use std::test::Fail;
+use text_out::ToVec;
 use tm_core::Limits;
 use tm_debug::{
     CommandName, FromReader, In, MOST_BREAKPOINTS, Manner, Names, Range, Refusal, SessionFault,

@@ -3,8 +3,8 @@ use Rattle.std.proofs.Common.{◌≡◌, ◌⊎◌, ◌==◌, ◌<◌, Bool, tru
 use Rattle.std.specs.Prelude.{Result, Ok, Err, MatchResult, OnOk}
 use Rattle.tm_debug.specs.declared.interruption.Interruption.{Interruption}
 use Rattle.ia_lex.specs.Lines.{lines_of}
-use Rattle.ia_text.specs.Writing.{Device, Rose, Stopped, Wrote}
-use Rattle.ia_text.proofs.Writing.{wrote_none, wrote_then}
+use Rattle.text_out.specs.Writing.{Device, Rose, Stopped, Wrote}
+use Rattle.text_out.proofs.Writing.{wrote_none, wrote_then}
 use Rattle.tm_debug.specs.declared.line.Line.{Line}
 use Rattle.tm_debug.specs.declared.line.Line.TheVariants as read
 use Rattle.tm_debug.specs.declared.session.Request.{Request}

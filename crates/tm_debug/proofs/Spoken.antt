@@ -1,9 +1,9 @@
 -- Answers with a prompt behind them, and sessions behind their first prompt.
 use Rattle.std.proofs.Common.{◌≡◌, ◌++◌, ℕ, List, Option, refl, sym, subst, inr}
 use Rattle.std.specs.Prelude.{Result, Ok, Err, IfErr, IfOk}
-use Rattle.ia_text.specs.declared.out.WriteFault.{WriteFault}
-use Rattle.ia_text.specs.Writing.{Device, Wrote}
-use Rattle.ia_text.proofs.Writing.{wrote_then}
+use Rattle.text_out.specs.declared.out.WriteFault.{WriteFault}
+use Rattle.text_out.specs.Writing.{Device, Wrote}
+use Rattle.text_out.proofs.Writing.{wrote_then}
 use Rattle.tm_why.specs.TmHist.Board.{ShownBoard as Board}
 use Rattle.debug_command.specs.declared.manner.Manner.{Manner}
 use Rattle.debug_command.specs.declared.manner.Manner.TheVariants.{Plain, Spoken}

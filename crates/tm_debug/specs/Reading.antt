@@ -1,7 +1,7 @@
 -- What a call that reads from a device does.
 use Rattle.std.specs.Prelude.{◌≡◌, ℕ, ◌≤◌, List, Option, Result, MatchResult, length, take}
 use Rattle.std.specs.Io.KnownBytes.{Consumes, IsAtEnd, Keeps}
-use Rattle.ia_text.specs.Writing.{Rose}
+use Rattle.text_out.specs.Writing.{Rose}
 
 -- some bytes are read and no failure is counted, none only at the end, or none are and the count of failures rose
 abbrev pub Reads : {E : Type 0} → Option (List ℕ) → ℕ → Option (List ℕ) → ℕ → List ℕ → Result ℕ E → Type 0

@@ -7,20 +7,20 @@
 ghost use Rattle.std.specs.Prelude.{◌≡◌, ◌==◌, ◌++◌, ◌<◌, IfSome, length};
 ghost use Rattle.std.specs.List.{position};
 ghost use Rattle.arrayvec.specs.ArrayVec.{array_vec_len};
-ghost use Rattle.ia_text.specs.Writing.{Writes};
+ghost use Rattle.text_out.specs.Writing.{Writes};
 ghost use Rattle.tm_debug.specs.Session.{StepAnswer, TellsAnswer, break_front, break_line, core_named, cores_of, done_line};
 ghost use Rattle.tm_debug.specs.Session.{list_answer, mem_answer, ok_line, value_of, regs_answer, set_break};
 ghost use Rattle.tm_debug.specs.Session.{run_ending, some_lines, unset_break};
 ghost use Rattle.debug_command.specs.Places.{place_text};
 ghost use Rattle.debug_command.specs.Refusals.{refusal_line};
-ghost use Rattle.ia_text.specs.TextLine.{line_end};
+ghost use Rattle.text_out.specs.TextLine.{line_end};
 
 use crate::state::{MOST_BREAKPOINTS, RunCheck, SessionState, core_count};
 use crate::told::{told_step, write_told};
 use debug_command::{Manner, Range, Refusal, Symbol, refuse, write_labelled, write_place};
-use ia_text::page::{push, push_eight};
-use ia_text::text_line::{TextLine, push_number};
-use ia_text::{Out, WriteFault};
+use text_out::page::{push, push_eight};
+use text_out::text_line::{TextLine, push_number};
+use text_out::{Out, WriteFault};
 use tm_model::{Event, Pick};
 use tm_why::{Machine, Program, StepFault, write_core, write_dump};
 

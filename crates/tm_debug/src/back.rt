@@ -5,17 +5,17 @@
 //! history that is left. Breakpoints stop nothing on the way.
 
 ghost use Rattle.std.specs.Prelude.{◌≡◌, ◌≤◌, OnErr, OnOk, length};
-ghost use Rattle.ia_text.specs.Writing.{Writes};
+ghost use Rattle.text_out.specs.Writing.{Writes};
 ghost use Rattle.tm_debug.specs.Session.{AnswerStopped, BackAnswer, Ends, IsBack, made_line, next_behind, value_of};
 
 use crate::interruption::{Interruption, answer_result};
 use crate::state::SessionState;
 use debug_command::{Range, Refusal, refuse};
-use ia_text::page::push;
-use ia_text::text_line::TextLine;
-use ia_text::{Out, WriteFault};
 use itoa::Buffer;
 use std::alloc::{AllocError, Global};
+use text_out::page::push;
+use text_out::text_line::TextLine;
+use text_out::{Out, WriteFault};
 use tm_why::{Board, first_steps};
 
 // The number behind that of the core that was stepped last.

@@ -4,10 +4,10 @@
 //! stands constant text.
 
 ghost use Rattle.std.specs.Prelude.{◌≡◌};
-ghost use Rattle.ia_text.specs.Writing.{Writes};
+ghost use Rattle.text_out.specs.Writing.{Writes};
 ghost use Rattle.tm_debug.specs.Help.{help_text};
 
-use ia_text::{Out, WriteFault};
+use text_out::{Out, WriteFault};
 
 // The commands, a line each.
 #[tactic(auto, unfolding(crate::specs::Help::help_text))]

@@ -7,8 +7,8 @@
 ghost use Rattle.std.specs.Prelude.{◌≡◌, ℕ, ◌+◌, ◌<◌, ◌≤◌, List, Option, None, Ok, length};
 ghost use Rattle.tm_debug.specs.Reading.{Reads};
 
-use ia_text::Failed;
 use std::io::Read;
+use text_out::Failed;
 
 /// A device that gives bytes.
 pub trait In {

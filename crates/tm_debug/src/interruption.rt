@@ -6,7 +6,7 @@
 ghost use Rattle.std.specs.Prelude.{◌≡◌, Err};
 ghost use Rattle.tm_debug.specs.Session.{answer_result};
 
-use ia_text::WriteFault;
+use text_out::WriteFault;
 
 /// What ends a session before its input does: [`SessionFault`](crate::SessionFault) without the board.
 #[derive(Clone, Copy, PartialEq, Eq, Debug)]

@@ -7,15 +7,15 @@
 ghost use Rattle.std.specs.Prelude.{◌≡◌, ◌++◌, ◌∷◌, ℕ, List, [], IfOk, OnErr, OnOk, Option, Some, None, if◌then◌else◌};
 ghost use Rattle.std.specs.Prelude.{option_to_list};
 ghost use Rattle.ia_lex.specs.Lines.{without_cr};
-ghost use Rattle.ia_text.specs.Writing.{Rose};
+ghost use Rattle.text_out.specs.Writing.{Rose};
 ghost use Rattle.std.specs.Io.KnownBytes.{Keeps};
 ghost use Rattle.tm_debug.specs.Serving.{BeginsLine, IsKept, IsLast, IsLine, ReadsLine};
 
 use crate::input::In;
 use arrayvec::ArrayVec;
 use ia_lex::without_cr;
-use ia_text::Failed;
 use std::sync::Wait;
+use text_out::Failed;
 
 /// The most bytes that a line of a command has, without its end.
 pub const MOST_BYTES: usize = 256;

@@ -7,7 +7,7 @@ ghost use Rattle.std.specs.Prelude.{◌≡◌};
 ghost use Rattle.tm_debug.specs.Serving.{Prompts};
 
 use debug_command::Manner;
-use ia_text::{Out, WriteFault};
+use text_out::{Out, WriteFault};
 
 /// Asks for the next line, where the session is spoken.
 pub fn prompt<O: Out>(manner: Manner, out: &mut O) -> Result<(), WriteFault>

@@ -5,7 +5,7 @@
 //! its steps says no more.
 
 ghost use Rattle.std.specs.Prelude.{◌≡◌, ◌<◌, ◌≤◌, List, ℕ, OnErr, OnOk, length};
-ghost use Rattle.ia_text.specs.Writing.{Wrote};
+ghost use Rattle.text_out.specs.Writing.{Wrote};
 ghost use Rattle.tm_why.specs.TmHist.Board.{IsFull};
 ghost use Rattle.tm_debug.specs.Session.{GoAnswer, RunAnswer, RunAnswerBroken, RunBroken, RunWhole, TellsAnswer};
 ghost use Rattle.tm_debug.specs.Session.{value_of};
@@ -14,7 +14,7 @@ use crate::answer::end_run;
 use crate::state::{RunCheck, SessionState, Way};
 use crate::told::{told_step, write_told};
 use debug_command::{Range, Refusal, refuse};
-use ia_text::{Out, WriteFault};
+use text_out::{Out, WriteFault};
 use tm_model::Pick;
 
 // The step of a pick whose turn it is.

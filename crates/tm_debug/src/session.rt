@@ -6,7 +6,7 @@
 //! name.
 
 ghost use Rattle.std.specs.Prelude.{◌≡◌, ℕ, List, Err, IfErr, IfOk, MatchResult, OnOk};
-ghost use Rattle.ia_text.specs.Writing.{Rose, Stopped, Writes, Wrote};
+ghost use Rattle.text_out.specs.Writing.{Rose, Stopped, Writes, Wrote};
 ghost use Rattle.tm_debug.specs.Session.{Answers, AnswersBroken, Ends, SessionValue, bye_line, value_of, start, start_in};
 ghost use Rattle.tm_debug.specs.Serving.{BehindPrompt, FailsToRead, FailsToWrite, FailsToWriteIn, FindsNoMemory};
 ghost use Rattle.tm_debug.specs.Serving.{IsLine, Replies, RepliesBroken, Responds, RespondsBroken, ServesInput};
@@ -25,10 +25,10 @@ use crate::sets::sets;
 use crate::state::{SessionState, Way};
 use crate::why::why;
 use debug_command::{Command, Manner, Names, Refusal, Symbol, read_command, refuse, split_word};
-use ia_text::{Out, WriteFault};
 use std::alloc::Global;
 use std::fmt;
 use std::sync::Wait;
+use text_out::{Out, WriteFault};
 use thiserror::Error;
 use tm_model::Pick;
 use tm_why::Board;

@@ -7,18 +7,18 @@ ghost use Rattle.std.specs.Prelude.{◌≡◌, ◌∷◌, ◌++◌, ◌<◌, [],
 ghost use Rattle.std.specs.FinSet as set;
 ghost use Rattle.std.specs.List.Sorted.{IsStrictlyIncreasing};
 ghost use Rattle.arrayvec.specs.ArrayVec.{array_vec_len};
-ghost use Rattle.ia_text.specs.Number.{hex_digits};
-ghost use Rattle.ia_text.specs.Writing.{Writes};
+ghost use Rattle.text_out.specs.Number.{hex_digits};
+ghost use Rattle.text_out.specs.Writing.{Writes};
 ghost use Rattle.tm_why.specs.TmCore.Theorem.{lines_shown, view_at};
 ghost use Rattle.tm_debug.specs.Session.{AnswerStopped, Ends, SetsAnswer, SetsOf, lines_text, value_of, sets_head};
 
 use crate::answer::{core_of, refuse_core};
 use crate::interruption::{Interruption, answer_result};
 use crate::state::SessionState;
-use ia_text::page::{Page, push, push_hex};
-use ia_text::text_line::{TextLine, push_number};
-use ia_text::{Out, WriteFault};
 use std::alloc::{AllocError, Global};
+use text_out::page::{Page, push, push_hex};
+use text_out::text_line::{TextLine, push_number};
+use text_out::{Out, WriteFault};
 use tm_sets::Kind;
 use tm_why::{CoreState, Machine, push_state};
 

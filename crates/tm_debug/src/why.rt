@@ -7,18 +7,18 @@
 ghost use Rattle.std.specs.Prelude.{◌≡◌, ◌++◌};
 ghost use Rattle.arrayvec.specs.ArrayVec.{array_vec_len};
 ghost use Rattle.std.specs.Fmt.{decimal};
-ghost use Rattle.ia_text.specs.TextLine.{line_end};
-ghost use Rattle.ia_text.specs.Writing.{Writes};
+ghost use Rattle.text_out.specs.TextLine.{line_end};
+ghost use Rattle.text_out.specs.Writing.{Writes};
 ghost use Rattle.tm_debug.specs.Session.{AnswerStopped, Ends, WhyAnswer, value_of, why_line};
 
 use crate::answer::{core_of, refuse_core};
 use crate::interruption::{Interruption, answer_result};
 use crate::state::SessionState;
-use ia_text::page::push;
-use ia_text::text_line::TextLine;
-use ia_text::{Out, WriteFault};
 use itoa::Buffer;
 use std::alloc::Global;
+use text_out::page::push;
+use text_out::text_line::TextLine;
+use text_out::{Out, WriteFault};
 use tm_why::{Reason, reason_of, watched, write_reason};
 
 /// Tells why the next step of a core is an abort, where it is one, by the steps that were made, which are made once more.

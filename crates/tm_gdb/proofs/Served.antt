@@ -10,8 +10,8 @@ use Rattle.gdb_packet.specs.declared.heard.Heard.TheVariants.{Received, Resend}
 use Rattle.gdb_packet.specs.declared.heard.Heard.TheVariants.{Stray}
 use Rattle.gdb_packet.specs.declared.reader.Reader.{Reader}
 use Rattle.gdb_packet.specs.Reading.{Hears, Is, IsBehind}
-use Rattle.ia_text.specs.Writing.{Device, Wrote}
-use Rattle.ia_text.proofs.Writing.{wrote_none, wrote_then}
+use Rattle.text_out.specs.Writing.{Device, Wrote}
+use Rattle.text_out.proofs.Writing.{wrote_none, wrote_then}
 use Rattle.tm_hist.specs.Board.{SameBoard, ShownBoard}
 use Rattle.tm_gdb.specs.Serving.{DoesAll, FailsToRead, ServesInput}
 use Rattle.tm_gdb.specs.Sessions.{IsDone, IsWritten, SessionValue}

@@ -3,7 +3,7 @@ use Rattle.std.specs.Prelude.{◌≡◌, ◌⊎◌, ℕ, Bool, true, false, List
 use Rattle.gdb_packet.specs.declared.heard.Heard.{Heard}
 use Rattle.gdb_packet.specs.declared.reader.Reader.{Reader}
 use Rattle.gdb_packet.specs.Reading.{Is, IsBehind}
-use Rattle.ia_text.specs.Writing.{Device, Wrote}
+use Rattle.text_out.specs.Writing.{Device, Wrote}
 use Rattle.tm_hist.specs.Board.{ShownBoard}
 use Rattle.tm_model.specs.declared.outcome.Pick.{Pick}
 use Rattle.tm_gdb.specs.Sessions.{IsDone, SessionValue}

@@ -3,7 +3,7 @@ use Rattle.std.specs.Prelude.{◌≡◌, ℕ, Bool, List, [], ◌∷◌, ◌++�
 use Rattle.gdb_packet.specs.declared.heard.Heard.{Heard}
 use Rattle.gdb_packet.specs.declared.reader.Reader.{Reader}
 use Rattle.gdb_packet.specs.Reading.{Hears, IsBehind}
-use Rattle.ia_text.specs.Writing.{Device, Wrote}
+use Rattle.text_out.specs.Writing.{Device, Wrote}
 use Rattle.arrayvec.specs.ArrayVec.{ArrayVec}
 use Rattle.tm_gdb.specs.declared.session.Session.{Session}
 use Rattle.tm_gdb.specs.Sessions.{IsDone, SessionValue}

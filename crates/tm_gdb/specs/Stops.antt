@@ -1,7 +1,7 @@
 -- Stop replies (gdb manual, appendix E.3, "Stop Reply Packets").
 use Rattle.std.specs.Prelude.{ℕ, ◌+◌, List, [], ◌∷◌, ◌++◌, Option, Some, None, codes}
 use Rattle.hex.specs.Hex.{encode_lower}
-use Rattle.ia_text.specs.Number.{eight_digits}
+use Rattle.text_out.specs.Number.{eight_digits}
 use Rattle.tm_model.specs.TmRule.Stop.{Stop as CoreStop}
 use Rattle.tm_model.specs.TmRule.Stop.TheVariants as why
 use Rattle.tm_model.specs.declared.outcome.Outcome.{Outcome}

@@ -19,8 +19,8 @@ use crate::tell::{tell_description, tell_memory, tell_register, tell_registers, 
 use crate::turns::{core_count, names_stranger};
 use gdb_packet::{Bytes, Command, Monitor, Move, Point, PointKind, Question, Setting, Span};
 use gdb_target::{push_thread, push_threads};
-use ia_text::page::push;
 use std::alloc::{AllocError, Global};
+use text_out::page::push;
 use tm_model::Event;
 
 // What the target can do.

@@ -8,10 +8,10 @@ use crate::target::Target;
 use crate::text::Text;
 use crate::why::{write_core, write_reasons};
 use gdb_packet::Monitor;
-use ia_text::page::{Page, push, push_hex};
-use ia_text::{Out, WriteFault};
 use itoa::Buffer;
 use std::alloc::{AllocError, Global};
+use text_out::page::{Page, push, push_hex};
+use text_out::{Out, WriteFault};
 use tm_debug::{Kind, Machine, write_outcome};
 use tm_model::Interference;
 

@@ -12,7 +12,7 @@ ghost use Rattle.tm_gdb.specs.Stops.{watch_text};
 
 use gdb_packet::Bytes;
 use gdb_target::push_thread;
-use ia_text::page::{push, push_eight};
+use text_out::page::{push, push_eight};
 use tm_model::{Outcome, Stop as CoreStop};
 
 /// The signal that gdb is told of a core that stopped.

@@ -13,7 +13,7 @@ use gdb_target::{
     CoreShown, REGISTERS, push_description, push_memory, push_part, push_register, push_registers,
     push_thread_list,
 };
-use ia_text::page::push;
+use text_out::page::push;
 
 /// All registers of the selected core: `g`.
 pub fn tell_registers(target: &Target, row: &mut Bytes)

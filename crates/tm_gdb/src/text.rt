@@ -8,8 +8,8 @@ ghost use Rattle.std.specs.Prelude.{◌≡◌, [], None};
 
 use arrayvec::ArrayVec;
 use gdb_packet::Bytes;
-use ia_text::page::{push, push_bytes};
-use ia_text::{Failed, Out};
+use text_out::page::{push, push_bytes};
+use text_out::{Failed, Out};
 
 /// A text of at most 8000 bytes, as many as a packet has room for. What would not fit is a failure and is left out.
 #[derive(Drop)]

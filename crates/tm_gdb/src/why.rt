@@ -3,9 +3,9 @@
 //! The history is made once more for a watch (`tm_why`), once for all cores; the board is not stepped. A line that
 //! the text has no room for is left out.
 
-use ia_text::{Out, WriteFault};
 use itoa::Buffer;
 use std::alloc::{AllocError, Global};
+use text_out::{Out, WriteFault};
 use tm_debug::{Board, reason_of, watched, write_reason};
 
 /// Writes of each core whose next step is an abort why it is one, which hit doomed its transaction, and when that

@@ -4,8 +4,8 @@ use Rattle.std.specs.List.{flat_map, range_with_len}
 use Rattle.std.proofs.lemmas.List.Concat.{flat_map-append}
 use Rattle.std.specs.Prelude.{Result, IsErr}
 use Rattle.std.proofs.lemmas.Result.{MatchResult-from_err}
-use Rattle.ia_text.specs.Writing.{Device, Wrote, Stopped, Writes}
-use Rattle.ia_text.proofs.Writing.{wrote_then, stopped_then, stopped_first}
+use Rattle.text_out.specs.Writing.{Device, Wrote, Stopped, Writes}
+use Rattle.text_out.proofs.Writing.{wrote_then, stopped_then, stopped_first}
 
 pub range_parts : (a i k : ℕ) → range_with_len a (i + k) ≡ range_with_len a i ++ range_with_len (a + i) k
 range_parts a zero k = ap (range_with_len a) (zero-add k) ∙ ap (λ n. range_with_len n k) (sym (add-zero a))

@@ -4,8 +4,8 @@ use Rattle.std.specs.Prelude.{ℕ, ◌+◌, ◌*◌, ◌/◌, ◌%◌, ◌^◌, 
 use Rattle.std.specs.List.{flat_map, range_with_len}
 use Rattle.std.specs.Int.{w16, to_be_bytes}
 use Rattle.hex.specs.Hex.{encode_lower}
-use Rattle.ia_text.specs.Number.{eight_digits}
-use Rattle.ia_text.specs.TextLine.{line_end, number_text}
+use Rattle.text_out.specs.Number.{eight_digits}
+use Rattle.text_out.specs.TextLine.{line_end, number_text}
 use Rattle.ia_regs.specs.Flags.{flags_of, has_carry, has_parity, has_adjust, has_zero, has_sign, has_overflow}
 use Rattle.ia_regs.specs.declared.flags.Flags.{Flags}
 use Rattle.tm_rule.specs.declared.kinds.Stop.TheVariants as stop

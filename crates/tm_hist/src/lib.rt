@@ -9,7 +9,7 @@
 //! history, this is the machine as it was behind these steps. State lines, outcome lines and dumps are those of
 //! docs/FORMATS.md; schedules are `tm_schedule`'s.
 //!
-//! Stands on `tm_core` (the machine), `tm_rule` (one instruction), `ia_image` (programs) and `ia_text` (numbers,
+//! Stands on `tm_core` (the machine), `tm_rule` (one instruction), `ia_image` (programs) and `text_out` (numbers,
 //! writing).
 #![tactic(auto)]
 

@@ -6,16 +6,16 @@
 
 ghost use Rattle.std.specs.Prelude.{◌≡◌, ◌+◌, ◌-◌, ◌*◌, ◌%◌, ◌^◌, ◌≤◌, ◌<◌, ◌++◌, length};
 ghost use Rattle.arrayvec.specs.ArrayVec.{array_vec_len};
-ghost use Rattle.ia_text.specs.Writing.{Writes};
+ghost use Rattle.text_out.specs.Writing.{Writes};
 ghost use Rattle.tm_hist.specs.Lines.{core_line, core_text, dump_line, dump_lines, flag_sum, flags_text};
 ghost use Rattle.tm_hist.specs.Lines.{interference_word, outcome_line, register_text, regs_text, state_text};
 ghost use Rattle.tm_hist.specs.Lines.{state_word, stop_word};
 ghost use Rattle.tm_hist.specs.Machine.{core_count};
 
 use ia_regs::{Flags, Regs};
-use ia_text::page::{push, push_bytes, push_eight};
-use ia_text::text_line::{TextLine, push_number};
-use ia_text::{Out, WriteFault};
+use text_out::page::{push, push_bytes, push_eight};
+use text_out::text_line::{TextLine, push_number};
+use text_out::{Out, WriteFault};
 use tm_core::{CoreState, Interference, Machine, Outcome};
 use tm_rule::Stop;
 

@@ -3,7 +3,7 @@ use Rattle.std.proofs.Common.{◌≡◌, ℕ, ◌+◌, ◌-◌, ◌*◌, ◌/◌
 use Rattle.std.specs.Char.{is_ascii_digit}
 use Rattle.std.proofs.lemmas.Bool.{lt-ltb, ltb-true}
 use Rattle.std.proofs.lemmas.Bool.Decides.{nat_tests}
-use Rattle.ia_text.specs.TextLine.{number_text}
+use Rattle.text_out.specs.TextLine.{number_text}
 use Rattle.tm_schedule.specs.ScheduleNumbers.{small, three_digits, core_number}
 use Rattle.tm_schedule.proofs.WordsBack.{Above, by_test}
 

@@ -8,7 +8,7 @@ use Rattle.tm_model.specs.declared.outcome.Pick.{Pick}
 use Rattle.tm_schedule.specs.Picks.{is_same}
 use Rattle.tm_schedule.specs.declared.schedule.picks.Form.{Form}
 use Rattle.tm_schedule.specs.declared.schedule.runs.Run.{Run}
-use Rattle.ia_text.specs.TextLine.{line_end}
+use Rattle.text_out.specs.TextLine.{line_end}
 use Rattle.tm_schedule.specs.ScheduleRuns.{run_steps, once, runs_behind, runs_of, AreLongest, run_word}
 use Rattle.tm_schedule.specs.ScheduleWords.{behind_word}
 use Rattle.tm_schedule.proofs.WordsBack.{by_test}

@@ -1,9 +1,9 @@
 -- A text of runs that is written as its steps come.
 use Rattle.std.proofs.Common.{map, ◌≡◌, ℕ, ◌+◌, ◌%◌, ◌==◌, ◌&&◌, Bool, true, false, List, [], ◌∷◌, ◌++◌, refl, sym, ◌∙◌, ap, subst, append_assoc, Option, Some, None}
 use Rattle.std.specs.Prelude.{Result, IsErr, cond, nat_lt}
-use Rattle.ia_text.specs.TextLine.{line_end}
-use Rattle.ia_text.specs.Writing.{Device, Wrote, Stopped, Writes, Ahead}
-use Rattle.ia_text.proofs.Writing.{wrote_then, stopped_then, stopped_first, writes_err, writes_then}
+use Rattle.text_out.specs.TextLine.{line_end}
+use Rattle.text_out.specs.Writing.{Device, Wrote, Stopped, Writes, Ahead}
+use Rattle.text_out.proofs.Writing.{wrote_then, stopped_then, stopped_first, writes_err, writes_then}
 use Rattle.tm_model.specs.declared.outcome.Pick.{Pick}
 use Rattle.tm_schedule.specs.Picks.{is_same}
 use Rattle.tm_schedule.specs.declared.schedule.runs.Run.{Run}

@@ -7,7 +7,7 @@ use Rattle.std.proofs.lemmas.Bool.Decides.{nat_tests}
 use Rattle.std.proofs.lemmas.List.{length-append}
 use Rattle.ia_lex.specs.Lines.{onto, lines_of}
 use Rattle.tm_schedule.specs.declared.schedule.ScheduleFault.TheVariants.{TooManySteps}
-use Rattle.ia_text.specs.TextLine.{line_end}
+use Rattle.text_out.specs.TextLine.{line_end}
 use Rattle.tm_model.specs.declared.outcome.Pick.{Pick}
 use Rattle.tm_schedule.specs.ScheduleWords.{Word, on_line, words_from, is_above, steps_fault, steps_said, first_of, first_fault, behind_word, words_text}
 

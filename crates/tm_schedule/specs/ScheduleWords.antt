@@ -4,7 +4,7 @@ use Rattle.std.specs.Prelude.{unwrap_or, Result, Ok, Err, nat_lt, if◌then◌el
 use Rattle.std.specs.List.{flat_map, slice_split}
 use Rattle.tm_schedule.specs.declared.schedule.ScheduleFault.{ScheduleFault}
 use Rattle.tm_schedule.specs.declared.schedule.ScheduleFault.TheVariants.{BadSchedule, TooManySteps}
-use Rattle.ia_text.specs.TextLine.{line_end}
+use Rattle.text_out.specs.TextLine.{line_end}
 use Rattle.tm_model.specs.declared.outcome.Pick.{Pick}
 
 -- what stands between the spaces of a line; between two spaces side by side this is empty, and no word

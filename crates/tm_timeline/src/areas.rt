@@ -6,7 +6,7 @@ use crate::svg::Svg;
 use crate::value::Tenths;
 use crate::value::Value::{Core, Length, Number, Word};
 use crate::window::{LEFT, RIGHT};
-use ia_text::Out;
+use text_out::Out;
 
 /// The height of the columns in pixels.
 pub const AREA: u32 = 34;

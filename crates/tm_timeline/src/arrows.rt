@@ -10,7 +10,7 @@ use crate::svg::Svg;
 use crate::value::Tenths;
 use crate::value::Value::{Core, Length, Number, Word};
 use crate::window::WIDTH;
-use ia_text::Out;
+use text_out::Out;
 
 // Where an arrow stands, in pixels from above.
 #[derive(Clone, Copy)]

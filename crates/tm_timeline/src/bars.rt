@@ -7,7 +7,7 @@ use crate::spans::{Hit, Span, Spans};
 use crate::svg::Svg;
 use crate::value::Value::{Core, Length, Line, Number, Status, Word};
 use crate::window::number_of;
-use ia_text::Out;
+use text_out::Out;
 
 /// The height of a bar in pixels.
 pub const BAR: u32 = 22;

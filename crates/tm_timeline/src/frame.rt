@@ -8,7 +8,7 @@ use crate::rows::Rows;
 use crate::svg::Svg;
 use crate::value::Value::{Core, Length, Number, Word};
 use crate::window::{LEFT, RIGHT, WIDTH, Window, number_of};
-use ia_text::Out;
+use text_out::Out;
 
 /// Where the first row begins, in pixels from above.
 const TOP: u32 = 46;

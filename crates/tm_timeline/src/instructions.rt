@@ -9,7 +9,7 @@ use crate::svg::Svg;
 use crate::value::Tenths;
 use crate::value::Value::{Length, Number, Word};
 use crate::window::RIGHT;
-use ia_text::Out;
+use text_out::Out;
 
 // The width of a character in tenths of a pixel: of an instruction on one line, and of one on several, which is smaller.
 const CHARACTER: u32 = 62;

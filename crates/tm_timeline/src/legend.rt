@@ -4,7 +4,7 @@ ghost use Rattle.std.specs.Prelude.{◌≤◌};
 
 use crate::svg::Svg;
 use crate::value::Value::{Number, Word};
-use ia_text::Out;
+use text_out::Out;
 
 // A class with its meaning.
 #[derive(Clone, Copy)]

@@ -6,7 +6,7 @@
 //!
 //! Promised: each transaction that ends in a window that is drawn by bars is told as a bar, with what it came to; bars lie
 //! within the window, and the window within the picture; and a [`Label`] holds no markup, whatever text it is made from. What a picture looks like is compared
-//! by `command_tests`. Stands on `tm_model` and `tm_status` for what a step is, and on `ia_text` for the devices that pictures
+//! by `command_tests`. Stands on `tm_model` and `tm_status` for what a step is, and on `text_out` for the devices that pictures
 //! go to. Takes memory where a timeline is made, and for bars and arrows.
 #![tactic(auto)]
 

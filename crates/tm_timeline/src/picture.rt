@@ -12,7 +12,7 @@ use crate::strip::draw_strip;
 use crate::svg::Svg;
 use crate::ticks::draw_ticks;
 use crate::variables::{HEIGHT, Variables};
-use ia_text::Out;
+use text_out::Out;
 
 /// What is drawn.
 #[derive(Drop)]

@@ -3,7 +3,7 @@
 use crate::label::Label;
 use crate::svg::Svg;
 use crate::value::Value::{Status, Word};
-use ia_text::Out;
+use text_out::Out;
 
 /// What a step did: where its instruction stands, what it is, and what it loaded and stored.
 #[derive(Drop)]

@@ -6,7 +6,7 @@ use crate::svg::Svg;
 use crate::value::Tenths;
 use crate::value::Value::{Length, Number};
 use crate::window::{LEFT, RIGHT};
-use ia_text::Out;
+use text_out::Out;
 
 // The height of the strip in pixels, and in tenths of a pixel.
 const HEIGHT: u32 = 18;

@@ -1,8 +1,8 @@
 //! The device that a picture is written to.
 
 use crate::value::Value;
-use ia_text::{Out, WriteFault};
 use std::fmt::{self, Write};
+use text_out::{Out, WriteFault};
 
 /// A picture in the making, which takes no memory. Once its device has failed nothing more is written, so that what draws need not
 /// ask, and the failure is told at the end.

@@ -10,7 +10,7 @@ use crate::step_text::{StepText, draw_step_text};
 use crate::svg::Svg;
 use crate::value::Value::{Core, Length, Number, Word};
 use crate::window::{LEFT, RIGHT, number_of};
-use ia_text::Out;
+use text_out::Out;
 use tm_model::Outcome;
 
 /// Draws a line for each row, and the steps on it, with their instructions where there is room.

@@ -13,8 +13,8 @@ use crate::step_text::StepText;
 use crate::svg::Svg;
 use crate::variables::Variables;
 use crate::window::Window;
-use ia_text::{Out, WriteFault};
 use std::alloc::{AllocError, Global};
+use text_out::{Out, WriteFault};
 use tm_model::Outcome;
 
 /// The most cores of a machine.

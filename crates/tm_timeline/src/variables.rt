@@ -7,8 +7,8 @@ use crate::svg::Svg;
 use crate::value::Tenths;
 use crate::value::Value::{Length, Number, Status, Word};
 use crate::window::{RIGHT, Window};
-use ia_text::Out;
 use std::alloc::{AllocError, Global};
+use text_out::Out;
 
 /// The height of a variable's row in pixels.
 pub const HEIGHT: u32 = 26;

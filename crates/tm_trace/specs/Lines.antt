@@ -4,9 +4,9 @@ use Rattle.hex.specs.Hex.{encode_lower}
 use Rattle.debug_command.specs.Places.{place_text}
 use Rattle.debug_command.specs.declared.symbol.Symbol.{Symbol}
 use Rattle.ia_insn.specs.declared.op.Insn.{Insn}
-use Rattle.ia_text.specs.Number.{eight_digits, hex_digits}
+use Rattle.text_out.specs.Number.{eight_digits, hex_digits}
 use Rattle.ia_text.specs.Text.{insn_text}
-use Rattle.ia_text.specs.TextLine.{line_end, number_text}
+use Rattle.text_out.specs.TextLine.{line_end, number_text}
 use Rattle.ia_word.specs.declared.width.Width.{Width}
 use Rattle.ia_word.specs.declared.width.Width.TheVariants.{B, D}
 use Rattle.tm_hist.specs.Lines.{outcome_words}

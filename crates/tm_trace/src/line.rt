@@ -6,17 +6,18 @@
 
 ghost use Rattle.std.specs.Prelude.{◌≡◌, ◌+◌, ◌≤◌, ◌++◌, codes};
 ghost use Rattle.arrayvec.specs.ArrayVec.{array_vec_len};
-ghost use Rattle.ia_text.specs.Writing.{Writes};
+ghost use Rattle.text_out.specs.Writing.{Writes};
 ghost use Rattle.ia_text.specs.Text.{insn_text};
 ghost use Rattle.tm_trace.specs.Lines.{datum_text, deed_text, front_text, insn_behind, step_line, values_text};
 
 use crate::deed::{Datum, Deed};
 use debug_command::{Symbol, write_place};
 use ia_insn::Insn;
-use ia_text::page::{Page, push, push_bytes, push_eight, push_hex};
-use ia_text::text_line::{TextLine, push_number};
-use ia_text::{Out, WriteFault, write_insn};
+use ia_text::write_insn;
 use ia_word::Width;
+use text_out::page::{Page, push, push_bytes, push_eight, push_hex};
+use text_out::text_line::{TextLine, push_number};
+use text_out::{Out, WriteFault};
 use tm_hist::{Outcome, interference_text, stop_text};
 
 /// Writes the outcome line of a step, which goes on with what it did: the address, the label there or the nearest below, the

@@ -1,8 +1,8 @@
 -- The line that tells why a core's next step is an abort (docs/FORMATS.md, "Debugger"; docs/GDB.md).
 use Rattle.std.specs.Prelude.{ℕ, List, [], ◌++◌, codes, Option, Some, None}
 use Rattle.std.specs.Fmt.{decimal}
-use Rattle.ia_text.specs.Number.{eight_digits, hex_digits}
-use Rattle.ia_text.specs.TextLine.{line_end}
+use Rattle.text_out.specs.Number.{eight_digits, hex_digits}
+use Rattle.text_out.specs.TextLine.{line_end}
 use Rattle.tm_hist.specs.Lines.{stop_word}
 use Rattle.tm_hist.specs.TmModel.AbortReason.{AbortReason}
 use Rattle.tm_hist.specs.TmModel.AbortReason.TheVariants as cause

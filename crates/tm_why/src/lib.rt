@@ -10,7 +10,7 @@
 //! machine said before it, which is made once more on a board of its own; `reason_of` gives the reason behind these
 //! steps; and `write_reason` writes the line that tells it. The given board is not stepped.
 //!
-//! Stands on `tm_core` (the machine), `tm_hist` (boards) and `ia_text` (numbers, writing).
+//! Stands on `tm_core` (the machine), `tm_hist` (boards) and `text_out` (numbers, writing).
 #![tactic(auto)]
 
 mod asked;

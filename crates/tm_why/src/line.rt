@@ -6,15 +6,13 @@
 
 ghost use Rattle.std.specs.Prelude.{◌≡◌, ◌+◌, ◌≤◌, ◌++◌, length};
 ghost use Rattle.arrayvec.specs.ArrayVec.{array_vec_len};
-ghost use Rattle.ia_text.specs.Writing.{Writes};
-ghost use Rattle.std.specs.Fmt.{decimal};
+ghost use Rattle.text_out.specs.Writing.{Writes};
 ghost use Rattle.tm_why.specs.Lines.{begun_words, cause_word, hit_words, reason_line, use_word};
 
 use crate::reason::Reason;
 use crate::row::StandingHit;
-use ia_text::page::{Page, push, push_eight, push_hex};
-use ia_text::{Out, WriteFault};
-use itoa::Buffer;
+use text_out::page::{Page, push, push_decimal, push_eight, push_hex};
+use text_out::{Out, WriteFault};
 use tm_hist::{AbortReason, Kind, stop_text};
 
 /// Writes why the next step of a core is an abort: the machine's reason, the hit that doomed its transaction, if one did, and when
@@ -39,15 +37,6 @@ fn push_reason(row: &mut Page, core: u8, reason: &Reason)
     push_hit(row, reason.transaction.hit);
     push_begun(row, reason.transaction.begun);
     push(row, b"\n");
-}
-
-// Adds a number in decimal digits.
-fn push_decimal(row: &mut Page, number: u64)
-    requires { array_vec_len row.old + 40 ≤ 4096 }
-    ensures text { row.new.items ≡ row.old.items ++ decimal number }
-    ensures len { array_vec_len row.new ≤ array_vec_len row.old + 40 }
-{
-    push(row, Buffer::new().format(number).as_bytes());
 }
 
 fn cause_word(cause: AbortReason) -> &'static [u8]

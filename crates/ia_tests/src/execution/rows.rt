@@ -8,9 +8,10 @@ use ia_decode::decode;
 use ia_exec::{AbortKind, Exception, Finished, Store, fallback, finish_in};
 use ia_insn::{Insn, is_encodable};
 use ia_regs::Regs;
-use ia_text::{ToVec, write_insn};
+use ia_text::write_insn;
 use ia_word::Width;
 use std::alloc::Global;
+use text_out::ToVec;
 
 // What an instruction is given.
 #[derive(Clone, Copy, Debug)]

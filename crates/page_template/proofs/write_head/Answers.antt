@@ -1,5 +1,5 @@
 use Rattle.std.proofs.Common.{rules, ◌++◌}
-use Rattle.ia_text.proofs.Writing.{wrote_then, writes_stopped, writes_then}
+use Rattle.text_out.proofs.Writing.{wrote_then, writes_stopped, writes_then}
 use Rattle.page_text.specs.Escaped.{title_text}
 use Rattle.page_template.specs.declared.template.TheConstants.{HEAD, MIDDLE}
 use Rattle.page_template.proofs.write_head.Goals as goal

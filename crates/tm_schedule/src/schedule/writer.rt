@@ -1,12 +1,12 @@
 //! A schedule that is written as its steps come.
 
 ghost use Rattle.std.specs.Prelude.{◌≡◌, ◌≤◌, ◌<◌, ◌++◌, ◌∷◌, ℕ, [], List, IfOk, Ok, length, true};
-ghost use Rattle.ia_text.specs.Writing.{Writes};
+ghost use Rattle.text_out.specs.Writing.{Writes};
 ghost use Rattle.tm_model.specs.declared.outcome.Pick.{Pick};
 
 use super::runs::Run;
 use super::writing::{WORDS_A_LINE, separator, title_line, write_run};
-use ia_text::{Out, WriteFault};
+use text_out::{Out, WriteFault};
 use tm_model::Pick;
 
 /// A schedule that is written as its steps come, so that it takes no memory: the longest runs of the steps, 16 words a

@@ -3,8 +3,8 @@
 ghost use Rattle.std.specs.Prelude.{◌≡◌, ◌+◌, ◌<◌, ◌≤◌, ◌++◌, ◌∷◌, ◌==◌, [], false, if◌then◌else◌, Ok, length};
 ghost use Rattle.arrayvec.specs.ArrayVec.{array_vec_len};
 ghost use Rattle.std.specs.Int.Digits.{digits_of};
-ghost use Rattle.ia_text.specs.TextLine.{line_end};
-ghost use Rattle.ia_text.specs.Writing.{Writes};
+ghost use Rattle.text_out.specs.TextLine.{line_end};
+ghost use Rattle.text_out.specs.Writing.{Writes};
 ghost use Rattle.tm_schedule.specs.Picks.{event_text, has_event};
 ghost use Rattle.tm_schedule.specs.Schedule.{drawn_text, schedule_of, steps_of, schedule_text, numbers_text, steps_text};
 ghost use Rattle.tm_schedule.specs.Schedule.{title_line};
@@ -14,9 +14,9 @@ ghost use Rattle.tm_schedule.specs.ScheduleWriting.{left_text};
 use super::picks::{has_event, letter_of};
 use super::runs::Run;
 use super::writer::ScheduleWriter;
-use ia_text::page::push;
-use ia_text::text_line::{TextLine, push_number};
-use ia_text::{Out, WriteFault};
+use text_out::page::push;
+use text_out::text_line::{TextLine, push_number};
+use text_out::{Out, WriteFault};
 use tm_model::{Event, Pick};
 
 /// How many words stand on a line.

@@ -1,7 +1,7 @@
 use Rattle.std.proofs.Common.{◌≡◌, ◌-◌, ◌++◌, List, ℕ, rules, subst}
 use Rattle.std.specs.Prelude.{codes}
-use Rattle.ia_text.specs.Writing.{Writes}
-use Rattle.ia_text.proofs.Writing.{writes_stopped, writes_then}
+use Rattle.text_out.specs.Writing.{Writes}
+use Rattle.text_out.proofs.Writing.{writes_stopped, writes_then}
 use Rattle.debug_command.specs.Places.{distance_text}
 use Rattle.debug_command.proofs.places.write_label.Goals as goal
 

@@ -1,7 +1,7 @@
 use Rattle.std.proofs.Common.{◌≡◌, ◌≢◌, List, ℕ, length, rules, subst}
 use Rattle.ia_text.specs.Listing.{listing_line}
-use Rattle.ia_text.specs.Writing.{Writes}
-use Rattle.ia_text.proofs.Writing.{writes_stopped, writes_then}
+use Rattle.text_out.specs.Writing.{Writes}
+use Rattle.text_out.proofs.Writing.{writes_stopped, writes_then}
 use Rattle.debug_command.proofs.Labels.{of_code, of_no_code}
 use Rattle.debug_command.proofs.places.write_labelled.Goals as goal
 

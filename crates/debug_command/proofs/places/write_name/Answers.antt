@@ -1,5 +1,5 @@
 use Rattle.std.proofs.Common.{rules}
-use Rattle.ia_text.proofs.Writing.{writes_err, writes_stopped, writes_then}
+use Rattle.text_out.proofs.Writing.{writes_err, writes_stopped, writes_then}
 use Rattle.debug_command.proofs.places.write_name.Goals as goal
 
 pub returns-in_err-put : goal.returns-in_err-put

@@ -1,5 +1,5 @@
 use Rattle.std.proofs.Common.{rules}
-use Rattle.ia_text.proofs.Writing.{writes_err}
+use Rattle.text_out.proofs.Writing.{writes_err}
 use Rattle.debug_command.proofs.Labels.{stopped_at}
 use Rattle.debug_command.specs.Places.{name_line, names_text}
 use Rattle.debug_command.proofs.places.write_names.Goals as goal

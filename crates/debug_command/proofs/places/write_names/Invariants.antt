@@ -1,6 +1,6 @@
 use Rattle.std.proofs.Common.{take}
 use Rattle.std.specs.List.{flat_map}
-use Rattle.ia_text.specs.Writing.{Wrote}
+use Rattle.text_out.specs.Writing.{Wrote}
 use Rattle.debug_command.specs.Places.{name_line}
 use Rattle.debug_command.proofs.places.write_names.Given as goal
 

@@ -1,5 +1,5 @@
 use Rattle.std.proofs.Common.{◌<◌, [], arith, length}
-use Rattle.ia_text.proofs.Writing.{wrote_none, wrote_then}
+use Rattle.text_out.proofs.Writing.{wrote_none, wrote_then}
 use Rattle.elide_asm.specs.Labelled.{IsListed}
 use Rattle.elide_asm.proofs.Lines.{listed_more, place_inside}
 use Rattle.elide_asm.proofs.listing.write_listing.Goals as goal

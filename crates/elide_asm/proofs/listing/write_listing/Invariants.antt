@@ -1,5 +1,5 @@
 use Rattle.std.proofs.Common.{◌≡◌, ℕ, ◌-◌, ◌≤◌, List, length}
-use Rattle.ia_text.specs.Writing.{Wrote}
+use Rattle.text_out.specs.Writing.{Wrote}
 use Rattle.elide_asm.specs.Labelled.{IsListed, address_of}
 use Rattle.elide_asm.proofs.listing.write_listing.Given as goal
 

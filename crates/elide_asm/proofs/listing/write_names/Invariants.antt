@@ -1,5 +1,5 @@
 use Rattle.std.proofs.Common.{take}
-use Rattle.ia_text.specs.Writing.{Wrote}
+use Rattle.text_out.specs.Writing.{Wrote}
 use Rattle.elide_asm.specs.Labelled.{mark_lines}
 use Rattle.elide_asm.proofs.listing.write_names.Given as goal
 

@@ -1,5 +1,5 @@
 use Rattle.std.proofs.Common.{rules, ◌++◌, ◌∷◌, []}
-use Rattle.ia_text.proofs.Writing.{writes_stopped, writes_then}
+use Rattle.text_out.proofs.Writing.{writes_stopped, writes_then}
 use Rattle.elide_command.proofs.telling.write_usage.Goals as goal
 
 pub returns-in_err-put_front : goal.returns-in_err-put_front

@@ -1,6 +1,6 @@
 use Rattle.std.proofs.Common.{List, ◌++◌, subst}
-use Rattle.ia_text.specs.TextLine.{line_end}
-use Rattle.ia_text.specs.Writing.{Wrote}
+use Rattle.text_out.specs.TextLine.{line_end}
+use Rattle.text_out.specs.Writing.{Wrote}
 use Rattle.tm_hunt.specs.Cycle.{loop_of}
 use Rattle.tm_model.specs.declared.outcome.Pick.{Pick}
 use Rattle.elide_hunt.specs.Cycles.{loop_text}

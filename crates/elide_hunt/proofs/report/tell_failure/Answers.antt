@@ -1,6 +1,6 @@
 use Rattle.std.proofs.Common.{List, ◌++◌, ◌∙◌, ap, subst}
 use Rattle.std.specs.Prelude.{OnOk}
-use Rattle.ia_text.specs.Writing.{Wrote}
+use Rattle.text_out.specs.Writing.{Wrote}
 use Rattle.tm_hunt.specs.Deciding.{deciding}
 use Rattle.tm_model.specs.declared.outcome.Pick.{Pick}
 use Rattle.elide_hunt.specs.Cycles.{cycle_text}

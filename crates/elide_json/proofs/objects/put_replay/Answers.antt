@@ -1,7 +1,7 @@
 use Rattle.std.proofs.Common.{◌≡◌, ◌∙◌, ℕ, List, ap, codes, subst}
 use Rattle.std.proofs.lemmas.Result.{on_ok_weaker}
 use Rattle.elide_object.specs.Object.{object_text}
-use Rattle.ia_text.specs.Writing.{Wrote}
+use Rattle.text_out.specs.Writing.{Wrote}
 use Rattle.serde_json.specs.Data.{Members, boolean, member}
 use Rattle.elide_json.proofs.Same.{shown_same}
 use Rattle.elide_json.specs.Memory.{AreRowsOf}

@@ -1,6 +1,6 @@
 use Rattle.std.proofs.Common.{◌≡◌, ◌++◌, ◌∙◌, ap, string_bytes}
 use Rattle.std.proofs.lemmas.Result.{IfOk-weaker}
-use Rattle.ia_text.specs.TextLine.{line_end}
+use Rattle.text_out.specs.TextLine.{line_end}
 use Rattle.serde_json.proofs.FreeTexts.{text_of_value}
 use Rattle.elide_object.specs.Object.{object_text}
 use Rattle.elide_object.proofs.line.object_line.Goals as goal

@@ -1,6 +1,6 @@
 use Rattle.std.proofs.Common.{ℕ, List, subst}
 use Rattle.std.specs.Prelude.{OnOk}
-use Rattle.ia_text.specs.Writing.{Wrote}
+use Rattle.text_out.specs.Writing.{Wrote}
 use Rattle.elide_outcomes.proofs.ItemWords.{words_same}
 use Rattle.elide_outcomes.proofs.naming.tell_rest.Goals as goal
 

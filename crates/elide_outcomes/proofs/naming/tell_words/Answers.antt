@@ -1,7 +1,7 @@
 use Rattle.std.proofs.Common.{ℕ, List, Bor, ap, subst, sym}
 use Rattle.elide_args.specs.Asked.{texts_of}
-use Rattle.ia_text.proofs.Writing.{wrote_then}
-use Rattle.ia_text.specs.Writing.{Wrote}
+use Rattle.text_out.proofs.Writing.{wrote_then}
+use Rattle.text_out.specs.Writing.{Wrote}
 use Rattle.elide_outcomes.specs.Lines.{words_line}
 use Rattle.elide_outcomes.proofs.naming.tell_words.Goals as goal
 

@@ -1,7 +1,7 @@
 use Rattle.std.proofs.Common.{Bool, ◌++◌, length, subst}
 use Rattle.elide_args.specs.Asked.{texts_of}
-use Rattle.ia_text.proofs.Writing.{wrote_then}
-use Rattle.ia_text.specs.Writing.{Wrote}
+use Rattle.text_out.proofs.Writing.{wrote_then}
+use Rattle.text_out.specs.Writing.{Wrote}
 use Rattle.elide_outcomes.specs.Lines.{count_line, cycle_lines, items_line, shown_lines, stop_lines, stuck_lines}
 use Rattle.elide_outcomes.specs.Violated.{violation_lines}
 use Rattle.elide_outcomes.proofs.report.tell.Goals as goal

@@ -1,5 +1,5 @@
 use Rattle.std.proofs.Common.{take}
-use Rattle.ia_text.specs.Writing.{Wrote}
+use Rattle.text_out.specs.Writing.{Wrote}
 use Rattle.elide_outcomes.specs.Lines.{stop_lines}
 use Rattle.elide_outcomes.proofs.report.tell_stops.Given as goal
 

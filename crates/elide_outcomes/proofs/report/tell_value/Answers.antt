@@ -1,6 +1,6 @@
 use Rattle.std.proofs.Common.{ℕ, List, Option, subst}
-use Rattle.ia_text.proofs.Writing.{wrote_then}
-use Rattle.ia_text.specs.Writing.{Wrote}
+use Rattle.text_out.proofs.Writing.{wrote_then}
+use Rattle.text_out.specs.Writing.{Wrote}
 use Rattle.elide_outcomes.specs.Lines.{name_text}
 use Rattle.elide_outcomes.proofs.report.tell_value.Goals as goal
 

@@ -1,6 +1,6 @@
 use Rattle.std.proofs.Common.{take}
 use Rattle.std.specs.List.{flat_map}
-use Rattle.ia_text.specs.Writing.{Wrote}
+use Rattle.text_out.specs.Writing.{Wrote}
 use Rattle.elide_outcomes.specs.Lines.{item_text}
 use Rattle.elide_outcomes.proofs.report.tell_values.Given as goal
 

@@ -1,5 +1,5 @@
 use Rattle.std.proofs.Common.{◌∙◌}
-use Rattle.ia_text.proofs.Writing.{wrote_then}
+use Rattle.text_out.proofs.Writing.{wrote_then}
 use Rattle.elide_outcomes.proofs.report.tell_wayless_count.Goals as goal
 
 pub returns : goal.returns

@@ -1,5 +1,5 @@
 use Rattle.std.proofs.Common.{take}
-use Rattle.ia_text.specs.Writing.{Wrote}
+use Rattle.text_out.specs.Writing.{Wrote}
 use Rattle.elide_outcomes.specs.Violated.{violation_lines}
 use Rattle.elide_outcomes.proofs.violated.tell_violations.Given as goal
 

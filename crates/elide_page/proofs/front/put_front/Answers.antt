@@ -1,5 +1,5 @@
 use Rattle.std.proofs.Common.{ℕ, List}
-use Rattle.ia_text.specs.Writing.{Wrote}
+use Rattle.text_out.specs.Writing.{Wrote}
 use Rattle.page_run.specs.Plain.{ArePlain}
 use Rattle.elide_page.proofs.Fronting.{front_written}
 use Rattle.elide_page.proofs.Pieces.{both_on_ok}

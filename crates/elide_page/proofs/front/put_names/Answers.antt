@@ -1,6 +1,6 @@
 use Rattle.std.proofs.Common.{◌≡◌, ◌∙◌, ℕ, List, subst}
 use Rattle.std.proofs.lemmas.Result.{on_ok_weaker}
-use Rattle.ia_text.specs.Writing.{Wrote}
+use Rattle.text_out.specs.Writing.{Wrote}
 use Rattle.page_run.specs.Plain.{ArePlain}
 use Rattle.elide_page.specs.Fronts.{names_text}
 use Rattle.elide_page.proofs.front.put_names.Goals as goal

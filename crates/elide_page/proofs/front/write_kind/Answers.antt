@@ -1,7 +1,7 @@
 use Rattle.std.proofs.Common.{ℕ, List, ◌++◌, subst}
 use Rattle.std.specs.Prelude.{codes}
-use Rattle.ia_text.proofs.Writing.{wrote_then}
-use Rattle.ia_text.specs.Writing.{Wrote}
+use Rattle.text_out.proofs.Writing.{wrote_then}
+use Rattle.text_out.specs.Writing.{Wrote}
 use Rattle.page_text.specs.Escaped.{string_text}
 use Rattle.elide_page.proofs.front.write_kind.Goals as goal
 

@@ -1,5 +1,5 @@
 use Rattle.std.proofs.Common.{◌≡◌, false, take}
-use Rattle.ia_text.specs.Writing.{Wrote}
+use Rattle.text_out.specs.Writing.{Wrote}
 use Rattle.elide_page.specs.Notes.{notes_text}
 use Rattle.elide_page.proofs.Noting.{some_behind}
 use Rattle.elide_page.proofs.notes.write_notes.Given as goal

@@ -1,7 +1,7 @@
 use Rattle.std.proofs.Common.{ℕ, List, Option}
 use Rattle.std.proofs.lemmas.Result.{IfOk-weaker}
 use Rattle.std.specs.Io.KnownBytes.{Appends}
-use Rattle.ia_text.specs.Writing.{Device}
+use Rattle.text_out.specs.Writing.{Device}
 use Rattle.elide_setup.specs.Gathering.{told}
 use Rattle.elide_setup.specs.declared.gathered.Gathered.{Gathered}
 use Rattle.page_template.specs.declared.template.TheConstants.{TAIL}

@@ -1,7 +1,7 @@
 use Rattle.std.proofs.Common.{◌≡◌, ◌∙◌, ℕ, List, false, refl, sym}
 use Rattle.std.proofs.lemmas.Result.{IfOk-weaker, err_from_is_err_and}
 use Rattle.std.specs.Prelude.{codes}
-use Rattle.ia_text.specs.Writing.{Wrote}
+use Rattle.text_out.specs.Writing.{Wrote}
 use Rattle.page_run.proofs.Refusing.{not_told_of}
 use Rattle.elide_page.proofs.Explaining.{all_reasoned, reasons_written}
 use Rattle.elide_page.specs.Reasons.{AreReasonsOf, Spot}

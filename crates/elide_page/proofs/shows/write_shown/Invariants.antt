@@ -1,5 +1,5 @@
 use Rattle.std.proofs.Common.{◌≡◌, false, take}
-use Rattle.ia_text.specs.Writing.{Wrote}
+use Rattle.text_out.specs.Writing.{Wrote}
 use Rattle.elide_page.proofs.Listing.{some_shown}
 use Rattle.elide_page.specs.Fronts.{shows_text}
 use Rattle.elide_page.proofs.shows.write_shown.Given as goal

@@ -1,7 +1,7 @@
 use Rattle.std.proofs.Common.{◌≡◌, ℕ, false, List, [], ◌++◌, Option, refl, sym, ap, ◌∙◌, subst}
 use Rattle.std.specs.Io.KnownBytes.{Appends}
-use Rattle.ia_text.proofs.Writing.{appends_none}
-use Rattle.ia_text.specs.Writing.{Device}
+use Rattle.text_out.proofs.Writing.{appends_none}
+use Rattle.text_out.specs.Writing.{Device}
 use Rattle.elide_setup.specs.Gathering.{told}
 use Rattle.elide_setup.specs.Shown.{shown_text}
 use Rattle.elide_setup.specs.TmCore.Theorem.{ShownMachine as Machine}

@@ -1,5 +1,5 @@
 use Rattle.std.proofs.Common.{◌++◌}
-use Rattle.ia_text.proofs.Writing.{wrote_then}
+use Rattle.text_out.proofs.Writing.{wrote_then}
 use Rattle.tm_trace.specs.Lines.{deed_text, front_text}
 use Rattle.elide_run.proofs.coded.write_explained.Goals as goal
 

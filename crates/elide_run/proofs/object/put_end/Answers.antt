@@ -1,7 +1,7 @@
 use Rattle.std.proofs.Common.{ℕ, List, Option, Bor, subst}
 use Rattle.std.specs.Option.{option_copied}
 use Rattle.std.proofs.lemmas.Result.{on_ok_weaker}
-use Rattle.ia_text.specs.Writing.{Wrote}
+use Rattle.text_out.specs.Writing.{Wrote}
 use Rattle.elide_json.specs.Objects.{run_members}
 use Rattle.elide_json.specs.Outcomes.{run_back}
 use Rattle.elide_run.proofs.object.put_end.Goals as goal

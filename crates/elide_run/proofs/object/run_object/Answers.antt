@@ -2,7 +2,7 @@ use Rattle.std.proofs.Common.{◌∙◌, ◌++◌, ℕ, List, Option, append_ass
 use Rattle.std.proofs.lemmas.Result.{IfErr-weaker, IfOk-weaker, err_from_is_err_and}
 use Rattle.std.specs.Borrow.{Bor}
 use Rattle.std.specs.Io.KnownBytes.{Appends}
-use Rattle.ia_text.proofs.Writing.{appends_then}
+use Rattle.text_out.proofs.Writing.{appends_then}
 use Rattle.elide_json.proofs.RunTexts.{run_text}
 use Rattle.elide_json.specs.Outcomes.{run_back, run_front, run_rows}
 use Rattle.elide_setup.proofs.Records.{recorded_asked}

@@ -1,5 +1,5 @@
 use Rattle.std.proofs.Common.{rules, sym}
-use Rattle.ia_text.proofs.Writing.{writes_stopped, writes_then}
+use Rattle.text_out.proofs.Writing.{writes_stopped, writes_then}
 use Rattle.elide_program.specs.declared.parts.Dump.{Dump}
 use Rattle.elide_setup.specs.Shown.{dumps_text}
 use Rattle.elide_setup.proofs.ShownTexts.{first_dump, others_of, writes_same}

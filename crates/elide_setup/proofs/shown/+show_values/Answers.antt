@@ -1,5 +1,5 @@
 use Rattle.std.proofs.Common.{ℕ, List, [], Bor, sym}
-use Rattle.ia_text.proofs.Writing.{writes_then}
+use Rattle.text_out.proofs.Writing.{writes_then}
 use Rattle.elide_setup.specs.Shown.{values_text}
 use Rattle.elide_setup.proofs.ShownTexts.{first_value, others_of, writes_same}
 use Rattle.elide_setup.proofs.shown.+show_values.Goals as goal

@@ -1,5 +1,5 @@
 use Rattle.std.proofs.Common.{◌∙◌, ◌++◌, ap, rules}
-use Rattle.ia_text.proofs.Writing.{writes_stopped, writes_then}
+use Rattle.text_out.proofs.Writing.{writes_stopped, writes_then}
 use Rattle.elide_setup.specs.Shown.{value_line, value_text}
 use Rattle.elide_setup.proofs.ShownTexts.{writes_same}
 use Rattle.elide_setup.proofs.shown.show_value.Goals as goal

@@ -1,6 +1,6 @@
 use Rattle.std.proofs.Common.{◌∙◌, ◌+◌, ◌++◌, ap, append_assoc, drop, get_or}
 use Rattle.std.proofs.lemmas.List.{drop_more, take_rest}
-use Rattle.ia_text.proofs.Writing.{wrote_then}
+use Rattle.text_out.proofs.Writing.{wrote_then}
 use Rattle.elide_shell.specs.Controls.{escaped_behind, first_escaped}
 use Rattle.elide_shell.proofs.Escaping.{one_more}
 use Rattle.elide_shell.proofs.escapes.put_bytes.Goals as goal

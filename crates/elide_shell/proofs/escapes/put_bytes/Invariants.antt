@@ -1,6 +1,6 @@
 use Rattle.std.proofs.Common.{◌≡◌, ◌++◌, List, ℕ, drop}
 use Rattle.elide_shell.specs.Controls.{escaped_behind}
-use Rattle.ia_text.specs.Writing.{Wrote}
+use Rattle.text_out.specs.Writing.{Wrote}
 use Rattle.elide_shell.proofs.escapes.put_bytes.Given as goal
 
 -- the bytes before this place were written

@@ -1,7 +1,7 @@
 use Rattle.std.proofs.Common.{take, ◌∷◌}
 use Rattle.std.specs.List.{flat_map}
 use Rattle.tm_schedule.specs.Picks.{pick_word}
-use Rattle.ia_text.specs.Writing.{Wrote}
+use Rattle.text_out.specs.Writing.{Wrote}
 use Rattle.elide_shell.proofs.schedule.put_more.Given as goal
 
 -- the steps so far were written

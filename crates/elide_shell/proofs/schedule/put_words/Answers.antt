@@ -2,7 +2,7 @@ use Rattle.std.proofs.Common.{◌∷◌, ◌∙◌, sym, subst, List, ℕ, ap}
 use Rattle.std.specs.List.{flat_map}
 use Rattle.std.specs.Prelude.{OnOk}
 use Rattle.tm_schedule.specs.Picks.{pick_word}
-use Rattle.ia_text.specs.Writing.{Wrote}
+use Rattle.text_out.specs.Writing.{Wrote}
 use Rattle.elide_shell.specs.Options.{steps_text}
 use Rattle.elide_shell.proofs.Texts.{joined_first, then_on_ok}
 use Rattle.elide_shell.proofs.schedule.put_words.Goals as goal

@@ -1,6 +1,6 @@
 use Rattle.std.proofs.Common.{take}
 use Rattle.std.specs.List.{flat_map}
-use Rattle.ia_text.specs.Writing.{Wrote}
+use Rattle.text_out.specs.Writing.{Wrote}
 use Rattle.elide_shell.specs.Shell.{quoted_byte}
 use Rattle.elide_shell.proofs.words.put_bytes.Given as goal
 

@@ -1,5 +1,5 @@
 use Rattle.std.proofs.lemmas.Result.{on_ok_weaker}
-use Rattle.ia_text.proofs.Writing.{wrote_then}
+use Rattle.text_out.proofs.Writing.{wrote_then}
 use Rattle.elide_test.proofs.bailing.tell_bail.Goals as goal
 
 pub returns : goal.returns

@@ -1,6 +1,6 @@
 use Rattle.std.proofs.Common.{◌≡◌, ◌+◌, ◌++◌, ℕ, List, arith, get_or, length, subst, sym, take, ◌∙◌, ap}
-use Rattle.ia_text.proofs.Writing.{wrote_then}
-use Rattle.ia_text.specs.Writing.{Wrote}
+use Rattle.text_out.proofs.Writing.{wrote_then}
+use Rattle.text_out.specs.Writing.{Wrote}
 use Rattle.elide_test.specs.Tap.{count_of, file_text, files_text}
 use Rattle.elide_test.specs.declared.report.FileReport.{FileReport}
 use Rattle.elide_test.proofs.TapTexts.{count_more, files_more}

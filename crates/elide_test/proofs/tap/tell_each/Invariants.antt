@@ -1,5 +1,5 @@
 use Rattle.std.proofs.Common.{◌≡◌, take}
-use Rattle.ia_text.specs.Writing.{Wrote}
+use Rattle.text_out.specs.Writing.{Wrote}
 use Rattle.elide_test.specs.Tap.{count_of, files_text}
 use Rattle.elide_test.proofs.tap.tell_each.Given as goal
 

@@ -1,7 +1,7 @@
 use Rattle.std.proofs.Common.{ℕ, subst}
 use Rattle.std.specs.Fmt.{decimal}
-use Rattle.ia_text.proofs.Writing.{wrote_then}
-use Rattle.ia_text.specs.Writing.{Wrote}
+use Rattle.text_out.proofs.Writing.{wrote_then}
+use Rattle.text_out.specs.Writing.{Wrote}
 use Rattle.elide_test.specs.Tap.{tap_text}
 use Rattle.elide_test.proofs.tap.tell_files.Goals as goal
 

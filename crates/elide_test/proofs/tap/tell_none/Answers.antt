@@ -1,4 +1,4 @@
-use Rattle.ia_text.proofs.Writing.{wrote_then}
+use Rattle.text_out.proofs.Writing.{wrote_then}
 use Rattle.elide_test.specs.Tap.{none_text}
 use Rattle.elide_test.proofs.tap.tell_none.Goals as goal
 

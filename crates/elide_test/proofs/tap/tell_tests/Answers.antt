@@ -1,6 +1,6 @@
 use Rattle.std.proofs.Common.{◌≡◌, ◌+◌, ◌++◌, ℕ, List, arith, get_or, subst, sym, take, ◌∙◌, ap}
-use Rattle.ia_text.proofs.Writing.{wrote_then}
-use Rattle.ia_text.specs.Writing.{Wrote}
+use Rattle.text_out.proofs.Writing.{wrote_then}
+use Rattle.text_out.specs.Writing.{Wrote}
 use Rattle.elide_test.specs.Tap.{test_text, tests_text}
 use Rattle.elide_test.specs.declared.report.TestReport.{TestReport}
 use Rattle.elide_test.proofs.TapTexts.{tests_more}

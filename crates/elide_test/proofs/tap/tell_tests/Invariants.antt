@@ -1,5 +1,5 @@
 use Rattle.std.proofs.Common.{◌≡◌, ◌+◌, take}
-use Rattle.ia_text.specs.Writing.{Wrote}
+use Rattle.text_out.specs.Writing.{Wrote}
 use Rattle.elide_test.specs.Tap.{tests_text}
 use Rattle.elide_test.proofs.tap.tell_tests.Given as goal
 

@@ -1,6 +1,6 @@
 use Rattle.std.proofs.Common.{ap, refl, ◌∙◌}
 use Rattle.elide_test.specs.declared.folder.FolderPaths.{FolderPaths}
-use Rattle.ia_text.specs.declared.out.ToVec.{ToVec}
+use Rattle.text_out.specs.declared.out.ToVec.{ToVec}
 use Rattle.elide_trial.proofs.carrier.carried_out.Goals as goal
 
 pub returns : goal.returns

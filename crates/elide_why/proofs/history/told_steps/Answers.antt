@@ -1,8 +1,8 @@
 use Rattle.std.proofs.Common.{◌≡◌, ◌∙◌, ◌++◌, ℕ, List, [], Some, ap, length, subst, sym}
 use Rattle.std.specs.Prelude.{slice_get}
 use Rattle.std.proofs.lemmas.Result.{err_from_is_err_and}
-use Rattle.ia_text.proofs.Writing.{wrote_none, wrote_then}
-use Rattle.ia_text.specs.Writing.{Wrote}
+use Rattle.text_out.proofs.Writing.{wrote_none, wrote_then}
+use Rattle.text_out.specs.Writing.{Wrote}
 use Rattle.elide_setup.specs.TmCore.Theorem.{ShownMachine as Machine}
 use Rattle.tm_model.specs.Runs.{picks_of}
 use Rattle.tm_model.specs.declared.outcome.Outcome.{Outcome}

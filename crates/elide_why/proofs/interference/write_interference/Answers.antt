@@ -1,5 +1,5 @@
 use Rattle.std.proofs.Common.{rules, ◌≡◌, ◌++◌, ℕ, List, ap, subst, ◌∙◌}
-use Rattle.ia_text.specs.Writing.{Writes}
+use Rattle.text_out.specs.Writing.{Writes}
 use Rattle.elide_setup.specs.TmHist.Lines.{interference_word}
 use Rattle.elide_why.specs.Interference.{interference_back, interference_front}
 use Rattle.elide_why.specs.Lines.{insn_words}

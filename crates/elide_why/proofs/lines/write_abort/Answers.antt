@@ -1,5 +1,5 @@
 use Rattle.std.proofs.Common.{rules, ◌≡◌, ◌++◌, ℕ, List, ap, subst, ◌∙◌}
-use Rattle.ia_text.specs.Writing.{Writes}
+use Rattle.text_out.specs.Writing.{Writes}
 use Rattle.elide_why.specs.Lines.{abort_back, abort_front, insn_words}
 use Rattle.elide_why.proofs.lines.write_abort.Goals as goal
 

@@ -1,5 +1,5 @@
 use Rattle.std.proofs.Common.{rules, ◌++◌}
-use Rattle.ia_text.proofs.Writing.{writes_err, writes_stopped, writes_then}
+use Rattle.text_out.proofs.Writing.{writes_err, writes_stopped, writes_then}
 use Rattle.elide_why.specs.Lines.{insn_words}
 use Rattle.elide_why.proofs.parts.write_parts.Goals as goal
 

@@ -1,6 +1,6 @@
 use Rattle.std.proofs.Common.{◌<◌, length, arith}
 use Rattle.ia_image.specs.ImageText.{image_text}
-use Rattle.ia_text.proofs.Writing.{making_more, making_room, making_stopped, making_done, writes_err}
+use Rattle.text_out.proofs.Writing.{making_more, making_room, making_stopped, making_done, writes_err}
 use Rattle.ia_image.proofs.Rows.{rows_step, rows_end}
 use Rattle.ia_image.proofs.write.write_image.Goals as goal
 

@@ -1,5 +1,5 @@
 use Rattle.std.proofs.Common.{◌-◌, ◌≤◌, drop, length}
-use Rattle.ia_text.specs.Writing.{Making}
+use Rattle.text_out.specs.Writing.{Making}
 use Rattle.ia_image.specs.ImageText.{digit_rows, image_text}
 use Rattle.ia_image.proofs.write.write_image.Given as goal
 

@@ -1,7 +1,7 @@
 use Rattle.std.proofs.Common.{rules, ◌≡◌, ◌∙◌, ◌+◌, ◌-◌, ap, arith, drop, take, length, length-drop}
 use Rattle.std.proofs.lemmas.List.{take_rest}
 use Rattle.ia_lex.specs.Lines.{lines_of}
-use Rattle.ia_text.proofs.Writing.{writes_err}
+use Rattle.text_out.proofs.Writing.{writes_err}
 use Rattle.ia_source.specs.Warnings.{line_warning, lone_label, warnings, warnings_from}
 use Rattle.ia_source.proofs.WarnedLines.{line_behind, part_stopped, part_wrote}
 use Rattle.ia_source.proofs.warning.warn.Goals as goal

@@ -1,6 +1,6 @@
 use Rattle.std.proofs.Common.{◌+◌, ◌-◌, ◌≤◌, [], drop, length}
 use Rattle.ia_lex.specs.Lines.{lines_of}
-use Rattle.ia_text.specs.Writing.{Making}
+use Rattle.text_out.specs.Writing.{Making}
 use Rattle.ia_source.specs.Warnings.{warnings, warnings_from}
 use Rattle.ia_source.proofs.warning.warn.Given as goal
 

@@ -1,6 +1,6 @@
 use Rattle.std.proofs.Common.{rules, ℕ, ◌∙◌, ◌++◌, ◌∷◌, [], List, codes}
 use Rattle.std.specs.Fmt.{decimal}
-use Rattle.ia_text.proofs.Writing.{writes_stopped, writes_then}
+use Rattle.text_out.proofs.Writing.{writes_stopped, writes_then}
 use Rattle.ia_source.proofs.warning.write_warning.Goals as goal
 
 -- what stands behind the label, behind the number, and behind the first words

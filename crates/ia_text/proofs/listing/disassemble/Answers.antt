@@ -1,7 +1,7 @@
 use Rattle.std.proofs.Common.{◌<◌, length, arith}
 use Rattle.ia_text.specs.Listing.{listing}
 use Rattle.ia_text.proofs.Lines.{listing_step, listing_end, place_inside}
-use Rattle.ia_text.proofs.Writing.{making_more, making_room, making_stopped, making_done, writes_err}
+use Rattle.text_out.proofs.Writing.{making_more, making_room, making_stopped, making_done, writes_err}
 use Rattle.ia_text.proofs.listing.disassemble.Goals as goal
 
 pub returns-in_err-make_room : goal.returns-in_err-make_room

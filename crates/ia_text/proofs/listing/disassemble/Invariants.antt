@@ -1,6 +1,6 @@
 use Rattle.std.proofs.Common.{◌-◌, ◌^◌, ◌<◌, ◌≤◌, drop, length}
 use Rattle.ia_text.specs.Listing.{listing, listing_from}
-use Rattle.ia_text.specs.Writing.{Making}
+use Rattle.text_out.specs.Writing.{Making}
 use Rattle.ia_text.proofs.listing.disassemble.Given as goal
 
 -- the lines before `place` were written or stand on the page

@@ -1,8 +1,8 @@
 use Rattle.std.proofs.Common.{◌≡◌, ◌∙◌, ℕ, ◌≤◌, Bool, false, true, List, [], ◌++◌, ap, codes, length, subst, sym}
 use Rattle.std.specs.List.{list_any}
 use Rattle.std.specs.Prelude.{is_some}
-use Rattle.ia_text.proofs.Writing.{wrote_none, wrote_then}
-use Rattle.ia_text.specs.Writing.{Wrote}
+use Rattle.text_out.proofs.Writing.{wrote_none, wrote_then}
+use Rattle.text_out.specs.Writing.{Wrote}
 use Rattle.page_steps.specs.Members.{hits_from, member_text, named, some_then}
 use Rattle.page_steps.proofs.Saying.{bracket_says, bracket_text, no_hits, some_hits}
 use Rattle.page_steps.proofs.members.put_hits.Goals as goal

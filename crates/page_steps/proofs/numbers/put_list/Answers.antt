@@ -1,7 +1,7 @@
 use Rattle.std.proofs.Common.{ℕ, List, ap, subst, sym, ◌∙◌}
 use Rattle.std.specs.List.{flat_map}
 use Rattle.std.specs.Prelude.{OnOk, decimal}
-use Rattle.ia_text.specs.Writing.{Wrote}
+use Rattle.text_out.specs.Writing.{Wrote}
 use Rattle.page_steps.specs.Numbers.{behind_comma, numbers_inner}
 use Rattle.page_steps.proofs.Texts.{joined_first, then_on_ok}
 use Rattle.page_steps.proofs.numbers.put_list.Goals as goal

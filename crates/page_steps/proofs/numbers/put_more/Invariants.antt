@@ -1,6 +1,6 @@
 use Rattle.std.proofs.Common.{take}
 use Rattle.std.specs.List.{flat_map}
-use Rattle.ia_text.specs.Writing.{Wrote}
+use Rattle.text_out.specs.Writing.{Wrote}
 use Rattle.page_steps.specs.Numbers.{behind_comma}
 use Rattle.page_steps.proofs.numbers.put_more.Given as goal
 

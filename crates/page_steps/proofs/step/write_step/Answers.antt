@@ -1,4 +1,4 @@
-use Rattle.ia_text.proofs.Writing.{wrote_then}
+use Rattle.text_out.proofs.Writing.{wrote_then}
 use Rattle.page_steps.proofs.step.write_step.Goals as goal
 
 pub returns-clause-text : goal.returns-clause-text

@@ -1,5 +1,5 @@
 use Rattle.std.proofs.Common.{◌≡◌, take}
-use Rattle.ia_text.specs.Writing.{Wrote}
+use Rattle.text_out.specs.Writing.{Wrote}
 use Rattle.page_steps.proofs.Texts.{last_of}
 use Rattle.page_steps.specs.Stored.{more_text}
 use Rattle.page_steps.proofs.stored.put_more.Given as goal

@@ -1,7 +1,7 @@
 use Rattle.std.proofs.Common.{◌≡◌, ◌∙◌, ◌≤◌, ℕ, List, [], ap, length, refl, subst, sym}
 use Rattle.std.proofs.lemmas.Result.{IfOk-weaker, err_from_is_err_and}
 use Rattle.std.specs.Prelude.{codes}
-use Rattle.ia_text.specs.Writing.{Wrote}
+use Rattle.text_out.specs.Writing.{Wrote}
 use Rattle.elide_setup.specs.Runs.{IsRunOf}
 use Rattle.elide_setup.specs.TmCore.Theorem.{ShownMachine as Machine}
 use Rattle.page_run.proofs.Refusing.{not_told_of}

@@ -1,6 +1,6 @@
 use Rattle.std.proofs.Common.{rules, ◌+◌, ◌≤◌, ◌<◌, length, arith, sym, refl, ◌∷◌, [], ◌++◌, ◌∙◌, ap, drop}
 use Rattle.hex.specs.Hex.{encode_lower}
-use Rattle.ia_text.proofs.Writing.{making_more, making_none, making_room, making_stopped, writes_err}
+use Rattle.text_out.proofs.Writing.{making_more, making_none, making_room, making_stopped, writes_err}
 use Rattle.page_text.specs.Escaped.{hex_text}
 use Rattle.page_text.proofs.Writing.{hex_end, hex_step, making_writes}
 use Rattle.page_text.proofs.number.write_hex.Goals as goal

@@ -1,6 +1,6 @@
 use Rattle.std.proofs.Common.{◌-◌, ◌≤◌, ◌∷◌, [], ◌++◌, drop, length}
 use Rattle.hex.specs.Hex.{encode_lower}
-use Rattle.ia_text.specs.Writing.{Making}
+use Rattle.text_out.specs.Writing.{Making}
 use Rattle.page_text.specs.Escaped.{hex_text}
 use Rattle.page_text.proofs.number.write_hex.Given as goal
 

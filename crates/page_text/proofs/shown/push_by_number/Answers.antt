@@ -1,6 +1,6 @@
 use Rattle.std.proofs.Common.{◌++◌, ◌∙◌, ap, sym, append_assoc}
 use Rattle.std.specs.Prelude.{codes}
-use Rattle.ia_text.specs.Number.{hex_digits}
+use Rattle.text_out.specs.Number.{hex_digits}
 use Rattle.page_text.specs.Escaped.{escaped_char}
 use Rattle.page_text.proofs.Writing.{number_is}
 use Rattle.page_text.proofs.shown.push_by_number.Goals as goal

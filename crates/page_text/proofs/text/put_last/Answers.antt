@@ -1,5 +1,5 @@
 use Rattle.std.proofs.Common.{rules, ◌++◌, [], refl, sym, append-nil}
-use Rattle.ia_text.proofs.Writing.{making_done, making_more, making_room, making_stopped, writes_err, writes_stopped}
+use Rattle.text_out.proofs.Writing.{making_done, making_more, making_room, making_stopped, writes_err, writes_stopped}
 use Rattle.page_text.proofs.Writing.{making_start}
 use Rattle.page_text.proofs.text.put_last.Goals as goal
 

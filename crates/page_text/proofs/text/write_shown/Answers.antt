@@ -1,7 +1,7 @@
 use Rattle.std.proofs.Common.{rules, ◌≡◌, ◌+◌, ◌-◌, ◌≤◌, ◌<◌, ◌⊎◌, inl, inr, length, arith, ◌∙◌, ap, sym, ◌++◌, drop}
 use Rattle.std.specs.Prelude.{nat_lt}
 use Rattle.bstr.specs.Utf8.{lossy_chars}
-use Rattle.ia_text.proofs.Writing.{making_more, making_room, making_stopped, writes_err}
+use Rattle.text_out.proofs.Writing.{making_more, making_room, making_stopped, writes_err}
 use Rattle.page_text.specs.Escaped.{escaped}
 use Rattle.page_text.specs.Shown.{dots_if, shown, shown_char, shown_chars}
 use Rattle.page_text.proofs.Writing.{making_writes, shown_end, shown_step, step_within}

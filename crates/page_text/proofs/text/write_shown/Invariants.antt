@@ -1,6 +1,6 @@
 use Rattle.std.proofs.Common.{◌-◌, ◌≤◌, drop, length}
 use Rattle.bstr.specs.Utf8.{lossy_chars}
-use Rattle.ia_text.specs.Writing.{Making}
+use Rattle.text_out.specs.Writing.{Making}
 use Rattle.page_text.specs.Escaped.{escaped}
 use Rattle.page_text.specs.Shown.{shown, shown_chars}
 use Rattle.page_text.proofs.text.write_shown.Given as goal

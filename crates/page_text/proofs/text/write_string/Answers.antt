@@ -1,5 +1,5 @@
 use Rattle.std.proofs.Common.{rules, ◌++◌, ◌∷◌, [], codes}
-use Rattle.ia_text.proofs.Writing.{writes_stopped, writes_then}
+use Rattle.text_out.proofs.Writing.{writes_stopped, writes_then}
 use Rattle.page_text.specs.declared.escape.Escape.TheVariants.{Json}
 use Rattle.page_text.specs.Escaped.{escaped, string_text}
 use Rattle.page_text.specs.Shown.{shown}

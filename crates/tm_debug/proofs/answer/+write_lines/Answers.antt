@@ -1,5 +1,5 @@
 use Rattle.std.proofs.Common.{◌+◌, ◌%◌, ◌^◌, ◌∙◌, ap, arith, drop, refl, rules}
-use Rattle.ia_text.proofs.Writing.{rest_is}
+use Rattle.text_out.proofs.Writing.{rest_is}
 use Rattle.tm_debug.proofs.Parts.{lines_stopped, lines_then, no_lines}
 use Rattle.tm_debug.proofs.answer.+write_lines.Goals as goal
 

@@ -1,6 +1,6 @@
 use Rattle.std.proofs.Common.{rules}
-use Rattle.ia_text.proofs.Writing.{writes_err, writes_stopped, writes_then}
-use Rattle.ia_text.specs.TextLine.{line_end}
+use Rattle.text_out.proofs.Writing.{writes_err, writes_stopped, writes_then}
+use Rattle.text_out.specs.TextLine.{line_end}
 use Rattle.tm_debug.proofs.answer.end_line.Goals as goal
 
 pub returns-in_err-write_place : goal.returns-in_err-write_place

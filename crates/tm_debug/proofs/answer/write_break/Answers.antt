@@ -1,7 +1,7 @@
 use Rattle.std.proofs.Common.{◌≡◌, ◌++◌, List, ℕ, rules, subst}
-use Rattle.ia_text.specs.TextLine.{line_end}
-use Rattle.ia_text.specs.Writing.{Stopped, Wrote}
-use Rattle.ia_text.proofs.Writing.{writes_stopped, writes_then}
+use Rattle.text_out.specs.TextLine.{line_end}
+use Rattle.text_out.specs.Writing.{Stopped, Wrote}
+use Rattle.text_out.proofs.Writing.{writes_stopped, writes_then}
 use Rattle.debug_command.specs.Places.{place_text}
 use Rattle.tm_debug.specs.Session.{break_front}
 use Rattle.tm_debug.proofs.answer.write_break.Goals as goal

@@ -1,5 +1,5 @@
 use Rattle.std.proofs.Common.{ℕ, List}
-use Rattle.ia_text.specs.Writing.{Wrote}
+use Rattle.text_out.specs.Writing.{Wrote}
 use Rattle.tm_debug.specs.Session.{IsRunOf, value_of}
 use Rattle.tm_debug.proofs.run.run_steps.Given as goal
 

@@ -1,6 +1,6 @@
 use Rattle.std.proofs.Common.{◌≡◌, ◌∷◌, ◌++◌, take}
 use Rattle.std.specs.List.{flat_map}
-use Rattle.ia_text.specs.Number.{hex_digits}
+use Rattle.text_out.specs.Number.{hex_digits}
 use Rattle.tm_debug.proofs.sets.add_lines.Given as goal
 
 -- the lines before this index were added

@@ -1,5 +1,5 @@
 use Rattle.std.specs.List.{flat_map, range_with_len}
-use Rattle.ia_text.specs.Writing.{Wrote}
+use Rattle.text_out.specs.Writing.{Wrote}
 use Rattle.tm_hist.specs.Lines.{core_text}
 use Rattle.tm_hist.proofs.lines.write_state.Given as goal
 

@@ -1,5 +1,5 @@
 use Rattle.std.proofs.Common.{rules, ◌++◌}
-use Rattle.ia_text.proofs.Writing.{writes_stopped, writes_then}
+use Rattle.text_out.proofs.Writing.{writes_stopped, writes_then}
 use Rattle.tm_trace.specs.Lines.{insn_behind, values_text}
 use Rattle.tm_trace.proofs.line.write_deed.Goals as goal
 

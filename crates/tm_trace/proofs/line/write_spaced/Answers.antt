@@ -1,5 +1,5 @@
 use Rattle.std.proofs.Common.{rules}
-use Rattle.ia_text.proofs.Writing.{writes_stopped, writes_then}
+use Rattle.text_out.proofs.Writing.{writes_stopped, writes_then}
 use Rattle.ia_text.specs.Text.{insn_text}
 use Rattle.tm_trace.proofs.line.write_spaced.Goals as goal
 

@@ -1,6 +1,6 @@
 use Rattle.std.proofs.Common.{rules, ◌++◌}
-use Rattle.ia_text.proofs.Writing.{writes_err, writes_stopped, writes_then}
-use Rattle.ia_text.specs.TextLine.{line_end}
+use Rattle.text_out.proofs.Writing.{writes_err, writes_stopped, writes_then}
+use Rattle.text_out.specs.TextLine.{line_end}
 use Rattle.tm_trace.specs.Lines.{deed_text}
 use Rattle.tm_trace.proofs.line.write_step.Goals as goal
 

@@ -1,5 +1,5 @@
 use Rattle.std.proofs.Common.{rules, ap}
-use Rattle.ia_text.specs.Writing.{Device}
+use Rattle.text_out.specs.Writing.{Device}
 use Rattle.elide_setup.proofs.Held.{nothing_written}
 use Rattle.elide_setup.proofs.gathered.GatheredOut.put.Goals as goal
 

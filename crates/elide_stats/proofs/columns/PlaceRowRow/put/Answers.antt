@@ -1,4 +1,4 @@
-use Rattle.ia_text.proofs.Writing.{wrote_then}
+use Rattle.text_out.proofs.Writing.{wrote_then}
 use Rattle.elide_stats.proofs.columns.PlaceRowRow.put.Goals as goal
 
 pub returns : goal.returns

@@ -1,5 +1,5 @@
 use Rattle.std.proofs.Common.{◌≡◌, Bool, not, ◌++◌, refl, ◌∙◌, ap}
-use Rattle.ia_text.proofs.Writing.{wrote_then}
+use Rattle.text_out.proofs.Writing.{wrote_then}
 use Rattle.tm_gdb.specs.Sessions.{acknowledgement, acknowledges_behind, reply_text}
 use Rattle.tm_gdb.proofs.session.Session.respond.Goals as goal
 

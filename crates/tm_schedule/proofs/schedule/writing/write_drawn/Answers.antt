@@ -1,6 +1,6 @@
 use Rattle.std.proofs.Common.{List, ℕ, rules, subst}
-use Rattle.ia_text.proofs.Writing.{writes_stopped, writes_then}
-use Rattle.ia_text.specs.Writing.{Writes}
+use Rattle.text_out.proofs.Writing.{writes_stopped, writes_then}
+use Rattle.text_out.specs.Writing.{Writes}
 use Rattle.tm_schedule.specs.Schedule.{runs_text}
 use Rattle.tm_schedule.proofs.schedule.writing.write_drawn.Goals as goal
 

@@ -1,5 +1,5 @@
 use Rattle.std.proofs.Common.{Bool, subst}
-use Rattle.ia_text.specs.Writing.{Writes}
+use Rattle.text_out.specs.Writing.{Writes}
 use Rattle.tm_schedule.proofs.ListsBack.{numbers_back, steps_back}
 use Rattle.tm_schedule.proofs.RunsBack.{runs_back}
 use Rattle.tm_schedule.proofs.RunsOf.{are_longest}

@@ -1,5 +1,5 @@
 use Rattle.std.proofs.Common.{length}
-use Rattle.ia_text.specs.Writing.{Ahead}
+use Rattle.text_out.specs.Writing.{Ahead}
 use Rattle.tm_schedule.specs.ScheduleWriting.{left_text}
 use Rattle.tm_schedule.proofs.schedule.writing.write_steps.Given as goal
 

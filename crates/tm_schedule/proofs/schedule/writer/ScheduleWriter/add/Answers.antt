@@ -1,5 +1,5 @@
 use Rattle.std.proofs.Common.{[], ◌∷◌, ◌++◌, ◌∙◌, Option, ap, sym}
-use Rattle.ia_text.proofs.Writing.{wrote_none}
+use Rattle.text_out.proofs.Writing.{wrote_none}
 use Rattle.tm_schedule.proofs.RunsWritten.{ended_left, first_left, longer_left, words_left}
 use Rattle.tm_schedule.specs.ScheduleRuns.{run_word}
 use Rattle.tm_schedule.specs.ScheduleWriting.{left_text}

@@ -1,6 +1,6 @@
 use Rattle.std.proofs.Common.{List, ℕ, refl, rules, subst}
-use Rattle.ia_text.proofs.Writing.{writes_err}
-use Rattle.ia_text.specs.Writing.{Stopped, Wrote}
+use Rattle.text_out.proofs.Writing.{writes_err}
+use Rattle.text_out.specs.Writing.{Stopped, Wrote}
 use Rattle.tm_schedule.proofs.RunsBack.{drawn_back}
 use Rattle.tm_schedule.specs.Schedule.{title_line}
 use Rattle.tm_schedule.specs.ScheduleWriting.{left_text}

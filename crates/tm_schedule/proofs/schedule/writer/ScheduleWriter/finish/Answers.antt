@@ -1,7 +1,7 @@
 use Rattle.std.proofs.Common.{[], ◌++◌, ◌∙◌, List, Option, ℕ, ap, append-nil, subst, sym}
-use Rattle.ia_text.proofs.Writing.{wrote_none}
-use Rattle.ia_text.specs.TextLine.{line_end}
-use Rattle.ia_text.specs.Writing.{Wrote, Writes}
+use Rattle.text_out.proofs.Writing.{wrote_none}
+use Rattle.text_out.specs.TextLine.{line_end}
+use Rattle.text_out.specs.Writing.{Wrote, Writes}
 use Rattle.tm_schedule.proofs.RunsWritten.{words_left}
 use Rattle.tm_schedule.specs.ScheduleRuns.{run_word}
 use Rattle.tm_schedule.specs.ScheduleWriting.{left_text}

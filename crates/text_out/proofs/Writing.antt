@@ -6,7 +6,7 @@ use Rattle.std.specs.Prelude.{Result, IsErr, flat_map}
 use Rattle.std.proofs.lemmas.List.{take-append-drop}
 use Rattle.std.proofs.lemmas.Grind.{flat_map-append}
 use Rattle.std.proofs.lemmas.Result.{MatchResult-weaker, MatchResult-from_err}
-use Rattle.ia_text.specs.Writing.{Device, Rose, Ahead, Making, Wrote, Stopped, Writes}
+use Rattle.text_out.specs.Writing.{Device, Rose, Ahead, Making, Wrote, Stopped, Writes}
 
 pub appends_none : (a : Option (List ℕ)) → Appends a a []
 appends_none None = tt

@@ -2,7 +2,7 @@
 
 ghost use Rattle.std.specs.Prelude.{◌≡◌, ◌+◌, ◌≤◌, ◌++◌};
 ghost use Rattle.arrayvec.specs.ArrayVec.{array_vec_len};
-ghost use Rattle.ia_text.specs.TextLine.{number_text};
+ghost use Rattle.text_out.specs.TextLine.{number_text};
 
 use crate::page::push;
 use arrayvec::ArrayVec;

@@ -1,7 +1,7 @@
 use Rattle.std.proofs.Common.{arith, drop, length, take, ◌<◌, ◌≤◌, sym}
 use Rattle.std.proofs.lemmas.List.{take-append-drop}
-use Rattle.ia_text.proofs.Writing.{appends_stay, appends_more, rose_counted, rest_is, rest_long}
-use Rattle.ia_text.proofs.out.ToWriterOut.put.Goals as goal
+use Rattle.text_out.proofs.Writing.{appends_stay, appends_more, rose_counted, rest_is, rest_long}
+use Rattle.text_out.proofs.out.ToWriterOut.put.Goals as goal
 
 pub returns-then-count-eq0 : goal.returns-then-count-eq0
 returns-then-count-eq0 g c =

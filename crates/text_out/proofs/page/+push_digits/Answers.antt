@@ -2,8 +2,8 @@ use Rattle.std.proofs.Common.{◌<◌, ◌++◌, length, map, ◌/◌, ap, sym, 
 use Rattle.std.proofs.lemmas.List.{length-append}
 use Rattle.std.specs.Char.{digit_char}
 use Rattle.std.specs.Int.Digits.{digits_of}
-use Rattle.ia_text.proofs.Digits.{hex_length, hex_step, hex_map_length}
-use Rattle.ia_text.proofs.page.+push_digits.Goals as goal
+use Rattle.text_out.proofs.Digits.{hex_length, hex_step, hex_map_length}
+use Rattle.text_out.proofs.page.+push_digits.Goals as goal
 
 pub push_digits-requires : goal.push_digits-requires
 push_digits-requires t c =

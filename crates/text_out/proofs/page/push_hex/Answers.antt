@@ -2,8 +2,8 @@ use Rattle.std.proofs.Common.{length, map, ap, arith}
 use Rattle.std.proofs.lemmas.List.{length-append}
 use Rattle.std.specs.Char.{digit_char}
 use Rattle.std.specs.Int.Digits.{digits_of}
-use Rattle.ia_text.proofs.Digits.{hex_short, hex_map_length}
-use Rattle.ia_text.proofs.page.push_hex.Goals as goal
+use Rattle.text_out.proofs.Digits.{hex_short, hex_map_length}
+use Rattle.text_out.proofs.page.push_hex.Goals as goal
 
 pub push_digits-requires : goal.push_digits-requires
 push_digits-requires c = let s = hex_short c.args.n (omega arith) in omega arith

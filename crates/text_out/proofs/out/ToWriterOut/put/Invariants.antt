@@ -1,6 +1,6 @@
 use Rattle.std.proofs.Common.{length, ◌-◌, ◌≡◌, ◌≤◌, take}
 use Rattle.std.specs.Io.KnownBytes.{Appends}
-use Rattle.ia_text.proofs.out.ToWriterOut.put.Given as goal
+use Rattle.text_out.proofs.out.ToWriterOut.put.Given as goal
 
 -- the bytes before `at` were written, and no failure was counted
 abbrev pub invariant-pieces : goal.invariant-pieces

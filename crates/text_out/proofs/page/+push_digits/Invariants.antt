@@ -1,4 +1,4 @@
-use Rattle.ia_text.proofs.page.+push_digits.Given as goal
+use Rattle.text_out.proofs.page.+push_digits.Given as goal
 
 abbrev pub decreases-push_digits : goal.decreases-push_digits
 decreases-push_digits l = l.n

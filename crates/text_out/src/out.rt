@@ -2,7 +2,7 @@
 
 ghost use Rattle.std.specs.Prelude.{◌≡◌, ◌≤◌, Some, length, take};
 ghost use Rattle.std.specs.Io.KnownBytes.{Appends};
-ghost use Rattle.ia_text.specs.Writing.{Device, Writes};
+ghost use Rattle.text_out.specs.Writing.{Device, Writes};
 
 use std::io::Write;
 use thiserror::Error;

@@ -2,14 +2,16 @@
 
 ghost use Rattle.std.specs.Prelude.{◌≡◌, ℕ, ◌+◌, ◌*◌, ◌≤◌, ◌<◌, ◌++◌, List, MatchResult, OnOk, length, map};
 ghost use Rattle.std.specs.Char.{digit_char};
+ghost use Rattle.std.specs.Fmt.{decimal};
 ghost use Rattle.std.specs.Int.Digits.{digits_of};
 ghost use Rattle.arrayvec.specs.ArrayVec.{array_vec_len};
 ghost use Rattle.hex.specs.Hex.{encode_lower};
-ghost use Rattle.ia_text.specs.Number.{eight_digits, hex_digits, number};
-ghost use Rattle.ia_text.specs.Writing.{Ahead, Stopped};
+ghost use Rattle.text_out.specs.Number.{eight_digits, hex_digits, number};
+ghost use Rattle.text_out.specs.Writing.{Ahead, Stopped};
 
 use crate::out::{Failed, Out};
 use arrayvec::ArrayVec;
+use itoa::Buffer;
 
 /// A page of text: up to 4096 bytes.
 pub type Page = ArrayVec<u8, 4096>;
@@ -62,6 +64,15 @@ pub fn push_number(page: &mut Page, n: u32)
 {
     push(page, b"0x");
     push_hex(page, n);
+}
+
+/// Adds a number in decimal digits.
+pub fn push_decimal<const ROOM: usize>(page: &mut ArrayVec<u8, ROOM>, number: u64)
+    requires { array_vec_len page.old + 20 ≤ ROOM }
+    ensures text { page.new.items ≡ page.old.items ++ decimal number }
+    ensures len { array_vec_len page.new ≤ array_vec_len page.old + 20 }
+{
+    push(page, Buffer::new().format(number).as_bytes());
 }
 
 /// Adds two hex digits for each of up to 32 bytes.
