@@ -2,8 +2,8 @@
 
 use crate::reply::{ALL, reply_to};
 use doc_lines::{CommandWords, Exercise, is_as_shown, line_of};
-use elide_command::Paths;
-use elide_trial::SharedPaths;
+use elide_program::Paths;
+use elide_test::SharedPaths;
 use std::rt::Files;
 use std::sync::Wait;
 use std::thread::Threads;

@@ -14,8 +14,8 @@ mod reply;
 mod rows;
 
 use doc_lines::{exercises, parts};
-use elide_command::Paths;
-use elide_trial::{SharedPaths, SystemPaths};
+use elide_program::Paths;
+use elide_test::{SharedPaths, SystemPaths};
 use exercise::{Verdict, run};
 use rows::Course;
 use std::io::Write;

@@ -2,8 +2,8 @@
 
 ghost use Rattle.std.specs.Prelude.{◌≤◌, IfOk, None, length};
 
-use elide_command::{Obstacle, Paths, ReadFault, Text};
-use elide_trial::SharedPaths;
+use elide_program::{Obstacle, Paths, ReadFault, Text};
+use elide_test::SharedPaths;
 use std::alloc::{AllocError, Global};
 use std::collections::BTreeMap;
 use text_out::{Failed, ToVec};

@@ -1,8 +1,11 @@
 //! What a command line of `elide` comes to.
 
 use doc_lines::{Devices, Room, Told};
-use elide_command::{Paths, Silent, Surroundings, Terminals};
-use elide_trial::{SharedPaths, command};
+use elide_command::Surroundings;
+use elide_program::Paths;
+use elide_setup::{Silent, Terminals};
+use elide_test::SharedPaths;
+use elide_trial::command;
 use std::alloc::{AllocError, Global};
 use std::io;
 use std::io::{Read, Write};

@@ -3,7 +3,7 @@
 use crate::memory::{Content, Memory};
 use crate::reply::{Reply, reply_to};
 use doc_lines::{PartHead, Room, TablePart, is_wanted, line_of, room_of};
-use elide_command::Paths;
+use elide_program::Paths;
 use std::alloc::{AllocError, Global};
 use std::io;
 use std::io::Write;

@@ -11,8 +11,11 @@ mod progress;
 
 use ahead::ReadAhead;
 use arguments::{USUAL_ROOM, Words, read_words};
-use elide_command::{Again, Surroundings, Terminals};
-use elide_trial::{SystemPaths, command};
+use elide_command::Surroundings;
+use elide_program::Again;
+use elide_setup::Terminals;
+use elide_test::SystemPaths;
+use elide_trial::command;
 use environment::{asks_for_no_colors, asks_for_words};
 use progress::ProgressLine;
 use std::io;

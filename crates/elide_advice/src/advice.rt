@@ -16,12 +16,14 @@ use crate::steps::{advise_core, advise_schedule, write_line};
 use crate::symbols::advise_symbol;
 use elide_args::Subcommand;
 use elide_program::{Paths, ProgramFault};
-use elide_setup::{BoardFault, Fault, MachineFault, Refusal, RunFault, StepFault};
+use elide_setup::{Fault, Refusal};
 use ia_image::ImageFault;
 use std::alloc::Global;
 use std::fmt;
 use std::fmt::Write;
 use text_out::Out;
+use tm_core::{MachineFault, RunFault};
+use tm_hist::{BoardFault, StepFault};
 
 /// Writes where the fault of a command stands and what is meant, for a person at a terminal. FILE and a schedule's file are read
 /// again. Nothing is written where there is nothing to add, and it ends where no memory is left or the device fails. Painted

@@ -3,10 +3,10 @@
 use Rattle.std.specs.Prelude.{◌≡◌, ◌≢◌, ◌⊎◌, ℕ, ◌+◌, ◌%◌, ◌^◌, ◌<◌, ◌≤◌, ◌==◌, true, false, Option, Some, None}
 use Rattle.std.specs.Prelude.{Result, Ok, Err, List, [], ◌++◌, codes, drop, flat_map, slice_index, take, unwrap_or}
 use Rattle.std.specs.List.{filter}
-use Rattle.ia_decode.specs.IaInsn.DecodeFault.{DecodeFault}
-use Rattle.ia_decode.specs.IaInsn.DecodeFault.TheVariants.{Short, NotInSubset, LockNotAllowed}
-use Rattle.ia_decode.specs.IaInsn.Insn.{Insn}
-use Rattle.ia_decode.specs.IaInsn.Reading.{decoding_of}
+use Rattle.ia_insn.specs.declared.fault.DecodeFault.{DecodeFault}
+use Rattle.ia_insn.specs.declared.fault.DecodeFault.TheVariants.{Short, NotInSubset, LockNotAllowed}
+use Rattle.ia_insn.specs.declared.op.Insn.{Insn}
+use Rattle.ia_insn.specs.Reading.{decoding_of}
 use Rattle.ia_foreign.specs.Length.{foreign_length, is_foreign_code}
 use Rattle.ia_foreign.specs.declared.words.Words.{Words}
 use Rattle.ia_text.specs.Listing.{in_places, listing_line, shown_bytes}

@@ -6,13 +6,14 @@
 
 ghost use Rattle.std.specs.Prelude.{◌≡◌, ◌+◌, ◌<◌, ◌≤◌, ◌++◌, flat_map, length, replicate};
 ghost use Rattle.arrayvec.specs.ArrayVec.{array_vec_len};
-ghost use Rattle.ia_decode.specs.IaInsn.Reading.{decoding_of};
+ghost use Rattle.ia_insn.specs.Reading.{decoding_of};
 ghost use Rattle.ia_text.specs.Listing.{in_places};
 ghost use Rattle.text_out.specs.Writing.{Writes};
 ghost use Rattle.elide_asm.specs.Labelled.{db_text, foreign_line, name_text, next_byte, outcome_text};
 
-use ia_decode::{DecodeFault, decode};
+use ia_decode::decode;
 use ia_foreign::Words;
+use ia_insn::DecodeFault;
 use text_out::page::{Page, push, push_bytes, push_eight, push_number};
 use text_out::{Out, WriteFault};
 

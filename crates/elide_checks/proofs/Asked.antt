@@ -2,7 +2,7 @@
 use Rattle.std.proofs.Common.{◌≡◌, ℕ, Bool, true, false, Bor, List, [], ◌∷◌, ◌++◌, append_assoc, ◌∙◌, ap, refl, subst}
 use Rattle.std.specs.List.{AllZip}
 use Rattle.elide_args.specs.declared.hunt_options.HuntOptions.{HuntOptions}
-use Rattle.elide_setup.specs.ElideProgram.ProgramFileType.{ProgramFile}
+use Rattle.elide_program.specs.declared.file.ProgramFile.{ProgramFile}
 use Rattle.elide_setup.specs.declared.fault.Refusal.{Refusal}
 use Rattle.ia_item.specs.declared.name.Name.{Name}
 use Rattle.tm_check.specs.declared.check.Check.{Check}

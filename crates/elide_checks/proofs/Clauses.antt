@@ -3,7 +3,7 @@ use Rattle.std.proofs.Common.{◌≡◌, ℕ, ◌<◌, Bool, Bor, List, Option, 
 use Rattle.std.proofs.lemmas.List.Elements.{Contains-get_or}
 use Rattle.std.specs.Prelude.{MatchOption}
 use Rattle.std.specs.Str.{trim}
-use Rattle.elide_setup.specs.ElideProgram.ProgramFileType.{ProgramFile}
+use Rattle.elide_program.specs.declared.file.ProgramFile.{ProgramFile}
 use Rattle.elide_setup.specs.Faults.{want}
 use Rattle.elide_setup.specs.declared.fault.Refusal.{Refusal}
 use Rattle.tm_check.specs.declared.clause.RunClause.{RunClause}

@@ -1,6 +1,6 @@
 -- Conditions that are read a part at a time.
 use Rattle.std.proofs.Common.{◌≡◌, ℕ, ◌+◌, ◌<◌, Bool, List, [], ◌∷◌, ◌++◌, codes, subst, sym, ap, ◌∙◌, append_assoc, length, length-append, arith, refl}
-use Rattle.elide_setup.specs.ElideProgram.ProgramFileType.{ProgramFile}
+use Rattle.elide_program.specs.declared.file.ProgramFile.{ProgramFile}
 use Rattle.tm_check.specs.declared.clause.RunClause.{RunClause}
 use Rattle.elide_checks.specs.Conditions.{IsClause, IsCondition}
 use Rattle.elide_checks.specs.Cuts.{IsCut, Lacks}

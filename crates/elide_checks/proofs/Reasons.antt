@@ -6,7 +6,7 @@ use Rattle.elide_program.specs.declared.fault.ProgramRefusal.TheVariants as prog
 use Rattle.elide_setup.specs.Faults.{refusal_of}
 use Rattle.elide_setup.specs.Misuse.{IsMisuse}
 use Rattle.elide_setup.specs.declared.fault.Refusal.{Refusal}
-use Rattle.elide_setup.specs.TmHist.Lines.{stop_word}
+use Rattle.tm_hist.specs.Lines.{stop_word}
 use Rattle.tm_pick.specs.declared.method.Method.{Method}
 use Rattle.tm_pick.specs.declared.method.Method.TheVariants.{Mix, Uniform, Bursts, Priorities, Seen}
 use Rattle.tm_rule.specs.declared.kinds.Stop.{Stop}

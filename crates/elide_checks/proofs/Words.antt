@@ -1,6 +1,6 @@
 -- Items by the parts of their words.
 use Rattle.std.proofs.Common.{ℕ, Bool, List}
-use Rattle.elide_setup.specs.ElideProgram.ProgramFileType.{ProgramFile}
+use Rattle.elide_program.specs.declared.file.ProgramFile.{ProgramFile}
 use Rattle.tm_check.specs.declared.clause.Quantity.{Quantity}
 use Rattle.tm_check.specs.declared.clause.Quantity.TheVariants.{OfMachine, OfRun}
 use Rattle.tm_condition.specs.declared.item.Item.TheVariants.{Register, Memory, Number}

@@ -3,8 +3,8 @@ use Rattle.std.specs.Prelude.{◌≡◌, ◌<◌, ◌⊎◌, ⊤, ℕ, Bool, Lis
 use Rattle.std.specs.Str.{trim}
 use Rattle.hex.specs.Hex.{decode_of}
 use Rattle.elide_program.specs.Sums.{IsSum}
-use Rattle.elide_setup.specs.ElideProgram.ProgramFileType.{ProgramFile}
-use Rattle.elide_setup.specs.ElideProgram.Settings.{word32}
+use Rattle.elide_program.specs.declared.file.ProgramFile.{ProgramFile}
+use Rattle.elide_program.specs.Settings.{word32}
 use Rattle.tm_check.specs.declared.clause.Quantity.{Quantity}
 use Rattle.tm_check.specs.declared.clause.Quantity.TheVariants as quantity
 use Rattle.tm_check.specs.declared.clause.RunClause.{RunClause}

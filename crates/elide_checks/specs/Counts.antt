@@ -1,8 +1,8 @@
 -- Counts of a run, as their words say them (docs/FORMATS.md, "Checks").
 use Rattle.std.specs.Prelude.{◌≡◌, ℕ, List, [], ◌∷◌, ◌++◌, codes, Option, Some, None, Ok, option_and_then}
 use Rattle.hex.specs.Hex.{decode_of}
-use Rattle.elide_setup.specs.ElideProgram.Settings.{below, word32}
-use Rattle.elide_setup.specs.TmHist.Lines.{interference_word}
+use Rattle.elide_program.specs.Settings.{below, word32}
+use Rattle.tm_hist.specs.Lines.{interference_word}
 use Rattle.tm_check.specs.declared.count.AbortKind.{AbortKind}
 use Rattle.tm_check.specs.declared.count.AbortKind.TheVariants.{Program, Outside}
 use Rattle.tm_check.specs.declared.count.Cores.{Cores}

@@ -3,7 +3,7 @@
 use Rattle.std.specs.Prelude.{◌≡◌, ℕ, Bool, List, ◌++◌, map}
 use Rattle.std.specs.Borrow.{Bor}
 use Rattle.std.specs.List.{AllZip}
-use Rattle.elide_setup.specs.ElideProgram.ProgramFileType.{ProgramFile}
+use Rattle.elide_program.specs.declared.file.ProgramFile.{ProgramFile}
 use Rattle.tm_check.specs.declared.clause.RunClause.TheVariants.{OfMachine}
 use Rattle.tm_condition.specs.declared.check.Check.{Check}
 use Rattle.tm_condition.specs.declared.check.Check.TheVariants.{Demanded, Forbidden}

@@ -4,8 +4,8 @@ use Rattle.std.specs.Prelude.{Some, drop, is_some, take}
 use Rattle.std.specs.Char.{is_ascii_whitespace}
 use Rattle.std.specs.List.{after_first, before_first, list_all, position_or_len, prefix_len, slice_split, suffix_len}
 use Rattle.elide_program.specs.Sums.{IsSum, is_sign}
-use Rattle.elide_setup.specs.ElideProgram.ProgramFileType.{ProgramFile}
-use Rattle.elide_setup.specs.ElideProgram.Settings.{word32}
+use Rattle.elide_program.specs.declared.file.ProgramFile.{ProgramFile}
+use Rattle.elide_program.specs.Settings.{word32}
 use Rattle.ia_lex.specs.Words.{register_of}
 use Rattle.ia_word.specs.declared.width.Width.TheVariants.{D}
 use Rattle.tm_check.specs.declared.clause.Quantity.{Quantity}

@@ -4,8 +4,8 @@ use Rattle.std.specs.List.{Contains}
 use Rattle.std.specs.Str.{trim}
 use Rattle.hex.specs.Hex.{decode_of}
 use Rattle.elide_program.specs.Sums.{IsSum}
-use Rattle.elide_setup.specs.ElideProgram.ProgramFileType.{ProgramFile}
-use Rattle.elide_setup.specs.ElideProgram.Settings.{word32}
+use Rattle.elide_program.specs.declared.file.ProgramFile.{ProgramFile}
+use Rattle.elide_program.specs.Settings.{word32}
 use Rattle.ia_lex.specs.Words.{register_of}
 use Rattle.ia_word.specs.declared.width.Width.TheVariants.{D}
 use Rattle.tm_check.specs.declared.clause.RunClause.{RunClause}

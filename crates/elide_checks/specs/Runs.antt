@@ -3,7 +3,7 @@
 use Rattle.std.specs.Prelude.{◌≡◌, ◌≢◌, ◌<◌, ◌≤◌, ◌⊎◌, ℕ, List, ◌++◌, codes, nat_eq, Option, Some, None}
 use Rattle.std.specs.Prelude.{if◌then◌else◌}
 use Rattle.std.specs.Cmp.Lexicographic.{pointwise}
-use Rattle.elide_setup.specs.ElideProgram.Settings.{number_or, word32}
+use Rattle.elide_program.specs.Settings.{number_or, word32}
 use Rattle.elide_setup.specs.Events.{events_said}
 use Rattle.tm_pick.specs.declared.events.Events.{Events}
 use Rattle.tm_pick.specs.declared.events.Events.TheVariants.{Never, Draw}

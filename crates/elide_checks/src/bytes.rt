@@ -11,7 +11,7 @@ ghost use Rattle.elide_checks.specs.Conditions.{AreBytes};
 ghost use Rattle.elide_checks.specs.Misread.{AreNoBytes, AreNotMany};
 
 use crate::cut::cut;
-use elide_setup::{ProgramFile, number_of, sum_of};
+use elide_program::{ProgramFile, number_of, sum_of};
 use std::alloc::{AllocError, Global};
 
 /// Bytes at an address, as many as are said, in hex digits.

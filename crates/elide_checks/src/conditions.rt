@@ -10,7 +10,7 @@ ghost use Rattle.elide_checks.specs.Conditions.{HasNoOperator, IsClause, IsCompa
 ghost use Rattle.elide_checks.specs.Constants.{is_among};
 ghost use Rattle.elide_checks.specs.Misread.{IsNoClause, IsNoCondition, IsNoItem};
 ghost use Rattle.elide_checks.specs.Refused.{IsMisreadText};
-ghost use Rattle.elide_setup.specs.ElideProgram.ProgramFileType.{ProgramFile as ProgramFileOf};
+ghost use Rattle.elide_program.specs.declared.file.ProgramFile.{ProgramFile as ProgramFileOf};
 ghost use Rattle.tm_check.specs.declared.clause.RunClause.{RunClause as RunClauseOf};
 
 use crate::bytes::bytes_of;
@@ -19,7 +19,8 @@ use crate::items::{Scope, Side, item_of};
 use crate::row::add;
 use elide_setup::Refusal;
 use std::alloc::{AllocError, Global};
-use tm_check::{Clause, Comparison, Quantity, RunClause};
+use tm_check::{Quantity, RunClause};
+use tm_condition::{Clause, Comparison};
 
 /// What a text says: comparisons and bytes, with `&&` between them. Anything else is a misuse of the option of this name.
 pub fn condition_of(

@@ -11,7 +11,8 @@ ghost use Rattle.elide_checks.specs.Constants.{is_among};
 ghost use Rattle.elide_setup.specs.Faults.{want};
 ghost use Rattle.elide_checks.specs.EquNames.{both_more, equ_names, names_in, none_more};
 
-use elide_setup::{ProgramFile, Refusal};
+use elide_program::ProgramFile;
+use elide_setup::Refusal;
 use ia_item::{Entry, Item, Name, Walk};
 use ia_source::Reader;
 use std::alloc::{AllocError, Global};

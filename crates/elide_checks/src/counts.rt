@@ -9,8 +9,10 @@ ghost use Rattle.hex.specs.Hex.{decode_of};
 ghost use Rattle.elide_checks.specs.Counts.{AreAborts, AreCores, IsCause, IsCountOf, IsKind, core_said};
 ghost use Rattle.elide_checks.specs.Misread.{AreNoAborts, AreNoCores, IsNoCause, IsNoCounted, IsNoKind};
 
-use elide_setup::{Interference, number_of};
-use tm_check::{AbortKind, Cause, Cores, Count};
+use elide_program::number_of;
+use tm_check::{AbortKind, Cores, Count};
+use tm_model::Interference;
+use tm_status::Cause;
 
 /// What is counted and whose, by the words before an `@` and behind it.
 pub fn count_of(name: &str, whose: &str) -> Option<Count>

@@ -9,7 +9,7 @@ ghost use Rattle.std.specs.Prelude.{◌≡◌, ◌≢◌, ◌⊎◌, ◌↔◌, 
 ghost use Rattle.std.specs.List.{AllZip};
 ghost use Rattle.elide_args.specs.declared.hunt_options.HuntOptions.{HuntOptions};
 ghost use Rattle.elide_setup.specs.Misuse.{IsMisuse};
-ghost use Rattle.elide_setup.specs.TmHist.Lines.{stop_word};
+ghost use Rattle.tm_hist.specs.Lines.{stop_word};
 ghost use Rattle.elide_checks.specs.Checks.{AreChecks, AreChecksBy, IsDemanded, IsForbidden, IsStopCheck, halt_checks};
 ghost use Rattle.elide_checks.specs.Constants.{is_among};
 ghost use Rattle.elide_checks.specs.Misread.{IsNoCondition};
@@ -25,7 +25,8 @@ use crate::items::Scope;
 use crate::reach::is_there;
 use crate::row::add;
 use elide_args::HuntOptions;
-use elide_setup::{Fault, ProgramFile, Refusal};
+use elide_program::ProgramFile;
+use elide_setup::{Fault, Refusal};
 use std::alloc::{AllocError, Global};
 use tm_check::Check;
 use tm_rule::Stop;

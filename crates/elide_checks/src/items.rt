@@ -9,17 +9,18 @@ ghost use Rattle.elide_checks.specs.Constants.{is_among};
 ghost use Rattle.elide_checks.specs.Items.{IsItem, IsNamed, IsParted, at_place, are_numbers, is_address, is_number, trimmed};
 ghost use Rattle.elide_checks.specs.Misread.{IsNoItem, IsNoNamed, IsNoRegister};
 ghost use Rattle.elide_program.specs.Sums.{is_sign};
-ghost use Rattle.elide_setup.specs.ElideProgram.Settings.{word32};
+ghost use Rattle.elide_program.specs.Settings.{word32};
 ghost use Rattle.ia_lex.specs.Words.{register_of};
 ghost use Rattle.ia_word.specs.declared.width.Width.TheVariants.{D};
 ghost use Rattle.tm_check.specs.declared.clause.Quantity.TheVariants.{OfMachine};
 
 use crate::constants::Constants;
 use crate::counts::{core_of, count_of};
-use elide_setup::{ProgramFile, sum_of};
+use elide_program::{ProgramFile, sum_of};
 use ia_lex::{register_of, word_number};
 use ia_word::Width;
-use tm_check::{Item, Quantity};
+use tm_check::Quantity;
+use tm_condition::Item;
 
 /// On which side of a comparison an item stands.
 #[derive(Clone, Copy, PartialEq, Eq)]

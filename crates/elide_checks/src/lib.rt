@@ -27,10 +27,6 @@ mod row;
 
 pub use counts::core_of;
 pub use demands::{Demands, stop_of};
-pub use elide_setup::{
-    Fault, Gathered, Lent, Paths, ProgramFile, Progress, Refusal, RunFault, Settings, Setup,
-    read_file, record, record_path,
-};
 pub use ends::EndChecks;
 pub use items::register_named;
 pub use misread::{Misread, Wanted, first_misread};

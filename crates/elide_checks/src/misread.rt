@@ -8,9 +8,10 @@ use crate::conditions::{clause_of, compared};
 use crate::constants::Constants;
 use crate::cut::cut;
 use crate::items::{Scope, Side, item_of};
-use elide_setup::{ProgramFile, Refusal};
+use elide_program::ProgramFile;
+use elide_setup::Refusal;
 use std::alloc::{AllocError, Global};
-use tm_check::Comparison;
+use tm_condition::Comparison;
 
 /// What is wanted in the place of words that cannot be read.
 #[derive(Clone, Copy, PartialEq, Eq, Debug)]

@@ -7,7 +7,7 @@
 
 ghost use Rattle.std.specs.Prelude.{◌≡◌, ◌≢◌, ◌≤◌, IfErr, IfOk, MatchOption, None, Some, codes};
 ghost use Rattle.std.specs.Option.{option_copied};
-ghost use Rattle.elide_setup.specs.ElideProgram.Settings.{number_or, number_said};
+ghost use Rattle.elide_program.specs.Settings.{number_or, number_said};
 ghost use Rattle.elide_setup.specs.Misuse.{IsMisuse};
 ghost use Rattle.elide_checks.specs.Refused.{AreNoOrders};
 ghost use Rattle.elide_checks.specs.Runs.{AreJobs, AreNoJobs, AreNoRuns, AreRuns, IsNoLimit, IsNoMethod, events_asked};
@@ -16,7 +16,8 @@ ghost use Rattle.tm_pick.specs.declared.method.Method.{Method as MethodOf};
 
 use crate::cut::cut;
 use elide_args::HuntOptions;
-use elide_setup::{Refusal, number_of};
+use elide_program::number_of;
+use elide_setup::Refusal;
 use std::thread::{Threads, available_parallelism};
 use tm_pick::{Events, Method};
 

@@ -6,7 +6,8 @@
 ghost use Rattle.std.specs.Prelude.{◌↔◌, ◌+◌, ◌≤◌, All, IsTrue};
 ghost use Rattle.elide_checks.specs.Reach.{HasCheck, HasClause, HasCores, HasCount, HasItem, HasQuantity, HasRunClause};
 
-use tm_check::{Check, Clause, Cores, Count, Item, Quantity, RunClause};
+use tm_check::{Check, Cores, Count, Quantity, RunClause};
+use tm_condition::{Clause, Item};
 
 /// Whether a machine with so many cores and a memory of this size has all that a check looks at.
 pub fn is_there(check: &Check, size: u32, cores: u8) -> bool

@@ -16,6 +16,4 @@ mod surroundings;
 mod telling;
 
 pub use dispatch::{carry_out, command, end_early, misused, refuse};
-pub use elide_program::{Again, HostPaths, Obstacle, Paths, ReadFault, Text};
-pub use elide_setup::{Progress, Silent, Terminals};
 pub use surroundings::Surroundings;

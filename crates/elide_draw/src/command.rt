@@ -6,8 +6,8 @@
 //! `tm_timeline`'s.
 
 ghost use Rattle.std.specs.Prelude.{◌≡◌, ℕ, IfOk, List, OnOk, Option};
-ghost use Rattle.elide_setup.specs.ElideProgram.ProgramFile.{IsFile, IsRead};
-ghost use Rattle.elide_setup.specs.ElideProgram.ProgramFileType.{ProgramFile};
+ghost use Rattle.elide_program.specs.ProgramFile.{IsFile, IsRead};
+ghost use Rattle.elide_program.specs.declared.file.ProgramFile.{ProgramFile};
 ghost use Rattle.elide_setup.specs.Made.{HasRun, HasRunCourse, HasRunPlan};
 ghost use Rattle.elide_setup.specs.Recorded.{IsRecorded};
 ghost use Rattle.elide_setup.specs.Schedules.{schedule_made};
@@ -20,10 +20,8 @@ use crate::scene::ProgramScene;
 use crate::symbols::Symbols;
 use elide_args::DrawOptions;
 use elide_places::Places;
-use elide_setup::{
-    Course, Gathered, Lent, Paths, Plan, ProgramFile, Progress, Refusal, Settings, Setup,
-    read_file, record_path,
-};
+use elide_program::{Paths, ProgramFile, Settings, read_file};
+use elide_setup::{Course, Gathered, Lent, Plan, Progress, Refusal, Setup, record_path};
 use elide_trace::labels_of;
 use std::alloc::Global;
 use text_out::Out;

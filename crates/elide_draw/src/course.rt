@@ -9,7 +9,7 @@ ghost use Rattle.elide_draw.specs.Told.{AreTold, IsToldOf};
 ghost use Rattle.elide_draw.specs.Watched.{IsTally, IsWatched};
 ghost use Rattle.elide_setup.specs.Runs.{AreMachineSteps};
 ghost use Rattle.elide_setup.specs.Schedules.{AreOf, kept_of, picks_made};
-ghost use Rattle.elide_setup.specs.TmCore.Theorem.{ShownMachine};
+ghost use Rattle.tm_core.specs.Theorem.{ShownMachine};
 ghost use Rattle.elide_setup.specs.Walks.{Leads};
 ghost use Rattle.tm_model.specs.declared.outcome.Outcome.{Outcome};
 ghost use Rattle.tm_model.specs.declared.outcome.Pick.{Pick};
@@ -19,10 +19,10 @@ ghost use Rattle.tm_timeline.specs.declared.timeline.Timeline.{Timeline};
 use crate::rounds::Rounds;
 use crate::scene::Scene;
 use crate::watch::{Watcher, tell_variables};
-use elide_setup::{
-    Course, Machine, Outcome, Pick, Progress, Refusal, Setup, StepMaker, new_machine, shown_memory,
-};
+use elide_setup::{Course, Progress, Refusal, Setup, StepMaker, new_machine, shown_memory};
 use std::alloc::{AllocError, Global};
+use tm_core::Machine;
+use tm_model::{Outcome, Pick};
 use tm_timeline::{Label, Timeline, Window};
 
 /// What a schedule came to before it is watched.

@@ -6,10 +6,11 @@
 
 ghost use Rattle.std.specs.Prelude.{◌≡◌, ◌+◌, ◌<◌, ◌≤◌, IfOk, MatchOption, min};
 ghost use Rattle.std.specs.Option.{option_copied};
-ghost use Rattle.elide_setup.specs.ElideProgram.Settings.{number_said};
+ghost use Rattle.elide_program.specs.Settings.{number_said};
 ghost use Rattle.elide_draw.specs.Extents.{IsWindow};
 
-use elide_setup::{Refusal, number_of};
+use elide_program::number_of;
+use elide_setup::Refusal;
 use tm_timeline::{Rows, Window};
 
 /// Which steps are asked for.

@@ -6,10 +6,11 @@
 
 ghost use Rattle.tm_timeline.specs.Told.{SameSteps};
 
-use elide_setup::{Machine, Outcome};
 use ia_insn::Op;
 use ia_regs::Regs;
 use ia_word::BareOp;
+use tm_core::Machine;
+use tm_model::Outcome;
 use tm_timeline::Timeline;
 use tm_trace::Deed;
 

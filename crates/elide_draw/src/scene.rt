@@ -4,14 +4,15 @@
 //! The texts are those of a trace, cut to a label's room. Variables are addresses here: what memory holds there is read
 //! in `watch`, and they are named in `course`.
 
-use elide_setup::Machine;
+use debug_command::{Symbol, write_place};
+use ia_image::Program;
 use ia_text::write_insn;
 use std::alloc::{AllocError, Global};
 use std::str;
 use text_out::ToVec;
-use tm_model::Program;
+use tm_core::Machine;
 use tm_timeline::{Label, StepText};
-use tm_trace::{Before, Deed, Symbol, write_place, write_values};
+use tm_trace::{Before, Deed, write_values};
 
 /// What steps are described by. A trait, since what a walk comes to is known of a maker whose type names no lifetime.
 pub trait Scene {

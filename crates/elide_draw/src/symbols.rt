@@ -3,10 +3,10 @@
 //! Names are handed on as they are, since a picture escapes them; what is no text is left out. Where no label stands on
 //! a line, the nearest below is told, as `elide_places` does.
 
+use debug_command::Symbol;
 use elide_places::{Naming, Places, SymbolText, push_symbols};
 use std::str;
 use tm_timeline::{Label, LineLabels};
-use tm_trace::Symbol;
 
 /// The labels of a program's source.
 #[derive(Clone, Copy)]

@@ -11,8 +11,11 @@ ghost use Rattle.tm_timeline.specs.Told.{SameSteps};
 
 use crate::rounds::Rounds;
 use crate::scene::Scene;
-use elide_setup::{CoreState, Kind, Machine, Outcome, Pick, Refusal, StepMaker};
+use elide_setup::{Refusal, StepMaker};
 use std::alloc::AllocError;
+use tm_core::Machine;
+use tm_model::{CoreState, Outcome, Pick};
+use tm_sets::Kind;
 use tm_timeline::{LineUse, Timeline};
 use tm_trace::{Before, Deed};
 

@@ -6,7 +6,7 @@ use Rattle.std.specs.Prelude.{IfOk, IfSome, Result}
 use Rattle.elide_args.specs.declared.hunt_options.HuntOptions.{HuntOptions}
 use Rattle.elide_checks.specs.Checks.{AreChecks}
 use Rattle.elide_checks.specs.declared.orders.Orders.{Orders}
-use Rattle.elide_setup.specs.ElideProgram.ProgramFileType.{ProgramFile}
+use Rattle.elide_program.specs.declared.file.ProgramFile.{ProgramFile}
 use Rattle.elide_setup.specs.declared.machine.Setup.{Setup}
 use Rattle.tm_pick.specs.declared.method.Plan.{Plan}
 use Rattle.tm_hunt.specs.Attempts.{IsFailure, IsSearch}

@@ -4,7 +4,7 @@ use Rattle.std.proofs.lemmas.Bool.Decides.{nat_tests}
 use Rattle.std.proofs.Math.Nat.{div-le_of_le-mul, div-mul-le_self, mul-le-mul_right}
 use Rattle.std.proofs.lemmas.Nat.{le-div}
 use Rattle.std.specs.Prelude.{Option, Some, None, is_some, option_map}
-use Rattle.elide_setup.specs.TmHist.Board.{ShownBoard as Board}
+use Rattle.tm_hist.specs.Board.{ShownBoard as Board}
 use Rattle.tm_hunt.specs.Attempts.{HavePassed, IsAttempt, IsFirst, IsSearch, none_passed, one_cut, one_ended}
 use Rattle.tm_hunt.specs.declared.attempt.Attempt.TheVariants.{Cut, Ended}
 use Rattle.tm_hunt.specs.declared.searching.Found.{Found}

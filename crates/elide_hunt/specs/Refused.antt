@@ -8,8 +8,8 @@ use Rattle.elide_checks.specs.Reach.{HasCheck}
 use Rattle.elide_checks.specs.Refused.{AreNoDemands, AreNoOrders}
 use Rattle.elide_checks.specs.declared.demands.Demands.{Demands}
 use Rattle.elide_checks.specs.declared.orders.Orders.{Orders}
-use Rattle.elide_setup.specs.ElideProgram.ProgramFile.{IsRead}
-use Rattle.elide_setup.specs.ElideProgram.ProgramFileType.{ProgramFile}
+use Rattle.elide_program.specs.ProgramFile.{IsRead}
+use Rattle.elide_program.specs.declared.file.ProgramFile.{ProgramFile}
 use Rattle.elide_setup.specs.Refused.{HasNoSetup, IsAnyWant, IsNotPaged, IsOverProgram, IsPageOver, IsUnrecorded}
 use Rattle.elide_setup.specs.Refused.{IsUntold}
 use Rattle.elide_setup.specs.Setup.{IsAsked}

@@ -1,6 +1,6 @@
 -- Runs that are shared out among threads.
 use Rattle.std.specs.Prelude.{◌≡◌, ℕ, ◌+◌, ◌-◌, ◌*◌, ◌/◌, ◌<◌, ◌≤◌, nat_lt, if◌then◌else◌, Option, Some, None}
-use Rattle.elide_setup.specs.TmHist.Board.{ShownBoard as Board}
+use Rattle.tm_hist.specs.Board.{ShownBoard as Board}
 use Rattle.tm_hunt.specs.Attempts.{HavePassed}
 use Rattle.tm_hunt.specs.declared.trial.Trial.{Trial}
 use Rattle.elide_hunt.specs.declared.block.Share.{Share}

@@ -12,7 +12,7 @@ ghost use Rattle.elide_hunt.specs.Refused.{IsNotHunted};
 ghost use Rattle.elide_hunt.specs.Shares.{IsShare, share_start};
 
 use crate::fault::fault_of;
-use elide_checks::{Fault, Refusal};
+use elide_setup::{Fault, Refusal};
 use std::alloc::Global;
 use std::thread;
 use std::thread::Threads;

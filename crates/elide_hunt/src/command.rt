@@ -10,10 +10,10 @@ ghost use Rattle.std.specs.Borrow.{Bor};
 ghost use Rattle.std.specs.Io.KnownBytes.{Appends};
 ghost use Rattle.elide_args.specs.declared.hunt_options.HuntOptions.{HuntOptions};
 ghost use Rattle.elide_checks.specs.Checks.{AreChecks};
-ghost use Rattle.elide_setup.specs.ElideProgram.Files.{Gives, most_bytes};
-ghost use Rattle.elide_setup.specs.ElideProgram.ProgramFile.{IsFile};
-ghost use Rattle.elide_setup.specs.ElideProgram.ProgramFileType.{ProgramFile};
-ghost use Rattle.elide_setup.specs.ElideProgram.Settings.{AreSettings};
+ghost use Rattle.elide_program.specs.Files.{Gives, most_bytes};
+ghost use Rattle.elide_program.specs.ProgramFile.{IsFile};
+ghost use Rattle.elide_program.specs.declared.file.ProgramFile.{ProgramFile};
+ghost use Rattle.elide_program.specs.Settings.{AreSettings};
 ghost use Rattle.elide_setup.specs.Recorded.{IsRecorded};
 ghost use Rattle.elide_setup.specs.Refused.{IsNotPaged, IsUnrecorded, IsUntold};
 ghost use Rattle.tm_schedule.specs.Schedule.{schedule_text};
@@ -38,11 +38,11 @@ use crate::object::tell_object;
 use crate::report::{Beside, counts_of, tell_lines};
 use crate::searching::searched;
 use elide_args::HuntOptions;
-use elide_checks::{
-    Demands, Gathered, Orders, Paths, ProgramFile, Progress, Refusal, Settings, Setup, read_file,
-    record, record_path,
+use elide_checks::{Demands, Orders};
+use elide_program::{Paths, ProgramFile, Settings, read_file};
+use elide_setup::{
+    Gathered, Paged, Pages, Progress, Refusal, Setup, page_path, record, record_path,
 };
-use elide_setup::{Paged, Pages, page_path};
 use std::alloc::Global;
 use std::thread::Threads;
 use text_out::Out;

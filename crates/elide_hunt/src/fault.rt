@@ -5,7 +5,8 @@
 ghost use Rattle.elide_setup.specs.declared.fault.Refusal.TheVariants as refusal;
 ghost use Rattle.elide_hunt.specs.Refused.{IsHuntFault};
 
-use elide_checks::{Fault, RunFault};
+use elide_setup::Fault;
+use tm_core::RunFault;
 use tm_hunt::HuntFault;
 
 /// The fault that is told.

@@ -15,11 +15,12 @@ use crate::replay::command_bytes;
 use crate::report::Beside;
 use crate::sending::{FailureObject, HuntObject};
 use elide_args::HuntOptions;
-use elide_checks::{Fault, Refusal, RunFault};
 use elide_object::object_line;
+use elide_setup::{Fault, Refusal};
 use std::alloc::{AllocError, Global};
 use std::str;
 use text_out::Out;
+use tm_core::RunFault;
 use tm_hunt::{Found, Search};
 
 /// Prints the object of a search, with what is told beside its failure.

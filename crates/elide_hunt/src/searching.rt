@@ -11,7 +11,8 @@ ghost use Rattle.elide_hunt.specs.Refused.{IsNotHunted};
 
 use crate::block::Block;
 use crate::fault::fault_of;
-use elide_checks::{Orders, Progress, Refusal};
+use elide_checks::Orders;
+use elide_setup::{Progress, Refusal};
 use std::thread::Threads;
 use tm_hunt::{PlannedRuns, Search, Trial, first_failing};
 use tm_pick::Plan;

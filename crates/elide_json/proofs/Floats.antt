@@ -7,7 +7,7 @@ use Rattle.elide_object.specs.Object.{items_of, number_value}
 use Rattle.ia_regs.specs.declared.Regs.{Regs}
 use Rattle.serde_json.specs.Data.{Members, boolean, member, string}
 use Rattle.serde_json.specs.Written.{has_float, items_have_float, members_have_float}
-use Rattle.tm_hist.specs.TmCore.Theorem.{ShownMachine as Machine, view_at}
+use Rattle.tm_core.specs.Theorem.{ShownMachine as Machine, view_at}
 use Rattle.tm_model.specs.declared.outcome.CoreState.{CoreState}
 use Rattle.tm_model.specs.declared.outcome.Outcome.{Outcome}
 use Rattle.elide_json.specs.Cores.{core_object, core_value, cores_value, flag_names}

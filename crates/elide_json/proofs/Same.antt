@@ -4,7 +4,7 @@ use Rattle.std.specs.List.{zip}
 use Rattle.elide_object.specs.Object.{list_value}
 use Rattle.elide_program.specs.declared.parts.MemoryParts.{MemoryParts}
 use Rattle.serde_json.specs.Data.{Data, Members}
-use Rattle.tm_hist.specs.TmCore.Theorem.{ShownMachine as Machine}
+use Rattle.tm_core.specs.Theorem.{ShownMachine as Machine}
 use Rattle.elide_json.specs.Cores.{cores_value}
 use Rattle.elide_json.specs.Memory.{AreRowsOf, dump_at, dump_row, dumps_value, show_at, show_row, shows_value}
 use Rattle.elide_json.specs.Objects.{shown_members, three_members}

@@ -6,7 +6,7 @@ use Rattle.ia_regs.specs.Flags.{has_carry, has_parity, has_adjust, has_zero, has
 use Rattle.ia_regs.specs.declared.Regs.{Regs}
 use Rattle.ia_regs.specs.declared.flags.Flags.{Flags}
 use Rattle.serde_json.specs.Data.{Data, Members, member, no_members, object, string}
-use Rattle.tm_hist.specs.TmCore.Theorem.{ShownMachine as Machine, view_at}
+use Rattle.tm_core.specs.Theorem.{ShownMachine as Machine, view_at}
 use Rattle.tm_model.specs.declared.outcome.CoreState.{CoreState}
 use Rattle.elide_json.specs.Words.{state_depth, state_name, state_stop, word_or_null}
 

@@ -4,7 +4,7 @@ use Rattle.std.specs.Borrow.{Bor}
 use Rattle.elide_object.specs.Object.{list_value, number_value}
 use Rattle.elide_program.specs.declared.parts.MemoryParts.{MemoryParts}
 use Rattle.serde_json.specs.Data.{Data, Members, boolean, member, no_members, null}
-use Rattle.tm_hist.specs.TmCore.Theorem.{ShownMachine as Machine}
+use Rattle.tm_core.specs.Theorem.{ShownMachine as Machine}
 use Rattle.elide_json.specs.Cores.{cores_value}
 use Rattle.elide_json.specs.Memory.{dumps_value, shows_value}
 use Rattle.elide_json.specs.Outcomes.{command_value}

@@ -15,7 +15,7 @@ use arrayvec::ArrayVec;
 use elide_object::{send_number, send_text, send_texts};
 use ia_regs::{Flags, Regs};
 use serde::Serializer;
-use tm_hist::Machine;
+use tm_core::Machine;
 use tm_model::CoreState;
 
 // The names of the flags that are set.

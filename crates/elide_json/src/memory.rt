@@ -19,7 +19,7 @@ use elide_setup::{Fault, Refusal};
 use ia_word::Width;
 use serde::Serializer;
 use std::alloc::{AllocError, Global};
-use tm_hist::memory::read;
+use tm_whole::memory::read;
 
 /// A part of a memory.
 #[derive(Drop)]

@@ -26,7 +26,7 @@ use elide_setup::Refusal;
 use serde::{Described, Serialize, Serializer};
 use std::alloc::Global;
 use text_out::Out;
-use tm_hist::Machine;
+use tm_core::Machine;
 
 // A machine, and the rows of its memory.
 #[derive(Clone, Copy)]

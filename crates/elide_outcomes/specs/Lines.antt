@@ -8,7 +8,7 @@ use Rattle.std.specs.Ordering.{nat_cmp}
 use Rattle.elide_args.specs.declared.subcommand.OutcomesOptions.{OutcomesOptions}
 use Rattle.text_out.specs.Number.{eight_digits}
 use Rattle.text_out.specs.TextLine.{line_end}
-use Rattle.elide_setup.specs.TmHist.Lines.{stop_word}
+use Rattle.tm_hist.specs.Lines.{stop_word}
 use Rattle.tm_model.specs.declared.outcome.Pick.{Pick}
 use Rattle.tm_outcomes.specs.declared.cycle.Cycle.{Cycle}
 use Rattle.tm_outcomes.specs.declared.searching.Search.{Search}

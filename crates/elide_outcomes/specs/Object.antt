@@ -4,7 +4,7 @@ use Rattle.std.specs.Borrow.{Bor}
 use Rattle.std.specs.Io.KnownBytes.{Appends}
 use Rattle.elide_args.specs.declared.subcommand.OutcomesOptions.{OutcomesOptions}
 use Rattle.elide_object.specs.Object.{list_value, number_value, object_text, schedule_value, text_list}
-use Rattle.elide_setup.specs.TmHist.Lines.{stop_word}
+use Rattle.tm_hist.specs.Lines.{stop_word}
 use Rattle.serde_json.specs.Data.{Data, boolean, member, no_members, null, object, string}
 use Rattle.tm_outcomes.specs.declared.cycle.Cycle.{Cycle}
 use Rattle.tm_outcomes.specs.declared.searching.Search.{Search}

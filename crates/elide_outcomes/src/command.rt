@@ -38,12 +38,12 @@ use crate::watched::Watched;
 use elide_args::OutcomesOptions;
 use elide_checks::EndChecks;
 use elide_program::{Paths, ProgramFile, Settings, number_of, read_file};
-use elide_setup::{
-    Fault, Gathered, MachineFault, Paged, Pages, Progress, Refusal, RunFault, Setup,
-};
+use elide_setup::{Fault, Gathered, Paged, Pages, Progress, Refusal, Setup};
 use std::alloc::Global;
 use text_out::Out;
-use tm_outcomes::{Events, Item, Search, SearchFault, Stop, Trial, outcomes_watched};
+use tm_core::{MachineFault, RunFault};
+use tm_outcomes::{Events, Item, Search, SearchFault, Trial, outcomes_watched};
+use tm_rule::Stop;
 
 /// The most states by default: at some 50 bytes a state and 9 a link, of two cores some 70 million bytes.
 const USUAL_LIMIT: u32 = 1_000_000;

@@ -9,7 +9,7 @@ ghost use Rattle.elide_setup.specs.Refused.{IsUntold};
 ghost use Rattle.elide_args.specs.Asked.{texts_of};
 ghost use Rattle.elide_object.specs.Object.{SendsMember, list_value, object_text};
 ghost use Rattle.serde_json.specs.Events.{SendsValue};
-ghost use Rattle.elide_setup.specs.TmHist.Lines.{stop_word};
+ghost use Rattle.tm_hist.specs.Lines.{stop_word};
 ghost use Rattle.elide_outcomes.specs.Object.{IsObjectWritten, cycle_value, outcome_value, search_value, stop_value, stuck_value};
 ghost use Rattle.elide_outcomes.specs.Sent.{object_value};
 
@@ -20,11 +20,13 @@ use elide_args::OutcomesOptions;
 use elide_object::{
     object_line, send_flag, send_number, send_numbers, send_schedule, send_text, send_texts,
 };
-use elide_setup::{Fault, Refusal, RunFault};
+use elide_setup::{Fault, Refusal};
 use serde::{Described, Serialize, Serializer};
 use std::alloc::{AllocError, Global};
 use text_out::Out;
-use tm_outcomes::{Cycle, ReachedStop, Search, Stop, Stuck, Told};
+use tm_core::RunFault;
+use tm_outcomes::{Cycle, ReachedStop, Search, Stuck, Told};
+use tm_rule::Stop;
 
 /// Prints the object of a search whose outcomes stand in the order in which they are told, with the words of `--show`.
 pub fn tell_object<O: Out>(

@@ -21,13 +21,14 @@ use crate::names::label_at;
 use crate::naming::{tell_items, tell_name};
 use crate::violated::tell_violations;
 use elide_args::OutcomesOptions;
-use elide_setup::stop_text;
 use elide_shell::step_word;
 use itoa::Buffer;
 use text_out::page::{push, push_eight};
 use text_out::text_line::TextLine;
 use text_out::{Out, WriteFault};
-use tm_outcomes::{Cycle, Pick, ReachedStop, Search, Stuck, Told};
+use tm_hist::stop_text;
+use tm_model::Pick;
+use tm_outcomes::{Cycle, ReachedStop, Search, Stuck, Told};
 
 /// Puts outcomes in the order of their values.
 pub fn sort(outcomes: &mut Vec<Told>)

@@ -10,7 +10,7 @@ ghost use Rattle.elide_outcomes.specs.Stops.{AreStops};
 use elide_checks::stop_of;
 use elide_setup::Refusal;
 use std::alloc::{AllocError, Global};
-use tm_outcomes::Stop;
+use tm_rule::Stop;
 
 /// One for each word of `--stop`.
 pub fn stops_of(alloc: Global, words: &[&str]) -> Result<Vec<Stop>, Refusal>

@@ -11,7 +11,8 @@ ghost use Rattle.elide_outcomes.specs.Under.{AreUnder, IsUnder, event_if, listed
 
 use elide_setup::{Refusal, kinds_of};
 use std::alloc::{AllocError, Global};
-use tm_outcomes::{Event, Events, Interference};
+use tm_model::{Event, Interference};
+use tm_outcomes::Events;
 use tm_pick::Kinds;
 
 /// What `--events` says that each step of a schedule comes under.

@@ -9,7 +9,7 @@ use Rattle.tm_model.specs.declared.outcome.Pick.{Pick}
 use Rattle.elide_setup.proofs.Runs.{run_of_all}
 use Rattle.elide_setup.specs.Runs.{AreMachineSteps, IsRunOf}
 use Rattle.elide_setup.specs.Schedules.{AreOf, picks_made}
-use Rattle.elide_setup.specs.TmCore.Theorem.{ShownMachine as Machine}
+use Rattle.tm_core.specs.Theorem.{ShownMachine as Machine}
 use Rattle.elide_setup.specs.Walks.{Leads, PartsLead, steps_in}
 use Rattle.page_run.specs.Plain.{ArePlain}
 use Rattle.page_run.specs.declared.stretch.Stretch.{Stretch}

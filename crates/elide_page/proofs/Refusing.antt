@@ -3,15 +3,15 @@ use Rattle.std.proofs.Common.{◌≡◌, ◌∙◌, ◌⊎◌, ℕ, List, Option
 use Rattle.std.specs.Prelude.{IfSome}
 use Rattle.elide_args.specs.declared.subcommand.MachineOptions.{MachineOptions}
 use Rattle.tm_model.specs.declared.outcome.Pick.{Pick}
-use Rattle.elide_setup.specs.ElideProgram.Files.{IsNotWritten, broken, lost, untold}
-use Rattle.elide_setup.specs.ElideProgram.ProgramFile.{IsFile}
-use Rattle.elide_setup.specs.ElideProgram.ProgramFileType.{ProgramFile}
-use Rattle.elide_setup.specs.ElideProgram.Settings.{AreSettings}
-use Rattle.elide_setup.specs.ElideProgram.SettingsType.{Settings}
+use Rattle.elide_program.specs.Files.{IsNotWritten, broken, lost, untold}
+use Rattle.elide_program.specs.ProgramFile.{IsFile}
+use Rattle.elide_program.specs.declared.file.ProgramFile.{ProgramFile}
+use Rattle.elide_program.specs.Settings.{AreSettings}
+use Rattle.elide_program.specs.declared.settings.Settings.{Settings}
 use Rattle.elide_setup.specs.Refused.{IsNotPaged, IsUnwritten, NamesNoCore}
 use Rattle.elide_setup.specs.Schedules.{listed_in}
 use Rattle.elide_setup.specs.Setup.{IsSetup}
-use Rattle.elide_setup.specs.TmCore.Theorem.{ShownMachine as Machine}
+use Rattle.tm_core.specs.Theorem.{ShownMachine as Machine}
 use Rattle.elide_setup.specs.declared.fault.Fault.TheVariants as fault
 use Rattle.elide_setup.specs.declared.fault.Refusal.{Refusal}
 use Rattle.elide_setup.specs.declared.fault.Refusal.TheVariants as refusal

@@ -3,7 +3,7 @@ use Rattle.std.specs.Prelude.{◌≡◌, ℕ, ◌-◌, ◌||◌, ◌==◌, Bool,
 use Rattle.std.specs.Prelude.{decimal, if◌then◌else◌, length, map, nat_lt}
 use Rattle.std.specs.List.{after_first, before_first, position_or_len}
 use Rattle.std.specs.Option.{option_map}
-use Rattle.elide_setup.specs.ElideProgram.Settings.{number_said}
+use Rattle.elide_program.specs.Settings.{number_said}
 use Rattle.page_run.specs.declared.window.Window.{Window}
 use Rattle.page_text.specs.Escaped.{string_text}
 use Rattle.elide_page.specs.declared.notes.Note.{Note}

@@ -7,7 +7,7 @@ use Rattle.tm_model.specs.declared.outcome.Outcome.TheVariants as outcome
 use Rattle.tm_model.specs.declared.outcome.Pick.{Pick}
 use Rattle.elide_setup.specs.Runs.{IsMachineStep, IsRunOf}
 use Rattle.elide_setup.specs.Schedules.{AreOf, picks_made}
-use Rattle.elide_setup.specs.TmCore.Theorem.{ShownMachine as Machine}
+use Rattle.tm_core.specs.Theorem.{ShownMachine as Machine}
 use Rattle.page_run.specs.Plain.{ArePlain}
 use Rattle.page_run.specs.declared.stretch.Stretch.{Stretch}
 use Rattle.page_run.specs.declared.window.Window.{Window}

@@ -1,13 +1,13 @@
 -- Why a page is not written (docs/FAULTS.md).
 use Rattle.std.specs.Prelude.{◌≡◌, ◌⊎◌, ℕ, List}
-use Rattle.elide_setup.specs.ElideProgram.ProgramFile.{IsFile}
-use Rattle.elide_setup.specs.ElideProgram.ProgramFileType.{ProgramFile}
-use Rattle.elide_setup.specs.ElideProgram.ProgramRefusalType.{ProgramRefusal}
-use Rattle.elide_setup.specs.ElideProgram.Refusals.{IsNoProgram}
-use Rattle.elide_setup.specs.ElideProgram.SettingsType.{Settings}
+use Rattle.elide_program.specs.ProgramFile.{IsFile}
+use Rattle.elide_program.specs.declared.file.ProgramFile.{ProgramFile}
+use Rattle.elide_program.specs.declared.fault.ProgramRefusal.{ProgramRefusal}
+use Rattle.elide_program.specs.Refusals.{IsNoProgram}
+use Rattle.elide_program.specs.declared.settings.Settings.{Settings}
 use Rattle.elide_setup.specs.Faults.{refusal_of}
 use Rattle.elide_setup.specs.Refused.{IsNoCore, IsNotLoaded, IsUntold}
-use Rattle.elide_setup.specs.TmCore.Theorem.{ShownMachine as Machine}
+use Rattle.tm_core.specs.Theorem.{ShownMachine as Machine}
 use Rattle.elide_setup.specs.declared.fault.Fault.TheVariants as fault
 use Rattle.elide_setup.specs.declared.fault.Refusal.{Refusal}
 use Rattle.elide_setup.specs.declared.fault.Refusal.TheVariants as refusal

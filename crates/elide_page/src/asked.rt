@@ -5,7 +5,8 @@
 
 use crate::notes::{Note, notes_of};
 use elide_args::PageOptions;
-use elide_setup::{Paths, Refusal};
+use elide_program::Paths;
+use elide_setup::Refusal;
 use page_run::Extent;
 use std::alloc::Global;
 

@@ -4,8 +4,8 @@
 //! schedule's, FILE, the schedule's file, the run, the window and the notes. Nothing is written before the run is known to fit.
 
 ghost use Rattle.std.specs.Prelude.{IfErr, IfOk};
-ghost use Rattle.elide_setup.specs.ElideProgram.ProgramFile.{IsFile};
-ghost use Rattle.elide_setup.specs.ElideProgram.ProgramFileType.{ProgramFile};
+ghost use Rattle.elide_program.specs.ProgramFile.{IsFile};
+ghost use Rattle.elide_program.specs.declared.file.ProgramFile.{ProgramFile};
 ghost use Rattle.elide_setup.specs.Setup.{IsSetup};
 ghost use Rattle.elide_page.specs.Refused.{GivesNoProgram};
 
@@ -16,9 +16,8 @@ use crate::notes::check_notes;
 use crate::output::{write_page, write_page_to};
 use elide_args::PageOptions;
 use elide_places::Places;
-use elide_setup::{
-    Course, Paths, Plan, ProgramFile, Progress, Refusal, Settings, Setup, read_file,
-};
+use elide_program::{Paths, ProgramFile, Settings, read_file};
+use elide_setup::{Course, Plan, Progress, Refusal, Setup};
 use page_program::{Form, Loaded, Sources};
 use page_run::{Stretch, Survey, surveyed};
 use std::alloc::Global;

@@ -13,7 +13,8 @@ ghost use Rattle.text_out.specs.Writing.{Wrote};
 ghost use Rattle.elide_page.specs.Notes.{AreNotes, comma_if, is_behind, is_outside, note_said, note_text, notes_text};
 ghost use Rattle.elide_page.specs.Notes.{piece_text, some_with};
 
-use elide_setup::{Refusal, number_of};
+use elide_program::number_of;
+use elide_setup::Refusal;
 use page_run::Window;
 use page_text::{NOTE, write_number, write_string};
 use std::alloc::{AllocError, Global};

@@ -15,12 +15,14 @@ ghost use Rattle.elide_page.specs.Reasons.{reason_text};
 ghost use Rattle.elide_page.specs.Refused.{IsUnreasoned};
 
 use crate::job::Job;
-use elide_setup::{Machine, Outcome, Pick, Refusal, Silent, StepMaker, new_machine};
+use elide_setup::{Refusal, Silent, StepMaker, new_machine};
 use elide_why::Teller;
 use page_run::{Stretch, Window, put_plain};
 use page_text::{REASON, write_number, write_string};
 use std::alloc::{AllocError, Global};
 use text_out::{Out, ToVec, WriteFault};
+use tm_core::Machine;
+use tm_model::{Outcome, Pick};
 
 /// Writes why steps aborted or stopped, each by its number in the page. Gives the device back.
 pub fn write_reasons<O: Out + Drop>(job: &Job<'_>, out: O) -> Result<O, Refusal>

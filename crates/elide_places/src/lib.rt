@@ -12,7 +12,6 @@ mod shown;
 mod source_text;
 mod symbols;
 
-pub use ia_lines::Place;
 pub use label::Label;
 pub use places::Places;
 pub use shown::shown_name;

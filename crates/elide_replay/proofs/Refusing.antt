@@ -10,7 +10,7 @@ use Rattle.elide_setup.proofs.Runs.{made_all}
 use Rattle.elide_setup.specs.Refused.{IsDue, IsNoStep, IsNoWalk, IsNotScheduled, full, no_core}
 use Rattle.elide_setup.specs.Runs.{AreBoardSteps}
 use Rattle.elide_setup.specs.Schedules.{listed_in, most_of}
-use Rattle.elide_setup.specs.TmHist.Board.{IsNew, ShownBoard as Board}
+use Rattle.tm_hist.specs.Board.{IsNew, ShownBoard as Board}
 use Rattle.elide_setup.specs.Walks.{Leads}
 use Rattle.elide_setup.specs.declared.fault.Refusal.{Refusal}
 use Rattle.elide_setup.specs.declared.machine.Setup.{Setup}

@@ -1,10 +1,10 @@
 -- When a machine and a serial run of its steps show the same.
 use Rattle.std.specs.Prelude.{◌≡◌, ℕ, ◌<◌, length}
-use Rattle.elide_why.specs.TmCore.Theorem.{ShownMachine as Machine, view_at}
-use Rattle.elide_why.specs.TmHist.Board.{stop_shown}
-use Rattle.elide_why.specs.TmHist.Replay.{cores_of}
-use Rattle.elide_why.specs.TmHist.Serial.{base_of, core_at, stop_of}
-use Rattle.elide_why.specs.TmHist.SerialType.{Serial}
+use Rattle.tm_core.specs.Theorem.{ShownMachine as Machine, view_at}
+use Rattle.tm_hist.specs.Board.{stop_shown}
+use Rattle.tm_hist.specs.Replay.{cores_of}
+use Rattle.tm_hist.specs.Serial.{base_of, core_at, stop_of}
+use Rattle.tm_hist.specs.declared.replay.Serial.{Serial}
 
 -- the core of this number is in the serial run, too, with the registers that the machine has of it before its open
 -- transaction

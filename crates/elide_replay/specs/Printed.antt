@@ -6,11 +6,11 @@ use Rattle.elide_args.specs.declared.subcommand.ReplayOptions.{ReplayOptions}
 use Rattle.tm_model.specs.declared.outcome.Outcome.{Outcome}
 use Rattle.tm_model.specs.declared.outcome.Pick.{Pick}
 use Rattle.elide_setup.specs.Recorded.{IsRecorded}
-use Rattle.elide_setup.specs.TmSchedule.Schedule.{schedule_text}
+use Rattle.tm_schedule.specs.Schedule.{schedule_text}
 use Rattle.elide_setup.specs.Schedules.{AreAsked, picks_made, picks_told}
 use Rattle.elide_setup.specs.Setup.{IsAsked}
 use Rattle.elide_setup.specs.Shown.{IsShownOf, shown_text}
-use Rattle.elide_setup.specs.TmHist.Board.{IsHistory, ShownBoard as Board}
+use Rattle.tm_hist.specs.Board.{IsHistory, ShownBoard as Board}
 use Rattle.elide_setup.specs.declared.machine.Setup.{Setup}
 use Rattle.elide_setup.specs.declared.shown.ShownMemory.{ShownMemory}
 use Rattle.elide_setup.specs.Runs.{HasMade}

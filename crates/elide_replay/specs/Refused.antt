@@ -9,7 +9,7 @@ use Rattle.elide_setup.specs.Refused.{IsUnwritten, NamesNoCore}
 use Rattle.elide_setup.specs.Schedules.{listed_in, most_of}
 use Rattle.elide_setup.specs.Setup.{IsAsked}
 use Rattle.elide_setup.specs.Shown.{are_held}
-use Rattle.elide_setup.specs.TmHist.Board.{ShownBoard as Board}
+use Rattle.tm_hist.specs.Board.{ShownBoard as Board}
 use Rattle.elide_setup.specs.declared.fault.Fault.{Fault}
 use Rattle.elide_setup.specs.declared.fault.Fault.TheVariants as fault
 use Rattle.elide_setup.specs.declared.fault.Refusal.{Refusal}

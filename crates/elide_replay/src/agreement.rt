@@ -5,13 +5,15 @@
 //! and no step is made.
 
 ghost use Rattle.std.specs.Prelude.{◌≡◌, ◌↔◌, ◌<◌, IsTrue, length};
-ghost use Rattle.elide_why.specs.TmHist.Board.{stop_shown};
-ghost use Rattle.elide_why.specs.TmHist.Replay.{Replays, memory_of};
-ghost use Rattle.elide_why.specs.TmCore.Theorem.{view_at};
+ghost use Rattle.tm_hist.specs.Board.{stop_shown};
+ghost use Rattle.tm_hist.specs.Replay.{Replays, memory_of};
+ghost use Rattle.tm_core.specs.Theorem.{view_at};
 ghost use Rattle.elide_replay.specs.Alike.{SameCore, SameCores, SameRegs, SameStop};
 ghost use Rattle.elide_replay.specs.Told.{agreement_status, is_agreement};
 
-use elide_why::{Board, CoreState, Machine, Serial};
+use tm_core::Machine;
+use tm_hist::{Board, Serial};
+use tm_model::CoreState;
 use tm_rule::Stop;
 
 /// Whether a schedule on a board and a history on one memory ended alike.

@@ -21,22 +21,25 @@ ghost use Rattle.elide_replay.specs.Printed.{IsPrinted, IsTold};
 ghost use Rattle.elide_replay.specs.Refused.{HasNoSerial, IsNotCompared, IsNotMade, IsRefused};
 ghost use Rattle.elide_replay.specs.Replayed.{IsBoardOf};
 ghost use Rattle.elide_setup.specs.Runs.{HasMade};
-ghost use Rattle.elide_setup.specs.TmSchedule.Schedule.{schedule_text};
+ghost use Rattle.tm_schedule.specs.Schedule.{schedule_text};
 ghost use Rattle.elide_replay.specs.Told.{agreement_object, agreement_text};
-ghost use Rattle.elide_why.specs.ElideSetup.Shown.{IsWhole};
-ghost use Rattle.elide_why.specs.TmHist.Board.{IsNew};
-ghost use Rattle.elide_why.specs.TmHist.Replay.{Replays};
+ghost use Rattle.elide_setup.specs.Shown.{IsWhole};
+ghost use Rattle.tm_hist.specs.Board.{IsNew};
+ghost use Rattle.tm_hist.specs.Replay.{Replays};
 
 use crate::agreement::{Agreement, agreement_of};
 use elide_args::ReplayOptions;
 use elide_json::put_replay;
-use elide_why::{
-    Board, Course, Fault, Gathered, NamedPlaces, Paths, Progress, Refusal, RunFault, Serial, Setup,
-    ShownMemory, record, record_path, scheduled, scheduled_places, show, shown_memory,
-    tell_history,
+use elide_program::Paths;
+use elide_setup::{
+    Course, Fault, Gathered, Progress, Refusal, Setup, ShownMemory, record, record_path, scheduled,
+    show, shown_memory,
 };
+use elide_why::{NamedPlaces, scheduled_places, tell_history};
 use std::alloc::{AllocError, Global};
 use text_out::Out;
+use tm_core::RunFault;
+use tm_hist::{Board, Serial};
 use tm_model::Pick;
 
 /// Runs a schedule on a board, and its history again on one memory; prints the aborts with their reasons where they are

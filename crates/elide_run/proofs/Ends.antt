@@ -4,7 +4,7 @@ use Rattle.std.proofs.lemmas.List.FromFn.{filter_of_map_range_with_len_more}
 use Rattle.std.specs.Io.KnownBytes.{Appends, Keeps}
 use Rattle.std.specs.List.{filter, list_all, range_with_len}
 use Rattle.std.specs.Prelude.{cond}
-use Rattle.elide_setup.specs.TmCore.Theorem.{ShownMachine as Machine}
+use Rattle.tm_core.specs.Theorem.{ShownMachine as Machine}
 use Rattle.elide_run.specs.Halting.{asked_ending, is_stopped}
 use Rattle.elide_run.specs.Object.{cores_ending, running_cores}
 use Rattle.elide_run.specs.declared.halting.Ending.TheVariants.{AsAsked, RunsOn}

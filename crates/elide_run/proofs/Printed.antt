@@ -2,7 +2,7 @@
 use Rattle.std.proofs.Common.{ℕ, List, Option}
 use Rattle.std.specs.Io.KnownBytes.{Keeps}
 use Rattle.elide_args.specs.declared.subcommand.RunOptions.{RunOptions}
-use Rattle.elide_setup.specs.TmCore.Theorem.{ShownMachine as Machine}
+use Rattle.tm_core.specs.Theorem.{ShownMachine as Machine}
 use Rattle.elide_setup.specs.declared.machine.Setup.{Setup}
 use Rattle.elide_why.proofs.Passing.{kept_first}
 use Rattle.elide_run.specs.Printed.{IsRunAsAsked}

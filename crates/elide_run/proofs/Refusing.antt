@@ -11,7 +11,7 @@ use Rattle.elide_setup.specs.Refused.{IsCourseOf, IsDue, IsNoWalk, IsNotSchedule
 use Rattle.elide_setup.specs.Runs.{IsRunOf}
 use Rattle.elide_setup.specs.Schedules.{listed_in}
 use Rattle.elide_setup.specs.Setup.{IsAsked}
-use Rattle.elide_setup.specs.TmCore.Theorem.{ShownMachine as Machine}
+use Rattle.tm_core.specs.Theorem.{ShownMachine as Machine}
 use Rattle.elide_setup.specs.Walks.{Leads}
 use Rattle.elide_setup.specs.declared.fault.Refusal.{Refusal}
 use Rattle.elide_setup.specs.declared.machine.Setup.{Setup}

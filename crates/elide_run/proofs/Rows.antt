@@ -3,7 +3,7 @@ use Rattle.std.proofs.Common.{◌≡◌, ℕ, ◌+◌, Bool, true, false, List, 
 use Rattle.elide_json.proofs.RunTexts.{rows_behind}
 use Rattle.elide_json.specs.Outcomes.{row_text, rows_text, run_front, run_rows}
 use Rattle.elide_setup.specs.Runs.{AreMachineSteps}
-use Rattle.elide_setup.specs.TmCore.Theorem.{ShownMachine as Machine}
+use Rattle.tm_core.specs.Theorem.{ShownMachine as Machine}
 use Rattle.elide_setup.specs.Walks.{Leads, PartsLead, steps_in}
 use Rattle.text_out.proofs.Writing.{wrote_then}
 use Rattle.text_out.specs.Writing.{Device, Wrote}

@@ -6,7 +6,7 @@ use Rattle.std.proofs.lemmas.List.FromFn.{map-range_with_len_more}
 use Rattle.std.specs.List.{flat_map, list_all, range_with_len}
 use Rattle.text_out.proofs.Writing.{wrote_then}
 use Rattle.text_out.specs.Writing.{Device, Wrote}
-use Rattle.elide_setup.specs.TmCore.Theorem.{ShownMachine as Machine, view_at}
+use Rattle.tm_core.specs.Theorem.{ShownMachine as Machine, view_at}
 use Rattle.elide_run.specs.Halting.{is_stopped, running_line, running_text}
 use Rattle.elide_run.specs.declared.halting.Ending.{Ending}
 use Rattle.elide_run.specs.declared.halting.Ending.TheVariants.{AsAsked, RunsOn}

@@ -4,8 +4,8 @@ use Rattle.std.proofs.lemmas.List.Concat.{flat_map-append}
 use Rattle.text_out.proofs.Writing.{wrote_none, wrote_then}
 use Rattle.text_out.specs.Writing.{Device, Wrote}
 use Rattle.elide_setup.specs.Runs.{AreMachineSteps}
-use Rattle.elide_setup.specs.TmCore.Theorem.{ShownMachine as Machine}
-use Rattle.elide_setup.specs.TmHist.Lines.{outcome_line}
+use Rattle.tm_core.specs.Theorem.{ShownMachine as Machine}
+use Rattle.tm_hist.specs.Lines.{outcome_line}
 use Rattle.tm_model.specs.declared.outcome.Outcome.{Outcome}
 use Rattle.tm_model.specs.declared.outcome.Pick.{Pick}
 use Rattle.elide_setup.specs.Walks.{Leads, PartsLead, steps_in}

@@ -4,8 +4,8 @@ use Rattle.std.specs.Prelude.{ℕ, Bool, List, [], ◌++◌, codes, if◌then◌
 use Rattle.std.specs.List.{flat_map, list_all, range_with_len}
 use Rattle.text_out.specs.Number.{eight_digits}
 use Rattle.text_out.specs.TextLine.{line_end, number_text}
-use Rattle.elide_setup.specs.TmCore.Theorem.{ShownMachine as Machine, view_at}
-use Rattle.elide_setup.specs.TmHist.Board.{stop_shown}
+use Rattle.tm_core.specs.Theorem.{ShownMachine as Machine, view_at}
+use Rattle.tm_hist.specs.Board.{stop_shown}
 use Rattle.elide_run.specs.declared.halting.Ending.{Ending}
 use Rattle.elide_run.specs.declared.halting.Ending.TheVariants.{AsAsked, RunsOn}
 

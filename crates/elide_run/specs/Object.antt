@@ -12,7 +12,7 @@ use Rattle.elide_setup.specs.Rounds.{IsAskedOut}
 use Rattle.elide_setup.specs.Runs.{IsRunOf}
 use Rattle.elide_setup.specs.Schedules.{AreAsked, picks_made, schedule_asked}
 use Rattle.elide_setup.specs.Setup.{IsAsked}
-use Rattle.elide_setup.specs.TmCore.Theorem.{ShownMachine as Machine}
+use Rattle.tm_core.specs.Theorem.{ShownMachine as Machine}
 use Rattle.elide_setup.specs.declared.machine.Setup.{Setup}
 use Rattle.serde_json.specs.Data.{Members}
 use Rattle.tm_model.specs.declared.outcome.Outcome.{Outcome}

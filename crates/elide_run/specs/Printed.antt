@@ -12,8 +12,8 @@ use Rattle.tm_model.specs.declared.outcome.Pick.{Pick}
 use Rattle.elide_setup.specs.Schedules.{AreAsked, picks_made, schedule_asked}
 use Rattle.elide_setup.specs.Setup.{IsAsked}
 use Rattle.elide_setup.specs.Shown.{IsShownOf, shown_text}
-use Rattle.elide_setup.specs.TmCore.Theorem.{ShownMachine as Machine}
-use Rattle.elide_setup.specs.TmHist.Lines.{outcome_line}
+use Rattle.tm_core.specs.Theorem.{ShownMachine as Machine}
+use Rattle.tm_hist.specs.Lines.{outcome_line}
 use Rattle.elide_setup.specs.declared.machine.Setup.{Setup}
 use Rattle.elide_setup.specs.declared.shown.ShownMemory.{ShownMemory}
 use Rattle.elide_run.specs.Halting.{asked_ending, asked_lines}

@@ -12,16 +12,19 @@ ghost use Rattle.elide_run.specs.Printed.{IsRunAsAsked};
 ghost use Rattle.elide_run.specs.Refused.{IsRefused};
 
 use crate::explained::{StepTeller, stepped};
+use debug_command::Symbol;
 use elide_args::RunOptions;
+use elide_program::Paths;
+use elide_setup::{Fault, Gathered, Progress, Refusal, Setup, StepMaker, record_path};
 use elide_trace::{labels_of, scheduled_labels};
-use elide_why::{
-    Fault, Gathered, Machine, Outcome, Paths, Progress, Refusal, RunFault, Setup, StepMaker,
-    Teller, record_path, scheduled_places, write_outcome,
-};
+use elide_why::{Teller, scheduled_places};
+use ia_image::Program;
 use std::alloc::{AllocError, Global};
 use text_out::{Out, ToVec, WriteFault};
-use tm_model::{Pick, Program};
-use tm_trace::{Before, Deed, Symbol, write_deed, write_front, write_step};
+use tm_core::{Machine, RunFault};
+use tm_hist::write_outcome;
+use tm_model::{Outcome, Pick};
+use tm_trace::{Before, Deed, write_deed, write_front, write_step};
 
 /// Makes a run's steps, and prints the line of each outcome with its instruction; writes the schedule where there is a path.
 pub fn run_coded<P: Paths, O: Out + Drop, G: Progress>(

@@ -17,13 +17,13 @@ ghost use Rattle.elide_run.specs.Refused.{IsNoRun, IsRefused, IsUnexplained};
 
 use crate::opening::machine_of;
 use elide_args::RunOptions;
-use elide_why::{
-    Course, Gathered, Machine, Outcome, Paths, Progress, Refusal, Setup, StepMaker, Teller,
-    record_path, scheduled_places,
-};
+use elide_program::Paths;
+use elide_setup::{Course, Gathered, Progress, Refusal, Setup, StepMaker, record_path};
+use elide_why::{Teller, scheduled_places};
 use std::alloc::Global;
 use text_out::Out;
-use tm_model::Pick;
+use tm_core::Machine;
+use tm_model::{Outcome, Pick};
 
 /// Makes a run's steps, and prints the line of each abort with its reason, and the other outcomes where they are asked
 /// for; writes the schedule where there is a path. `names` says whether code where the subset ends is named.

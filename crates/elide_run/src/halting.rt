@@ -8,13 +8,15 @@ ghost use Rattle.std.specs.Prelude.{◌≡◌, ◌++◌, ◌<◌, IfErr, IfOk, l
 ghost use Rattle.arrayvec.specs.ArrayVec.{array_vec_len};
 ghost use Rattle.text_out.specs.Writing.{Wrote, Writes};
 ghost use Rattle.elide_setup.specs.Refused.{IsUnwritten};
-ghost use Rattle.elide_setup.specs.TmCore.Theorem.{view_at};
+ghost use Rattle.tm_core.specs.Theorem.{view_at};
 ghost use Rattle.elide_run.specs.Halting.{halt_ending, halt_lines, is_stopped, running_line};
 
-use elide_why::{CoreState, Machine, Refusal};
+use elide_setup::Refusal;
 use text_out::page::{push, push_eight};
 use text_out::text_line::{TextLine, push_number};
 use text_out::{Out, WriteFault};
+use tm_core::Machine;
+use tm_model::CoreState;
 
 /// What a run came to.
 #[derive(Clone, Copy, PartialEq, Eq, Debug)]

@@ -28,13 +28,14 @@ use crate::opening::machine_of;
 use arrayvec::ArrayVec;
 use elide_args::RunOptions;
 use elide_json::{put_back, put_front, put_outcome};
-use elide_why::{
-    Course, Fault, Gathered, Machine, Outcome, Paths, Progress, Refusal, RunFault, Setup,
-    StepMaker, record_path, scheduled,
+use elide_program::Paths;
+use elide_setup::{
+    Course, Fault, Gathered, Progress, Refusal, Setup, StepMaker, record_path, scheduled,
 };
 use std::alloc::Global;
 use text_out::Out;
-use tm_model::Pick;
+use tm_core::{Machine, RunFault};
+use tm_model::{Outcome, Pick};
 
 // The numbers of cores.
 type Cores = ArrayVec<u32, 64>;

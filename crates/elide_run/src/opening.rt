@@ -9,8 +9,9 @@ ghost use Rattle.elide_setup.specs.Runs.{IsRunOf};
 ghost use Rattle.elide_setup.specs.Schedules.{listed_in};
 ghost use Rattle.tm_model.specs.declared.outcome.Pick.{Pick};
 
-use elide_why::{Course, Machine, Refusal, Setup, new_machine, shown_memory};
+use elide_setup::{Course, Refusal, Setup, new_machine, shown_memory};
 use std::alloc::Global;
+use tm_core::Machine;
 
 /// The machine of a program before its first step, where the schedule names its cores alone, and what is to be printed of memory
 /// is there.

@@ -25,13 +25,16 @@ use crate::halting::{Ending, ending_of};
 use crate::object::run_object;
 use crate::opening::machine_of;
 use elide_args::RunOptions;
-use elide_why::{
-    Course, Gathered, Machine, Outcome, Paths, Progress, Refusal, Setup, StepMaker, record_path,
-    scheduled, show, shown_memory, write_outcome,
+use elide_program::Paths;
+use elide_setup::{
+    Course, Gathered, Progress, Refusal, Setup, StepMaker, record_path, scheduled, show,
+    shown_memory,
 };
 use std::alloc::Global;
 use text_out::Out;
-use tm_model::Pick;
+use tm_core::Machine;
+use tm_hist::write_outcome;
+use tm_model::{Outcome, Pick};
 
 /// Runs a schedule of core steps, and prints the outcomes where they are asked for, with their instructions, the reasons of the aborts where these
 /// are, the state, and what is asked for of memory; and where it is expected that all cores stop, those that did not: as lines, or

@@ -11,8 +11,8 @@ use Rattle.elide_setup.specs.Refused.{IsNoCore, IsNoWalk, plan_path}
 use Rattle.elide_setup.specs.Rounds.{IsDrawnOut, IsOut, IsPlannedOut}
 use Rattle.elide_setup.specs.Runs.{AreMachineSteps, IsRunOf}
 use Rattle.elide_setup.specs.Schedules.{ArePlanned, are_listed, form_asked, form_of, picks_made, picks_told, plan_form}
-use Rattle.elide_setup.specs.TmCore.Theorem.{ShownMachine as Machine, machine_setting}
-use Rattle.elide_setup.specs.TmModel.State.{opening_state}
+use Rattle.tm_core.specs.Theorem.{ShownMachine as Machine, machine_setting}
+use Rattle.tm_model.specs.State.{opening_state}
 use Rattle.elide_setup.specs.Walks.{Leads}
 use Rattle.elide_setup.specs.declared.fault.Refusal.{Refusal}
 use Rattle.elide_setup.specs.declared.machine.Setup.{Setup}
@@ -21,7 +21,7 @@ use Rattle.elide_setup.specs.declared.plan.Course.TheVariants as course
 use Rattle.elide_setup.specs.declared.plan.Drawn.{Drawn}
 use Rattle.elide_setup.specs.declared.plan.Plan.{Plan}
 use Rattle.elide_setup.specs.declared.plan.Plan.TheVariants as plan
-use Rattle.tm_debug.specs.TmHist.Board.{IsNew, ShownBoard as Board}
+use Rattle.tm_hist.specs.Board.{IsNew, ShownBoard as Board}
 use Rattle.tm_model.specs.declared.outcome.Outcome.{Outcome}
 use Rattle.tm_model.specs.declared.outcome.Pick.{Pick}
 use Rattle.elide_session.specs.Opened.{AreDrawn, IsLimitedOut, limited_plan, most_drawn}

@@ -7,7 +7,7 @@ use Rattle.debug_command.specs.declared.symbol.Symbol.{Symbol}
 use Rattle.tm_model.specs.declared.outcome.Pick.{Pick}
 use Rattle.tm_debug.specs.Serving.{BehindPrompt, ServesInput}
 use Rattle.tm_debug.specs.Session.{start_in}
-use Rattle.tm_debug.specs.TmHist.Board.{ShownBoard as Board}
+use Rattle.tm_hist.specs.Board.{ShownBoard as Board}
 use Rattle.elide_args.specs.declared.subcommand.SessionOptions.{SessionOptions}
 use Rattle.elide_session.specs.Opened.{IsOpened, IsPlan}
 use Rattle.elide_setup.specs.declared.terminals.Terminals.{Terminals}

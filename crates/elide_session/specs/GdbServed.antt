@@ -6,7 +6,7 @@ use Rattle.tm_model.specs.declared.outcome.Pick.{Pick}
 use Rattle.tm_gdb.specs.Serving.{ServesInput, start}
 use Rattle.debug_command.specs.declared.symbol.Symbol.{Symbol}
 use Rattle.elide_session.specs.Opened.{IsOpened, IsPlan, is_scheduled}
-use Rattle.tm_debug.specs.TmHist.Board.{ShownBoard as Board}
+use Rattle.tm_hist.specs.Board.{ShownBoard as Board}
 
 -- what was written is what is to be done of the input's packets with that board, along the schedule that the options
 -- ask for, where they ask for one, and this is left of the input

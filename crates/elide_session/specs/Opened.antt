@@ -5,18 +5,18 @@ use Rattle.debug_command.specs.declared.symbol.Symbol.{Symbol}
 use Rattle.elide_args.specs.declared.subcommand.MachineOptions.{MachineOptions}
 use Rattle.elide_args.specs.declared.subcommand.ScheduleOptions.{ScheduleOptions}
 use Rattle.elide_setup.specs.Drawing.{limit_said}
-use Rattle.elide_setup.specs.IaImage.Program.{ProgramValue as Program}
+use Rattle.ia_image.specs.Program.{ProgramValue as Program}
 use Rattle.elide_setup.specs.Rounds.{IsDrawnOut}
 use Rattle.elide_setup.specs.Runs.{IsRunOf}
 use Rattle.elide_setup.specs.Schedules.{AreAsked, are_listed, picks_told}
 use Rattle.elide_setup.specs.Setup.{IsAsked}
-use Rattle.elide_setup.specs.TmCore.Limits.{Limits}
-use Rattle.elide_setup.specs.TmCore.Theorem.{ShownMachine as Machine}
+use Rattle.tm_core.specs.declared.limits.Limits.{Limits}
+use Rattle.tm_core.specs.Theorem.{ShownMachine as Machine}
 use Rattle.elide_setup.specs.declared.machine.Setup.{Setup}
 use Rattle.elide_setup.specs.declared.plan.Plan.{Plan}
 use Rattle.elide_setup.specs.declared.plan.Plan.TheVariants as plan
 use Rattle.elide_session.specs.Symbols.{AreSymbolsOf}
-use Rattle.tm_debug.specs.TmHist.Board.{IsNew, ShownBoard as Board}
+use Rattle.tm_hist.specs.Board.{IsNew, ShownBoard as Board}
 use Rattle.tm_model.specs.declared.outcome.Outcome.{Outcome}
 use Rattle.tm_model.specs.declared.outcome.Pick.{Pick}
 

@@ -2,8 +2,8 @@
 use Rattle.std.specs.Prelude.{◌≡◌, ℕ, ◌<◌, List, Option, Some, None}
 use Rattle.debug_command.specs.Symbols.{symbol_in}
 use Rattle.debug_command.specs.declared.symbol.Symbol.{Symbol}
-use Rattle.elide_setup.specs.ElideProgram.ProgramFile.{IsFileSymbol}
-use Rattle.elide_setup.specs.ElideProgram.ProgramFileType.{ProgramFile}
+use Rattle.elide_program.specs.ProgramFile.{IsFileSymbol}
+use Rattle.elide_program.specs.declared.file.ProgramFile.{ProgramFile}
 use Rattle.ia_elf.specs.Symbols.{IsNamed, st_value}
 
 -- each name stands for what it stands for in the file

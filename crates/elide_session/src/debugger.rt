@@ -9,12 +9,14 @@ ghost use Rattle.elide_session.specs.DebugRefused.{IsRefused};
 ghost use Rattle.elide_session.specs.DebugServed.{IsServed, manner_at};
 
 use crate::opening::{opened, session_fault};
+use debug_command::Manner;
 use elide_args::SessionOptions;
-use elide_setup::{Paths, Refusal, Terminals};
+use elide_program::Paths;
+use elide_setup::{Refusal, Terminals};
 use std::alloc::Global;
 use std::sync::Wait;
 use text_out::Out;
-use tm_debug::{In, Manner, serve_in};
+use tm_debug::{In, serve_in};
 
 /// Answers the commands of the input. The machine is that of the options, and the session can make 1,000,000 steps.
 /// `next` goes along the schedule of the options, where there is one. It is spoken where input and output are a

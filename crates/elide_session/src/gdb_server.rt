@@ -10,7 +10,8 @@ ghost use Rattle.tm_gdb.specs.Values.{picks_in};
 
 use crate::opening::{is_scheduled, opened, session_fault};
 use elide_args::SessionOptions;
-use elide_setup::{Paths, Refusal};
+use elide_program::Paths;
+use elide_setup::Refusal;
 use std::alloc::Global;
 use std::sync::Wait;
 use text_out::Out;

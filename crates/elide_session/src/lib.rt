@@ -23,7 +23,5 @@ mod opening;
 mod symbols;
 
 pub use debugger::debug;
-pub use elide_setup::{Paths, Refusal, Terminals};
 pub use gdb_server::gdb;
 pub use opening::{Opening, is_scheduled, opened, session_fault};
-pub use tm_debug::In;

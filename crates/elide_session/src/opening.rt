@@ -20,13 +20,15 @@ ghost use Rattle.tm_model.specs.declared.outcome.Outcome.{Outcome};
 ghost use Rattle.tm_model.specs.declared.outcome.Pick.{Pick};
 
 use crate::symbols::{labels_of, symbols_of};
+use debug_command::Names;
 use elide_args::{MachineOptions, ScheduleOptions};
+use elide_program::{Paths, ProgramFile, Settings, read_file};
 use elide_setup::{
-    Course, Drawn, Fault, Paths, Plan, ProgramFile, Refusal, Settings, Setup, Silent, new_board,
-    new_machine, planned, read_file,
+    Course, Drawn, Fault, Plan, Refusal, Setup, Silent, new_board, new_machine, planned,
 };
 use std::alloc::{AllocError, Global};
-use tm_debug::{Board, Names, SessionFault};
+use tm_debug::SessionFault;
+use tm_hist::Board;
 use tm_model::Pick;
 
 /// How many steps a session can make.

@@ -10,13 +10,13 @@ ghost use Rattle.elide_session.specs.Symbols.{AreSymbolsOf, IsFirstBelow};
 ghost use Rattle.ia_asm.specs.Assemblies.{known_as};
 ghost use Rattle.ia_elf.specs.Symbols.{IsFirstValue};
 
+use debug_command::Symbol;
 use elide_places::Places;
-use elide_setup::ProgramFile;
+use elide_program::ProgramFile;
 use ia_elf::Elf;
 use ia_item::Name;
 use indexmap::IndexMap;
 use std::alloc::{AllocError, Global};
-use tm_debug::Symbol;
 
 /// The symbols of a source or an executable, in the order of the source or of its table. Image text has none.
 pub fn symbols_of(alloc: Global, file: &ProgramFile<'_>) -> Result<Vec<Symbol>, AllocError>

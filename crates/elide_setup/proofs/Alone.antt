@@ -14,7 +14,7 @@ use Rattle.tm_model.specs.declared.outcome.Pick.{Pick}
 use Rattle.elide_setup.specs.Owing.{AreOwedUnder, history_made}
 use Rattle.elide_setup.specs.Runs.{AreMachineSteps}
 use Rattle.elide_setup.specs.Schedules.{lone_pick, picks_made}
-use Rattle.elide_setup.specs.TmCore.Theorem.{IsRun, ShownMachine as Machine, TakesAll, TakesAlone, machine_setting}
+use Rattle.tm_core.specs.Theorem.{IsRun, ShownMachine as Machine, TakesAll, TakesAlone, machine_setting}
 
 -- the steps of such a history
 abbrev pub lone_steps : List (ℕ × Outcome) → List (Pick × Outcome)

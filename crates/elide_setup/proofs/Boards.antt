@@ -10,14 +10,14 @@ use Rattle.tm_model.specs.declared.outcome.Outcome.{Outcome}
 use Rattle.tm_model.specs.declared.outcome.Outcome.TheVariants.{Idle}
 use Rattle.tm_model.specs.declared.outcome.Pick.{Pick}
 use Rattle.elide_setup.proofs.Alone.{lone_history, lone_owed, lone_picks, lone_steps}
-use Rattle.elide_setup.specs.IaImage.Program.{ProgramValue as Program}
+use Rattle.ia_image.specs.Program.{ProgramValue as Program}
 use Rattle.elide_setup.specs.Owing.{AreOwedUnder, history_made}
 use Rattle.elide_setup.specs.Runs.{AreBoardSteps}
 use Rattle.elide_setup.specs.Schedules.{lone_pick, picks_made}
-use Rattle.elide_setup.specs.TmCore.Limits.{Limits}
-use Rattle.elide_setup.specs.TmHist.Board.{AreSteps, IsHistory, SameBoard, ShownBoard as Board, board_setting, pairs_behind}
-use Rattle.elide_setup.specs.TmModel.Setting.{Setting, program_setting}
-use Rattle.elide_setup.specs.TmModel.State.{State, opening_state}
+use Rattle.tm_core.specs.declared.limits.Limits.{Limits}
+use Rattle.tm_hist.specs.Board.{AreSteps, IsHistory, SameBoard, ShownBoard as Board, board_setting, pairs_behind}
+use Rattle.tm_model.specs.Setting.{Setting, program_setting}
+use Rattle.tm_model.specs.State.{State, opening_state}
 
 -- the last steps of a run are owed behind the first ones
 owed_behind : (k : Setting) (a : State) (d : Doomed) (steps others : List (ℕ × Outcome)) (last : State) → AreOwed k a d (steps ++ others) →

@@ -5,12 +5,12 @@ use Rattle.std.proofs.Math.Seq.{get_or-append_seam}
 use Rattle.std.proofs.lemmas.List.{length-map}
 use Rattle.tm_model.specs.declared.outcome.Outcome.{Outcome}
 use Rattle.tm_model.specs.declared.outcome.Pick.{Pick}
-use Rattle.elide_setup.specs.IaImage.Program.{ProgramValue as Program}
+use Rattle.ia_image.specs.Program.{ProgramValue as Program}
 use Rattle.elide_setup.specs.Refused.{IsDue, IsNoCore}
 use Rattle.elide_setup.specs.Runs.{AreMachineSteps, IsRunOf}
 use Rattle.elide_setup.specs.Schedules.{listed_in, most_of, picks_made}
-use Rattle.elide_setup.specs.TmCore.Limits.{Limits}
-use Rattle.elide_setup.specs.TmCore.Theorem.{ShownMachine as Machine}
+use Rattle.tm_core.specs.declared.limits.Limits.{Limits}
+use Rattle.tm_core.specs.Theorem.{ShownMachine as Machine}
 use Rattle.elide_setup.specs.Walks.{Leads, PartsLead}
 use Rattle.elide_setup.specs.declared.fault.Refusal.{Refusal}
 use Rattle.elide_setup.specs.declared.plan.Course.{Course}

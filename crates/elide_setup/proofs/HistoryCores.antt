@@ -8,9 +8,9 @@ use Rattle.tm_model.specs.Runs.{pick_of, picks_of}
 use Rattle.tm_model.specs.Steps.{Change, after_step_of, run, state_with, step}
 use Rattle.tm_model.specs.declared.outcome.Outcome.{Outcome}
 use Rattle.tm_model.specs.declared.outcome.Pick.{Pick}
-use Rattle.elide_setup.specs.TmHist.Board.{IsHistory, ShownBoard as Board, board_setting}
-use Rattle.elide_setup.specs.TmModel.Setting.{Setting}
-use Rattle.elide_setup.specs.TmModel.State.{State, opening_state}
+use Rattle.tm_hist.specs.Board.{IsHistory, ShownBoard as Board, board_setting}
+use Rattle.tm_model.specs.Setting.{Setting}
+use Rattle.tm_model.specs.State.{State, opening_state}
 
 -- a state's cores are as many behind a step of one of them
 changed : (state next : State) (core : ℕ) (change : Change) →

@@ -8,12 +8,12 @@ use Rattle.tm_hist.specs.declared.board.StepFault.TheVariants as step
 use Rattle.tm_model.specs.declared.outcome.Outcome.{Outcome}
 use Rattle.tm_model.specs.declared.outcome.Pick.{Pick}
 use Rattle.elide_setup.proofs.Boards.{same_behind_none}
-use Rattle.elide_setup.specs.IaImage.Program.{ProgramValue as Program}
+use Rattle.ia_image.specs.Program.{ProgramValue as Program}
 use Rattle.elide_setup.specs.Refused.{IsNoCore, IsNoStep, full, no_core}
 use Rattle.elide_setup.specs.Runs.{AreBoardSteps}
 use Rattle.elide_setup.specs.Schedules.{lone_pick, picks_made}
-use Rattle.elide_setup.specs.TmCore.Theorem.{ShownMachine as Machine}
-use Rattle.elide_setup.specs.TmHist.Board.{IsFull, ShownBoard as Board}
+use Rattle.tm_core.specs.Theorem.{ShownMachine as Machine}
+use Rattle.tm_hist.specs.Board.{IsFull, ShownBoard as Board}
 use Rattle.elide_setup.specs.declared.fault.Fault.TheVariants as fault
 use Rattle.elide_setup.specs.declared.fault.Refusal.{Refusal}
 use Rattle.elide_setup.specs.declared.fault.Refusal.TheVariants as refusal

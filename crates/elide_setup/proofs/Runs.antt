@@ -9,16 +9,16 @@ use Rattle.tm_model.specs.declared.outcome.Outcome.{Outcome}
 use Rattle.tm_model.specs.declared.outcome.Pick.{Pick}
 use Rattle.elide_setup.proofs.Owing.{step_allowed, under_all}
 use Rattle.elide_setup.proofs.Walks.{history_on}
-use Rattle.elide_setup.specs.IaImage.Program.{ProgramValue as Program}
+use Rattle.ia_image.specs.Program.{ProgramValue as Program}
 use Rattle.elide_setup.specs.Runs.{AreBoardSteps, AreMachineSteps, HasMade, IsMachineStep, IsRunOf}
-use Rattle.elide_setup.specs.TmCore.Limits.{Limits}
-use Rattle.elide_setup.specs.TmCore.Theorem.{IsRun, SameMachine, ShownMachine as Machine, StandsFor, TakesStepUnder}
-use Rattle.elide_setup.specs.TmCore.Theorem.{machine_setting}
-use Rattle.elide_setup.specs.TmHist.Board.{IsHistory, IsOwedNext, SameBoard, ShownBoard as Board, board_setting}
+use Rattle.tm_core.specs.declared.limits.Limits.{Limits}
+use Rattle.tm_core.specs.Theorem.{IsRun, SameMachine, ShownMachine as Machine, StandsFor, TakesStepUnder}
+use Rattle.tm_core.specs.Theorem.{machine_setting}
+use Rattle.tm_hist.specs.Board.{IsHistory, IsOwedNext, SameBoard, ShownBoard as Board, board_setting}
 use Rattle.tm_model.specs.Conflicts.{Doomed}
 use Rattle.tm_model.specs.Steps.{run}
-use Rattle.elide_setup.specs.TmModel.Setting.{Setting, program_setting}
-use Rattle.elide_setup.specs.TmModel.State.{State, opening_state}
+use Rattle.tm_model.specs.Setting.{Setting, program_setting}
+use Rattle.tm_model.specs.State.{State, opening_state}
 use Rattle.elide_setup.specs.Walks.{Leads, PartsLead, steps_in}
 
 -- before the first step

@@ -7,7 +7,7 @@ use Rattle.tm_model.specs.declared.outcome.Pick.{Pick}
 use Rattle.tm_pick.specs.Kinds.{IsOfKinds}
 use Rattle.tm_pick.specs.declared.events.Events.{Events}
 use Rattle.tm_pick.specs.declared.events.Events.TheVariants.{Never, Rate, Draw}
-use Rattle.elide_setup.specs.ElideProgram.Settings.{word32}
+use Rattle.elide_program.specs.Settings.{word32}
 use Rattle.elide_setup.specs.Events.{events_said}
 use Rattle.elide_setup.specs.declared.plan.Drawn.{Drawn}
 use Rattle.elide_setup.specs.declared.plan.Plan.{Plan}

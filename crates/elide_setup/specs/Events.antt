@@ -10,7 +10,7 @@ use Rattle.tm_pick.specs.Kinds.{has_kind, no_kinds}
 use Rattle.tm_pick.specs.declared.events.Events.{Events}
 use Rattle.tm_pick.specs.declared.events.Events.TheVariants.{Rate}
 use Rattle.tm_pick.specs.declared.kinds.Kinds.{Kinds}
-use Rattle.elide_setup.specs.ElideProgram.Settings.{word32}
+use Rattle.elide_program.specs.Settings.{word32}
 
 -- ---- kinds
 

@@ -1,7 +1,7 @@
 -- The numbers and lines of the program's faults (docs/FORMATS.md), and the exit statuses.
 use Rattle.std.specs.Prelude.{ℕ, Option, Some, None}
 use Rattle.elide_program.specs.Faults.{program_line, program_number}
-use Rattle.tm_hist.specs.TmCore.Faults.{machine_number, run_number}
+use Rattle.tm_core.specs.Faults.{machine_number, run_number}
 use Rattle.tm_hist.specs.BoardFaults.{board_code, step_code}
 use Rattle.tm_schedule.specs.Schedule.{fault_code}
 use Rattle.tm_hist.specs.Serial.{serial_code}

@@ -15,10 +15,3 @@ pub mod Setup
 pub mod Shown
 pub mod Told
 pub mod Walks
-pub mod ElideProgram
-pub mod IaImage
-pub mod TmCore
-pub mod TmHist
-pub mod TmModel
-pub mod TmRule
-pub mod TmSchedule

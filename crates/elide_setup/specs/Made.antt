@@ -12,7 +12,7 @@ use Rattle.elide_setup.specs.Runs.{IsRunOf}
 use Rattle.elide_setup.specs.Schedules.{AreAsked, AreOf, ArePlanned, picks_made, picks_told, plan_form}
 use Rattle.elide_setup.specs.Schedules.{recorded_text, schedule_asked, schedule_made}
 use Rattle.elide_setup.specs.Setup.{IsAsked, IsSetup}
-use Rattle.elide_setup.specs.TmCore.Theorem.{ShownMachine as Machine}
+use Rattle.tm_core.specs.Theorem.{ShownMachine as Machine}
 use Rattle.elide_setup.specs.declared.machine.Setup.{Setup}
 use Rattle.elide_setup.specs.declared.plan.Course.{Course}
 use Rattle.elide_setup.specs.declared.plan.Plan.{Plan}

@@ -31,9 +31,9 @@ use Rattle.elide_setup.specs.Runs.{IsRunOf}
 use Rattle.elide_setup.specs.Schedules.{AreAsked, AreOf, are_listed, picks_made}
 use Rattle.elide_setup.specs.Setup.{IsSetup}
 use Rattle.elide_setup.specs.Shown.{are_held}
-use Rattle.elide_setup.specs.TmCore.Limits.{Limits}
-use Rattle.elide_setup.specs.TmCore.Theorem.{ShownMachine as Machine}
-use Rattle.elide_setup.specs.TmHist.Board.{IsFull, IsNew, ShownBoard as Board, bad_limit as is_bad_limit}
+use Rattle.tm_core.specs.declared.limits.Limits.{Limits}
+use Rattle.tm_core.specs.Theorem.{ShownMachine as Machine}
+use Rattle.tm_hist.specs.Board.{IsFull, IsNew, ShownBoard as Board, bad_limit as is_bad_limit}
 use Rattle.elide_setup.specs.Walks.{Leads}
 use Rattle.text_out.specs.declared.out.WriteFault.{WriteFault}
 use Rattle.tm_core.specs.Machine.{bad_limits}

@@ -5,12 +5,12 @@ use Rattle.tm_model.specs.Steps.{run}
 use Rattle.elide_setup.specs.Owing.{AreOwedUnder, history_made}
 use Rattle.tm_model.specs.declared.outcome.Outcome.{Outcome}
 use Rattle.tm_model.specs.declared.outcome.Pick.{Pick}
-use Rattle.elide_setup.specs.IaImage.Program.{ProgramValue as Program}
-use Rattle.elide_setup.specs.TmCore.Limits.{Limits}
-use Rattle.elide_setup.specs.TmCore.Theorem.{IsRun, SameMachine, ShownMachine as Machine, StandsFor, machine_setting}
-use Rattle.elide_setup.specs.TmHist.Board.{IsHistory, SameBoard, ShownBoard as Board, board_setting}
-use Rattle.elide_setup.specs.TmModel.Setting.{program_setting}
-use Rattle.elide_setup.specs.TmModel.State.{State, opening_state}
+use Rattle.ia_image.specs.Program.{ProgramValue as Program}
+use Rattle.tm_core.specs.declared.limits.Limits.{Limits}
+use Rattle.tm_core.specs.Theorem.{IsRun, SameMachine, ShownMachine as Machine, StandsFor, machine_setting}
+use Rattle.tm_hist.specs.Board.{IsHistory, SameBoard, ShownBoard as Board, board_setting}
+use Rattle.tm_model.specs.Setting.{program_setting}
+use Rattle.tm_model.specs.State.{State, opening_state}
 
 -- steps by picks: whatever run the machine was of, it is of that run with these steps behind it, and each outcome is
 -- the one that is owed under its pick's event

@@ -7,9 +7,9 @@ use Rattle.text_out.specs.Number.{eight_digits}
 use Rattle.text_out.specs.TextLine.{line_end}
 use Rattle.ia_word.specs.Operand.{operand_of}
 use Rattle.ia_word.specs.declared.width.Width.TheVariants.{D}
-use Rattle.tm_hist.specs.TmCore.Theorem.{ShownMachine as Machine}
+use Rattle.tm_core.specs.Theorem.{ShownMachine as Machine}
 use Rattle.tm_hist.specs.Lines.{dump_lines, state_text}
-use Rattle.tm_hist.specs.TmModel.Access.{addresses_of, bytes_at}
+use Rattle.tm_model.specs.Access.{addresses_of, bytes_at}
 use Rattle.elide_program.specs.declared.parts.Dump.{Dump}
 use Rattle.elide_program.specs.declared.parts.MemoryParts.{MemoryParts}
 use Rattle.elide_setup.specs.declared.shown.ShownMemory.{ShownMemory}

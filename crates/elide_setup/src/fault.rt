@@ -13,7 +13,8 @@ use ia_image::LoadFault;
 use std::alloc::AllocError;
 use text_out::{Failed, WriteFault};
 use thiserror::Error;
-use tm_hist::{BoardFault, MachineFault, RunFault, SerialFault, StepFault};
+use tm_core::{MachineFault, RunFault};
+use tm_hist::{BoardFault, SerialFault, StepFault};
 use tm_schedule::ScheduleFault;
 
 /// A fault with a number, told on one line. It owns nothing, so that it goes through `?` at no cost.

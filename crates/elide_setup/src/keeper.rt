@@ -15,8 +15,8 @@ ghost use Rattle.elide_setup.specs.declared.fault.Refusal.TheVariants as refusal
 ghost use Rattle.tm_core.specs.declared.fault.RunFault.TheVariants as run;
 
 use crate::fault::{Fault, Refusal};
-use tm_hist::{Event, Outcome, RunFault};
-use tm_model::Pick;
+use tm_core::RunFault;
+use tm_model::{Event, Outcome, Pick};
 
 /// Keeps the steps that are drawn, or not. A type for each way, so that a walk that keeps none pays nothing for it.
 pub trait Keeper {

@@ -25,13 +25,9 @@ mod terminals;
 mod told;
 mod walk;
 
-pub use elide_program::{
-    Paths, ProgramFile, ProgramRefusal, Settings, Text, number_of, read_file, sum_of,
-};
 pub use events::{events_of, kinds_of};
 pub use fault::{Fault, Refusal};
 pub use gathered::Gathered;
-pub use ia_image::Program;
 pub use lent::Lent;
 pub use machine::{Setup, new_board, new_machine, planned, scheduled};
 pub use paged::{Paged, Pages, page_path};
@@ -40,11 +36,5 @@ pub use progress::{Progress, Silent};
 pub use recorded::{record, record_path};
 pub use shown::{ShownMemory, show, shown_memory};
 pub use terminals::Terminals;
-pub use tm_hist::{
-    AbortReason, Board, BoardFault, CoreState, Counts, Interference, Kind, Limits, Machine,
-    MachineFault, Outcome, Pick, Reach, RunFault, Serial, StepFault, Stop, interference_text,
-    stop_text, write_outcome,
-};
-pub use tm_pick::{Events, Kinds};
 pub use told::{push_back, push_front};
 pub use walk::StepMaker;

@@ -28,7 +28,8 @@ use elide_args::{MachineOptions, ScheduleOptions};
 use elide_program::{MemoryParts, Paths, ProgramFile, Settings, read_file};
 use ia_image::Program;
 use std::alloc::Global;
-use tm_hist::{Board, Limits, Machine};
+use tm_core::{Limits, Machine};
+use tm_hist::Board;
 
 /// A program, and what the options say of its machine.
 #[derive(Drop)]

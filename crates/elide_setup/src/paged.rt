@@ -15,7 +15,7 @@ use crate::fault::Refusal;
 use elide_args::MachineOptions;
 use elide_program::Paths;
 use std::alloc::Global;
-use tm_hist::Pick;
+use tm_model::Pick;
 
 /// What became of the page of a run.
 #[derive(Clone, Copy, PartialEq, Eq, Debug)]

@@ -27,8 +27,7 @@ use crate::progress::Progress;
 use crate::walk::{StepMaker, walk_drawn};
 use elide_program::{Paths, Text};
 use text_out::{Out, WriteFault};
-use tm_hist::Outcome;
-use tm_model::Pick;
+use tm_model::{Outcome, Pick};
 use tm_schedule::ScheduleWriter;
 
 /// Makes the steps that are drawn on a machine of so many cores, 1 to 64. Where there is a path, their schedule is written

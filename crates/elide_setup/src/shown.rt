@@ -17,8 +17,9 @@ use itoa::Buffer;
 use text_out::page::{push, push_eight};
 use text_out::text_line::TextLine;
 use text_out::{Out, WriteFault};
-use tm_hist::memory::read;
-use tm_hist::{Machine, write_dump, write_state};
+use tm_core::Machine;
+use tm_hist::{write_dump, write_state};
+use tm_whole::memory::read;
 
 /// A memory and what is printed of it, all of which it has.
 #[derive(Clone, Copy)]

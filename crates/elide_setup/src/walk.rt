@@ -22,7 +22,7 @@ ghost use Rattle.elide_setup.specs.declared.fault.Refusal.{Refusal};
 ghost use Rattle.elide_setup.specs.declared.fault.Refusal.TheVariants as refusal;
 ghost use Rattle.elide_setup.specs.Runs.{AreBoardSteps, AreMachineSteps};
 ghost use Rattle.elide_setup.specs.Schedules.{AreOf, kept_of, listed_in, lone_pick, most_of, picks_made, picks_told, schedule_made};
-ghost use Rattle.elide_setup.specs.TmHist.Board.{IsOwedNext, SameBoard};
+ghost use Rattle.tm_hist.specs.Board.{IsOwedNext, SameBoard};
 ghost use Rattle.elide_setup.specs.Walks.{Leads};
 
 use crate::fault::{Fault, Refusal};
@@ -34,9 +34,9 @@ use crate::recording::walk_written;
 use crate::side_by_side::{is_lone, lone_chunks};
 use elide_program::Paths;
 use std::alloc::Global;
-use tm_core::NoSuchCore;
-use tm_hist::{Board, Machine, Outcome, RunFault, StepFault};
-use tm_model::Pick;
+use tm_core::{Machine, NoSuchCore, RunFault};
+use tm_hist::{Board, StepFault};
+use tm_model::{Outcome, Pick};
 use tm_pick::Going;
 
 /// After how many steps it is told how far a run is.

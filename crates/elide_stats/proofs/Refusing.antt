@@ -4,7 +4,7 @@ use Rattle.std.specs.Borrow.{Bor}
 use Rattle.std.specs.Prelude.{All}
 use Rattle.elide_setup.specs.Refused.{IsAnyWant, IsNoWalk, IsUnrecorded}
 use Rattle.elide_setup.specs.Schedules.{listed_in}
-use Rattle.elide_setup.specs.TmCore.Theorem.{ShownMachine as Machine}
+use Rattle.tm_core.specs.Theorem.{ShownMachine as Machine}
 use Rattle.elide_setup.specs.declared.fault.Refusal.{Refusal}
 use Rattle.elide_setup.specs.declared.plan.Course.{Course}
 use Rattle.tm_model.specs.declared.outcome.Pick.{Pick}

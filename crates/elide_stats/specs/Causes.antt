@@ -1,8 +1,8 @@
 -- The cause that an abort of the program's own is counted as (docs/FORMATS.md, "Statistics").
-use Rattle.elide_setup.specs.TmModel.AbortReason.{AbortReason}
-use Rattle.elide_setup.specs.TmModel.AbortReason.TheVariants as reason
-use Rattle.elide_setup.specs.TmRule.Stop.{Stop}
-use Rattle.elide_setup.specs.TmRule.Stop.TheVariants as stop
+use Rattle.tm_model.specs.declared.explain.AbortReason.{AbortReason}
+use Rattle.tm_model.specs.declared.explain.AbortReason.TheVariants as reason
+use Rattle.tm_rule.specs.declared.kinds.Stop.{Stop}
+use Rattle.tm_rule.specs.declared.kinds.Stop.TheVariants as stop
 use Rattle.tm_sets.specs.declared.interface.Kind.TheVariants as kind
 use Rattle.tm_stats.specs.declared.cause.AbortCause.{AbortCause}
 use Rattle.tm_stats.specs.declared.cause.AbortCause.TheVariants as cause

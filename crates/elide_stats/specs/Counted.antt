@@ -3,8 +3,8 @@ use Rattle.std.specs.Prelude.{◌≡◌, ℕ, ◌<◌, ◌^◌, Bool, true, fals
 use Rattle.std.specs.FinSet as set
 use Rattle.elide_setup.specs.Runs.{IsMachineStep, IsRunOf}
 use Rattle.elide_setup.specs.Schedules.{AreOf, picks_made}
-use Rattle.elide_setup.specs.TmCore.Theorem.{ShownMachine as Machine, StandsFor, machine_setting, view_at}
-use Rattle.elide_setup.specs.TmModel.State.{State}
+use Rattle.tm_core.specs.Theorem.{ShownMachine as Machine, StandsFor, machine_setting, view_at}
+use Rattle.tm_model.specs.State.{State}
 use Rattle.tm_model.specs.Conflicts.{Doomed}
 use Rattle.tm_model.specs.Explained.{abort_reason}
 use Rattle.tm_model.specs.Runs.{picks_of}

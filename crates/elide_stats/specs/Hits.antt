@@ -1,6 +1,6 @@
 -- The transactions that a step hits, as they are counted (docs/FORMATS.md, "Statistics").
 use Rattle.std.specs.Prelude.{◌≡◌, ℕ, Bool, true, false, List, []}
-use Rattle.elide_setup.specs.TmCore.Theorem.{ShownMachine as Machine, view_at}
+use Rattle.tm_core.specs.Theorem.{ShownMachine as Machine, view_at}
 use Rattle.tm_model.specs.declared.outcome.Outcome.{Outcome}
 use Rattle.tm_model.specs.declared.outcome.Outcome.TheVariants.{AbortedBy}
 use Rattle.tm_sets.specs.declared.interface.Kind.{Kind}

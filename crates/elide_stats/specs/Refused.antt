@@ -2,13 +2,13 @@
 use Rattle.std.specs.Prelude.{◌≡◌, ℕ, ◌⊎◌, Bool, List, Option, Some, IfSome, length}
 use Rattle.std.specs.Borrow.{Bor}
 use Rattle.elide_args.specs.declared.subcommand.StatsOptions.{StatsOptions}
-use Rattle.elide_setup.specs.ElideProgram.Settings.{AreSettings}
+use Rattle.elide_program.specs.Settings.{AreSettings}
 use Rattle.elide_setup.specs.Refused.{IsAnyWant, IsCourseOf, IsNoCore, IsNoMachine, IsNotScheduled, IsOverProgram}
 use Rattle.elide_setup.specs.Refused.{IsUnrecorded, IsUntold, NamesNoCore, plan_path}
 use Rattle.elide_setup.specs.Schedules.{AreAsked, ArePlanned, listed_in}
 use Rattle.elide_setup.specs.Setup.{IsAsked}
-use Rattle.elide_setup.specs.TmCore.Limits.{Limits}
-use Rattle.elide_setup.specs.TmCore.Theorem.{ShownMachine as Machine}
+use Rattle.tm_core.specs.declared.limits.Limits.{Limits}
+use Rattle.tm_core.specs.Theorem.{ShownMachine as Machine}
 use Rattle.elide_setup.specs.declared.fault.Refusal.{Refusal}
 use Rattle.elide_setup.specs.declared.machine.Setup.{Setup}
 use Rattle.elide_setup.specs.declared.plan.Course.{Course}

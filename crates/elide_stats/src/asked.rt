@@ -6,12 +6,15 @@
 
 ghost use Rattle.std.specs.Prelude.{◌≡◌};
 ghost use Rattle.std.specs.FinSet as set;
-ghost use Rattle.elide_setup.specs.TmCore.Theorem.{ShownMachine, view_at};
+ghost use Rattle.tm_core.specs.Theorem.{ShownMachine, view_at};
 ghost use Rattle.elide_stats.specs.Causes.{cause_for, cause_for_stop};
 ghost use Rattle.elide_stats.specs.Counted.{IsAskedOf, IsCause, IsStep, is_inside};
 ghost use Rattle.elide_stats.specs.Hits.{IsConflict, is_store};
 
-use elide_setup::{AbortReason, CoreState, Counts, Kind, Machine, Outcome, Stop};
+use tm_core::Machine;
+use tm_model::{AbortReason, CoreState, Counts, Outcome};
+use tm_rule::Stop;
+use tm_sets::Kind;
 use tm_stats::{AbortCause, Conflict, Step};
 
 /// What a machine tells of the next step of a core.

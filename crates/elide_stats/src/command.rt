@@ -6,14 +6,14 @@
 //! `told`, which makes them again.
 
 ghost use Rattle.std.specs.Prelude.{◌≡◌, [], ℕ, IfErr, List, OnOk, Option, length};
-ghost use Rattle.elide_setup.specs.ElideProgram.Files.{Gives, most_bytes};
-ghost use Rattle.elide_setup.specs.ElideProgram.ProgramFile.{IsFile, IsRead};
-ghost use Rattle.elide_setup.specs.ElideProgram.ProgramFileType.{ProgramFile};
+ghost use Rattle.elide_program.specs.Files.{Gives, most_bytes};
+ghost use Rattle.elide_program.specs.ProgramFile.{IsFile, IsRead};
+ghost use Rattle.elide_program.specs.declared.file.ProgramFile.{ProgramFile};
 ghost use Rattle.elide_setup.specs.Made.{HasRun, HasRunCourse, HasRunPlan};
 ghost use Rattle.elide_setup.specs.Recorded.{IsRecorded};
 ghost use Rattle.elide_setup.specs.Runs.{AreMachineSteps, IsRunOf};
 ghost use Rattle.elide_setup.specs.Schedules.{AreOf, picks_made, picks_told, schedule_made};
-ghost use Rattle.elide_setup.specs.TmCore.Theorem.{ShownMachine};
+ghost use Rattle.tm_core.specs.Theorem.{ShownMachine};
 ghost use Rattle.elide_setup.specs.Walks.{Leads};
 ghost use Rattle.tm_model.specs.declared.outcome.Outcome.{Outcome};
 ghost use Rattle.tm_model.specs.declared.outcome.Pick.{Pick};
@@ -23,10 +23,8 @@ ghost use Rattle.elide_stats.specs.Refused.{AreOfOptions, IsNoCount, IsNotCounte
 use crate::counting::Counting;
 use crate::told::{CountedRun, tell_counting};
 use elide_args::StatsOptions;
-use elide_setup::{
-    Course, Paths, Plan, ProgramFile, Progress, Refusal, Settings, Setup, new_machine, planned,
-    read_file, record_path,
-};
+use elide_program::{Paths, ProgramFile, Settings, read_file};
+use elide_setup::{Course, Plan, Progress, Refusal, Setup, new_machine, planned, record_path};
 use std::alloc::Global;
 use text_out::Out;
 use tm_stats::AbortCause;

@@ -21,10 +21,12 @@ ghost use Rattle.elide_stats.specs.Refused.{IsUncounted, IsUncountedStep};
 
 use crate::asked::Asked;
 use crate::hits::{CoreBytes, Hits};
-use elide_setup::{
-    Board, Course, Fault, Machine, Outcome, Paths, Pick, Progress, Refusal, RunFault, StepMaker,
-};
+use elide_program::Paths;
+use elide_setup::{Course, Fault, Progress, Refusal, StepMaker};
 use std::alloc::{AllocError, Global};
+use tm_core::{Machine, RunFault};
+use tm_hist::Board;
+use tm_model::{Outcome, Pick};
 use tm_stats::{AbortCause, Conflicts, RunCounts};
 
 /// After how many steps of a history it is told how far the counting is.

@@ -9,8 +9,9 @@ ghost use Rattle.elide_stats.specs.Hits.{hits_made};
 
 use crate::asked::conflict_of;
 use arrayvec::ArrayVec;
-use elide_setup::{Machine, Outcome, Reach};
 use std::alloc::{AllocError, Global};
+use tm_core::Machine;
+use tm_model::{Outcome, Reach};
 use tm_stats::{ByteStep, Conflict, OpenBytes};
 
 /// The most cores of a machine.

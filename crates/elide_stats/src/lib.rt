@@ -28,7 +28,6 @@ mod told;
 
 pub use columns::put_columns;
 pub use command::stats;
-pub use elide_places::Naming;
 pub use json::json_line;
 pub use labels::Labels;
 pub use report::Report;

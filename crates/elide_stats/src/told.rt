@@ -17,11 +17,12 @@ use crate::json::json_line;
 use crate::labels::Labels;
 use crate::report::Report;
 use elide_places::Naming;
-use elide_setup::{
-    Board, Course, Fault, Gathered, Lent, Machine, ProgramFile, Progress, Refusal, Setup,
-};
+use elide_program::ProgramFile;
+use elide_setup::{Course, Fault, Gathered, Lent, Progress, Refusal, Setup};
 use std::alloc::Global;
 use text_out::Out;
+use tm_core::Machine;
+use tm_hist::Board;
 use tm_stats::AbortCause;
 
 /// The run whose steps are counted.

@@ -5,7 +5,8 @@
 
 ghost use Rattle.std.specs.Prelude.{◌<◌, IfOk};
 
-use elide_setup::{Refusal, number_of};
+use elide_program::number_of;
+use elide_setup::Refusal;
 use std::thread::{Threads, available_parallelism};
 
 /// The most threads.

@@ -1,7 +1,7 @@
 -- Why what is asked for of a run is not told, from what one call tells.
 use Rattle.std.proofs.Common.{inl, inr}
 use Rattle.elide_json.specs.Refused.{IsUnsent}
-use Rattle.elide_setup.specs.TmHist.Board.{ShownBoard as Board}
+use Rattle.tm_hist.specs.Board.{ShownBoard as Board}
 use Rattle.elide_setup.specs.declared.fault.Refusal.{Refusal}
 use Rattle.elide_setup.specs.declared.machine.Setup.{Setup}
 use Rattle.elide_stats.specs.Refused.{AreUntold}

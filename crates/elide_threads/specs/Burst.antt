@@ -1,6 +1,6 @@
 -- How many steps a core makes under one lock, as an option says.
 use Rattle.std.specs.Prelude.{◌==◌, ℕ, List, if◌then◌else◌, Option, Some, None, option_and_then}
-use Rattle.elide_setup.specs.ElideProgram.Settings.{word32}
+use Rattle.elide_program.specs.Settings.{word32}
 use Rattle.tm_work.specs.declared.manner.Burst.{Burst}
 use Rattle.tm_work.specs.declared.manner.Burst.TheVariants.{Fixed, Varying}
 

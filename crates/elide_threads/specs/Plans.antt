@@ -1,6 +1,6 @@
 -- Which steps of the workers come under an event, as options say (docs/FORMATS.md, "Events that are drawn").
 use Rattle.std.specs.Prelude.{◌≡◌, ℕ, List, Option, Some, None, option_and_then}
-use Rattle.elide_setup.specs.ElideProgram.Settings.{number_or}
+use Rattle.elide_program.specs.Settings.{number_or}
 use Rattle.elide_setup.specs.Events.{events_said}
 use Rattle.tm_pick.specs.declared.events.Events.{Events}
 use Rattle.tm_pick.specs.declared.events.Events.TheVariants.{Never}

@@ -6,12 +6,12 @@ use Rattle.std.specs.Option.{option_copied}
 use Rattle.elide_args.specs.declared.subcommand.ThreadsOptions.{ThreadsOptions}
 use Rattle.elide_json.specs.Objects.{threads_value}
 use Rattle.elide_object.specs.Object.{object_text}
-use Rattle.elide_setup.specs.ElideProgram.Settings.{number_said}
+use Rattle.elide_program.specs.Settings.{number_said}
 use Rattle.elide_setup.specs.Recorded.{IsRecorded}
-use Rattle.elide_setup.specs.TmSchedule.Schedule.{schedule_text}
+use Rattle.tm_schedule.specs.Schedule.{schedule_text}
 use Rattle.elide_setup.specs.Setup.{IsAsked}
 use Rattle.elide_setup.specs.Shown.{IsShownOf, shown_text}
-use Rattle.elide_setup.specs.TmHist.Board.{IsNew, ShownBoard as Board}
+use Rattle.tm_hist.specs.Board.{IsNew, ShownBoard as Board}
 use Rattle.elide_setup.specs.declared.machine.Setup.{Setup}
 use Rattle.elide_setup.specs.declared.shown.ShownMemory.{ShownMemory}
 use Rattle.tm_model.specs.Runs.{picks_of}

@@ -3,12 +3,12 @@ use Rattle.std.specs.Prelude.{◌≡◌, ◌*◌, ℕ, ◌⊎◌, Bool, true, fa
 use Rattle.std.specs.Borrow.{Bor}
 use Rattle.std.specs.Option.{option_copied}
 use Rattle.elide_args.specs.declared.subcommand.ThreadsOptions.{ThreadsOptions}
-use Rattle.elide_setup.specs.ElideProgram.Settings.{number_said}
+use Rattle.elide_program.specs.Settings.{number_said}
 use Rattle.elide_setup.specs.Misuse.{IsMisuse}
 use Rattle.elide_setup.specs.Refused.{HasNoSetup, IsAnyWant, IsNoBoard, IsOverProgram, IsUnrecorded, IsUnwritten}
 use Rattle.elide_setup.specs.Setup.{IsAsked}
 use Rattle.elide_setup.specs.Shown.{are_held}
-use Rattle.elide_setup.specs.TmHist.Board.{ShownBoard as Board}
+use Rattle.tm_hist.specs.Board.{ShownBoard as Board}
 use Rattle.elide_setup.specs.declared.fault.Fault.TheVariants as fault
 use Rattle.elide_setup.specs.declared.fault.Refusal.{Refusal}
 use Rattle.elide_setup.specs.declared.fault.Refusal.TheVariants as refusal

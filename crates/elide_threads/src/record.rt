@@ -7,10 +7,12 @@ ghost use Rattle.std.specs.Prelude.{◌≡◌, ◌⊎◌, [], IfErr, IfOk, OnOk}
 ghost use Rattle.tm_model.specs.Runs.{picks_of};
 ghost use Rattle.elide_setup.specs.Recorded.{IsRecorded};
 ghost use Rattle.elide_setup.specs.Refused.{IsAnyWant, IsUnrecorded};
-ghost use Rattle.elide_setup.specs.TmSchedule.Schedule.{schedule_text};
+ghost use Rattle.tm_schedule.specs.Schedule.{schedule_text};
 
-use elide_setup::{Board, Paths, Refusal, record};
+use elide_program::Paths;
+use elide_setup::{Refusal, record};
 use std::alloc::{AllocError, Global};
+use tm_hist::Board;
 use tm_model::Pick;
 
 /// The schedule that comes about, and the path of the file that it is for, where there is one. Its memory is taken

@@ -9,20 +9,20 @@ ghost use Rattle.std.specs.Prelude.{◌≡◌, ◌*◌, ◌⊎◌, [], ℕ, Bool
 ghost use Rattle.std.specs.Prelude.{length, replicate, true};
 ghost use Rattle.std.specs.Option.{option_copied};
 ghost use Rattle.text_out.specs.Writing.{Wrote};
-ghost use Rattle.elide_setup.specs.ElideProgram.Files.{Gives, most_bytes};
-ghost use Rattle.elide_setup.specs.ElideProgram.ProgramFile.{IsFile};
-ghost use Rattle.elide_setup.specs.ElideProgram.ProgramFileType.{ProgramFile};
-ghost use Rattle.elide_setup.specs.ElideProgram.Settings.{AreSettings, number_or, number_said};
+ghost use Rattle.elide_program.specs.Files.{Gives, most_bytes};
+ghost use Rattle.elide_program.specs.ProgramFile.{IsFile};
+ghost use Rattle.elide_program.specs.declared.file.ProgramFile.{ProgramFile};
+ghost use Rattle.elide_program.specs.Settings.{AreSettings, number_or, number_said};
 ghost use Rattle.elide_setup.specs.Faults.{fault_number, refusal_of, want};
 ghost use Rattle.elide_setup.specs.Misuse.{IsMisuse};
 ghost use Rattle.elide_setup.specs.Recorded.{IsRecorded};
 ghost use Rattle.elide_setup.specs.Refused.{IsAnyWant, IsNoBoard, IsUnrecorded};
 ghost use Rattle.elide_setup.specs.Setup.{IsSetup};
 ghost use Rattle.elide_setup.specs.Shown.{IsShownOf, shown_text};
-ghost use Rattle.elide_setup.specs.TmHist.Board.{IsNew, ShownBoard as Board};
+ghost use Rattle.tm_hist.specs.Board.{IsNew, ShownBoard as Board};
 ghost use Rattle.elide_setup.specs.declared.machine.Setup.{Setup};
 ghost use Rattle.elide_setup.specs.declared.shown.ShownMemory.{ShownMemory};
-ghost use Rattle.elide_setup.specs.TmSchedule.Schedule.{schedule_text};
+ghost use Rattle.tm_schedule.specs.Schedule.{schedule_text};
 ghost use Rattle.elide_threads.specs.Burst.{burst_said};
 ghost use Rattle.elide_threads.specs.Plans.{plan_said};
 ghost use Rattle.elide_threads.specs.Printed.{IsPrinted, IsTold, IsWorked, board_object};
@@ -38,9 +38,10 @@ use crate::watch::Told;
 use elide_args::ThreadsOptions;
 use elide_json::put_threads;
 use elide_places::Places;
+use elide_program::{Paths, ProgramFile, ProgramRefusal, Settings, number_of, read_file};
 use elide_setup::{
-    Board, Fault, Gathered, Paths, ProgramFile, ProgramRefusal, Progress, Refusal, Settings, Setup,
-    events_of, new_board, number_of, read_file, record_path, show, shown_memory,
+    Fault, Gathered, Progress, Refusal, Setup, events_of, new_board, record_path, show,
+    shown_memory,
 };
 use elide_stats::tell_counts;
 use elide_why::{NamedPlaces, tell_history};
@@ -48,6 +49,7 @@ use std::alloc::Global;
 use std::sync::Wait;
 use std::thread::Threads;
 use text_out::Out;
+use tm_hist::Board;
 use tm_pick::Events;
 use tm_work::{Burst, EventPlan, WorkFault, run_steadily};
 

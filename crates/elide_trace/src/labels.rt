@@ -3,9 +3,9 @@
 //! [`labels_of`] copies them as they are shown, in their order, and leaves none out. Which one is nearest to an address
 //! is looked for where a step is written.
 
+use debug_command::Symbol;
 use elide_places::Places;
 use std::alloc::{AllocError, Global};
-use tm_trace::Symbol;
 
 /// The labels of a source or an executable, in its order, by the names that are shown.
 pub fn labels_of(alloc: Global, places: &Places) -> Result<Vec<Symbol>, AllocError> {

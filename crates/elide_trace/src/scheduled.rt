@@ -9,10 +9,10 @@ ghost use Rattle.tm_model.specs.declared.outcome.Outcome.{Outcome};
 ghost use Rattle.tm_model.specs.declared.outcome.Pick.{Pick};
 ghost use Rattle.elide_args.specs.declared.subcommand.MachineOptions.{MachineOptions};
 ghost use Rattle.elide_args.specs.declared.subcommand.ScheduleOptions.{ScheduleOptions};
-ghost use Rattle.elide_setup.specs.ElideProgram.Files.{Gives, most_bytes};
-ghost use Rattle.elide_setup.specs.ElideProgram.ProgramFile.{IsFile};
-ghost use Rattle.elide_setup.specs.ElideProgram.ProgramFileType.{ProgramFile};
-ghost use Rattle.elide_setup.specs.ElideProgram.Settings.{AreSettings};
+ghost use Rattle.elide_program.specs.Files.{Gives, most_bytes};
+ghost use Rattle.elide_program.specs.ProgramFile.{IsFile};
+ghost use Rattle.elide_program.specs.declared.file.ProgramFile.{ProgramFile};
+ghost use Rattle.elide_program.specs.Settings.{AreSettings};
 ghost use Rattle.elide_setup.specs.Faults.{want};
 ghost use Rattle.elide_setup.specs.Refused.{IsNotScheduled, plan_path};
 ghost use Rattle.elide_setup.specs.Rounds.{IsAskedOut, IsOut, IsPlannedOut};
@@ -20,11 +20,12 @@ ghost use Rattle.elide_setup.specs.Schedules.{AreAsked, AreOf, ArePlanned, form_
 ghost use Rattle.elide_setup.specs.Setup.{IsAsked, IsSetup};
 
 use crate::labels::labels_of;
+use debug_command::Symbol;
 use elide_args::{MachineOptions, ScheduleOptions};
 use elide_places::Places;
-use elide_setup::{Course, Paths, Plan, ProgramFile, Refusal, Settings, Setup, planned, read_file};
+use elide_program::{Paths, ProgramFile, Settings, read_file};
+use elide_setup::{Course, Plan, Refusal, Setup, planned};
 use std::alloc::{AllocError, Global};
-use tm_trace::Symbol;
 
 /// The program, the schedule and the labels of FILE, as [`elide_setup::scheduled`] answers them without the labels. FILE is
 /// read once.

@@ -17,4 +17,3 @@ mod ending;
 mod trial;
 
 pub use dispatch::command;
-pub use elide_test::{SharedPaths, SystemPaths};

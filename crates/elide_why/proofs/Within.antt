@@ -4,8 +4,8 @@ use Rattle.std.specs.Prelude.{slice_get}
 use Rattle.tm_model.specs.Runs.{picks_of}
 use Rattle.tm_model.specs.declared.outcome.Pick.{Pick}
 use Rattle.elide_setup.proofs.HistoryCores.{history_within}
-use Rattle.elide_setup.specs.TmCore.Theorem.{ShownMachine as Machine}
-use Rattle.elide_setup.specs.TmHist.Board.{IsHistory, ShownBoard as Board}
+use Rattle.tm_core.specs.Theorem.{ShownMachine as Machine}
+use Rattle.tm_hist.specs.Board.{IsHistory, ShownBoard as Board}
 use Rattle.elide_setup.specs.declared.fault.Refusal.{Refusal}
 use Rattle.elide_why.specs.Refused.{IsNotRetold, IsUntoldStep}
 

@@ -5,13 +5,13 @@ use Rattle.ia_insn.specs.declared.op.Insn.{Insn}
 use Rattle.text_out.specs.Number.{eight_digits, hex_digits}
 use Rattle.ia_text.specs.Text.{insn_text}
 use Rattle.text_out.specs.TextLine.{line_end}
-use Rattle.elide_setup.specs.TmHist.Lines.{stop_word}
+use Rattle.tm_hist.specs.Lines.{stop_word}
 use Rattle.tm_sets.specs.declared.interface.Kind.{Kind}
 use Rattle.tm_sets.specs.declared.interface.Kind.TheVariants.{Read, Write}
 use Rattle.tm_why.specs.declared.reason.Reason.{Reason}
 use Rattle.tm_why.specs.declared.row.StandingHit.{StandingHit}
-use Rattle.elide_setup.specs.TmModel.AbortReason.{AbortReason}
-use Rattle.elide_setup.specs.TmModel.AbortReason.TheVariants as cause
+use Rattle.tm_model.specs.declared.explain.AbortReason.{AbortReason}
+use Rattle.tm_model.specs.declared.explain.AbortReason.TheVariants as cause
 use Rattle.elide_why.specs.Subset.{outside_text, symbols_text}
 use Rattle.elide_why.specs.declared.outside.Outside.{Outside}
 use Rattle.elide_why.specs.declared.words.Words.{Words}

@@ -2,8 +2,8 @@
 use Rattle.std.specs.Prelude.{◌⊎◌}
 use Rattle.tm_model.specs.declared.outcome.Pick.{Pick}
 use Rattle.elide_setup.specs.Refused.{IsNoCore, IsNoMachine, IsUnwritten}
-use Rattle.elide_setup.specs.TmCore.Limits.{Limits}
-use Rattle.elide_setup.specs.TmCore.Theorem.{ShownMachine as Machine}
+use Rattle.tm_core.specs.declared.limits.Limits.{Limits}
+use Rattle.tm_core.specs.Theorem.{ShownMachine as Machine}
 use Rattle.elide_setup.specs.declared.fault.Refusal.{Refusal}
 
 -- a step whose line is written is refused: the machine has no core of its pick, or the line is not written

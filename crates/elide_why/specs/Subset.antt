@@ -4,7 +4,7 @@ use Rattle.std.specs.Prelude.{Option, Some, None}
 use Rattle.std.specs.Fmt.{decimal}
 use Rattle.hex.specs.Hex.{encode_lower}
 use Rattle.ia_foreign.specs.declared.words.Words.{Words}
-use Rattle.elide_setup.specs.IaImage.Program.{ProgramValue, code_of}
+use Rattle.ia_image.specs.Program.{ProgramValue, code_of}
 use Rattle.text_out.specs.Number.{eight_digits}
 use Rattle.text_out.specs.TextLine.{line_end}
 use Rattle.elide_why.specs.declared.outside.Outside.{Outside}

@@ -1,9 +1,9 @@
 -- Which code is told with a reason.
 use Rattle.std.specs.Prelude.{◌≡◌, ℕ, Option, Some, None}
-use Rattle.elide_setup.specs.IaImage.Program.{ProgramValue}
-use Rattle.elide_setup.specs.TmModel.AbortReason.{AbortReason}
-use Rattle.elide_setup.specs.TmModel.AbortReason.TheVariants as cause
-use Rattle.elide_setup.specs.TmRule.Stop.TheVariants as stop
+use Rattle.ia_image.specs.Program.{ProgramValue}
+use Rattle.tm_model.specs.declared.explain.AbortReason.{AbortReason}
+use Rattle.tm_model.specs.declared.explain.AbortReason.TheVariants as cause
+use Rattle.tm_rule.specs.declared.kinds.Stop.TheVariants as stop
 use Rattle.elide_why.specs.Subset.{code_from}
 use Rattle.elide_why.specs.declared.outside.Outside.{Outside}
 

@@ -10,9 +10,11 @@ ghost use Rattle.elide_why.specs.Refused.{IsNotRetold};
 
 use crate::placed::NamedPlaces;
 use crate::teller::Teller;
-use elide_setup::{Board, Fault, Machine, Progress, Refusal};
+use elide_setup::{Fault, Progress, Refusal};
 use std::alloc::Global;
 use text_out::Out;
+use tm_core::Machine;
+use tm_hist::Board;
 
 /// After how many steps it is told how far the run is.
 const PORTION: usize = 65536;

@@ -7,16 +7,17 @@
 ghost use Rattle.std.specs.Prelude.{◌≡◌, ◌+◌, ◌≤◌, ◌++◌};
 ghost use Rattle.arrayvec.specs.ArrayVec.{array_vec_len};
 ghost use Rattle.text_out.specs.Writing.{Writes};
-ghost use Rattle.elide_setup.specs.TmHist.Lines.{interference_word};
+ghost use Rattle.tm_hist.specs.Lines.{interference_word};
 ghost use Rattle.elide_why.specs.Interference.{interference_back, interference_front, interference_line, space_before};
 
 use crate::lines::push_begun;
 use crate::parts::write_parts;
 use crate::words::Words;
-use elide_setup::{Interference, interference_text};
 use ia_insn::Insn;
 use text_out::page::{Page, push, push_decimal, push_eight};
 use text_out::{Out, WriteFault};
+use tm_hist::interference_text;
+use tm_model::Interference;
 
 /// Writes the outcome line of an abort from outside of the program with this status: what came, the place and text of the
 /// instruction that was next, and when the transaction began.

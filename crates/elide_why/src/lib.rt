@@ -18,11 +18,6 @@ mod subset;
 mod teller;
 mod words;
 
-pub use elide_setup::{
-    Board, CoreState, Course, Drawn, Fault, Gathered, Interference, Lent, Machine, Outcome, Paths,
-    Pick, Progress, Refusal, RunFault, Serial, Setup, ShownMemory, StepMaker, new_machine, record,
-    record_path, scheduled, show, shown_memory, write_outcome,
-};
 pub use history::tell_history;
 pub use interference::write_interference;
 pub use lines::write_abort;

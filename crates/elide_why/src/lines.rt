@@ -13,9 +13,10 @@ ghost use Rattle.elide_why.specs.Lines.{hit_words, line_text, no_room_text, outs
 use crate::parts::write_parts;
 use crate::subset::{push_outside, push_symbols};
 use crate::words::Words;
-use elide_setup::{AbortReason, stop_text};
 use text_out::page::{Page, push, push_decimal, push_eight, push_hex};
 use text_out::{Out, WriteFault};
+use tm_hist::stop_text;
+use tm_model::AbortReason;
 use tm_sets::Kind;
 use tm_why::{Reason, StandingHit};
 

@@ -10,10 +10,10 @@ ghost use Rattle.tm_model.specs.declared.outcome.Outcome.{Outcome};
 ghost use Rattle.tm_model.specs.declared.outcome.Pick.{Pick};
 ghost use Rattle.elide_args.specs.declared.subcommand.MachineOptions.{MachineOptions};
 ghost use Rattle.elide_args.specs.declared.subcommand.ScheduleOptions.{ScheduleOptions};
-ghost use Rattle.elide_setup.specs.ElideProgram.Files.{Gives, most_bytes};
-ghost use Rattle.elide_setup.specs.ElideProgram.ProgramFile.{IsFile};
-ghost use Rattle.elide_setup.specs.ElideProgram.ProgramFileType.{ProgramFile};
-ghost use Rattle.elide_setup.specs.ElideProgram.Settings.{AreSettings};
+ghost use Rattle.elide_program.specs.Files.{Gives, most_bytes};
+ghost use Rattle.elide_program.specs.ProgramFile.{IsFile};
+ghost use Rattle.elide_program.specs.declared.file.ProgramFile.{ProgramFile};
+ghost use Rattle.elide_program.specs.Settings.{AreSettings};
 ghost use Rattle.elide_setup.specs.Faults.{want};
 ghost use Rattle.elide_setup.specs.Refused.{IsNotScheduled, plan_path};
 ghost use Rattle.elide_setup.specs.Rounds.{IsAskedOut, IsOut, IsPlannedOut};
@@ -22,7 +22,8 @@ ghost use Rattle.elide_setup.specs.Setup.{IsAsked, IsSetup};
 
 use elide_args::{MachineOptions, ScheduleOptions};
 use elide_places::Places;
-use elide_setup::{Course, Paths, Plan, ProgramFile, Refusal, Settings, Setup, planned, read_file};
+use elide_program::{Paths, ProgramFile, Settings, read_file};
+use elide_setup::{Course, Plan, Refusal, Setup, planned};
 use std::alloc::Global;
 
 /// What the reasons of a history are told by: the places of the program's text, and whether code where the subset ends is

@@ -11,8 +11,8 @@ ghost use Rattle.elide_why.specs.Subset.{code_from, code_text, name_text, outsid
 
 use crate::outside::Outside;
 use elide_places::{Places, SymbolText, push_code_place, push_source_place};
-use elide_setup::Program;
 use ia_foreign::{Words as ForeignWords, foreign_in};
+use ia_image::Program;
 use text_out::page::{Page, push, push_bytes, push_decimal, push_eight};
 use text_out::{Out, WriteFault};
 

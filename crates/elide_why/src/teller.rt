@@ -17,11 +17,13 @@ use crate::outside::Outside;
 use crate::subset::write_stop;
 use crate::words::Words;
 use elide_places::Places;
-use elide_setup::{
-    Fault, Interference, Machine, Outcome, Pick, Program, Refusal, RunFault, StepMaker, Stop,
-    write_outcome,
-};
+use elide_setup::{Fault, Refusal, StepMaker};
+use ia_image::Program;
 use text_out::Out;
+use tm_core::{Machine, RunFault};
+use tm_hist::write_outcome;
+use tm_model::{Interference, Outcome, Pick};
+use tm_rule::Stop;
 use tm_why::{Asked, Reason, Watch};
 
 /// Makes the steps of a run and tells of each that aborts why it does, of each that stops where the subset ends which code stands

@@ -13,10 +13,12 @@ ghost use Rattle.elide_why.specs.Words.{IsOutsideOf};
 use crate::outside::Outside;
 use arrayvec::ArrayVec;
 use elide_places::{Naming, Places, SymbolText, push_code_place, push_source_place, push_symbols};
-use elide_setup::{AbortReason, Program, Stop};
+use ia_image::Program;
 use ia_insn::Insn;
 use itoa::Buffer;
 use text_out::page::{push, push_eight};
+use tm_model::AbortReason;
+use tm_rule::Stop;
 use tm_why::Reason;
 
 /// How many bytes of a path are told.

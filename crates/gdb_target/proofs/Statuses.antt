@@ -3,7 +3,7 @@ use Rattle.std.proofs.Common.{◌≡◌, ℕ, zero, suc, ◌<◌, List, [], ◌�
 use Rattle.std.specs.Prelude.{fold, unwrap_or}
 use Rattle.std.specs.List.{slice_get}
 use Rattle.std.specs.Option.{option_and_then}
-use Rattle.tm_hist.specs.TmModel.Outcome.{Outcome}
+use Rattle.tm_model.specs.declared.outcome.Outcome.{Outcome}
 use Rattle.gdb_target.specs.Shown.{last_status, own_status}
 
 -- from this status on

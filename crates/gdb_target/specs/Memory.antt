@@ -2,8 +2,8 @@
 use Rattle.std.specs.Prelude.{ℕ, ◌+◌, ◌^◌, ◌&&◌, Bool, if◌then◌else◌, List, [], ◌∷◌, codes, length, nat_le}
 use Rattle.std.specs.List.{flat_map, range_with_len}
 use Rattle.hex.specs.Hex.{encode_lower}
-use Rattle.tm_hist.specs.TmCore.Seen.{byte_seen}
-use Rattle.tm_hist.specs.TmCore.Theorem.{ShownMachine}
+use Rattle.tm_core.specs.Seen.{byte_seen}
+use Rattle.tm_core.specs.Theorem.{ShownMachine}
 
 -- two digits a byte
 abbrev pub bytes_text : ShownMachine → ℕ → ℕ → ℕ → List ℕ

@@ -6,8 +6,8 @@ use Rattle.std.specs.List.{flat_map, range_with_len}
 use Rattle.std.specs.Int.{w32, to_le_bytes}
 use Rattle.hex.specs.Hex.{encode_lower}
 use Rattle.ia_regs.specs.declared.flags.Flags.{Flags}
-use Rattle.tm_hist.specs.TmModel.CoreState.{CoreState}
-use Rattle.tm_hist.specs.TmModel.CoreState.TheVariants as state
+use Rattle.tm_model.specs.declared.outcome.CoreState.{CoreState}
+use Rattle.tm_model.specs.declared.outcome.CoreState.TheVariants as state
 use Rattle.gdb_target.specs.declared.register.Register.{Register}
 use Rattle.gdb_target.specs.declared.register.Register.TheVariants.{Value, Missing}
 use Rattle.gdb_target.specs.declared.shown.CoreShown.{CoreShown}

@@ -1,9 +1,9 @@
 -- What gdb is shown of a core.
 use Rattle.std.specs.Prelude.{◌≡◌, ℕ, ◌==◌, if◌then◌else◌, List, Option, Some, None, fold, length, unwrap_or}
 use Rattle.std.specs.FinSet as set
-use Rattle.tm_hist.specs.TmModel.Outcome.{Outcome}
-use Rattle.tm_hist.specs.TmModel.Outcome.TheVariants as outcome
-use Rattle.tm_hist.specs.TmCore.Theorem.{view_at}
+use Rattle.tm_model.specs.declared.outcome.Outcome.{Outcome}
+use Rattle.tm_model.specs.declared.outcome.Outcome.TheVariants as outcome
+use Rattle.tm_core.specs.Theorem.{view_at}
 use Rattle.tm_hist.specs.Board.{ShownBoard}
 use Rattle.tm_hist.specs.Machine.{shown_regs, shown_state}
 use Rattle.gdb_target.specs.declared.shown.CoreShown.{CoreShown}

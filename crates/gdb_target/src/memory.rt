@@ -9,7 +9,7 @@ ghost use Rattle.gdb_target.specs.Memory.{bytes_text, is_readable, memory_text};
 
 use gdb_packet::Bytes;
 use text_out::page::{push, push_bytes};
-use tm_hist::Machine;
+use tm_core::Machine;
 
 fn is_readable(machine: &Machine, at: u64, count: u64) -> bool
     requires { at + count < 2 ^ 64 }

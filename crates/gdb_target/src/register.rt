@@ -14,7 +14,7 @@ use bitflags::Flags as _;
 use gdb_packet::Bytes;
 use ia_regs::Flags;
 use text_out::page::{push, push_bytes};
-use tm_hist::CoreState;
+use tm_model::CoreState;
 
 /// How many registers there are.
 pub const REGISTERS: u8 = 38;

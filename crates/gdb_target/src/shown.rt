@@ -7,7 +7,8 @@ ghost use Rattle.std.specs.Prelude.{◌<◌, length};
 
 use crate::status::last_status;
 use ia_regs::Regs;
-use tm_hist::{Board, CoreState};
+use tm_hist::Board;
+use tm_model::CoreState;
 
 /// What gdb is shown of a core at a step of a board.
 #[derive(Clone, Copy, Debug)]

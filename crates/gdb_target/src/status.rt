@@ -9,7 +9,8 @@ ghost use Rattle.std.specs.Option.{option_and_then};
 ghost use Rattle.tm_hist.specs.History.{pairs_of};
 ghost use Rattle.gdb_target.specs.Shown.{last_status, own_status, status_of};
 
-use tm_hist::{History, Outcome};
+use tm_hist::History;
+use tm_model::Outcome;
 
 fn status_of(outcome: Outcome) -> Option<u32>
     ensures { result ≡ status_of outcome }

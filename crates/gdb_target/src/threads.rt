@@ -10,7 +10,9 @@ ghost use Rattle.hex.specs.Hex.{encode_lower};
 use gdb_packet::Bytes;
 use text_out::page::{push, push_bytes};
 use text_out::text_line::{TextLine, push_number};
-use tm_hist::{CoreState, Machine, push_state};
+use tm_core::Machine;
+use tm_hist::push_state;
+use tm_model::CoreState;
 
 /// Adds the number of the thread that a core is, in two hex digits: 1 for the first core.
 pub fn push_thread(row: &mut Bytes, core: u8)

@@ -3,9 +3,11 @@
 use ia_image::{Program, load};
 use std::alloc::Global;
 use std::process::Abort;
-use tm_core::Outcome::{Aborted, Begun, Committed, Inside, Stopped};
-use tm_core::{Limits, Outcome, Stop};
+use tm_core::Limits;
 use tm_hist::{Board, BoardFault, History, MOST_STEPS, StepFault};
+use tm_model::Outcome;
+use tm_model::Outcome::{Aborted, Begun, Committed, Inside, Stopped};
+use tm_rule::Stop;
 
 const LIMITS: Limits = Limits {
     read_lines: 512,

@@ -5,9 +5,10 @@
 use ia_image::{ImageFault, LoadFault, Program, load, read_image};
 use std::alloc::Global;
 use std::process::Abort;
-use tm_core::Outcome::{Begun, Inside};
-use tm_core::{CoreState, Limits, Machine, MachineFault, Pick, RunFault};
+use tm_core::{Limits, Machine, MachineFault, RunFault};
 use tm_hist::{Board, BoardFault, SerialFault};
+use tm_model::Outcome::{Begun, Inside};
+use tm_model::{CoreState, Pick};
 use tm_schedule::{ScheduleFault, read_schedule, read_steps};
 use tm_sets::{Directory, Kind, PlainSets, Sets};
 

@@ -1,7 +1,7 @@
 //! Schedules as texts: what is written, what is read, and what is refused.
 
 use text_out::{ToVec, WriteFault};
-use tm_core::{Event, Interference, Pick};
+use tm_model::{Event, Interference, Pick};
 use tm_schedule::{
     ScheduleFault, ScheduleWriter, pick_of_word, read_schedule, read_steps, write_schedule,
 };

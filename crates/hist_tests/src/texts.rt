@@ -4,8 +4,8 @@
 use ia_image::{LoadFault, Program, load};
 use std::alloc::Global;
 use text_out::{ToVec, WriteFault};
-use tm_core::Outcome;
 use tm_hist::{History, SerialFault, serial, write_dump, write_outcome};
+use tm_model::Outcome;
 use tm_rule::Stop;
 
 // Cores above 63, and addresses that go on at 0.

@@ -9,7 +9,6 @@ mod address;
 mod load;
 
 pub use address::address_of;
-pub use ia_insn::{Count, DecodeFault, Insn, Op, Operand};
 use ia_word::Width;
 pub use load::load_of;
 

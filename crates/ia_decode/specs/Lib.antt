@@ -1,2 +1,1 @@
 pub mod Offsets
-pub mod IaInsn

@@ -15,5 +15,4 @@ mod rows_c0;
 mod two_byte;
 mod whole;
 
-pub use ia_insn::{Argument, Count, DecodeFault, Insn, Mem, Op, Operand};
 pub use whole::{Decoded, decode};

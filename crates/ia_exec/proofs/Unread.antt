@@ -5,11 +5,11 @@ use Rattle.ia_word.specs.declared.width.Width.TheVariants.{B, D}
 use Rattle.ia_word.specs.declared.operation.BareOp.{BareOp}
 use Rattle.ia_word.specs.declared.operation.BareOp.TheVariants as bare
 use Rattle.ia_regs.specs.declared.Regs.{Regs}
-use Rattle.ia_addr.specs.IaInsn.Operand.{Operand}
-use Rattle.ia_addr.specs.IaInsn.Operand.TheVariants.{Reg, Imm, Mem as Memory}
-use Rattle.ia_addr.specs.IaInsn.Op.{Op}
-use Rattle.ia_addr.specs.IaInsn.Op.TheVariants as op
-use Rattle.ia_addr.specs.IaInsn.Insn.{Insn}
+use Rattle.ia_insn.specs.declared.operand.Operand.{Operand}
+use Rattle.ia_insn.specs.declared.operand.Operand.TheVariants.{Reg, Imm, Mem as Memory}
+use Rattle.ia_insn.specs.declared.op.Op.{Op}
+use Rattle.ia_insn.specs.declared.op.Op.TheVariants as op
+use Rattle.ia_insn.specs.declared.op.Insn.{Insn}
 use Rattle.ia_addr.specs.declared.Access.{Access}
 use Rattle.ia_addr.specs.Load.{load_of, op_load, read_of, pair_of}
 use Rattle.ia_exec.specs.Words.{reg, with_reg, at, value_of, put_of, without_store, behind}

@@ -5,6 +5,3 @@ pub mod Control
 pub mod Table
 pub mod Laws
 pub mod Finished
-pub mod IaAddr
-pub mod IaAlu
-pub mod IaInsn

@@ -1,8 +1,8 @@
 //! Rows of the instructions that use the stack or jump.
 
 ghost use Rattle.std.specs.Prelude.{◌≡◌, ◌+◌, ◌%◌, ◌^◌, IsTrue, Some};
-ghost use Rattle.ia_addr.specs.IaInsn.Writing.{fits_operand};
-ghost use Rattle.ia_addr.specs.IaInsn.Encoding.{encodable};
+ghost use Rattle.ia_insn.specs.Writing.{fits_operand};
+ghost use Rattle.ia_insn.specs.Encoding.{encodable};
 ghost use Rattle.ia_exec.specs.Words.{at, with_store, without_store};
 ghost use Rattle.ia_exec.specs.Control.{with_esp_raised, push_of, pop_of, ret_of, jump_by, jump_if, loop_of};
 ghost use Rattle.ia_exec.specs.Control.{loop_jump_of};
@@ -10,7 +10,7 @@ ghost use Rattle.ia_exec.specs.Table.{control_of};
 
 use crate::done::Store;
 use crate::operand::{put, store, value};
-use ia_addr::{Op, Operand};
+use ia_insn::{Op, Operand};
 use ia_regs::{Regs, cond};
 use ia_word::{ECX, ESP, LoopOp, Width};
 

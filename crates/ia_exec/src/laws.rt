@@ -1,7 +1,7 @@
 //! Laws of the table, which hold of every row.
 
 ghost use Rattle.std.specs.Prelude.{ℕ, ◌≡◌, None};
-ghost use Rattle.ia_addr.specs.IaInsn.Insn.{Insn};
+ghost use Rattle.ia_insn.specs.declared.op.Insn.{Insn};
 ghost use Rattle.ia_regs.specs.declared.Regs.{Regs};
 ghost use Rattle.ia_addr.specs.Load.{load_of};
 ghost use Rattle.ia_exec.specs.Table.{finish_of};

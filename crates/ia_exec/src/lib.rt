@@ -19,6 +19,5 @@ mod table;
 mod unary;
 
 pub use done::{AbortKind, Done, Exception, Finished, Store};
-pub use ia_addr::{Access, DecodeFault, Insn, load_of};
 pub use laws::{each_outcome_is_lawful, loaded_counts_only_where_there_is_a_load};
 pub use table::{fallback, finish, finish_in};

@@ -2,7 +2,7 @@
 
 ghost use Rattle.std.specs.Prelude.{◌≡◌, IsTrue};
 ghost use Rattle.ia_regs.specs.declared.Regs.{Regs};
-ghost use Rattle.ia_addr.specs.IaInsn.Encoding.{encodable, is_encodable};
+ghost use Rattle.ia_insn.specs.Encoding.{encodable, is_encodable};
 ghost use Rattle.ia_exec.specs.Finished.{IsKept, IsLeft, done_with};
 ghost use Rattle.ia_exec.specs.Laws.{fallback_of};
 ghost use Rattle.ia_exec.specs.Table.{finish_of, done_of, xbegin_of};
@@ -12,7 +12,7 @@ use crate::bare::bare_row;
 use crate::control::sum;
 use crate::done::{AbortKind, Done, Finished, by_depth, goes_on};
 use crate::unary::unary_row;
-use ia_addr::{Insn, Op};
+use ia_insn::{Insn, Op};
 use ia_regs::Regs;
 
 /// What an instruction of `len` bytes comes to at these registers, whose EIP stands at the instruction. `loaded` is

@@ -2,7 +2,7 @@
 
 ghost use Rattle.std.specs.Prelude.{◌≡◌, IsTrue, Result};
 ghost use Rattle.ia_word.specs.declared.width.Width.TheVariants.{D};
-ghost use Rattle.ia_addr.specs.IaInsn.Writing.{fits_operand};
+ghost use Rattle.ia_insn.specs.Writing.{fits_operand};
 ghost use Rattle.ia_exec.specs.Words.{value_of};
 ghost use Rattle.ia_exec.specs.Arithmetic.{with_edx_eax, mul_of, imul_of};
 ghost use Rattle.ia_exec.specs.Finished.{IsKept, done_with};
@@ -10,8 +10,8 @@ ghost use Rattle.ia_exec.specs.Table.{unary_of, divide_of, goes_on as going_on};
 
 use crate::done::{AbortKind, Exception, Finished, by_depth, goes_on};
 use crate::operand::{put, put_with_flags, value};
-use ia_addr::Operand;
 use ia_alu::{Divide, div, idiv, imul, mul, neg};
+use ia_insn::Operand;
 use ia_regs::{Flags, Regs};
 use ia_word::{EAX, EDX, UnaryOp, Width};
 

@@ -5,7 +5,8 @@ ghost use Rattle.ia_foreign.specs.Length.{foreign_length, is_foreign_code};
 
 use crate::behind::length_by_maps;
 use crate::words::{Words, words_of};
-use ia_decode::{DecodeFault, decode};
+use ia_decode::decode;
+use ia_insn::DecodeFault;
 
 /// The longest instruction of IA-32, in bytes.
 const LONGEST: usize = 15;

@@ -3,8 +3,8 @@
 use Rattle.std.specs.Prelude.{◌≡◌, ℕ, ◌+◌, ◌-◌, ◌*◌, ◌%◌, ◌<◌, ◌≤◌, List, [], ◌∷◌, ◌++◌, All, Result, length, min}
 use Rattle.std.specs.Prelude.{replicate, slice_index, take}
 use Rattle.ia_decode.specs.Offsets.{AreDecoded}
-use Rattle.ia_text.specs.IaInsn.DecodeFault.{DecodeFault}
-use Rattle.ia_text.specs.IaInsn.Insn.{Insn}
+use Rattle.ia_insn.specs.declared.fault.DecodeFault.{DecodeFault}
+use Rattle.ia_insn.specs.declared.op.Insn.{Insn}
 use Rattle.ia_regs.specs.declared.Regs.{Regs}
 use Rattle.ia_row.specs.Lines.{AreLines, TellAll}
 use Rattle.ia_row.specs.declared.row.Line.{Line}

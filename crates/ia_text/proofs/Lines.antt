@@ -3,7 +3,7 @@ use Rattle.std.proofs.Common.{◌≡◌, ℕ, ◌+◌, ◌-◌, ◌%◌, ◌^◌
 use Rattle.std.proofs.lemmas.List.{drop-drop}
 use Rattle.text_out.proofs.Writing.{rest_is}
 use Rattle.std.proofs.Math.ListN.{drop_of_length-le}
-use Rattle.ia_decode.specs.IaInsn.Reading.{decoding_of}
+use Rattle.ia_insn.specs.Reading.{decoding_of}
 use Rattle.ia_text.specs.Listing.{count_of, line_text, listing_from, listing_line, shown_bytes}
 
 pub line_is : (code : List ℕ) (at : ℕ) → 0 < length code → listing_line code at ≡ line_text (decoding_of code) code at

@@ -4,8 +4,8 @@ use Rattle.std.specs.Prelude.{codes}
 use Rattle.ia_word.specs.declared.operation.AluOp.TheVariants as alu
 use Rattle.ia_word.specs.declared.operation.IncDecOp.TheVariants as inc_dec
 use Rattle.ia_word.specs.declared.width.Width.TheVariants.{B, D}
-use Rattle.ia_decode.specs.IaInsn.Op.TheVariants as op
-use Rattle.ia_decode.specs.IaInsn.Operand.TheVariants as operand
+use Rattle.ia_insn.specs.declared.op.Op.TheVariants as op
+use Rattle.ia_insn.specs.declared.operand.Operand.TheVariants as operand
 use Rattle.ia_text.specs.Text.{mem_text, op_text, insn_text}
 
 begin : insn_text (record { lock = false; op = op.Xbegin 15 }) 256 ≡ codes "xbegin 0x115"

@@ -2,15 +2,15 @@
 -- and JMP: the distance counts from the end of the instruction).
 use Rattle.std.specs.Prelude.{ℕ, ◌+◌, ◌%◌, ◌^◌, Bool, true, false, if◌then◌else◌, Option, option_map}
 use Rattle.ia_word.specs.declared.width.Width.{Width}
-use Rattle.ia_decode.specs.IaInsn.Count.{Count}
-use Rattle.ia_decode.specs.IaInsn.Count.TheVariants as count
-use Rattle.ia_decode.specs.IaInsn.Op.{Op}
-use Rattle.ia_decode.specs.IaInsn.Op.TheVariants as op
-use Rattle.ia_decode.specs.IaInsn.Operand.{Operand}
-use Rattle.ia_decode.specs.IaInsn.Operand.TheVariants as operand
-use Rattle.ia_decode.specs.IaInsn.Argument.{Argument}
-use Rattle.ia_decode.specs.IaInsn.Argument.TheVariants as argument
-use Rattle.ia_decode.specs.IaInsn.Arguments.{operands_of}
+use Rattle.ia_insn.specs.declared.kinds.Count.{Count}
+use Rattle.ia_insn.specs.declared.kinds.Count.TheVariants as count
+use Rattle.ia_insn.specs.declared.op.Op.{Op}
+use Rattle.ia_insn.specs.declared.op.Op.TheVariants as op
+use Rattle.ia_insn.specs.declared.operand.Operand.{Operand}
+use Rattle.ia_insn.specs.declared.operand.Operand.TheVariants as operand
+use Rattle.ia_insn.specs.declared.argument.Argument.{Argument}
+use Rattle.ia_insn.specs.declared.argument.Argument.TheVariants as argument
+use Rattle.ia_insn.specs.Arguments.{operands_of}
 use Rattle.ia_text.specs.declared.arg.Arg.{Arg}
 use Rattle.ia_text.specs.declared.arg.Arg.TheVariants as arg
 

@@ -2,4 +2,3 @@ pub mod Names
 pub mod Arguments
 pub mod Text
 pub mod Listing
-pub mod IaInsn

@@ -2,9 +2,9 @@
 use Rattle.std.specs.Prelude.{ℕ, ◌+◌, ◌-◌, ◌*◌, ◌%◌, ◌^◌, zero, suc, Result, Ok, Err, List, [], ◌∷◌, ◌++◌, codes}
 use Rattle.std.specs.Prelude.{length, replicate, slice_index, take}
 use Rattle.hex.specs.Hex.{encode_lower}
-use Rattle.ia_decode.specs.IaInsn.DecodeFault.{DecodeFault}
-use Rattle.ia_decode.specs.IaInsn.Insn.{Insn}
-use Rattle.ia_decode.specs.IaInsn.Reading.{decoding_of}
+use Rattle.ia_insn.specs.declared.fault.DecodeFault.{DecodeFault}
+use Rattle.ia_insn.specs.declared.op.Insn.{Insn}
+use Rattle.ia_insn.specs.Reading.{decoding_of}
 use Rattle.text_out.specs.Number.{eight_digits, number}
 use Rattle.ia_text.specs.Text.{insn_text}
 

@@ -3,13 +3,13 @@
 use Rattle.std.specs.Prelude.{ℕ, ◌==◌, Bool, ◌&&◌, ◌||◌, if◌then◌else◌, is_some, Option, Some, None, List, [], ◌++◌}
 use Rattle.std.specs.Prelude.{codes}
 use Rattle.ia_word.specs.declared.width.Width.TheVariants.{D}
-use Rattle.ia_decode.specs.IaInsn.Insn.{Insn}
-use Rattle.ia_decode.specs.IaInsn.Op.{Op}
-use Rattle.ia_decode.specs.IaInsn.Mem.{Mem}
+use Rattle.ia_insn.specs.declared.op.Insn.{Insn}
+use Rattle.ia_insn.specs.declared.op.Op.{Op}
+use Rattle.ia_insn.specs.declared.operand.Mem.{Mem}
 use Rattle.ia_text.specs.declared.arg.Arg.{Arg}
 use Rattle.ia_text.specs.declared.arg.Arg.TheVariants as arg
 use Rattle.text_out.specs.Number.{number}
-use Rattle.ia_decode.specs.IaInsn.Mnemonics.{mnemonic_of, name_of}
+use Rattle.ia_insn.specs.Mnemonics.{mnemonic_of, name_of}
 use Rattle.ia_text.specs.Names.{register_name, size_name}
 use Rattle.ia_text.specs.Arguments.{first_arg, second_arg, third_arg}
 

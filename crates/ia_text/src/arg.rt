@@ -1,6 +1,6 @@
 //! The operands of an instruction as they are printed.
 
-use ia_decode::Mem;
+use ia_insn::Mem;
 use ia_word::Width;
 
 /// An operand as it is printed.

@@ -5,7 +5,7 @@ ghost use Rattle.ia_text.specs.Arguments.{operand_arg, count_arg, target, says_s
 ghost use Rattle.ia_text.specs.Arguments.{first_arg, second_arg, third_arg};
 
 use crate::arg::Arg;
-use ia_decode::{Argument, Count, Op, Operand};
+use ia_insn::{Argument, Count, Op, Operand};
 use ia_word::Width;
 
 fn operand(width: Width, operand: Operand) -> Arg

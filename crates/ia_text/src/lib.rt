@@ -12,6 +12,5 @@ mod names;
 mod print;
 
 pub use arg::Arg;
-pub use ia_decode::{DecodeFault, Insn};
 pub use listing::{disassemble, write_line};
 pub use print::write_insn;

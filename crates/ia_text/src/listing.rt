@@ -6,7 +6,8 @@ ghost use Rattle.ia_text.specs.Listing.{count_of, entry_text, in_places, line_te
 ghost use Rattle.text_out.specs.Writing.{Stopped, Writes, Wrote};
 
 use crate::print::push_insn;
-use ia_decode::{DecodeFault, Insn, decode};
+use ia_decode::decode;
+use ia_insn::{DecodeFault, Insn};
 use text_out::page::{Page, make_room, push, push_bytes, push_eight, push_number};
 use text_out::{Out, WriteFault};
 

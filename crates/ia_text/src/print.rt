@@ -9,7 +9,7 @@ ghost use Rattle.ia_text.specs.Text.{op_text, insn_text};
 use crate::arg::Arg;
 use crate::arguments::arguments_of;
 use crate::names::{register, size};
-use ia_decode::{Insn, Mem, Op};
+use ia_insn::{Insn, Mem, Op};
 use ia_word::Width;
 use text_out::page::{Page, push, push_number};
 use text_out::{Out, WriteFault};

@@ -6,7 +6,7 @@
 
 use crate::code::{Loaded, address_of};
 use crate::lines::{line_count, write_lines};
-use elide_setup::Paths;
+use elide_program::Paths;
 use page_text::{LINE, write_number, write_string};
 use std::alloc::{AllocError, Global};
 use text_out::{Out, WriteFault};

@@ -6,7 +6,7 @@ use Rattle.tm_model.specs.declared.outcome.Outcome.{Outcome}
 use Rattle.tm_model.specs.declared.outcome.Pick.{Pick}
 use Rattle.elide_setup.specs.Refused.{IsDue, IsNoCore, NamesNoCore}
 use Rattle.elide_setup.specs.Schedules.{listed_in, picks_made}
-use Rattle.elide_setup.specs.TmCore.Theorem.{ShownMachine as Machine}
+use Rattle.tm_core.specs.Theorem.{ShownMachine as Machine}
 use Rattle.elide_setup.specs.Walks.{Leads, PartsLead}
 use Rattle.elide_setup.specs.declared.fault.Refusal.{Refusal}
 use Rattle.elide_setup.specs.declared.plan.Course.{Course}

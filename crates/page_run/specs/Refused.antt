@@ -1,12 +1,12 @@
 -- Why a run does not stand in a page (docs/FAULTS.md; docs/FORMATS.md, "Pages").
 use Rattle.std.specs.Prelude.{◌≡◌, ℕ, ◌<◌, ◌≤◌, ◌⊎◌, false, List, [], length, Option, Some, None, IsSome, codes}
-use Rattle.elide_setup.specs.ElideProgram.Settings.{number_said}
+use Rattle.elide_program.specs.Settings.{number_said}
 use Rattle.elide_setup.specs.Misuse.{IsMisuse}
 use Rattle.elide_setup.specs.Refused.{IsAnyWant, IsNoMachine, IsUntold, NamesNoCore}
 use Rattle.elide_setup.specs.Runs.{IsRunOf}
 use Rattle.elide_setup.specs.Schedules.{listed_in}
 use Rattle.elide_setup.specs.Shown.{are_held}
-use Rattle.elide_setup.specs.TmCore.Theorem.{ShownMachine as Machine}
+use Rattle.tm_core.specs.Theorem.{ShownMachine as Machine}
 use Rattle.elide_setup.specs.declared.fault.Fault.TheVariants as fault
 use Rattle.elide_setup.specs.declared.fault.Refusal.{Refusal}
 use Rattle.elide_setup.specs.declared.fault.Refusal.TheVariants as refusal

@@ -10,13 +10,12 @@ ghost use Rattle.elide_setup.specs.Refused.{IsNoCore};
 ghost use Rattle.page_run.specs.Refused.{IsNotSurveyed};
 
 use crate::window::Extent;
-use elide_setup::{
-    CoreState, Course, Machine, Outcome, Pick, Progress, Refusal, Setup, StepMaker, new_machine,
-    shown_memory,
-};
+use elide_setup::{Course, Progress, Refusal, Setup, StepMaker, new_machine, shown_memory};
+use ia_addr::Access;
 use ia_word::Width;
 use std::alloc::Global;
-use tm_rule::Access;
+use tm_core::Machine;
+use tm_model::{CoreState, Outcome, Pick};
 
 /// How many bytes a line has.
 const LINE: usize = 64;

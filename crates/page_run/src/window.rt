@@ -6,11 +6,12 @@
 
 ghost use Rattle.std.specs.Prelude.{◌≡◌, ◌+◌, ◌-◌, ◌<◌, ◌≤◌, ◌&&◌, ◌⊎◌, codes, IfErr, IfOk, MatchOption, OnErr, OnOk, min, nat_eq, nat_le, nat_lt};
 ghost use Rattle.std.specs.Option.{option_copied};
-ghost use Rattle.elide_setup.specs.ElideProgram.Settings.{number_said};
+ghost use Rattle.elide_program.specs.Settings.{number_said};
 ghost use Rattle.page_run.specs.Refused.{HasNoFirst, HasNoWindow, IsLastBefore, IsNoNumber};
 ghost use Rattle.page_run.specs.Windows.{ComeBefore, IsWindow};
 
-use elide_setup::{Fault, Refusal, number_of};
+use elide_program::number_of;
+use elide_setup::{Fault, Refusal};
 
 /// The most steps of a page.
 pub const MOST_STEPS: u64 = 200_000;

@@ -18,13 +18,13 @@ ghost use Rattle.page_steps.specs.Stored.{stored_text};
 use crate::numbers::write_numbers;
 use crate::stored::write_stored;
 use crate::words::write_state;
+use ia_addr::Access;
 use ia_word::Width;
 use text_out::text_line::TextLine;
 use text_out::{Out, WriteFault};
 use tm_hist::{interference_text, push_state};
 use tm_model::{CoreState, Hit, Outcome};
 use tm_page::{PageDelta, StoredByte};
-use tm_rule::Access;
 use tm_sets::Kind;
 
 /// Writes the object of a step whose core did this before it; nothing, where it says nothing. On 5 `Write` a beginning of it

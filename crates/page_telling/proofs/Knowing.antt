@@ -13,12 +13,12 @@ use Rattle.tm_model.specs.Shown.{View}
 use Rattle.tm_model.specs.Steps.{step}
 use Rattle.tm_model.specs.declared.outcome.Outcome.{Outcome}
 use Rattle.tm_model.specs.declared.outcome.Pick.{Pick}
-use Rattle.elide_setup.specs.IaImage.Program.{ProgramValue as Program, start_regs}
+use Rattle.ia_image.specs.Program.{ProgramValue as Program, start_regs}
 use Rattle.elide_setup.specs.Runs.{IsMachineStep, IsRunOf}
-use Rattle.elide_setup.specs.TmCore.Limits.{Limits}
-use Rattle.elide_setup.specs.TmCore.Theorem.{IsRun, ShownMachine as Machine, StandsFor, TakesStepUnder, machine_setting, view_at}
-use Rattle.elide_setup.specs.TmModel.Setting.{Setting}
-use Rattle.elide_setup.specs.TmModel.State.{State, opening_state}
+use Rattle.tm_core.specs.declared.limits.Limits.{Limits}
+use Rattle.tm_core.specs.Theorem.{IsRun, ShownMachine as Machine, StandsFor, TakesStepUnder, machine_setting, view_at}
+use Rattle.tm_model.specs.Setting.{Setting}
+use Rattle.tm_model.specs.State.{State, opening_state}
 use Rattle.tm_page.proofs.Own.{IsOutside, outside_closed}
 use Rattle.tm_page.proofs.Step.{differences}
 use Rattle.tm_page.specs.Applied.{Page, PageCore, applied, hit_on, is_listed, other_after, own_after, stored_at}

@@ -11,7 +11,7 @@ use Rattle.tm_model.specs.declared.outcome.Outcome.{Outcome}
 use Rattle.tm_model.specs.declared.outcome.Pick.{Pick}
 use Rattle.elide_setup.specs.Runs.{IsRunOf}
 use Rattle.elide_setup.specs.Schedules.{AreOf, picks_made}
-use Rattle.elide_setup.specs.TmCore.Theorem.{ShownMachine as Machine}
+use Rattle.tm_core.specs.Theorem.{ShownMachine as Machine}
 use Rattle.elide_setup.specs.Walks.{Leads, PartsLead, steps_in}
 use Rattle.page_run.specs.Plain.{ArePlain, WrotePlain, is_unmarked}
 use Rattle.page_run.specs.declared.stretch.Stretch.{Stretch}

@@ -1,7 +1,7 @@
 -- What is known of the bytes that transactions keep for themselves: at which addresses they may be.
 use Rattle.std.specs.Prelude.{◌≡◌, ℕ, ◌<◌, ◌&&◌, ◌||◌, Bool, false, nat_eq, List, None, length}
 use Rattle.std.specs.List.{list_any}
-use Rattle.elide_setup.specs.TmCore.Theorem.{ShownMachine as Machine, view_at}
+use Rattle.tm_core.specs.Theorem.{ShownMachine as Machine, view_at}
 use Rattle.tm_page.specs.Shows.{IsAddress, private_byte}
 use Rattle.tm_page.specs.Types.{Aborted, AbortedBy, Begun, Committed, Idle, Inside, Loaded, Outcome, Plain, Stopped}
 use Rattle.tm_page.specs.declared.delta.StoredByte.{StoredByte}

@@ -5,8 +5,8 @@ use Rattle.text_out.specs.Writing.{Device, Wrote}
 use Rattle.tm_model.specs.declared.outcome.Outcome.{Outcome}
 use Rattle.tm_model.specs.declared.outcome.Pick.{Pick}
 use Rattle.elide_setup.specs.Runs.{IsMachineStep}
-use Rattle.elide_setup.specs.TmCore.Theorem.{ShownMachine as Machine, StandsFor, view_at}
-use Rattle.elide_setup.specs.TmModel.State.{State}
+use Rattle.tm_core.specs.Theorem.{ShownMachine as Machine, StandsFor, view_at}
+use Rattle.tm_model.specs.State.{State}
 use Rattle.tm_page.specs.Difference.{IsTold}
 use Rattle.tm_page.specs.Types.{CoreState}
 use Rattle.tm_page.specs.declared.delta.PageDelta.{PageDelta}

@@ -6,7 +6,7 @@ use Rattle.tm_model.specs.declared.outcome.Pick.{Pick}
 use Rattle.elide_setup.specs.Runs.{IsMachineStep, IsRunOf}
 use Rattle.elide_setup.specs.Schedules.{AreOf}
 use Rattle.elide_setup.specs.declared.machine.Setup.{Setup}
-use Rattle.elide_setup.specs.TmCore.Theorem.{ShownMachine as Machine, view_at}
+use Rattle.tm_core.specs.Theorem.{ShownMachine as Machine, view_at}
 use Rattle.tm_page.specs.Difference.{IsTold}
 use Rattle.tm_page.specs.Types.{CoreState}
 use Rattle.tm_page.specs.declared.delta.PageDelta.{PageDelta}

@@ -9,14 +9,17 @@ ghost use Rattle.elide_setup.specs.Refused.{IsUntold};
 ghost use Rattle.page_run.specs.Plain.{WrotePlain};
 
 use crate::kept::Kept;
-use elide_setup::{CoreState, Fault, Kind, Machine, Refusal, RunFault};
+use elide_setup::{Fault, Refusal};
 use page_run::{LineUse, put_piece};
 use page_steps::{register_values, write_numbers, write_state, write_stored};
 use page_text::{write_hex, write_number};
 use std::alloc::{AllocError, Global};
 use text_out::page::{Page, push_hex};
 use text_out::{Out, ToVec, WriteFault};
+use tm_core::{Machine, RunFault};
+use tm_model::CoreState;
 use tm_page::StoredByte;
+use tm_sets::Kind;
 use tm_why::{Asked, Watch};
 
 /// How many bytes a line has.

@@ -15,20 +15,20 @@ ghost use Rattle.page_run.specs.Refused.{IsNotTold};
 ghost use Rattle.tm_model.specs.declared.outcome.Pick.{Pick};
 ghost use Rattle.page_steps.specs.Steps.{step_text};
 ghost use Rattle.elide_setup.specs.Refused.{IsAnyWant, IsNoCore, IsUntold, IsUnwritten};
-ghost use Rattle.elide_setup.specs.TmCore.Theorem.{ShownMachine, view_at};
+ghost use Rattle.tm_core.specs.Theorem.{ShownMachine, view_at};
 ghost use Rattle.page_telling.specs.Kept.{is_kept};
 ghost use Rattle.page_telling.specs.Telling.{IsMade, IsPiece, Tells};
 ghost use Rattle.page_telling.specs.Told.{AreLinesWritten, line_front, line_text};
 
 use crate::kept::Kept;
 use crate::opening::{Behind, put_opening};
-use elide_setup::{
-    CoreState, Fault, Machine, Outcome, Pick, Refusal, RunFault, Silent, StepMaker, new_machine,
-};
+use elide_setup::{Fault, Refusal, Silent, StepMaker, new_machine};
 use page_run::{LineUse, Stretch, Window, put_plain};
 use page_steps::write_step;
 use std::alloc::{AllocError, Global};
 use text_out::{Out, ToVec, WriteFault};
+use tm_core::{Machine, RunFault};
+use tm_model::{CoreState, Outcome, Pick};
 use tm_page::{Before, PageDelta, delta_of};
 use tm_why::Watch;
 

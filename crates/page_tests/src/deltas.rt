@@ -7,7 +7,8 @@ use page_steps::{
 use std::alloc::Global;
 use std::test::Fail;
 use text_out::ToVec;
-use tm_core::{CoreState, Limits, Machine, Outcome};
+use tm_core::{Limits, Machine};
+use tm_model::{CoreState, Outcome};
 use tm_page::{Before, StoredByte, delta_of};
 
 // XBEGIN at 100h with fallback 115h, a load of [1000h], INC EAX, a store to [1000h], XEND at 111h, and two HLT.

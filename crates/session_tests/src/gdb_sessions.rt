@@ -12,7 +12,8 @@ use text_out::{Out, ToVec};
 use tm_core::Limits;
 use tm_debug::FromReader;
 use tm_gdb::serve;
-use tm_hist::{Board, Pick};
+use tm_hist::Board;
+use tm_model::Pick;
 
 const LIMITS: Limits = Limits {
     read_lines: 512,

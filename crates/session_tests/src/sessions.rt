@@ -3,6 +3,7 @@
 
 mod broken;
 
+use debug_command::{CommandName, Manner, Names, Range, Refusal};
 use ia_image::load;
 use std::alloc::Global;
 use std::io::Cursor;
@@ -10,11 +11,9 @@ use std::process::Abort;
 use std::test::Fail;
 use text_out::ToVec;
 use tm_core::Limits;
-use tm_debug::{
-    CommandName, FromReader, In, MOST_BREAKPOINTS, Manner, Names, Range, Refusal, SessionFault,
-    serve, serve_in,
-};
-use tm_hist::{Board, Event, Interference, Pick};
+use tm_debug::{FromReader, In, MOST_BREAKPOINTS, SessionFault, serve, serve_in};
+use tm_hist::Board;
+use tm_model::{Event, Interference, Pick};
 
 const LIMITS: Limits = Limits {
     read_lines: 512,

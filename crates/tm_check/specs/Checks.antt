@@ -3,7 +3,7 @@ use Rattle.std.specs.Prelude.{◌≡◌, ℕ, ◌<◌, List, Some, All, slice_ge
 use Rattle.tm_condition.specs.Conditions.{Compares, Holds, seen_of, value_of}
 use Rattle.tm_condition.specs.declared.item.Item.{Item}
 use Rattle.tm_condition.specs.declared.item.Item.TheVariants.{Number}
-use Rattle.tm_hist.specs.TmRule.Stop.{Stop}
+use Rattle.tm_rule.specs.declared.kinds.Stop.{Stop}
 use Rattle.tm_hist.specs.Board.{IsFull, IsStopped, ShownBoard as Board, stop_shown}
 use Rattle.tm_hist.specs.Machine.{core_count, shown_state}
 use Rattle.tm_check.specs.Counts.{count_in}

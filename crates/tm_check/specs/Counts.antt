@@ -1,10 +1,10 @@
 -- How often something came about in a run, by the outcomes in its history (docs/FORMATS.md, "Checks").
 use Rattle.std.specs.Prelude.{ℕ, ◌==◌, ◌||◌, ◌&&◌, Bool, true, false, List, Option, Some, None, count_by}
 use Rattle.tm_model.specs.Explained.{is_abort}
-use Rattle.tm_hist.specs.TmModel.Interference.{Interference}
-use Rattle.tm_hist.specs.TmModel.Interference.TheVariants.{Interrupt, Eviction, Snoop}
-use Rattle.tm_hist.specs.TmModel.Outcome.{Outcome}
-use Rattle.tm_hist.specs.TmModel.Outcome.TheVariants.{Committed, Aborted, AbortedBy}
+use Rattle.tm_model.specs.declared.outcome.Interference.{Interference}
+use Rattle.tm_model.specs.declared.outcome.Interference.TheVariants.{Interrupt, Eviction, Snoop}
+use Rattle.tm_model.specs.declared.outcome.Outcome.{Outcome}
+use Rattle.tm_model.specs.declared.outcome.Outcome.TheVariants.{Committed, Aborted, AbortedBy}
 use Rattle.tm_status.specs.Status.{status_of}
 use Rattle.tm_check.specs.declared.count.AbortKind.{AbortKind}
 use Rattle.tm_check.specs.declared.count.AbortKind.TheVariants.{Program, Outside}

@@ -11,7 +11,10 @@ ghost use Rattle.tm_hist.specs.Machine.{core_count, shown_state};
 ghost use Rattle.tm_check.specs.Checks.{AllHold, HasEnded, IsViolated, IsViolatedAt, NoneViolated, StopsBy};
 
 use crate::clause::RunClause;
-use tm_hist::{Board, CoreState, Machine, Stop};
+use tm_core::Machine;
+use tm_hist::Board;
+use tm_model::CoreState;
+use tm_rule::Stop;
 
 /// What is checked of a run at its end. Conditions are judged where each core has stopped; what is not there meets none.
 #[derive(Debug, Drop)]

@@ -12,5 +12,3 @@ mod count;
 pub use check::{Check, first_violated, has_ended};
 pub use clause::{Quantity, RunClause};
 pub use count::{AbortKind, Cores, Count};
-pub use tm_condition::{Clause, Comparison, Item};
-pub use tm_status::Cause;

@@ -4,7 +4,7 @@ use Rattle.std.specs.Prelude.{nat_le, if◌then◌else◌, slice_index, slice_ra
 use Rattle.ia_regs.specs.declared.Regs.{Regs}
 use Rattle.ia_word.specs.Operand.{operand_of}
 use Rattle.ia_word.specs.declared.width.Width.TheVariants.{D}
-use Rattle.tm_core.specs.TmModel.Access.{addresses_of, bytes_at}
+use Rattle.tm_model.specs.Access.{addresses_of, bytes_at}
 use Rattle.tm_core.specs.Theorem.{ShownMachine, view_at}
 use Rattle.tm_condition.specs.declared.check.Check.{Check}
 use Rattle.tm_condition.specs.declared.check.Check.TheVariants.{Demanded, Forbidden}

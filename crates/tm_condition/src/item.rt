@@ -9,7 +9,7 @@ ghost use Rattle.tm_condition.specs.Conditions.{doubleword_of, seen_of, value_of
 
 use ia_word::Width;
 use tm_core::Machine;
-use tm_core::memory::read;
+use tm_whole::memory::read;
 
 /// A value of a machine.
 #[derive(Clone, Copy, PartialEq, Eq, Debug)]

@@ -6,7 +6,7 @@ use Rattle.std.specs.Prelude.{Result}
 use Rattle.ia_insn.specs.declared.fault.DecodeFault.{DecodeFault}
 use Rattle.ia_insn.specs.declared.op.Insn.{Insn}
 use Rattle.ia_row.specs.declared.row.Line.{Line}
-use Rattle.tm_model.specs.IaImage.Program.{ProgramValue as Program, opening_memory}
+use Rattle.ia_image.specs.Program.{ProgramValue as Program, opening_memory}
 use Rattle.tm_model.specs.Setting.{setting_of}
 use Rattle.tm_model.specs.State.{opening_state}
 use Rattle.tm_sets.specs.Content.{Content, Fixed}

@@ -76,10 +76,4 @@ pub use machine::Machine;
 pub use opening::MachineMemory;
 pub use preview::Preview;
 pub use start::{opening_memory, start_regs};
-pub use tm_model::{
-    AbortReason, CoreState, Counts, Event, Hit, Interference, Outcome, Pick, Program, Reach, Stop,
-};
-pub use tm_rule::Store;
-pub use tm_sets::Kind;
-pub use tm_whole::memory;
 pub use two_steps::takes_two_steps;

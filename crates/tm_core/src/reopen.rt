@@ -6,7 +6,7 @@
 
 ghost use Rattle.std.specs.Prelude.{◌≡◌, ◌<◌, ◌≤◌, ℕ, None, length};
 ghost use Rattle.std.specs.FinSet as set;
-ghost use Rattle.tm_model.specs.IaImage.Program.{opening_memory as memory_of};
+ghost use Rattle.ia_image.specs.Program.{opening_memory as memory_of};
 ghost use Rattle.tm_model.specs.State.{opening_state};
 ghost use Rattle.tm_sets.specs.declared.interface.Kind as AnyKind;
 ghost use Rattle.tm_core.specs.Machine.{IsStart};
@@ -16,7 +16,8 @@ ghost use Rattle.tm_core.specs.Theorem.{SameMachine, StandsFor};
 use crate::cpu::Cpu;
 use crate::machine::Machine;
 use crate::start::start_regs;
-use tm_model::{CoreState, Program};
+use ia_image::Program;
+use tm_model::CoreState;
 use tm_sets::Sets;
 
 // Memory before the first step: the image at its base, and zeros.

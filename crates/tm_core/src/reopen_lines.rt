@@ -4,14 +4,14 @@
 //! `reopen` does. Which lines have changed is not found out here: a line that is not listed stays as it is.
 
 ghost use Rattle.std.specs.Prelude.{◌≡◌, ◌/◌, ◌<◌, ◌≤◌, ℕ, None, length, slice_index};
-ghost use Rattle.tm_model.specs.IaImage.Program.{opening_memory as memory_of};
+ghost use Rattle.ia_image.specs.Program.{opening_memory as memory_of};
 ghost use Rattle.tm_model.specs.State.{opening_state};
 ghost use Rattle.tm_core.specs.Reopening.{IsSameElsewhere};
 ghost use Rattle.tm_core.specs.Theorem.{SameMachine, StandsFor};
 
 use crate::machine::Machine;
 use crate::reopen::reopen_cpus;
-use tm_model::Program;
+use ia_image::Program;
 use tm_sets::Sets;
 
 // Where a line of 64 bytes ends in memory of this size.

@@ -4,7 +4,7 @@ use Rattle.std.specs.Prelude.{Result, Ok, Err, IfErr, IfOk}
 use Rattle.text_out.specs.declared.out.WriteFault.{WriteFault}
 use Rattle.text_out.specs.Writing.{Device, Wrote}
 use Rattle.text_out.proofs.Writing.{wrote_then}
-use Rattle.tm_why.specs.TmHist.Board.{ShownBoard as Board}
+use Rattle.tm_hist.specs.Board.{ShownBoard as Board}
 use Rattle.debug_command.specs.declared.manner.Manner.{Manner}
 use Rattle.debug_command.specs.declared.manner.Manner.TheVariants.{Plain, Spoken}
 use Rattle.tm_debug.specs.declared.session.SessionFault.{SessionFault}

@@ -1,6 +1,6 @@
 -- The numbers of the faults that end a session, and the board that each gives back.
 use Rattle.std.specs.Prelude.{ℕ}
-use Rattle.tm_why.specs.TmHist.Board.{ShownBoard as Board}
+use Rattle.tm_hist.specs.Board.{ShownBoard as Board}
 use Rattle.tm_debug.specs.declared.session.SessionFault.{SessionFault}
 use Rattle.tm_debug.specs.declared.session.SessionFault.TheVariants.{Read, Write, NoMemory}
 

@@ -3,5 +3,3 @@ pub mod Help
 pub mod Session
 pub mod Serving
 pub mod Faults
-pub mod TmHist
-pub mod TmModel

@@ -5,7 +5,7 @@ use Rattle.std.specs.List.{prefix_len}
 use Rattle.ia_lex.specs.Chars.{differs}
 use Rattle.ia_lex.specs.Lines.{lines_of}
 use Rattle.text_out.specs.Writing.{Device, Stopped, Writes, Wrote}
-use Rattle.tm_why.specs.TmHist.Board.{ShownBoard as Board}
+use Rattle.tm_hist.specs.Board.{ShownBoard as Board}
 use Rattle.debug_command.specs.declared.command.Command.{Command}
 use Rattle.debug_command.specs.declared.command.Command.TheVariants.{Quit}
 use Rattle.debug_command.specs.declared.command.Command.TheVariants as command

@@ -6,22 +6,22 @@ use Rattle.std.specs.Fmt.{decimal}
 use Rattle.std.specs.List.{flat_map, list_any, position, remove, slice_get}
 use Rattle.std.specs.List.Sorted.{IsStrictlyIncreasing}
 use Rattle.std.specs.FinSet as set
-use Rattle.tm_why.specs.IaImage.Program.{ProgramValue as Program, code_of}
+use Rattle.ia_image.specs.Program.{ProgramValue as Program, code_of}
 use Rattle.ia_text.specs.Listing.{shown_bytes}
 use Rattle.text_out.specs.Number.{eight_digits, hex_digits}
 use Rattle.text_out.specs.declared.out.WriteFault.{WriteFault}
 use Rattle.text_out.specs.Writing.{Device, Stopped, Writes, Wrote}
-use Rattle.tm_why.specs.TmModel.CoreState.{CoreState}
-use Rattle.tm_why.specs.TmModel.CoreState.TheVariants.{Mid}
+use Rattle.tm_model.specs.declared.outcome.CoreState.{CoreState}
+use Rattle.tm_model.specs.declared.outcome.CoreState.TheVariants.{Mid}
 use Rattle.tm_model.specs.declared.outcome.Event.{Event}
 use Rattle.tm_model.specs.declared.outcome.Outcome.{Outcome}
 use Rattle.tm_model.specs.declared.outcome.Pick.{Pick}
-use Rattle.tm_why.specs.TmCore.Theorem.{ShownMachine as Machine, view_at}
-use Rattle.tm_why.specs.TmHist.Board.{IsHistory, IsOwedNext, SameBoard, ShownBoard as Board, stop_shown}
-use Rattle.tm_why.specs.TmHist.Lines.{core_text, dump_lines, outcome_line, state_word}
+use Rattle.tm_core.specs.Theorem.{ShownMachine as Machine, view_at}
+use Rattle.tm_hist.specs.Board.{IsHistory, IsOwedNext, SameBoard, ShownBoard as Board, stop_shown}
+use Rattle.tm_hist.specs.Lines.{core_text, dump_lines, outcome_line, state_word}
 use Rattle.text_out.specs.TextLine.{line_end, number_text}
-use Rattle.tm_why.specs.TmHist.Machine.{shown_regs, shown_state}
-use Rattle.tm_why.specs.TmHist.Back.{IsFirst}
+use Rattle.tm_hist.specs.Machine.{shown_regs, shown_state}
+use Rattle.tm_hist.specs.Back.{IsFirst}
 use Rattle.tm_why.specs.History.{IsReasonOf}
 use Rattle.tm_why.specs.Lines.{reason_line}
 use Rattle.tm_why.specs.declared.reason.Reason.{Reason}

@@ -18,11 +18,13 @@ ghost use Rattle.text_out.specs.TextLine.{line_end};
 use crate::state::{MOST_BREAKPOINTS, RunCheck, SessionState, core_count};
 use crate::told::{told_step, write_told};
 use debug_command::{Manner, Range, Refusal, Symbol, refuse, write_labelled, write_place};
+use ia_image::Program;
 use text_out::page::{push, push_eight};
 use text_out::text_line::{TextLine, push_number};
 use text_out::{Out, WriteFault};
+use tm_core::Machine;
+use tm_hist::{StepFault, write_core, write_dump};
 use tm_model::{Event, Pick};
-use tm_why::{Machine, Program, StepFault, write_core, write_dump};
 
 /// Tells that there is no core of a number.
 pub fn refuse_core<O: Out>(state: &SessionState, out: &mut O) -> Result<(), WriteFault>

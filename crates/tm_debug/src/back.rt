@@ -16,7 +16,7 @@ use std::alloc::{AllocError, Global};
 use text_out::page::push;
 use text_out::text_line::TextLine;
 use text_out::{Out, WriteFault};
-use tm_why::{Board, first_steps};
+use tm_hist::{Board, first_steps};
 
 // The number behind that of the core that was stepped last.
 fn next_behind(board: &Board) -> u8

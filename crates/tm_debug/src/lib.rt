@@ -25,11 +25,6 @@ mod state;
 mod told;
 mod why;
 
-pub use debug_command::{CommandName, Manner, Names, Range, Refusal, Symbol};
 pub use input::{FromReader, In};
 pub use session::{Session, SessionFault, serve, serve_in};
 pub use state::MOST_BREAKPOINTS;
-pub use tm_why::{
-    BackFault, Board, CoreState, Kind, Machine, StepFault, first_steps, reason_of, watched,
-    write_outcome, write_reason,
-};

@@ -6,7 +6,7 @@
 
 ghost use Rattle.std.specs.Prelude.{◌≡◌, ◌<◌, ◌≤◌, List, ℕ, OnErr, OnOk, length};
 ghost use Rattle.text_out.specs.Writing.{Wrote};
-ghost use Rattle.tm_why.specs.TmHist.Board.{IsFull};
+ghost use Rattle.tm_hist.specs.Board.{IsFull};
 ghost use Rattle.tm_debug.specs.Session.{GoAnswer, RunAnswer, RunAnswerBroken, RunBroken, RunWhole, TellsAnswer};
 ghost use Rattle.tm_debug.specs.Session.{value_of};
 

@@ -30,8 +30,8 @@ use std::fmt;
 use std::sync::Wait;
 use text_out::{Out, WriteFault};
 use thiserror::Error;
+use tm_hist::Board;
 use tm_model::Pick;
-use tm_why::Board;
 
 /// Why a session ended before its input did. Each gives the board back, after the steps that were made.
 #[derive(Drop, Error)]

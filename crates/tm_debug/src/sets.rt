@@ -9,7 +9,7 @@ ghost use Rattle.std.specs.List.Sorted.{IsStrictlyIncreasing};
 ghost use Rattle.arrayvec.specs.ArrayVec.{array_vec_len};
 ghost use Rattle.text_out.specs.Number.{hex_digits};
 ghost use Rattle.text_out.specs.Writing.{Writes};
-ghost use Rattle.tm_why.specs.TmCore.Theorem.{lines_shown, view_at};
+ghost use Rattle.tm_core.specs.Theorem.{lines_shown, view_at};
 ghost use Rattle.tm_debug.specs.Session.{AnswerStopped, Ends, SetsAnswer, SetsOf, lines_text, value_of, sets_head};
 
 use crate::answer::{core_of, refuse_core};
@@ -19,8 +19,10 @@ use std::alloc::{AllocError, Global};
 use text_out::page::{Page, push, push_hex};
 use text_out::text_line::{TextLine, push_number};
 use text_out::{Out, WriteFault};
+use tm_core::Machine;
+use tm_hist::push_state;
+use tm_model::CoreState;
 use tm_sets::Kind;
-use tm_why::{CoreState, Machine, push_state};
 
 // Adds the number of a line in hex, behind a space.
 fn add_line(text: &mut Vec<u8>, line: u32) -> Result<(), AllocError>

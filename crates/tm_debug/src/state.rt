@@ -6,16 +6,16 @@
 
 ghost use Rattle.std.specs.Prelude.{◌≡◌, ◌↔◌, ℕ, ◌+◌, ◌<◌, ◌≤◌, ◌^◌, ◌++◌, ◌∷◌, [], Err, IfOk, IfSome, OnErr, Some, is_some};
 ghost use Rattle.std.specs.Prelude.{length};
-ghost use Rattle.tm_why.specs.TmHist.Board.{IsFull, IsOwedNext, SameBoard, stop_shown};
-ghost use Rattle.tm_why.specs.TmHist.Machine.{shown_regs, shown_state};
+ghost use Rattle.tm_hist.specs.Board.{IsFull, IsOwedNext, SameBoard, stop_shown};
+ghost use Rattle.tm_hist.specs.Machine.{shown_regs, shown_state};
 ghost use Rattle.tm_debug.specs.Session.{IsStep, is_midway, is_stopped, next_running, pick_check, plan_check};
 ghost use Rattle.tm_debug.specs.Session.{run_check, running_from, start, start_in, told_labels, value_of};
 
 use arrayvec::ArrayVec;
 use debug_command::{Manner, Names, Symbol};
 use std::alloc::Global;
-use tm_model::Pick;
-use tm_why::{Board, CoreState, Outcome, StepFault};
+use tm_hist::{Board, StepFault};
+use tm_model::{CoreState, Outcome, Pick};
 
 /// The most breakpoints that are set at once.
 pub const MOST_BREAKPOINTS: usize = 64;

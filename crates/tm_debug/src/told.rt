@@ -6,16 +6,16 @@
 
 ghost use Rattle.std.specs.Prelude.{◌≡◌, ◌↔◌, ◌<◌, ◌≤◌, Err, IfOk, IfSome, None, OnErr, length};
 ghost use Rattle.text_out.specs.Writing.{Writes};
-ghost use Rattle.tm_why.specs.TmHist.Board.{IsFull};
+ghost use Rattle.tm_hist.specs.Board.{IsFull};
 ghost use Rattle.tm_trace.specs.Deeds.{IsBefore, IsDeed};
 ghost use Rattle.tm_debug.specs.Session.{IsStep, IsTold, told_line, value_of};
 
 use crate::state::{SessionState, core_count};
 use debug_command::{Manner, Symbol};
 use text_out::{Out, WriteFault};
-use tm_model::Pick;
+use tm_hist::{StepFault, write_outcome};
+use tm_model::{Outcome, Pick};
 use tm_trace::{Before, Deed, write_step};
-use tm_why::{Outcome, StepFault, write_outcome};
 
 /// The outcome of a step, and what it did, where the session tells that.
 #[derive(Clone, Copy, PartialEq, Eq, Debug)]

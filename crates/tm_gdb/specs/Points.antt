@@ -5,10 +5,10 @@ use Rattle.std.specs.Int.{w64, from_be_bytes}
 use Rattle.std.specs.List.{list_any}
 use Rattle.gdb_packet.specs.declared.command.Span.{Span}
 use Rattle.tm_hist.specs.Machine.{shown_regs, shown_state}
-use Rattle.tm_hist.specs.TmCore.Seen.{byte_seen}
-use Rattle.tm_hist.specs.TmCore.Theorem.{ShownMachine}
-use Rattle.tm_hist.specs.TmModel.CoreState.{CoreState}
-use Rattle.tm_hist.specs.TmModel.CoreState.TheVariants as state
+use Rattle.tm_core.specs.Seen.{byte_seen}
+use Rattle.tm_core.specs.Theorem.{ShownMachine}
+use Rattle.tm_model.specs.declared.outcome.CoreState.{CoreState}
+use Rattle.tm_model.specs.declared.outcome.CoreState.TheVariants as state
 use Rattle.tm_gdb.specs.declared.points.Sight.{Sight}
 
 -- ---- breakpoints

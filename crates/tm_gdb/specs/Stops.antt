@@ -2,8 +2,8 @@
 use Rattle.std.specs.Prelude.{ℕ, ◌+◌, List, [], ◌∷◌, ◌++◌, Option, Some, None, codes}
 use Rattle.hex.specs.Hex.{encode_lower}
 use Rattle.text_out.specs.Number.{eight_digits}
-use Rattle.tm_model.specs.TmRule.Stop.{Stop as CoreStop}
-use Rattle.tm_model.specs.TmRule.Stop.TheVariants as why
+use Rattle.tm_rule.specs.declared.kinds.Stop.{Stop as CoreStop}
+use Rattle.tm_rule.specs.declared.kinds.Stop.TheVariants as why
 use Rattle.tm_model.specs.declared.outcome.Outcome.{Outcome}
 use Rattle.tm_model.specs.declared.outcome.Outcome.TheVariants as outcome
 use Rattle.tm_gdb.specs.declared.stop.Signal.{Signal}

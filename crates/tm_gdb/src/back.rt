@@ -22,8 +22,7 @@ use crate::stop::Stop;
 use crate::target::Target;
 use crate::turns::core_count;
 use std::alloc::{AllocError, Global};
-use tm_debug::{Board, first_steps};
-use tm_hist::History;
+use tm_hist::{Board, History, first_steps};
 use tm_model::Pick;
 
 /// Where a run back ends: with so many steps still made, at this core, and why.

@@ -12,8 +12,10 @@ use itoa::Buffer;
 use std::alloc::{AllocError, Global};
 use text_out::page::{Page, push, push_hex};
 use text_out::{Out, WriteFault};
-use tm_debug::{Kind, Machine, write_outcome};
+use tm_core::Machine;
+use tm_hist::write_outcome;
 use tm_model::Interference;
+use tm_sets::Kind;
 
 /// The text of a command of `monitor`, which ends where 8000 bytes are full. `AllocError`, where there was no memory
 /// for the lines of a set, or to make the history once more.

@@ -16,7 +16,7 @@ use crate::stop::{Stop, stop_of};
 use crate::target::Target;
 use crate::turns::{Goers, core_count, goers_of, is_stopped, stepping_from, steps};
 use gdb_packet::Actions;
-use tm_debug::{Board, StepFault};
+use tm_hist::{Board, StepFault};
 use tm_model::{Outcome, Pick};
 
 // The step that a pick tells of.

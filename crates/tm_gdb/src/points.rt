@@ -13,7 +13,8 @@ ghost use Rattle.tm_gdb.specs.Points.{watched_byte, watched_number};
 
 use arrayvec::ArrayVec;
 use gdb_packet::{Point, PointKind, Span};
-use tm_debug::{CoreState, Machine};
+use tm_core::Machine;
+use tm_model::CoreState;
 
 /// The most breakpoints, and the most watchpoints, that are set at once.
 pub const MOST_POINTS: usize = 64;

@@ -13,7 +13,7 @@ ghost use Rattle.tm_gdb.specs.Values.{TargetValue, value_of};
 use crate::stop::Stop;
 use crate::target::Target;
 use crate::turns::{Goers, core_count, turn_pick};
-use tm_debug::Board;
+use tm_hist::Board;
 use tm_model::Pick;
 
 /// What the tests before a step of a run come to.

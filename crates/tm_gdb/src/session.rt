@@ -26,7 +26,8 @@ use gdb_packet::{Bytes, Command, Heard, Question, Reader, read_command, write_pa
 use std::alloc::Global;
 use std::sync::Wait;
 use text_out::{Failed, Out};
-use tm_debug::{Board, In, SessionFault};
+use tm_debug::{In, SessionFault};
+use tm_hist::Board;
 use tm_model::Pick;
 
 /// What ends a session before its input or gdb does.

@@ -13,7 +13,8 @@ ghost use Rattle.tm_gdb.specs.Stops.{watch_text};
 use gdb_packet::Bytes;
 use gdb_target::push_thread;
 use text_out::page::{push, push_eight};
-use tm_model::{Outcome, Stop as CoreStop};
+use tm_model::Outcome;
+use tm_rule::Stop as CoreStop;
 
 /// The signal that gdb is told of a core that stopped.
 #[derive(Clone, Copy, PartialEq, Eq, Debug)]

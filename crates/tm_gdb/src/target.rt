@@ -8,7 +8,7 @@ ghost use Rattle.tm_gdb.specs.Values.{core_in, core_of, moved_core, picks_in, st
 
 use crate::points::Points;
 use crate::stop::Stop;
-use tm_debug::Board;
+use tm_hist::Board;
 use tm_model::{Event, Pick};
 
 /// A board, the schedule that it goes along, what gdb selected and set, and why it stands.

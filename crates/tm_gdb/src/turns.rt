@@ -11,8 +11,8 @@ ghost use Rattle.tm_gdb.specs.Moves.{is_step, is_stranger, names_stranger};
 ghost use Rattle.tm_gdb.specs.Moves.{plainly, some_continue, stepping_from, steps, turn_pick};
 
 use gdb_packet::{Action, Actions, ThreadAction};
-use tm_debug::{Board, CoreState};
-use tm_model::Pick;
+use tm_hist::Board;
+use tm_model::{CoreState, Pick};
 
 /// The cores that a run steps.
 #[derive(Clone, Copy, Debug)]

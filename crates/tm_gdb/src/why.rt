@@ -6,7 +6,8 @@
 use itoa::Buffer;
 use std::alloc::{AllocError, Global};
 use text_out::{Out, WriteFault};
-use tm_debug::{Board, reason_of, watched, write_reason};
+use tm_hist::Board;
+use tm_why::{reason_of, watched, write_reason};
 
 /// Writes of each core whose next step is an abort why it is one, which hit doomed its transaction, and when that
 /// began; steps are counted from 1. `AllocError`, where there was no memory to make the history once more.

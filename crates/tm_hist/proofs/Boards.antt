@@ -2,24 +2,24 @@
 use Rattle.std.proofs.Common.{◌≡◌, ℕ, ◌<◌, ◌⊎◌, inl, inr, Bool, true, false, cond, eqb, List, length, map, ltb, [], ◌≤◌, ◌||◌, ◌+◌, Option, Some, None, refl, sym, ap, ◌∙◌, subst, arith}
 use Rattle.std.proofs.lemmas.Bool.{ltb-false}
 use Rattle.std.proofs.lemmas.Option.{option_and_then_some, same_Some}
-use Rattle.tm_core.specs.IaImage.Program.{ProgramValue as Program, code_of}
+use Rattle.ia_image.specs.Program.{ProgramValue as Program, code_of}
 use Rattle.ia_regs.specs.declared.Regs.{Regs}
 use Rattle.tm_core.specs.declared.limits.Limits.{Limits}
-use Rattle.tm_core.specs.TmModel.Isolated.{Body, isolated_body}
-use Rattle.tm_core.specs.TmModel.Runs.{AreOwed, doomed_at_end}
-use Rattle.tm_core.specs.TmModel.Setting.{Setting, program_setting}
-use Rattle.tm_core.specs.TmModel.Shown.{View, view_between, view_inside, view_midway, view_of, view_of_body, view_outside}
-use Rattle.tm_core.specs.TmModel.State.{Closed, Core, Halted, Midway, Opened, State, opening_state}
-use Rattle.tm_core.specs.TmModel.Steps.{run}
+use Rattle.tm_model.specs.Isolated.{Body, isolated_body}
+use Rattle.tm_model.specs.Runs.{AreOwed, doomed_at_end}
+use Rattle.tm_model.specs.Setting.{Setting, program_setting}
+use Rattle.tm_model.specs.Shown.{View, view_between, view_inside, view_midway, view_of, view_of_body, view_outside}
+use Rattle.tm_model.specs.State.{Closed, Core, Halted, Midway, Opened, State, opening_state}
+use Rattle.tm_model.specs.Steps.{run}
 use Rattle.tm_core.specs.Theorem.{SameMachine, ShownMachine as Machine, StandsFor, machine_setting as machine_setting, view_at}
 use Rattle.tm_hist.specs.Board.{IsBoard, IsHistory, ShownBoard, bad_limit, stop_shown}
 use Rattle.tm_hist.specs.History.{pair_of}
 use Rattle.tm_hist.specs.Replay.{IsRefused, IsReplay, Replays, cores_of}
 use Rattle.tm_hist.specs.Serial.{IsStuck, base_of, core_at, stop_of}
 use Rattle.tm_hist.proofs.RunFronts.{run_front, same_run}
-use Rattle.tm_core.specs.TmModel.Outcome.{Outcome}
-use Rattle.tm_core.specs.TmModel.CoreState.{CoreState}
-use Rattle.tm_core.specs.TmModel.CoreState.TheVariants.{Running, Condemned, Stopped as AtStop}
+use Rattle.tm_model.specs.declared.outcome.Outcome.{Outcome}
+use Rattle.tm_model.specs.declared.outcome.CoreState.{CoreState}
+use Rattle.tm_model.specs.declared.outcome.CoreState.TheVariants.{Running, Condemned, Stopped as AtStop}
 use Rattle.tm_rule.specs.declared.kinds.OutsideResult.{OutsideResult}
 use Rattle.tm_rule.specs.declared.kinds.OutsideResult.TheVariants.{Goes, Begins, Stops}
 use Rattle.tm_hist.specs.declared.pair.Pair.{Pair}

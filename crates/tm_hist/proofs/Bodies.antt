@@ -7,15 +7,15 @@ use Rattle.tm_rule.specs.declared.kinds.OutsideResult.{OutsideResult}
 use Rattle.tm_rule.specs.declared.kinds.OutsideResult.TheVariants.{Goes, Begins, Stops}
 use Rattle.tm_rule.specs.declared.kinds.InsideResult.{InsideResult}
 use Rattle.tm_rule.specs.declared.kinds.InsideResult.TheVariants.{GoesOn, Nests, Ends, Fails}
-use Rattle.tm_core.specs.TmModel.Access.{Stores, memory_after, stores_of}
-use Rattle.tm_core.specs.TmModel.Isolated.{Body as Isolated, first_body, instruction_after, isolated_body, longer_body}
-use Rattle.tm_core.specs.TmModel.Isolated.{next_body}
-use Rattle.tm_core.specs.TmModel.Setting.{Setting, inside_at, outside_at}
-use Rattle.tm_core.specs.TmModel.State.{Closed}
-use Rattle.tm_core.specs.TmModel.Steps.{after_commit}
+use Rattle.tm_model.specs.Access.{Stores, memory_after, stores_of}
+use Rattle.tm_model.specs.Isolated.{Body as Isolated, first_body, instruction_after, isolated_body, longer_body}
+use Rattle.tm_model.specs.Isolated.{next_body}
+use Rattle.tm_model.specs.Setting.{Setting, inside_at, outside_at}
+use Rattle.tm_model.specs.State.{Closed}
+use Rattle.tm_model.specs.Steps.{after_commit}
 use Rattle.tm_hist.specs.Serial.{flat_body_after, flat_body_begun, memory_after_instruction}
 use Rattle.ia_word.specs.Width.{bytes_of, bits_of}
-use Rattle.tm_core.specs.IaExec.Store.{Store}
+use Rattle.ia_exec.specs.declared.done.Store.{Store}
 use Rattle.std.specs.Option.{IfSome}
 use Rattle.tm_rule.proofs.Facts.{StoreIn}
 use Rattle.tm_hist.specs.declared.flat.FlatBody.{FlatBody}

@@ -4,17 +4,18 @@ use Rattle.std.specs.Prelude.{◌↔◌}
 use Rattle.std.proofs.lemmas.Option.{option_and_then_some, same_Some}
 use Rattle.ia_regs.specs.declared.Regs.{Regs}
 use Rattle.tm_rule.specs.declared.kinds.Stop.{Stop}
-use Rattle.tm_core.specs.TmModel.Access.{Stores, lines_of, stored_addresses, stores_of}
-use Rattle.tm_core.specs.TmModel.Isolated.{Body, instruction_after, isolated_body}
-use Rattle.tm_core.specs.TmModel.Event.{Event}
-use Rattle.tm_core.specs.TmModel.Event.TheVariants as event
-use Rattle.tm_core.specs.TmModel.Owed.{abort_at, have_room, owed_after, owed_inside, owed_outcome, owed_outside, owed_under, owed_with_room}
-use Rattle.tm_core.specs.TmModel.Setting.{Setting, outside_at}
-use Rattle.tm_core.specs.TmModel.Shown.{View, view_inside, view_of, view_outside}
-use Rattle.tm_core.specs.TmModel.State.{Closed, Core, Halted, Midway, Opened, State}
-use Rattle.tm_core.specs.TmModel.CoreState.TheVariants.{Stopped as AtStop}
-use Rattle.tm_core.specs.TmModel.Outcome.{Outcome}
-use Rattle.tm_core.specs.TmModel.Outcome.TheVariants.{Idle, Inside, Committed}
+use Rattle.tm_model.specs.Access.{Stores, lines_of, stored_addresses, stores_of}
+use Rattle.tm_model.specs.Isolated.{Body, instruction_after, isolated_body}
+use Rattle.tm_model.specs.declared.outcome.Event.{Event}
+use Rattle.tm_model.specs.declared.outcome.Event.TheVariants as event
+use Rattle.tm_model.specs.Owed.{abort_at, have_room, owed_after, owed_inside, owed_outcome, owed_outside, owed_under}
+use Rattle.tm_model.specs.Owed.{owed_with_room}
+use Rattle.tm_model.specs.Setting.{Setting, outside_at}
+use Rattle.tm_model.specs.Shown.{View, view_inside, view_of, view_outside}
+use Rattle.tm_model.specs.State.{Closed, Core, Halted, Midway, Opened, State}
+use Rattle.tm_model.specs.declared.outcome.CoreState.TheVariants.{Stopped as AtStop}
+use Rattle.tm_model.specs.declared.outcome.Outcome.{Outcome}
+use Rattle.tm_model.specs.declared.outcome.Outcome.TheVariants.{Idle, Inside, Committed}
 use Rattle.tm_rule.specs.declared.kinds.OutsideResult.{OutsideResult}
 use Rattle.tm_rule.specs.declared.kinds.OutsideResult.TheVariants.{Goes, Begins, Stops}
 use Rattle.tm_rule.specs.declared.kinds.InsideResult.{InsideResult}

@@ -4,16 +4,16 @@ use Rattle.std.proofs.lemmas.Option.{same_Some, slice_get-map}
 use Rattle.std.specs.Option.{option_and_then, option_map}
 use Rattle.std.specs.Prelude.{MatchOption}
 use Rattle.std.specs.List.{slice_get}
-use Rattle.tm_core.specs.IaImage.Program.{ProgramValue as Program}
+use Rattle.ia_image.specs.Program.{ProgramValue as Program}
 use Rattle.tm_core.specs.declared.limits.Limits.{Limits}
-use Rattle.tm_core.specs.TmModel.Event.{Event}
-use Rattle.tm_core.specs.TmModel.Outcome.{Outcome}
-use Rattle.tm_core.specs.TmModel.Pick.{Pick}
-use Rattle.tm_core.specs.TmModel.Conflicts.{Doomed, doomed_after}
-use Rattle.tm_core.specs.TmModel.Runs.{AreOwed, IsOwedUnder, doomed_at_end, event_told, pick_of, picks_of}
-use Rattle.tm_core.specs.TmModel.Setting.{Setting, program_setting}
-use Rattle.tm_core.specs.TmModel.State.{State, opening_state}
-use Rattle.tm_core.specs.TmModel.Steps.{run, step}
+use Rattle.tm_model.specs.declared.outcome.Event.{Event}
+use Rattle.tm_model.specs.declared.outcome.Outcome.{Outcome}
+use Rattle.tm_model.specs.declared.outcome.Pick.{Pick}
+use Rattle.tm_model.specs.Conflicts.{Doomed, doomed_after}
+use Rattle.tm_model.specs.Runs.{AreOwed, IsOwedUnder, doomed_at_end, event_told, pick_of, picks_of}
+use Rattle.tm_model.specs.Setting.{Setting, program_setting}
+use Rattle.tm_model.specs.State.{State, opening_state}
+use Rattle.tm_model.specs.Steps.{run, step}
 use Rattle.tm_hist.specs.Board.{IsHistory, IsOwedNext, SameBoard, ShownBoard as Board}
 use Rattle.tm_hist.specs.Back.{IsFirst}
 

@@ -2,12 +2,13 @@
 use Rattle.std.proofs.Common.{◌≡◌, ℕ, zero, suc, cond, ltb, List, [], ◌∷◌, take, Option, Some, None, refl, ap, ◌∙◌}
 use Rattle.std.specs.Option.{option_and_then, option_map}
 use Rattle.ia_regs.specs.declared.Regs.{Regs}
-use Rattle.tm_core.specs.TmModel.Isolated.{isolated_body, longer_body}
-use Rattle.tm_core.specs.TmModel.Setting.{Setting, setting_of}
-use Rattle.tm_core.specs.TmModel.State.{Closed, Core, Halted, Midway, Opened, State}
-use Rattle.tm_core.specs.TmModel.Steps.{after_commit, after_step_of, run, state_with, step}
-use Rattle.tm_core.specs.TmModel.Outcome.{Outcome}
-use Rattle.tm_core.specs.TmModel.Outcome.TheVariants.{Plain, Loaded, Stopped, Idle, Begun, Inside, Committed, Aborted, AbortedBy}
+use Rattle.tm_model.specs.Isolated.{isolated_body, longer_body}
+use Rattle.tm_model.specs.Setting.{Setting, setting_of}
+use Rattle.tm_model.specs.State.{Closed, Core, Halted, Midway, Opened, State}
+use Rattle.tm_model.specs.Steps.{after_commit, after_step_of, run, state_with, step}
+use Rattle.tm_model.specs.declared.outcome.Outcome.{Outcome}
+use Rattle.tm_model.specs.declared.outcome.Outcome.TheVariants.{Plain, Loaded, Stopped, Idle, Begun, Inside, Committed}
+use Rattle.tm_model.specs.declared.outcome.Outcome.TheVariants.{Aborted, AbortedBy}
 
 module _ (code : List ℕ) (base size reads writes : ℕ) where
   abbrev limited : Setting

@@ -6,13 +6,13 @@ use Rattle.std.specs.List.{AllByRecursion, range_with_len, slice_get}
 use Rattle.std.proofs.lemmas.Option.{get_or_from_slice_get, slice_get-get_or, slice_get-map, slice_get_within}
 use Rattle.std.proofs.lemmas.List.{length-append, length-replicate, take_all, take_at}
 use Rattle.std.proofs.lemmas.List.FromFn.{map-range_with_len_more, length-map-range_with_len, get_or-map-range_with_len}
-use Rattle.tm_core.specs.IaImage.Program.{ProgramValue as Program, code_of, opening_memory, IsSound}
+use Rattle.ia_image.specs.Program.{ProgramValue as Program, code_of, opening_memory, IsSound}
 use Rattle.std.specs.Prelude.{⊤}
 use Rattle.std.specs.Option.{option_and_then, option_map}
-use Rattle.tm_core.specs.TmModel.Outcome.{Outcome}
-use Rattle.tm_core.specs.TmModel.Setting.{Setting, program_setting, setting_of}
-use Rattle.tm_core.specs.TmModel.State.{Core, State, opening_state}
-use Rattle.tm_core.specs.TmModel.Steps.{after_step_of, run, state_with, step}
+use Rattle.tm_model.specs.declared.outcome.Outcome.{Outcome}
+use Rattle.tm_model.specs.Setting.{Setting, program_setting, setting_of}
+use Rattle.tm_model.specs.State.{Core, State, opening_state}
+use Rattle.tm_model.specs.Steps.{after_step_of, run, state_with, step}
 use Rattle.tm_hist.specs.Serial.{Agrees, EndsWith, IsStuck, ListStuck, core_at, core_of, first_core, list_run}
 use Rattle.tm_hist.specs.Serial.{list_step, steps_of, with_core}
 use Rattle.tm_hist.specs.History.{pair_of}

@@ -8,20 +8,22 @@ use Rattle.ia_regs.specs.declared.Regs.{Regs}
 use Rattle.tm_rule.specs.declared.kinds.Stop.{Stop}
 use Rattle.tm_rule.specs.declared.kinds.OutsideResult.{OutsideResult}
 use Rattle.tm_rule.specs.declared.kinds.OutsideResult.TheVariants.{Goes, Begins, Stops}
-use Rattle.tm_core.specs.TmModel.Conflicts.{addresses_loaded_by, addresses_stored_by, doom_after_other, doom_after_own, doomed_after}
-use Rattle.tm_core.specs.TmModel.Isolated.{Body, isolated_body}
-use Rattle.tm_core.specs.TmModel.Setting.{Setting}
-use Rattle.tm_core.specs.TmModel.Shown.{View, view_between, view_inside, view_midway, view_of, view_of_body, view_outside}
-use Rattle.tm_core.specs.TmModel.State.{Closed, Core, Halted, Midway, Opened, State}
-use Rattle.tm_core.specs.TmModel.Steps.{after_step_of, state_with, step}
+use Rattle.tm_model.specs.Conflicts.{addresses_loaded_by, addresses_stored_by, doom_after_other, doom_after_own}
+use Rattle.tm_model.specs.Conflicts.{doomed_after}
+use Rattle.tm_model.specs.Isolated.{Body, isolated_body}
+use Rattle.tm_model.specs.Setting.{Setting}
+use Rattle.tm_model.specs.Shown.{View, view_between, view_inside, view_midway, view_of, view_of_body, view_outside}
+use Rattle.tm_model.specs.State.{Closed, Core, Halted, Midway, Opened, State}
+use Rattle.tm_model.specs.Steps.{after_step_of, state_with, step}
 use Rattle.tm_core.specs.Theorem.{SameMachine, ShownMachine as Machine, StandsFor, TakesStepUnder, machine_setting}
 use Rattle.tm_core.specs.Theorem.{no_regs, view_at}
 use Rattle.tm_hist.specs.Board.{stop_shown}
-use Rattle.tm_core.specs.TmModel.Outcome.{Outcome}
-use Rattle.tm_core.specs.TmModel.Outcome.TheVariants.{Plain, Loaded, Stopped, Idle, Begun, Inside, Committed, Aborted, AbortedBy}
-use Rattle.tm_core.specs.TmModel.Event.{Event}
-use Rattle.tm_core.specs.TmModel.CoreState.{CoreState}
-use Rattle.tm_core.specs.TmModel.CoreState.TheVariants.{Running, Mid, Open, Condemned, Stopped as AtStop}
+use Rattle.tm_model.specs.declared.outcome.Outcome.{Outcome}
+use Rattle.tm_model.specs.declared.outcome.Outcome.TheVariants.{Plain, Loaded, Stopped, Idle, Begun, Inside, Committed}
+use Rattle.tm_model.specs.declared.outcome.Outcome.TheVariants.{Aborted, AbortedBy}
+use Rattle.tm_model.specs.declared.outcome.Event.{Event}
+use Rattle.tm_model.specs.declared.outcome.CoreState.{CoreState}
+use Rattle.tm_model.specs.declared.outcome.CoreState.TheVariants.{Running, Mid, Open, Condemned, Stopped as AtStop}
 
 -- a core that shows a stop is halted, and not doomed
 pub record IsHalted (x : Core) (dx : Option ℕ) (why : Stop) : Type 0 where

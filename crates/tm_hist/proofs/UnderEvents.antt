@@ -4,19 +4,19 @@ use Rattle.std.proofs.lemmas.Option.{option_and_then_some, same_Some}
 use Rattle.ia_regs.specs.declared.Regs.{Regs}
 use Rattle.tm_rule.specs.declared.kinds.OutsideResult.{OutsideResult}
 use Rattle.tm_rule.specs.declared.kinds.OutsideResult.TheVariants.{Goes, Begins, Stops}
-use Rattle.tm_core.specs.TmModel.CoreState.TheVariants.{Running, Condemned, Stopped as AtStop}
-use Rattle.tm_core.specs.TmModel.Event.{Event}
-use Rattle.tm_core.specs.TmModel.Event.TheVariants as event
-use Rattle.tm_core.specs.TmModel.Interference.{Interference}
-use Rattle.tm_core.specs.TmModel.Isolated.{Body, isolated_body}
-use Rattle.tm_core.specs.TmModel.Outcome.{Outcome}
-use Rattle.tm_core.specs.TmModel.Owed.{abort_by, depth_of, owed_outcome, owed_under}
-use Rattle.tm_core.specs.TmModel.Runs.{IsOwedUnder, doomed_at_end, event_told}
-use Rattle.tm_core.specs.TmModel.Setting.{Setting}
-use Rattle.tm_core.specs.TmModel.Shown.{View, view_between, view_inside, view_midway, view_of, view_of_body, view_outside}
-use Rattle.tm_core.specs.TmModel.State.{Closed, Core, Halted, Midway, Opened, State, opening_state}
+use Rattle.tm_model.specs.declared.outcome.CoreState.TheVariants.{Running, Condemned, Stopped as AtStop}
+use Rattle.tm_model.specs.declared.outcome.Event.{Event}
+use Rattle.tm_model.specs.declared.outcome.Event.TheVariants as event
+use Rattle.tm_model.specs.declared.outcome.Interference.{Interference}
+use Rattle.tm_model.specs.Isolated.{Body, isolated_body}
+use Rattle.tm_model.specs.declared.outcome.Outcome.{Outcome}
+use Rattle.tm_model.specs.Owed.{abort_by, depth_of, owed_outcome, owed_under}
+use Rattle.tm_model.specs.Runs.{IsOwedUnder, doomed_at_end, event_told}
+use Rattle.tm_model.specs.Setting.{Setting}
+use Rattle.tm_model.specs.Shown.{View, view_between, view_inside, view_midway, view_of, view_of_body, view_outside}
+use Rattle.tm_model.specs.State.{Closed, Core, Halted, Midway, Opened, State, opening_state}
 use Rattle.tm_core.specs.Theorem.{ShownMachine as Machine, StandsFor, TakesStep, TakesStepUnder, machine_setting, view_at}
-use Rattle.tm_core.proofs.TmModel.Events.{no_event_told}
+use Rattle.tm_model.proofs.Events.{no_event_told}
 use Rattle.tm_hist.specs.Board.{IsHistory, IsOwedNext, ShownBoard, TellsAsShown, board_setting}
 
 -- a step under no event tells of none

@@ -1,7 +1,7 @@
 -- A board after the first steps of another one's history.
 use Rattle.std.specs.Prelude.{◌≡◌, ℕ, ◌≤◌, Some, length, take}
 use Rattle.std.specs.List.{slice_get}
-use Rattle.tm_core.specs.TmModel.Outcome.{Outcome}
+use Rattle.tm_model.specs.declared.outcome.Outcome.{Outcome}
 use Rattle.tm_hist.specs.Board.{SameBoard, ShownBoard as Board}
 
 -- the same program and limits, and the first so many steps, or all where there are fewer

@@ -2,20 +2,20 @@
 use Rattle.std.specs.Prelude.{◌≡◌, ◌≢◌, ℕ, ◌≤◌, Bool, ◌||◌, List, [], ◌++◌, All, Option, Some, None, drop, length}
 use Rattle.std.specs.Prelude.{nat_lt, refl}
 use Rattle.std.specs.Coded.{Coded, code_by, coded×, coded_ℕ, coded_list}
-use Rattle.tm_core.specs.IaImage.Program.{ProgramValue as Program}
+use Rattle.ia_image.specs.Program.{ProgramValue as Program}
 use Rattle.tm_rule.specs.declared.kinds.Stop.{Stop}
 use Rattle.tm_core.specs.declared.limits.Limits.{Limits}
-use Rattle.tm_core.specs.TmModel.CoreState.{CoreState}
-use Rattle.tm_core.specs.TmModel.CoreState.TheVariants as state
-use Rattle.tm_core.specs.TmModel.Outcome.{Outcome}
-use Rattle.tm_core.specs.TmModel.Outcome.TheVariants.{Idle}
-use Rattle.tm_core.specs.TmModel.Event.{Event}
-use Rattle.tm_core.specs.TmModel.Event.TheVariants as event
-use Rattle.tm_core.specs.TmModel.Owed.{abort_by}
-use Rattle.tm_core.specs.TmModel.Runs.{AreOwed, IsOwedUnder, TellNoAbort, doomed_at_end, event_told}
-use Rattle.tm_core.specs.TmModel.Setting.{Setting, program_setting}
-use Rattle.tm_core.specs.TmModel.State.{State, opening_state}
-use Rattle.tm_core.specs.TmModel.Steps.{run}
+use Rattle.tm_model.specs.declared.outcome.CoreState.{CoreState}
+use Rattle.tm_model.specs.declared.outcome.CoreState.TheVariants as state
+use Rattle.tm_model.specs.declared.outcome.Outcome.{Outcome}
+use Rattle.tm_model.specs.declared.outcome.Outcome.TheVariants.{Idle}
+use Rattle.tm_model.specs.declared.outcome.Event.{Event}
+use Rattle.tm_model.specs.declared.outcome.Event.TheVariants as event
+use Rattle.tm_model.specs.Owed.{abort_by}
+use Rattle.tm_model.specs.Runs.{AreOwed, IsOwedUnder, TellNoAbort, doomed_at_end, event_told}
+use Rattle.tm_model.specs.Setting.{Setting, program_setting}
+use Rattle.tm_model.specs.State.{State, opening_state}
+use Rattle.tm_model.specs.Steps.{run}
 use Rattle.tm_core.specs.Theorem.{IsRun, ShownMachine as Machine, StandsFor, machine_setting}
 use Rattle.tm_hist.specs.Machine.{shown_state}
 

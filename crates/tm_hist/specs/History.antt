@@ -1,10 +1,10 @@
 -- Lists of steps, as they are kept: of each step its core and its outcome.
 use Rattle.std.specs.Prelude.{ℕ, List, map}
 use Rattle.ia_word.specs.Bytes.{long_of}
-use Rattle.tm_core.specs.TmModel.Outcome.{Outcome}
-use Rattle.tm_core.specs.TmModel.Outcome.TheVariants.{Plain, Loaded, Stopped, Idle, Begun, Inside}
-use Rattle.tm_core.specs.TmModel.Outcome.TheVariants.{Committed, Aborted, AbortedBy}
-use Rattle.tm_core.specs.TmModel.Interference.TheVariants.{Interrupt, Eviction, Snoop}
+use Rattle.tm_model.specs.declared.outcome.Outcome.{Outcome}
+use Rattle.tm_model.specs.declared.outcome.Outcome.TheVariants.{Plain, Loaded, Stopped, Idle, Begun, Inside}
+use Rattle.tm_model.specs.declared.outcome.Outcome.TheVariants.{Committed, Aborted, AbortedBy}
+use Rattle.tm_model.specs.declared.outcome.Interference.TheVariants.{Interrupt, Eviction, Snoop}
 use Rattle.tm_hist.specs.declared.pair.PackedOutcome.{PackedOutcome}
 use Rattle.tm_hist.specs.declared.pair.PackedOutcome.TheVariants as kept
 use Rattle.tm_hist.specs.declared.pair.Pair.{Pair}

@@ -5,8 +5,4 @@ pub mod History
 pub mod Board
 pub mod BoardFaults
 pub mod Replay
-pub mod TmCore
-pub mod TmModel
-pub mod TmRule
-pub mod IaImage
 pub mod Back

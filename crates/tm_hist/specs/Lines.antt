@@ -11,12 +11,12 @@ use Rattle.ia_regs.specs.declared.flags.Flags.{Flags}
 use Rattle.tm_rule.specs.declared.kinds.Stop.TheVariants as stop
 use Rattle.ia_regs.specs.declared.Regs.{Regs}
 use Rattle.tm_rule.specs.declared.kinds.Stop.{Stop}
-use Rattle.tm_core.specs.TmModel.CoreState.{CoreState}
-use Rattle.tm_core.specs.TmModel.Outcome.{Outcome}
-use Rattle.tm_core.specs.TmModel.CoreState.TheVariants as state
-use Rattle.tm_core.specs.TmModel.Outcome.TheVariants as outcome
-use Rattle.tm_core.specs.TmModel.Interference.{Interference}
-use Rattle.tm_core.specs.TmModel.Interference.TheVariants as interference
+use Rattle.tm_model.specs.declared.outcome.CoreState.{CoreState}
+use Rattle.tm_model.specs.declared.outcome.Outcome.{Outcome}
+use Rattle.tm_model.specs.declared.outcome.CoreState.TheVariants as state
+use Rattle.tm_model.specs.declared.outcome.Outcome.TheVariants as outcome
+use Rattle.tm_model.specs.declared.outcome.Interference.{Interference}
+use Rattle.tm_model.specs.declared.outcome.Interference.TheVariants as interference
 use Rattle.tm_core.specs.Theorem.{ShownMachine}
 use Rattle.tm_hist.specs.Machine.{core_count, shown_regs, shown_state}
 

@@ -1,7 +1,7 @@
 -- What a machine shows of its cores.
 use Rattle.std.specs.Prelude.{ℕ, length}
 use Rattle.ia_regs.specs.declared.Regs.{Regs}
-use Rattle.tm_core.specs.TmModel.CoreState.{CoreState}
+use Rattle.tm_model.specs.declared.outcome.CoreState.{CoreState}
 use Rattle.tm_core.specs.Theorem.{ShownMachine, view_at}
 
 abbrev pub core_count : ShownMachine → ℕ

@@ -1,9 +1,9 @@
 -- What a serial run is of a program and a history.
 use Rattle.std.specs.Prelude.{◌≡◌, ℕ, ◌<◌, List, length, map}
-use Rattle.tm_core.specs.IaImage.Program.{ProgramValue as Program}
-use Rattle.tm_core.specs.TmModel.Outcome.{Outcome}
-use Rattle.tm_core.specs.TmModel.Setting.{program_setting}
-use Rattle.tm_core.specs.TmModel.State.{Core, opening_state}
+use Rattle.ia_image.specs.Program.{ProgramValue as Program}
+use Rattle.tm_model.specs.declared.outcome.Outcome.{Outcome}
+use Rattle.tm_model.specs.Setting.{program_setting}
+use Rattle.tm_model.specs.State.{Core, opening_state}
 use Rattle.tm_core.specs.Theorem.{view_at}
 use Rattle.tm_hist.specs.Board.{ShownBoard as Board, stop_shown}
 use Rattle.tm_hist.specs.Serial.{EndsWith, IsStuck, base_of, core_at, core_of, stop_of}

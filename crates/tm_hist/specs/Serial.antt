@@ -1,18 +1,18 @@
 -- A run on one flat memory, as it is replayed. No limit on lines is asked in a run: the settings here have 0.
 use Rattle.std.specs.Prelude.{◌≡◌, ℕ, ◌+◌, ◌-◌, ◌<◌, List, [], ◌∷◌, length, take, slice_index_or, slice_set, nat_lt}
 use Rattle.std.specs.Prelude.{if◌then◌else◌, option_and_then, Option, Some, None}
-use Rattle.tm_core.specs.IaImage.Program.{ProgramValue as Program, start_regs}
+use Rattle.ia_image.specs.Program.{ProgramValue as Program, start_regs}
 use Rattle.ia_regs.specs.declared.Regs.{Regs}
 use Rattle.tm_rule.specs.declared.kinds.Stop.{Stop}
 use Rattle.tm_rule.specs.declared.kinds.OutsideResult.{OutsideResult}
 use Rattle.tm_rule.specs.declared.kinds.OutsideResult.TheVariants.{Goes, Begins, Stops}
 use Rattle.tm_rule.specs.declared.kinds.InsideResult.{InsideResult}
 use Rattle.tm_rule.specs.declared.kinds.InsideResult.TheVariants.{GoesOn, Nests, Ends, Fails}
-use Rattle.tm_core.specs.TmModel.Outcome.{Outcome}
-use Rattle.tm_core.specs.TmModel.Access.{memory_after, stores_of}
-use Rattle.tm_core.specs.TmModel.Setting.{Setting}
-use Rattle.tm_core.specs.TmModel.State.{Closed, Core, Halted, Midway, Opened, State}
-use Rattle.tm_core.specs.TmModel.Steps.{after_step_of, run}
+use Rattle.tm_model.specs.declared.outcome.Outcome.{Outcome}
+use Rattle.tm_model.specs.Access.{memory_after, stores_of}
+use Rattle.tm_model.specs.Setting.{Setting}
+use Rattle.tm_model.specs.State.{Closed, Core, Halted, Midway, Opened, State}
+use Rattle.tm_model.specs.Steps.{after_step_of, run}
 use Rattle.tm_hist.specs.declared.flat.FlatBody.{FlatBody}
 use Rattle.tm_hist.specs.declared.replay.SerialFault.{SerialFault}
 use Rattle.tm_hist.specs.declared.replay.SerialFault.TheVariants.{NotARun, NoMemory}

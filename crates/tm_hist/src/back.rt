@@ -12,7 +12,7 @@ ghost use Rattle.tm_hist.specs.Board.{IsFull, IsNew, IsOwedNext, SameBoard, bad_
 use crate::board::{Board, BoardFault, StepFault};
 use std::alloc::Global;
 use thiserror::Error;
-use tm_core::{Outcome, Pick};
+use tm_model::{Outcome, Pick};
 
 /// Why the first steps were not made once more.
 #[derive(Clone, Copy, PartialEq, Eq, Debug, Drop, Error)]

@@ -9,7 +9,7 @@ ghost use Rattle.std.specs.Prelude.{◌≡◌, ◌↔◌, ◌⊎◌, ◌<◌, �
 ghost use Rattle.std.specs.Prelude.{◌-◌, None, Some, false, length, min, true};
 ghost use Rattle.tm_core.specs.AtOnce.{IsDoneOnRegisters};
 ghost use Rattle.tm_core.specs.Machine.{bad_limits};
-ghost use Rattle.tm_core.specs.TmModel.Runs.{event_told};
+ghost use Rattle.tm_model.specs.Runs.{event_told};
 ghost use Rattle.tm_hist.specs.Board.{AreSteps, IsFull, IsHistory, IsNew, IsOwedNext, IsStopped, SameBoard};
 ghost use Rattle.tm_hist.specs.Board.{TellsAsShown, bad_limit};
 ghost use Rattle.tm_hist.specs.BoardFaults.{board_code, step_code};
@@ -23,12 +23,12 @@ use crate::one_memory::serial;
 use crate::pair::Pair;
 use crate::replay::{Serial, SerialFault};
 use crate::whole::{push_plain, push_transaction};
+use ia_image::Program;
 use std::alloc::Global;
 use std::marker::Model;
 use thiserror::Error;
-use tm_core::{
-    CoreState, Event, Limits, Machine, MachineFault, MachineMemory, NoSuchCore, Outcome, Program,
-};
+use tm_core::{Limits, Machine, MachineFault, MachineMemory, NoSuchCore};
+use tm_model::{CoreState, Event, Outcome};
 
 /// Why no board was made.
 #[derive(Clone, Copy, PartialEq, Eq, Debug, Drop, Error)]
@@ -104,8 +104,8 @@ impl Model for Board {
     ghost use Rattle.std.specs.Prelude.{map, vec_capacity};
     ghost use Rattle.ia_regs.specs.contracts.Regs.{the_row as regs_row};
     ghost use Rattle.tm_core.specs.contracts.limits.Limits.{the_row as limits_row};
-    ghost use Rattle.tm_core.specs.TmModel.CoreStateContract.{the_row as state_row};
-    ghost use Rattle.tm_core.specs.TmModel.OutcomeContract.{the_row as outcome_row};
+    ghost use Rattle.tm_model.specs.contracts.outcome.CoreState.{the_row as state_row};
+    ghost use Rattle.tm_model.specs.contracts.outcome.Outcome.{the_row as outcome_row};
     ghost use Rattle.tm_core.specs.Machine.{shown_code};
     ghost use Rattle.tm_hist.specs.History.{pair_of};
     ghost use Rattle.tm_hist.specs.Board.{ShownBoard, board_code, IsBoard};

@@ -6,11 +6,11 @@
 
 ghost use Rattle.std.specs.Prelude.{◌≡◌, ◌==◌, length, map};
 ghost use Rattle.std.specs.List.{slice_get};
-ghost use Rattle.tm_core.specs.TmModel.Runs.{event_told, pick_of, picks_of};
+ghost use Rattle.tm_model.specs.Runs.{event_told, pick_of, picks_of};
 ghost use Rattle.tm_hist.specs.History.{pair_of, pairs_in, pairs_of};
 
 use crate::pair::Pair;
-use tm_core::{Event, Outcome, Pick};
+use tm_model::{Event, Outcome, Pick};
 
 /// A list of steps, which it borrows. Copying it copies no step.
 #[derive(Clone, Copy, Debug)]

@@ -36,7 +36,3 @@ pub use lines::{
 };
 pub use one_memory::serial;
 pub use replay::{Serial, SerialFault};
-pub use tm_core::{
-    AbortReason, CoreState, Counts, Event, Interference, Kind, Limits, Machine, MachineFault,
-    MachineMemory, Outcome, Pick, Program, Reach, RunFault, Stop, memory,
-};

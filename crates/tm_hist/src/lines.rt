@@ -16,7 +16,8 @@ use ia_regs::{Flags, Regs};
 use text_out::page::{push, push_bytes, push_eight};
 use text_out::text_line::{TextLine, push_number};
 use text_out::{Out, WriteFault};
-use tm_core::{CoreState, Interference, Machine, Outcome};
+use tm_core::Machine;
+use tm_model::{CoreState, Interference, Outcome};
 use tm_rule::Stop;
 
 /// The word of a stop.

@@ -7,9 +7,9 @@
 ghost use Rattle.std.specs.Prelude.{◌≡◌, ◌⊎◌, ◌-◌, ◌≤◌, ◌<◌, [], ◌∷◌, ◌++◌, length, map, replicate, Some, IfOk, OnOk};
 ghost use Rattle.std.specs.Prelude.{IfErr};
 ghost use Rattle.std.specs.List.{AllByRecursion, range_with_len};
-ghost use Rattle.tm_core.specs.IaImage.Program.{opening_memory};
+ghost use Rattle.ia_image.specs.Program.{opening_memory};
 ghost use Rattle.ia_row.specs.Lines.{AreLines};
-ghost use Rattle.tm_core.specs.TmModel.Setting.{setting_of};
+ghost use Rattle.tm_model.specs.Setting.{setting_of};
 ghost use Rattle.tm_hist.specs.History.{pair_of, pairs_of};
 ghost use Rattle.tm_hist.specs.Replay.{IsRefused, IsReplay};
 ghost use Rattle.tm_hist.specs.Serial.{ListStuck, core_of, first_core, list_run, steps_of};
@@ -19,9 +19,11 @@ use crate::pair::Pair;
 use crate::replay::{Serial, SerialFault};
 use crate::serial_core::SerialCore;
 use crate::step::step;
+use ia_image::Program;
 use ia_row::Line;
 use std::alloc::Global;
-use tm_core::{Outcome, Program, start_regs};
+use tm_core::start_regs;
+use tm_model::Outcome;
 use tm_rule::Code;
 
 // Runs the steps of a board; where that fails, the index of the first at which they are no run.

@@ -7,7 +7,8 @@ ghost use Rattle.std.specs.Prelude.{◌≡◌};
 ghost use Rattle.tm_hist.specs.History.{outcome_of, pair_of};
 
 use ia_word::{from_le, le_bytes};
-use tm_core::{Interference, Outcome, Stop};
+use tm_model::{Interference, Outcome};
+use tm_rule::Stop;
 
 /// An outcome, with the status of an abort in bytes, so that it needs no alignment.
 #[derive(Clone, Copy, Debug)]

@@ -9,12 +9,12 @@ ghost use Rattle.std.specs.Prelude.{◌≡◌, ℕ, ◌+◌, ◌<◌, ◌^◌, �
 ghost use Rattle.std.specs.Prelude.{if◌then◌else◌};
 ghost use Rattle.std.specs.List.{AllByRecursion};
 ghost use Rattle.ia_row.specs.Lines.{AreLines};
-ghost use Rattle.tm_core.specs.TmModel.Setting.{outside_at, setting_of, value_at};
-ghost use Rattle.tm_core.specs.TmModel.State.{Closed, Halted, Midway, Opened};
+ghost use Rattle.tm_model.specs.Setting.{outside_at, setting_of, value_at};
+ghost use Rattle.tm_model.specs.State.{Closed, Halted, Midway, Opened};
 ghost use Rattle.tm_rule.specs.Rule.{StandsAt, outside_of};
-ghost use Rattle.tm_core.specs.TmModel.Steps.{after_load, after_begin, after_plain, after_step_of, after_stop};
-ghost use Rattle.tm_core.specs.TmModel.Steps.{registers_after_abort};
-ghost use Rattle.tm_core.specs.TmModel.Steps.{stop_number};
+ghost use Rattle.tm_model.specs.Steps.{after_load, after_begin, after_plain, after_step_of, after_stop};
+ghost use Rattle.tm_model.specs.Steps.{registers_after_abort};
+ghost use Rattle.tm_model.specs.Steps.{stop_number};
 ghost use Rattle.tm_hist.specs.History.{outcome_of, pair_of};
 ghost use Rattle.tm_hist.specs.Serial.{core_of, list_step, steps_of};
 
@@ -22,11 +22,13 @@ use crate::flat::{outside_on, outside_with, run_body, value_on};
 use crate::pair::{PackedOutcome, Pair};
 use crate::serial_core::SerialCore;
 use crate::usual::usual_step;
+use ia_decode::Decoded;
 use ia_regs::Regs;
 use ia_row::Line;
-use tm_core::memory::write;
-use tm_core::{Outcome, takes_two_steps};
-use tm_rule::{Code, Decoded, OutsideResult, Stop, fallback, fetch, row};
+use tm_core::takes_two_steps;
+use tm_model::Outcome;
+use tm_rule::{Code, OutsideResult, Stop, fallback, fetch, row};
+use tm_whole::memory::write;
 
 // One instruction outside of transactions that goes on.
 fn plain_step(

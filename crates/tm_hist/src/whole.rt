@@ -8,7 +8,7 @@ ghost use Rattle.tm_core.specs.Theorem.{plain_steps, transaction_of};
 ghost use Rattle.tm_hist.specs.History.{pair_of};
 
 use crate::pair::Pair;
-use tm_core::Outcome;
+use tm_model::Outcome;
 
 /// Keeps a core's transaction: its XBEGIN, so many instructions inside, and the XEND that commits it.
 pub fn push_transaction(made: &mut Vec<Pair>, core: u8, inside: u32)

@@ -3,8 +3,8 @@ use Rattle.std.proofs.Common.{◌≡◌, ℕ, zero, suc, ◌+◌, ◌<◌, ◌�
 use Rattle.std.proofs.lemmas.List.{map-append, take-append-drop}
 use Rattle.tm_core.specs.Theorem.{IsRun, SameMachine, ShownMachine as Machine, StandsFor, machine_setting, view_at}
 use Rattle.tm_hist.specs.Board.{ShownBoard as Board}
-use Rattle.tm_hist.specs.TmModel.Runs.{AreOwed, doomed_at_end, event_told, pick_of, picks_of}
-use Rattle.tm_hist.specs.TmModel.Steps.{run}
+use Rattle.tm_model.specs.Runs.{AreOwed, doomed_at_end, event_told, pick_of, picks_of}
+use Rattle.tm_model.specs.Steps.{run}
 use Rattle.tm_model.specs.Conflicts.{Doomed}
 use Rattle.tm_model.specs.Setting.{Setting}
 use Rattle.tm_model.specs.Shown.{view_of}

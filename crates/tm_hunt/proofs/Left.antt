@@ -10,7 +10,7 @@ use Rattle.tm_core.specs.Theorem.{machine_setting, view_at}
 use Rattle.tm_core.specs.declared.limits.Limits.{Limits}
 use Rattle.tm_hist.specs.Board.{IsHistory, IsStopped, SameBoard, ShownBoard as Board, board_setting, stop_shown}
 use Rattle.tm_hist.specs.Machine.{core_count, shown_state}
-use Rattle.tm_hist.specs.TmModel.Runs.{doomed_at_end}
+use Rattle.tm_model.specs.Runs.{doomed_at_end}
 use Rattle.tm_model.specs.Setting.{program_setting}
 use Rattle.tm_model.specs.State.{State, opening_state}
 use Rattle.tm_model.specs.Steps.{run, step}

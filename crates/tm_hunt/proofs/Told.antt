@@ -9,7 +9,7 @@ use Rattle.tm_model.specs.declared.outcome.Pick.{Pick}
 use Rattle.tm_model.specs.declared.outcome.CoreState.{CoreState}
 use Rattle.tm_model.specs.declared.outcome.CoreState.TheVariants.{Running, Mid, Open, Condemned, Stopped}
 use Rattle.tm_hist.specs.Board.{TellsAsShown}
-use Rattle.tm_hist.specs.TmModel.Runs.{event_told, pick_of, picks_of}
+use Rattle.tm_model.specs.Runs.{event_told, pick_of, picks_of}
 use Rattle.tm_pick.specs.Kinds.{AreOfKinds, IsOfKinds}
 use Rattle.tm_pick.specs.declared.kinds.Kinds.{Kinds}
 

@@ -3,7 +3,7 @@ use Rattle.std.specs.Prelude.{◌≡◌, ⊤, ℕ, suc, ◌+◌, ◌<◌, ◌≤
 use Rattle.tm_check.specs.Checks.{HasEnded, IsViolatedAt, NoneViolated}
 use Rattle.tm_core.specs.Machine.{bad_limits}
 use Rattle.tm_hist.specs.Board.{IsFull, ShownBoard as Board, bad_limit}
-use Rattle.tm_hist.specs.TmModel.Runs.{picks_of}
+use Rattle.tm_model.specs.Runs.{picks_of}
 use Rattle.tm_hist.specs.declared.board.BoardFault.{BoardFault}
 use Rattle.tm_hist.specs.declared.board.BoardFault.TheVariants.{BadLimit, BadLimits, NoMachine, NoMemory as NoHistory}
 use Rattle.tm_hunt.specs.Hunt.{Fails, RunsTo}

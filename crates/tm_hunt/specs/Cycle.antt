@@ -4,13 +4,13 @@ use Rattle.std.specs.Prelude.{Option, Some, None, drop, take}
 use Rattle.tm_core.specs.Theorem.{IsRun, ShownMachine as Machine, machine_setting, view_at}
 use Rattle.tm_hist.specs.Board.{ShownBoard as Board, stop_shown}
 use Rattle.tm_hist.specs.Machine.{shown_state}
-use Rattle.tm_hist.specs.TmModel.Runs.{picks_of}
+use Rattle.tm_model.specs.Runs.{picks_of}
 use Rattle.tm_model.specs.Conflicts.{Doomed}
 use Rattle.tm_model.specs.Setting.{Setting, program_setting}
 use Rattle.tm_model.specs.State.{State, opening_state}
 use Rattle.tm_model.specs.declared.outcome.Outcome.{Outcome}
 use Rattle.tm_model.specs.declared.outcome.Pick.{Pick}
-use Rattle.tm_hist.specs.TmRule.Stop.{Stop}
+use Rattle.tm_rule.specs.declared.kinds.Stop.{Stop}
 use Rattle.tm_hunt.specs.Cost.{events_in}
 use Rattle.tm_hunt.specs.Hunt.{RunsTo}
 use Rattle.tm_hunt.specs.declared.cycle.Cycle.{Cycle}

@@ -1,7 +1,7 @@
 -- What a search for a failing schedule comes to.
 use Rattle.std.specs.Prelude.{◌≡◌, ◌⊎◌, ℕ, List}
 use Rattle.tm_model.specs.declared.outcome.Pick.{Pick}
-use Rattle.tm_hist.specs.TmModel.Runs.{picks_of}
+use Rattle.tm_model.specs.Runs.{picks_of}
 use Rattle.tm_hist.specs.Board.{IsFull, IsHistory, ShownBoard as Board}
 use Rattle.tm_check.specs.Checks.{HasEnded, IsViolatedAt}
 use Rattle.tm_hunt.specs.declared.trial.Trial.{Trial}

@@ -3,7 +3,7 @@ use Rattle.std.specs.Prelude.{◌≡◌, ◌<◌, ◌↔◌, ℕ, List, [], ◌�
 use Rattle.tm_core.specs.Theorem.{ShownMachine as Machine}
 use Rattle.tm_hist.specs.Board.{IsHistory, IsOwedNext, IsStopped, SameBoard, ShownBoard as Board}
 use Rattle.tm_hist.specs.Machine.{core_count}
-use Rattle.tm_hist.specs.TmModel.Runs.{picks_of}
+use Rattle.tm_model.specs.Runs.{picks_of}
 use Rattle.tm_model.specs.declared.outcome.Outcome.{Outcome}
 use Rattle.tm_model.specs.declared.outcome.Pick.{Pick}
 use Rattle.tm_pick.specs.Drawn.{AreDrawn}

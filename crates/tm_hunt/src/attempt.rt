@@ -5,7 +5,7 @@
 //! next run. [`usual_length`] makes a run that is not judged.
 
 ghost use Rattle.std.specs.Prelude.{◌≡◌, ◌≤◌, IfErr, IfOk};
-ghost use Rattle.tm_hist.specs.TmModel.Runs.{picks_of};
+ghost use Rattle.tm_model.specs.Runs.{picks_of};
 ghost use Rattle.tm_hist.specs.History.{pairs_of};
 ghost use Rattle.tm_hunt.specs.declared.attempt.HuntFault.TheVariants.{Board as OfBoard, NoMemory};
 ghost use Rattle.tm_hunt.specs.Attempts.{ComesTo, IsAttempt, IsRefusal};

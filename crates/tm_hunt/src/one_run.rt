@@ -7,8 +7,8 @@
 ghost use Rattle.std.specs.Prelude.{◌≡◌, ◌≢◌, ◌↔◌, ◌<◌, ◌+◌, ◌++◌, ◌∷◌, ◌⊎◌, [], ℕ, All, Contains, IfErr, IfOk, IsTrue};
 ghost use Rattle.std.specs.Prelude.{None, Some, length};
 ghost use Rattle.tm_hist.specs.Board.{IsOwedNext, SameBoard};
-ghost use Rattle.tm_hist.specs.TmModel.Runs.{event_told, picks_of};
-ghost use Rattle.tm_hist.specs.TmRule.Stop.{Stop};
+ghost use Rattle.tm_model.specs.Runs.{event_told, picks_of};
+ghost use Rattle.tm_rule.specs.declared.kinds.Stop.{Stop};
 ghost use Rattle.tm_pick.specs.Kinds.{AreOfKinds, IsOfKinds};
 ghost use Rattle.tm_pick.specs.declared.kinds.Kinds.{Kinds};
 ghost use Rattle.tm_hunt.specs.Attempts.{IsBoardRefusal};
@@ -19,10 +19,10 @@ use crate::source::StepSource;
 use crate::trial::Trial;
 use std::alloc::Global;
 use tm_check::{Check, first_violated};
-use tm_core::{Outcome, Stop};
 use tm_hist::{Board, BoardFault};
-use tm_model::{Event, Pick};
+use tm_model::{Event, Outcome, Pick};
 use tm_pick::Going;
+use tm_rule::Stop;
 
 /// The board of a trial, before its first step.
 pub fn board_of(alloc: Global, trial: &Trial<'_>) -> Result<Board, BoardFault>

@@ -10,8 +10,8 @@ ghost use Rattle.tm_hist.specs.Machine.{shown_state};
 ghost use Rattle.tm_hunt.specs.Cycle.{AreRounds, EachOnce, IsAgain, IsRound, steps_by, turns_of};
 
 use crate::cost::events;
-use tm_core::{CoreState, Machine};
-use tm_model::Pick;
+use tm_core::Machine;
+use tm_model::{CoreState, Pick};
 
 /// How many steps a round has at the end of a list in which each core that has not stopped steps in turn: as many as it is
 /// from the last step of a core to the one before it. None where the core of the last step has no other.

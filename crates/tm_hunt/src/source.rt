@@ -13,7 +13,8 @@ ghost use Rattle.tm_pick.specs.declared.kinds.Kinds.{Kinds};
 ghost use Rattle.tm_pick.specs.declared.method.Plan.{Plan};
 ghost use Rattle.tm_hunt.specs.Sources.{BeginsByPlan, PicksNext};
 
-use tm_core::{Machine, Program};
+use ia_image::Program;
+use tm_core::Machine;
 use tm_model::Pick;
 use tm_pick::{Going, Picker, Plan};
 

@@ -6,15 +6,15 @@
 
 ghost use Rattle.std.specs.Prelude.{◌≡◌, ◌-◌, ◌∷◌, [], IfErr, IfOk, IsTrue, length};
 ghost use Rattle.tm_core.specs.Theorem.{SameMachine};
-ghost use Rattle.tm_hist.specs.TmModel.Runs.{event_told};
+ghost use Rattle.tm_model.specs.Runs.{event_told};
 ghost use Rattle.tm_hunt.specs.Attempts.{IsBoardRefusal};
 ghost use Rattle.tm_hunt.specs.Cycle.{IsMachineOf, Makes};
 
 use crate::trial::Trial;
 use std::alloc::Global;
-use tm_core::{Event, Machine, MachineFault, Outcome};
+use tm_core::{Machine, MachineFault};
 use tm_hist::BoardFault;
-use tm_model::Pick;
+use tm_model::{Event, Outcome, Pick};
 
 /// A machine of a trial's program, before its first step.
 pub fn machine_of(alloc: Global, trial: &Trial<'_>) -> Result<Machine, BoardFault>

@@ -4,19 +4,19 @@ use Rattle.std.specs.Prelude.{◌≡◌, ℕ, List, [], ◌∷◌, ◌++◌, Opt
 use Rattle.std.specs.Prelude.{None, replicate, slice_index, nat_eq, if◌then◌else◌, refl}
 use Rattle.std.proofs.Common.{subst, sym}
 use Rattle.ia_regs.specs.Flags.{has_carry, has_parity, has_adjust, has_zero, has_sign, has_overflow, flags_of}
-use Rattle.tm_rule.specs.IaInsn.Reading.{signed_at, disp_at, base_at, mem_at, operand_at, head_at, modrm_at, op_at, insn_at}
-use Rattle.tm_rule.specs.IaInsn.Reading.{decoding_of}
-use Rattle.tm_rule.specs.IaInsn.Table.{alu_row, row_40, row_80, row_A0, row_C0, one_byte, two_byte, behind_f3}
-use Rattle.tm_rule.specs.IaAddr.Address.{address_of}
-use Rattle.tm_rule.specs.IaAddr.Load.{read_of, pair_of, op_load, load_of}
-use Rattle.tm_rule.specs.IaAlu.Bits.{bit_value}
-use Rattle.tm_rule.specs.IaAlu.Numbers.{signed_value, overflows}
-use Rattle.tm_rule.specs.IaAlu.Ops.{logic_flags, alu_value, alu_flags, inc_dec_value, inc_dec_flags}
-use Rattle.tm_rule.specs.IaAlu.Sums.{sum_flags, difference_flags}
-use Rattle.tm_rule.specs.IaExec.Arithmetic.{alu_of, bit_of, cmpxchg_of, exchange_of}
-use Rattle.tm_rule.specs.IaExec.Laws.{fallback_of}
-use Rattle.tm_rule.specs.IaExec.Table.{control_of, move_of, effect_of, unary_of, bare_of, done_of, finish_of}
-use Rattle.tm_rule.specs.IaExec.Words.{value_of, put_of}
+use Rattle.ia_insn.specs.Reading.{signed_at, disp_at, base_at, mem_at, operand_at, head_at, modrm_at, op_at, insn_at}
+use Rattle.ia_insn.specs.Reading.{decoding_of}
+use Rattle.ia_insn.specs.Table.{alu_row, row_40, row_80, row_A0, row_C0, one_byte, two_byte, behind_f3}
+use Rattle.ia_addr.specs.Address.{address_of}
+use Rattle.ia_addr.specs.Load.{read_of, pair_of, op_load, load_of}
+use Rattle.ia_alu.specs.Bits.{bit_value}
+use Rattle.ia_alu.specs.Numbers.{signed_value, overflows}
+use Rattle.ia_alu.specs.Ops.{logic_flags, alu_value, alu_flags, inc_dec_value, inc_dec_flags}
+use Rattle.ia_alu.specs.Sums.{sum_flags, difference_flags}
+use Rattle.ia_exec.specs.Arithmetic.{alu_of, bit_of, cmpxchg_of, exchange_of}
+use Rattle.ia_exec.specs.Laws.{fallback_of}
+use Rattle.ia_exec.specs.Table.{control_of, move_of, effect_of, unary_of, bare_of, done_of, finish_of}
+use Rattle.ia_exec.specs.Words.{value_of, put_of}
 use Rattle.tm_rule.specs.Rule.{fetched, load_at, outside_of, inside_of, fallback_of as rule_fallback_of}
 use Rattle.tm_rule.specs.declared.kinds.Stop.TheVariants as why
 use Rattle.tm_model.specs.Conflicts.{Doomed}

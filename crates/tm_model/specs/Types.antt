@@ -3,8 +3,8 @@
 pub use Rattle.ia_word.specs.declared.width.Width.{Width}
 pub use Rattle.ia_word.specs.declared.width.Width.TheVariants.{B, D}
 pub use Rattle.ia_regs.specs.declared.Regs.{Regs}
-pub use Rattle.tm_rule.specs.IaAddr.Access.{Access}
-pub use Rattle.tm_rule.specs.IaExec.Store.{Store}
+pub use Rattle.ia_addr.specs.declared.Access.{Access}
+pub use Rattle.ia_exec.specs.declared.done.Store.{Store}
 pub use Rattle.tm_status.specs.declared.cause.Cause.{Cause}
 pub use Rattle.tm_status.specs.declared.cause.Cause.TheVariants.{Conflict, Capacity}
 pub use Rattle.tm_rule.specs.declared.kinds.Stop.{Stop}

@@ -1,7 +1,7 @@
 -- The run of a schedule: a list of picks, each of which is the step of a core that is owed, under an event or under
 -- none. A schedule decides its run.
 use Rattle.std.specs.Prelude.{◌≡◌, ℕ, ◌<◌, List, [], ◌∷◌, Option, Some, None, option_map, option_and_then}
-use Rattle.tm_core.specs.IaImage.Program.{ProgramValue as Program}
+use Rattle.ia_image.specs.Program.{ProgramValue as Program}
 use Rattle.tm_model.specs.Conflicts.{Doomed, doomed_after}
 use Rattle.tm_model.specs.Owed.{owed_under}
 use Rattle.tm_model.specs.Setting.{Setting}

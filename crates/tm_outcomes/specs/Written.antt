@@ -1,6 +1,6 @@
 -- The lines that the steps of a search have stored to, outside of which memory is what it was before the first step.
 use Rattle.std.specs.Prelude.{◌≡◌, ⊤, ℕ, ◌<◌, List, ◌++◌, Contains, Option, Some, None, length}
-use Rattle.tm_core.specs.IaImage.Program.{opening_memory}
+use Rattle.ia_image.specs.Program.{opening_memory}
 use Rattle.tm_core.specs.Reopening.{IsSameElsewhere}
 use Rattle.tm_model.specs.Setting.{Setting}
 use Rattle.tm_model.specs.declared.outcome.Event.{Event}

@@ -52,8 +52,6 @@ pub use searching::{Search, outcomes, outcomes_watched};
 pub use stops::ReachedStop;
 pub use stuck::Stuck;
 pub use table::Told;
-pub use tm_model::{Event, Interference, Pick};
-pub use tm_rule::Stop;
 pub use trial::{Events, Item, Trial};
 pub use violations::Violation;
 pub use watching::{Unwatched, Watching};

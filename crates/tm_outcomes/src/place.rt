@@ -29,10 +29,10 @@ use ia_regs::Regs;
 use ia_word::Width;
 use std::alloc::{AllocError, Global};
 use tm_condition::Check;
-use tm_core::memory::read;
-use tm_core::{CoreState, Machine, MachineFault, NoSuchCore, Outcome};
-use tm_model::Pick;
+use tm_core::{Machine, MachineFault, NoSuchCore};
+use tm_model::{CoreState, Outcome, Pick};
 use tm_rule::Stop;
+use tm_whole::memory::read;
 
 /// A machine at the end of a schedule.
 #[derive(Drop)]

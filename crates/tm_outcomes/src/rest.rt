@@ -18,11 +18,12 @@ ghost use Rattle.tm_outcomes.specs.Unseen.{are_none, is_unseen, touches_nothing}
 
 use crate::place::Place;
 use crate::trial::{Events, Trial};
+use ia_addr::Access;
+use ia_image::Program;
 use ia_regs::Regs;
 use std::alloc::{AllocError, Global};
-use tm_core::{CoreState, Program};
-use tm_model::{Event, Pick};
-use tm_rule::{Access, Code, fetch, load_at, row};
+use tm_model::{CoreState, Event, Pick};
+use tm_rule::{Code, fetch, load_at, row};
 
 /// The most steps that are made at once: one that is followed, and behind it at most 4096 that no other core sees,
 /// since a core may never see memory again.

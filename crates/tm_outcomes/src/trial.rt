@@ -6,8 +6,9 @@
 ghost use Rattle.std.specs.Prelude.{◌↔◌, IsTrue};
 ghost use Rattle.tm_outcomes.specs.Outcomes.{AreThere, IsThere};
 
+use ia_image::Program;
 use tm_condition::Check;
-use tm_core::{Limits, Program};
+use tm_core::Limits;
 use tm_model::Event;
 use tm_rule::Stop;
 

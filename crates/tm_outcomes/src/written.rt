@@ -5,7 +5,7 @@
 //! machines are compared, copied and taken back (`place`).
 
 ghost use Rattle.std.specs.Prelude.{◌≡◌, ◌↔◌, ◌/◌, ◌<◌, ◌^◌, ℕ, Contains, IfOk, OnOk, false, length, true};
-ghost use Rattle.tm_core.specs.IaImage.Program.{opening_memory as memory_of};
+ghost use Rattle.ia_image.specs.Program.{opening_memory as memory_of};
 ghost use Rattle.tm_core.specs.Theorem.{StandsFor, machine_setting, view_at};
 ghost use Rattle.tm_model.specs.Access.{loaded_addresses};
 ghost use Rattle.tm_outcomes.specs.Places.{is_open};
@@ -13,9 +13,11 @@ ghost use Rattle.tm_outcomes.specs.Schedules.{Situation};
 ghost use Rattle.tm_outcomes.specs.Written.{HasMore, StoresOn};
 
 use crate::trial::Trial;
+use ia_addr::Access;
 use std::alloc::{AllocError, Global};
-use tm_core::{CoreState, Kind, Machine, opening_memory};
-use tm_rule::Access;
+use tm_core::{Machine, opening_memory};
+use tm_model::CoreState;
+use tm_sets::Kind;
 
 /// Memory before the first step, and the lines of 64 bytes that steps of a search store to. Outside of these lines memory
 /// is at each state of the search what it was before the first step.

@@ -23,7 +23,7 @@ use Rattle.tm_core.specs.Theorem.{ShownMachine, machine_setting, view_at}
 use Rattle.tm_core.specs.Types.{Aborted, AbortedBy, Begun, Committed, Condemned, Event, Idle, Inside, Loaded, Open, Outcome, Plain, Regs, Stopped}
 use Rattle.tm_core.proofs.ExplainLaws.{condemn}
 use Rattle.tm_core.proofs.Frame.{length-memory_after}
-use Rattle.tm_core.proofs.TmModel.Events.{abort_hits_nobody}
+use Rattle.tm_model.proofs.Events.{abort_hits_nobody}
 use Rattle.tm_page.proofs.Memory.{commit_kept, not_private, plain_stores, stays_there}
 use Rattle.tm_page.proofs.Moved.{BeginsHere, GoesOnHere, IsMoved, IsOut, is_opened, moved, stays_in, stores_there}
 use Rattle.tm_page.proofs.Others.{Fares, Tells, fares, other}

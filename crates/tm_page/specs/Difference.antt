@@ -4,11 +4,11 @@ use Rattle.std.specs.Prelude.{MatchOption, slice_index}
 use Rattle.std.specs.FinSet as set
 use Rattle.tm_core.specs.Seen.{byte_seen}
 use Rattle.tm_core.specs.Theorem.{SameMachine, ShownMachine, StandsFor, TakesStepUnder, machine_setting, view_at}
-use Rattle.tm_core.specs.TmModel.Access.{loaded_addresses}
-use Rattle.tm_core.specs.TmModel.Event.{Event}
-use Rattle.tm_core.specs.TmModel.Explained.{IsHitTold, IsReachTold}
-use Rattle.tm_core.specs.TmModel.Runs.{is_aborted_by}
-use Rattle.tm_core.specs.TmModel.State.{State}
+use Rattle.tm_model.specs.Access.{loaded_addresses}
+use Rattle.tm_model.specs.declared.outcome.Event.{Event}
+use Rattle.tm_model.specs.Explained.{IsHitTold, IsReachTold}
+use Rattle.tm_model.specs.Runs.{is_aborted_by}
+use Rattle.tm_model.specs.State.{State}
 use Rattle.tm_model.specs.declared.explain.Reach.{Reach}
 use Rattle.tm_page.specs.Applied.{hit_on, is_listed, patched, stored_at}
 use Rattle.tm_page.specs.Shows.{IsAddress, IsDelta, private_byte}

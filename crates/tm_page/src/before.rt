@@ -10,7 +10,8 @@ ghost use Rattle.tm_page.specs.Before.{IsBefore};
 use crate::lines::lines_of;
 use ia_regs::Regs;
 use std::alloc::Global;
-use tm_core::{Machine, Reach, RunFault};
+use tm_core::{Machine, RunFault};
+use tm_model::Reach;
 use tm_sets::Kind;
 use tm_why::Asked;
 

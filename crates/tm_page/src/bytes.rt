@@ -6,17 +6,17 @@
 
 ghost use Rattle.std.specs.Prelude.{◌≡◌, ◌<◌, ℕ, IfOk, OnOk, Some, None, if◌then◌else◌, length, nat_eq, slice_index};
 ghost use Rattle.tm_core.specs.Seen.{byte_seen};
-ghost use Rattle.tm_core.specs.TmModel.Access.{loaded_addresses};
+ghost use Rattle.tm_model.specs.Access.{loaded_addresses};
 ghost use Rattle.std.specs.Option.{option_or};
 ghost use Rattle.tm_page.specs.Applied.{is_listed, stored_at};
 ghost use Rattle.tm_page.specs.Shows.{IsAddress};
 
 use crate::delta::StoredByte;
 use arrayvec::ArrayVec;
+use ia_addr::Access;
 use ia_word::Width;
 use std::alloc::{AllocError, Global};
 use tm_core::Machine;
-use tm_rule::Access;
 
 /// The addresses of the bytes of an access.
 pub fn addresses_of(access: Option<Access>) -> ArrayVec<u64, 4>

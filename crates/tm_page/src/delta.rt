@@ -4,9 +4,9 @@
 //! `specs/Applied.antt`. It holds nothing that stays as it was, so it means something only behind the page before
 //! it.
 
+use ia_addr::Access;
 use ia_regs::Flags;
 use tm_model::{CoreState, Hit, Outcome};
-use tm_rule::Access;
 
 /// A byte that was stored.
 #[derive(Clone, Copy, PartialEq, Eq, Debug)]

@@ -7,7 +7,7 @@
 ghost use Rattle.std.specs.Prelude.{◌≡◌, ◌<◌, ◌&&◌, not, ℕ, IfOk, Ok, Some, None, if◌then◌else◌, length, slice_index_or};
 ghost use Rattle.std.specs.FinSet as set;
 ghost use Rattle.tm_core.specs.Theorem.{ShownMachine, lines_shown, view_at};
-ghost use Rattle.tm_core.specs.TmModel.Runs.{is_aborted_by};
+ghost use Rattle.tm_model.specs.Runs.{is_aborted_by};
 ghost use Rattle.tm_page.specs.Applied.{hit_on, is_listed, patched, stored_at};
 ghost use Rattle.tm_page.specs.Before.{IsBefore};
 ghost use Rattle.tm_page.specs.Difference.{IsDifference, addresses_told, byte_told};

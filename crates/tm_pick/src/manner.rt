@@ -15,7 +15,8 @@ use crate::seen::Seen;
 use crate::turn::Turn;
 use crate::unseen::is_unseen;
 use crate::waiting::is_waiting;
-use tm_core::{Machine, Program};
+use ia_image::Program;
+use tm_core::Machine;
 use tm_model::Pick;
 
 /// How steps are picked.

@@ -29,8 +29,9 @@ use crate::priorities::Priorities;
 use crate::seen::{Draws, Seen};
 use crate::tail::most_in_a_row;
 use crate::turn::Turn;
+use ia_image::Program;
 use std::marker::Model;
-use tm_core::{Machine, Program};
+use tm_core::Machine;
 use tm_model::{Event, Pick};
 
 /// What picks one step after another: its core, and the event that it comes under, if any. Contracts see the kinds of

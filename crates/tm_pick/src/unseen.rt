@@ -4,7 +4,9 @@
 //! cores are drawn. Of steps in a transaction just the abort of one that is condemned counts as such.
 //! `tm_outcomes`, whose search rests on unseen steps, has a definition of its own.
 
-use tm_core::{CoreState, Machine, Program};
+use ia_image::Program;
+use tm_core::Machine;
+use tm_model::CoreState;
 use tm_rule::{Code, fetch, load_at, row};
 
 /// Whether no other core sees the next step of a core: it loads nothing from memory and stores nothing there, and no step

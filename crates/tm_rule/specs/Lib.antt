@@ -1,6 +1,1 @@
 pub mod Rule
-pub mod IaAddr
-pub mod IaAlu
-pub mod IaDecode
-pub mod IaExec
-pub mod IaInsn

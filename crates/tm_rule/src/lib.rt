@@ -11,8 +11,6 @@
 mod kinds;
 mod rule;
 
-pub use ia_decode::Decoded;
-pub use ia_exec::{Access, Store};
 pub use kinds::{Code, Inside, InsideResult, Outside, OutsideResult, Stop};
 pub use rule::{
     fallback, fetch, inside, inside_in, load_at, load_lying, outside, outside_in, outside_lying,

@@ -8,7 +8,7 @@ use Rattle.ia_insn.specs.declared.fault.DecodeFault.{DecodeFault}
 use Rattle.ia_insn.specs.declared.op.Insn.{Insn}
 use Rattle.ia_word.specs.declared.width.Width.{Width}
 use Rattle.ia_word.specs.declared.width.Width.TheVariants.{B, D}
-use Rattle.tm_hist.specs.TmCore.Theorem.{ShownMachine as Machine, StandsFor, machine_setting, view_at}
+use Rattle.tm_core.specs.Theorem.{ShownMachine as Machine, StandsFor, machine_setting, view_at}
 use Rattle.tm_core.specs.Seen.{byte_seen}
 use Rattle.tm_model.specs.Explained.{IsReachTold}
 use Rattle.tm_model.specs.State.{State}

@@ -6,18 +6,18 @@
 
 ghost use Rattle.std.specs.Prelude.{◌≡◌, ◌↔◌, ◌<◌, ℕ, IfSome, IsSome, Option, length, true};
 ghost use Rattle.tm_core.specs.Seen.{byte_seen};
-ghost use Rattle.tm_hist.specs.TmCore.Theorem.{StandsFor, machine_setting, view_at};
+ghost use Rattle.tm_core.specs.Theorem.{StandsFor, machine_setting, view_at};
 ghost use Rattle.tm_model.specs.Explained.{IsReachTold};
 ghost use Rattle.tm_model.specs.State.{State};
 ghost use Rattle.tm_trace.specs.Deeds.{IsBefore, IsDeed, datum_seen, instruction_at, is_in_memory, last_of};
 ghost use Rattle.tm_trace.specs.Deeds.{tells_reach, value_seen};
 
+use ia_addr::Access;
 use ia_image::Program;
 use ia_insn::Insn;
 use ia_word::Width;
-use tm_hist::{Machine, Outcome};
-use tm_model::Reach;
-use tm_rule::Access;
+use tm_core::Machine;
+use tm_model::{Outcome, Reach};
 
 /// A number that a step loaded or stored.
 #[derive(Clone, Copy, PartialEq, Eq, Debug)]

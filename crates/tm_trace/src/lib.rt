@@ -9,6 +9,5 @@
 mod deed;
 mod line;
 
-pub use debug_command::{Symbol, write_place};
 pub use deed::{Before, Datum, Deed};
 pub use line::{write_deed, write_front, write_step, write_values};

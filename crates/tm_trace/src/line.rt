@@ -18,7 +18,8 @@ use ia_word::Width;
 use text_out::page::{Page, push, push_bytes, push_eight, push_hex};
 use text_out::text_line::{TextLine, push_number};
 use text_out::{Out, WriteFault};
-use tm_hist::{Outcome, interference_text, stop_text};
+use tm_hist::{interference_text, stop_text};
+use tm_model::Outcome;
 
 /// Writes the outcome line of a step, which goes on with what it did: the address, the label there or the nearest below, the
 /// instruction, and the numbers that were loaded and stored.

@@ -3,9 +3,9 @@ use Rattle.std.proofs.Common.{◌≡◌, ℕ, ◌+◌, ◌<◌, ◌≤◌, ◌==
 use Rattle.std.proofs.Common.{Some, None, refl, sym, ap, ◌∙◌, arith}
 use Rattle.std.specs.Option.{is_some, option_or}
 use Rattle.std.proofs.lemmas.Bool.{eq-eqb, ne_eqb}
-use Rattle.tm_core.specs.TmModel.Hit.{Hit}
-use Rattle.tm_core.specs.TmModel.Outcome.{Outcome}
-use Rattle.tm_core.specs.TmModel.Runs.{is_aborted_by}
+use Rattle.tm_model.specs.declared.explain.Hit.{Hit}
+use Rattle.tm_model.specs.declared.outcome.Outcome.{Outcome}
+use Rattle.tm_model.specs.Runs.{is_aborted_by}
 use Rattle.tm_why.specs.Rows.{row_after, row_after_other, row_after_own, row_if_other}
 use Rattle.tm_why.specs.Types.{Asked, StandingHit, Watched}
 use Rattle.tm_why.specs.Watched.{hit_made, hit_on, outside}

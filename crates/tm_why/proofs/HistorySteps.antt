@@ -1,7 +1,7 @@
 -- One step more of a history.
 use Rattle.std.proofs.Common.{◌≡◌, ℕ, zero, suc, ◌+◌, ◌<◌, List, [], ◌∷◌, ◌++◌, Some, sym, ◌∙◌, ap, subst, length, take, arith}
 use Rattle.std.specs.List.{slice_get}
-use Rattle.tm_hist.specs.TmModel.Outcome.{Outcome}
+use Rattle.tm_model.specs.declared.outcome.Outcome.{Outcome}
 use Rattle.tm_hist.specs.Board.{IsHistory, ShownBoard as Board}
 use Rattle.tm_hist.specs.Back.{IsFirst}
 use Rattle.tm_why.specs.Asked.{IsAsked}

@@ -3,19 +3,21 @@ use Rattle.std.proofs.Common.{◌≡◌, ◌⊎◌, inl, inr, ℕ, suc, Bool, tr
 use Rattle.std.specs.Prelude.{IsSome, MatchOption}
 use Rattle.std.specs.Option.{is_some, option_or}
 use Rattle.std.proofs.lemmas.Bool.{eqb-true, eq-eqb, true≢false}
-use Rattle.tm_core.specs.TmModel.Conflicts.{Doomed, addresses_loaded_by, addresses_stored_by, doom_after_other, doom_after_own, doomed_after}
-use Rattle.tm_core.specs.TmModel.Explained.{IsHitTold}
-use Rattle.tm_core.specs.TmModel.Owed.{owed_outcome, owed_under}
-use Rattle.tm_core.specs.TmModel.Setting.{Setting}
-use Rattle.tm_core.specs.TmModel.State.{Closed, Core, Halted, Midway, Opened, State}
-use Rattle.tm_core.specs.TmModel.Event.{Event}
-use Rattle.tm_core.specs.TmModel.Event.TheVariants as event
-use Rattle.tm_core.specs.TmModel.Interference.{Interference}
-use Rattle.tm_core.specs.TmModel.Outcome.{Outcome}
-use Rattle.tm_core.specs.TmModel.Outcome.TheVariants.{Aborted, AbortedBy, Begun, Committed, Idle, Inside, Loaded, Plain, Stopped}
-use Rattle.tm_core.specs.TmModel.Hit.{Hit}
+use Rattle.tm_model.specs.Conflicts.{Doomed, addresses_loaded_by, addresses_stored_by, doom_after_other, doom_after_own}
+use Rattle.tm_model.specs.Conflicts.{doomed_after}
+use Rattle.tm_model.specs.Explained.{IsHitTold}
+use Rattle.tm_model.specs.Owed.{owed_outcome, owed_under}
+use Rattle.tm_model.specs.Setting.{Setting}
+use Rattle.tm_model.specs.State.{Closed, Core, Halted, Midway, Opened, State}
+use Rattle.tm_model.specs.declared.outcome.Event.{Event}
+use Rattle.tm_model.specs.declared.outcome.Event.TheVariants as event
+use Rattle.tm_model.specs.declared.outcome.Interference.{Interference}
+use Rattle.tm_model.specs.declared.outcome.Outcome.{Outcome}
+use Rattle.tm_model.specs.declared.outcome.Outcome.TheVariants.{Aborted, AbortedBy, Begun, Committed, Idle, Inside}
+use Rattle.tm_model.specs.declared.outcome.Outcome.TheVariants.{Loaded, Plain, Stopped}
+use Rattle.tm_model.specs.declared.explain.Hit.{Hit}
 use Rattle.tm_core.proofs.ExplainLaws.{condemn}
-use Rattle.tm_core.proofs.TmModel.Events.{abort_hits_nobody, aborted_by_none, no_event_told}
+use Rattle.tm_model.proofs.Events.{abort_hits_nobody, aborted_by_none, no_event_told}
 use Rattle.tm_why.specs.Standing.{AreStanding, HitsStand}
 use Rattle.tm_why.specs.Types.{Asked, StandingHit}
 use Rattle.tm_why.specs.Watched.{Told, hit_in, hit_made, hit_on, left_by, standing}

@@ -1,7 +1,7 @@
 -- What a machine says of a core's next step before it is made.
 use Rattle.std.specs.Prelude.{◌≡◌, ℕ, ◌<◌, ◌≤◌, Option, None, length}
-use Rattle.tm_core.specs.TmModel.Explained.{abort_reason}
-use Rattle.tm_core.specs.TmModel.State.{State}
+use Rattle.tm_model.specs.Explained.{abort_reason}
+use Rattle.tm_model.specs.State.{State}
 use Rattle.tm_core.specs.Theorem.{ShownMachine, StandsFor, machine_setting, view_at}
 use Rattle.tm_why.specs.Said.{IsSaidOf}
 use Rattle.tm_why.specs.Types.{Asked}

@@ -6,7 +6,3 @@ pub mod Rows
 pub mod Asked
 pub mod History
 pub mod Lines
-pub mod IaImage
-pub mod TmCore
-pub mod TmHist
-pub mod TmModel

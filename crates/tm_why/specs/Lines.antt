@@ -4,8 +4,8 @@ use Rattle.std.specs.Fmt.{decimal}
 use Rattle.text_out.specs.Number.{eight_digits, hex_digits}
 use Rattle.text_out.specs.TextLine.{line_end}
 use Rattle.tm_hist.specs.Lines.{stop_word}
-use Rattle.tm_hist.specs.TmModel.AbortReason.{AbortReason}
-use Rattle.tm_hist.specs.TmModel.AbortReason.TheVariants as cause
+use Rattle.tm_model.specs.declared.explain.AbortReason.{AbortReason}
+use Rattle.tm_model.specs.declared.explain.AbortReason.TheVariants as cause
 use Rattle.tm_sets.specs.declared.interface.Kind.{Kind}
 use Rattle.tm_sets.specs.declared.interface.Kind.TheVariants.{Read, Write}
 use Rattle.tm_why.specs.declared.reason.Reason.{Reason}

@@ -1,7 +1,7 @@
 -- What one step makes of a core's row, as the code computes it.
 use Rattle.std.specs.Prelude.{ℕ, ◌==◌, if◌then◌else◌, Option}
 use Rattle.std.specs.Option.{option_or}
-use Rattle.tm_core.specs.TmModel.Outcome.{Outcome}
+use Rattle.tm_model.specs.declared.outcome.Outcome.{Outcome}
 use Rattle.tm_why.specs.Types.{Asked, Hit, Watched}
 use Rattle.tm_why.specs.Watched.{begun_by, hit_made, left_by, standing}
 

@@ -1,8 +1,8 @@
 -- What a machine says of a hit.
 use Rattle.std.specs.Prelude.{ℕ, Option}
-use Rattle.tm_core.specs.TmModel.Explained.{IsHitTold}
-use Rattle.tm_core.specs.TmModel.State.{State}
-use Rattle.tm_core.specs.TmModel.Hit.{Hit}
+use Rattle.tm_model.specs.Explained.{IsHitTold}
+use Rattle.tm_model.specs.State.{State}
+use Rattle.tm_model.specs.declared.explain.Hit.{Hit}
 use Rattle.tm_core.specs.Theorem.{ShownMachine, StandsFor, machine_setting}
 
 -- of the next step of a core, the hit by which another core is condemned, in each state that the machine stands for

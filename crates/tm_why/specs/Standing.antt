@@ -1,13 +1,13 @@
 -- A hit stands on a core exactly while the core is doomed.
 use Rattle.std.specs.Prelude.{◌≡◌, ℕ, List, ◌∷◌, Option}
 use Rattle.std.specs.Option.{is_some}
-use Rattle.tm_core.specs.TmModel.Conflicts.{Doomed, doomed_after}
-use Rattle.tm_core.specs.TmModel.Explained.{IsHitTold}
-use Rattle.tm_core.specs.TmModel.Event.{Event}
-use Rattle.tm_core.specs.TmModel.Owed.{owed_under}
-use Rattle.tm_core.specs.TmModel.Setting.{Setting}
-use Rattle.tm_core.specs.TmModel.State.{State}
-use Rattle.tm_core.specs.TmModel.Outcome.{Outcome}
+use Rattle.tm_model.specs.Conflicts.{Doomed, doomed_after}
+use Rattle.tm_model.specs.Explained.{IsHitTold}
+use Rattle.tm_model.specs.declared.outcome.Event.{Event}
+use Rattle.tm_model.specs.Owed.{owed_under}
+use Rattle.tm_model.specs.Setting.{Setting}
+use Rattle.tm_model.specs.State.{State}
+use Rattle.tm_model.specs.declared.outcome.Outcome.{Outcome}
 use Rattle.tm_why.specs.Types.{Asked}
 use Rattle.tm_why.specs.Watched.{Told, hit_in, hit_on}
 

@@ -3,9 +3,9 @@
 use Rattle.std.specs.Prelude.{◌≡◌, ℕ, suc, ◌<◌, ◌==◌, if◌then◌else◌, List, [], ◌∷◌, length, Option, Some, None}
 use Rattle.std.specs.Prelude.{option_map, slice_index_or}
 use Rattle.std.specs.Option.{option_or}
-use Rattle.tm_core.specs.TmModel.Outcome.{Outcome}
-use Rattle.tm_core.specs.TmModel.Outcome.TheVariants.{Aborted, AbortedBy, Begun, Committed}
-use Rattle.tm_core.specs.TmModel.Runs.{is_aborted_by}
+use Rattle.tm_model.specs.declared.outcome.Outcome.{Outcome}
+use Rattle.tm_model.specs.declared.outcome.Outcome.TheVariants.{Aborted, AbortedBy, Begun, Committed}
+use Rattle.tm_model.specs.Runs.{is_aborted_by}
 use Rattle.tm_why.specs.Types.{Asked, Hit, Reason, StandingHit, Watch, Watched}
 
 abbrev pub Told : Type 0

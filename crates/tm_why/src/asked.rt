@@ -10,7 +10,8 @@ ghost use Rattle.tm_core.specs.Previewed.{IsPreview};
 ghost use Rattle.tm_core.specs.Theorem.{view_at};
 ghost use Rattle.tm_why.specs.Said.{IsSaidOf};
 
-use tm_core::{AbortReason, Hit, Machine, NoSuchCore, Preview};
+use tm_core::{Machine, NoSuchCore, Preview};
+use tm_model::{AbortReason, Hit};
 
 /// The most cores of a machine.
 pub const MOST_CORES: usize = 64;

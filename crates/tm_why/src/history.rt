@@ -14,7 +14,8 @@ use crate::asked::Asked;
 use crate::reason::Reason;
 use crate::watch::Watch;
 use std::alloc::{AllocError, Global};
-use tm_hist::{Board, Outcome, Pick, StepFault};
+use tm_hist::{Board, StepFault};
+use tm_model::{Outcome, Pick};
 
 /// A watch that was told of each step of a board's history. They are made once more on a board of their own, each under the event
 /// that its outcome tells of, at the cost of a step each. `AllocError`, where there was no memory for it.

@@ -27,8 +27,4 @@ pub use laws::hits_stand;
 pub use line::write_reason;
 pub use reason::Reason;
 pub use row::{StandingHit, Watched};
-pub use tm_hist::{
-    BackFault, Board, CoreState, Kind, Machine, Outcome, Program, StepFault, first_steps,
-    push_state, write_core, write_dump, write_outcome,
-};
 pub use watch::Watch;

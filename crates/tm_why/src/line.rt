@@ -13,7 +13,9 @@ use crate::reason::Reason;
 use crate::row::StandingHit;
 use text_out::page::{Page, push, push_decimal, push_eight, push_hex};
 use text_out::{Out, WriteFault};
-use tm_hist::{AbortReason, Kind, stop_text};
+use tm_hist::stop_text;
+use tm_model::AbortReason;
+use tm_sets::Kind;
 
 /// Writes why the next step of a core is an abort: the machine's reason, the hit that doomed its transaction, if one did, and when
 /// that began. Steps are counted from 1.

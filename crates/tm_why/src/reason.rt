@@ -4,7 +4,7 @@
 //! its outcome says all.
 
 use crate::row::Watched;
-use tm_core::AbortReason;
+use tm_model::AbortReason;
 
 /// Why a step was an abort, and what was known of its transaction.
 #[derive(Clone, Copy, PartialEq, Eq, Debug)]

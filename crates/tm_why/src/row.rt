@@ -9,7 +9,7 @@ ghost use Rattle.tm_why.specs.Rows.{row_after, row_after_other, row_after_own};
 ghost use Rattle.tm_why.specs.Watched.{hit_made};
 
 use crate::asked::Asked;
-use tm_core::{Hit, Outcome};
+use tm_model::{Hit, Outcome};
 
 /// A hit that condemned a transaction.
 #[derive(Clone, Copy, PartialEq, Eq, Debug)]

@@ -10,7 +10,7 @@ ghost use Rattle.tm_why.specs.Rows.{row_after, row_if_other};
 use crate::asked::{Asked, MOST_CORES};
 use crate::reason::Reason;
 use crate::row::{Watched, row_after, take_own};
-use tm_core::Outcome;
+use tm_model::Outcome;
 
 /// Of each core the step at which its open transaction began, and the hit that condemned it: a row of fixed length. It
 /// is told of each step of a run, which are numbered from 1.

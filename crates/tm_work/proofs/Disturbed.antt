@@ -3,14 +3,15 @@ use Rattle.std.proofs.Common.{◌≡◌, ℕ, List, [], ◌∷◌, ◌++◌, fal
 use Rattle.std.proofs.Math.Seq.{drop-length}
 use Rattle.std.proofs.lemmas.List.Elements.{All-append, All-cons, All-nil, All-weaker}
 use Rattle.tm_hist.specs.Board.{ShownBoard, TellsAsShown}
-use Rattle.tm_hist.specs.TmModel.CoreState.{CoreState}
-use Rattle.tm_hist.specs.TmModel.CoreState.TheVariants as state
-use Rattle.tm_hist.specs.TmModel.Event.{Event}
-use Rattle.tm_hist.specs.TmModel.Event.TheVariants as event
-use Rattle.tm_hist.specs.TmModel.Interference.TheVariants.{Interrupt, Eviction, Snoop}
-use Rattle.tm_hist.specs.TmModel.Outcome.{Outcome}
-use Rattle.tm_hist.specs.TmModel.Outcome.TheVariants.{Aborted, AbortedBy, Begun, Committed, Idle, Inside, Loaded, Plain, Stopped}
-use Rattle.tm_hist.specs.TmModel.Runs.{TellNoAbort, event_told, is_aborted_by}
+use Rattle.tm_model.specs.declared.outcome.CoreState.{CoreState}
+use Rattle.tm_model.specs.declared.outcome.CoreState.TheVariants as state
+use Rattle.tm_model.specs.declared.outcome.Event.{Event}
+use Rattle.tm_model.specs.declared.outcome.Event.TheVariants as event
+use Rattle.tm_model.specs.declared.outcome.Interference.TheVariants.{Interrupt, Eviction, Snoop}
+use Rattle.tm_model.specs.declared.outcome.Outcome.{Outcome}
+use Rattle.tm_model.specs.declared.outcome.Outcome.TheVariants.{Aborted, AbortedBy, Begun, Committed, Idle, Inside}
+use Rattle.tm_model.specs.declared.outcome.Outcome.TheVariants.{Loaded, Plain, Stopped}
+use Rattle.tm_model.specs.Runs.{TellNoAbort, event_told, is_aborted_by}
 use Rattle.tm_pick.specs.Drawn.{AreDrawn}
 use Rattle.tm_pick.specs.Kinds.{IsOfKinds, all_kinds, no_kinds}
 use Rattle.tm_pick.specs.declared.events.Events.{Events}

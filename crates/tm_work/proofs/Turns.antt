@@ -9,8 +9,8 @@ use Rattle.std.proofs.lemmas.List.{append_assoc, append-nil, drop_all, drop-appe
 use Rattle.std.proofs.lemmas.List.Sums.{sum_by-append, sum_by-cons, count_by-le-length}
 use Rattle.std.proofs.lemmas.Option.{get_or_from_slice_get, slice_get_within}
 use Rattle.tm_ledger.proofs.Moves.{slice_get_front, slice_get_last, slice_get_same, slice_get_other}
-use Rattle.tm_hist.specs.TmModel.Outcome.{Outcome}
-use Rattle.tm_hist.specs.TmModel.Outcome.TheVariants.{Idle}
+use Rattle.tm_model.specs.declared.outcome.Outcome.{Outcome}
+use Rattle.tm_model.specs.declared.outcome.Outcome.TheVariants.{Idle}
 use Rattle.tm_hist.specs.Board.{AreSteps, ShownBoard, IsStopped, IsFull, pairs_behind}
 use Rattle.tm_work.specs.declared.progress.Progress.{Progress}
 use Rattle.tm_work.specs.declared.progress.Receipt.{Receipt}

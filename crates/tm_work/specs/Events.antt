@@ -1,8 +1,8 @@
 -- Which aborts from outside of the program steps may tell of, where their events are drawn.
 use Rattle.std.specs.Prelude.{◌≡◌, ◌⊎◌, ⊤, ℕ, List, All, Option, None}
-use Rattle.tm_hist.specs.TmModel.Event.{Event}
-use Rattle.tm_hist.specs.TmModel.Outcome.{Outcome}
-use Rattle.tm_hist.specs.TmModel.Runs.{TellNoAbort, event_told}
+use Rattle.tm_model.specs.declared.outcome.Event.{Event}
+use Rattle.tm_model.specs.declared.outcome.Outcome.{Outcome}
+use Rattle.tm_model.specs.Runs.{TellNoAbort, event_told}
 use Rattle.tm_pick.specs.Kinds.{IsOfKinds}
 use Rattle.tm_pick.specs.declared.events.Events.{Events}
 use Rattle.tm_pick.specs.declared.events.Events.TheVariants.{Never, Rate, Draw}

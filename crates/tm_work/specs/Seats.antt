@@ -2,10 +2,10 @@
 -- workers").
 use Rattle.std.specs.Prelude.{◌≡◌, ◌≢◌, ◌⊎◌, ⊤, ℕ, ◌+◌, ◌<◌, ◌≤◌, ◌==◌, Bool, true, false, List, [], ◌∷◌, ◌++◌, length}
 use Rattle.std.specs.Prelude.{All, count_by, drop, Option, Some, None, slice_get, slice_set}
-use Rattle.tm_hist.specs.TmModel.Outcome.{Outcome}
-use Rattle.tm_hist.specs.TmModel.Outcome.TheVariants.{Idle}
+use Rattle.tm_model.specs.declared.outcome.Outcome.{Outcome}
+use Rattle.tm_model.specs.declared.outcome.Outcome.TheVariants.{Idle}
 use Rattle.tm_hist.specs.Board.{ShownBoard, SameBoard, IsStopped, IsFull}
-use Rattle.tm_hist.specs.TmModel.Runs.{TellNoAbort}
+use Rattle.tm_model.specs.Runs.{TellNoAbort}
 use Rattle.tm_pick.specs.declared.events.Events.{Events}
 use Rattle.tm_work.specs.Events.{TellDrawn}
 use Rattle.tm_work.specs.declared.progress.Progress.{Progress}

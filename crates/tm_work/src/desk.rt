@@ -6,8 +6,8 @@
 
 ghost use Rattle.std.specs.Prelude.{◌≡◌, ◌≢◌, ◌+◌, ◌<◌, ◌≤◌, true, ◌++◌, ◌∷◌, [], length, All, IfOk, IfErr, IfSome, IfNone};
 ghost use Rattle.std.specs.Prelude.{None};
-ghost use Rattle.tm_hist.specs.TmModel.Outcome.{Outcome};
-ghost use Rattle.tm_hist.specs.TmModel.Runs.{event_told};
+ghost use Rattle.tm_model.specs.declared.outcome.Outcome.{Outcome};
+ghost use Rattle.tm_model.specs.Runs.{event_told};
 ghost use Rattle.tm_hist.specs.Board.{IsHistory};
 ghost use Rattle.tm_pick.specs.Drawn.{AreDrawn};
 ghost use Rattle.tm_work.specs.Seats.{AreSeats, GoesOn, IsDisturbed, IsLater, SeatTells};

@@ -6,7 +6,7 @@
 
 ghost use Rattle.std.specs.Prelude.{◌≡◌, ◌≢◌, ◌↔◌, ◌+◌, ◌<◌, ◌≤◌, ◌⊎◌, ℕ, true, [], ◌∷◌, ◌++◌, length, All};
 ghost use Rattle.std.specs.Prelude.{Err, IfOk, IfSome, IfNone};
-ghost use Rattle.tm_hist.specs.TmModel.Outcome.{Outcome};
+ghost use Rattle.tm_model.specs.declared.outcome.Outcome.{Outcome};
 ghost use Rattle.tm_hist.specs.Board.{IsFull, IsHistory, IsStopped, SameBoard};
 ghost use Rattle.tm_hist.specs.declared.board.StepFault.{StepFault};
 ghost use Rattle.tm_pick.specs.Drawn.{AreDrawn};
@@ -20,8 +20,9 @@ use crate::progress::{Progress, Receipt};
 use crate::seat::{DeskIdentity, Seat};
 use std::collections::VecDeque;
 use std::marker::Model;
-use tm_hist::{Board, Event, Outcome, StepFault};
+use tm_hist::{Board, StepFault};
 use tm_ledger::Ledger;
+use tm_model::{Event, Outcome};
 use tm_pick::Interferer;
 
 /// The board, with a ledger of what each seat knows of it.

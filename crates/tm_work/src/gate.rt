@@ -3,7 +3,7 @@
 //! [`Gate::before`] and [`Gate::after`] are called without the desk's lock, so that others' turns may come between
 //! either and the turn. Workers that make several steps under one lock have no gate: of them a `watch` hears.
 
-use tm_hist::Outcome;
+use tm_model::Outcome;
 
 /// What hears of each turn of a worker. It is called in the worker's thread, without the desk's lock, so it may wait
 /// for another worker.

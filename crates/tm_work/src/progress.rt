@@ -3,7 +3,7 @@
 //! A [`Progress`] is kept twice, by the seat and by the ledger, and both are written at once (`seat`). Of the steps
 //! of other cores it says nothing, but that the last one's place in the history counts them.
 
-use tm_hist::Outcome;
+use tm_model::Outcome;
 
 /// A step that a turn made.
 #[derive(Clone, Copy, PartialEq, Eq, Debug)]

@@ -6,7 +6,7 @@
 
 ghost use Rattle.std.specs.Prelude.{◌≡◌, ◌<◌, ◌≤◌, ◌+◌, [], ℕ, length, IfOk, IfErr, Some, slice_get, slice_index};
 ghost use Rattle.std.specs.Prelude.{vec_capacity, vec_len, IfNone, IfSome};
-ghost use Rattle.tm_hist.specs.TmModel.Runs.{TellNoAbort};
+ghost use Rattle.tm_model.specs.Runs.{TellNoAbort};
 ghost use Rattle.tm_work.specs.Events.{TellDrawn};
 ghost use Rattle.tm_work.specs.Seats.{IsDisturbed, SeatProgress, new_part};
 ghost use Rattle.tm_work.specs.Workers.{IsDone, EachDone, AreLeft, IsReport};

@@ -11,9 +11,11 @@ use std::sync::atomic::{AtomicU64, Ordering};
 use std::test::*;
 use std::thread;
 use std::thread::Threads;
-use tm_core::{Interference, Limits, Outcome, Stop};
+use tm_core::Limits;
 use tm_hist::Board;
+use tm_model::{Interference, Outcome};
 use tm_pick::{Events, Kinds};
+use tm_rule::Stop;
 use tm_work::{
     Burst, Desk, DeskIdentity, EventPlan, Gate, Opening, Report, Seat, Watch, WorkFault,
     run_steadily, run_workers,

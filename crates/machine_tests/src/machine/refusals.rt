@@ -1,7 +1,8 @@
 //! Cores that there are not, which a command refuses before it asks for them, and the numbers of faults.
 
 use super::program;
-use tm_core::{CoreState, Limits, Machine, MachineFault, NoSuchCore, RunFault};
+use tm_core::{Limits, Machine, MachineFault, NoSuchCore, RunFault};
+use tm_model::CoreState;
 use tm_sets::Kind;
 
 const LIMITS: Limits = Limits {

@@ -7,7 +7,9 @@ use super::program;
 use ia_image::Program;
 use std::alloc::Global;
 use std::process::Abort;
-use tm_core::{Kind, Limits, Machine, Outcome};
+use tm_core::{Limits, Machine};
+use tm_model::Outcome;
+use tm_sets::Kind;
 
 /// Runs in the form of those of `both`, each of which has one transaction that is made at once: beside a core that is
 /// open, and in place, where there may be limits just above four lines an instruction, a part of a store that is loaded,

@@ -1,13 +1,14 @@
 //! Sessions whose devices end or fail, and whose memory is refused: what was answered, and the board that is given back.
 
 use super::{board, no_names};
+use debug_command::Manner;
 use std::alloc::Global;
 use std::io::{self, ErrorKind, Read, Write};
 use std::process::Abort;
 use std::sync::Wait;
 use std::test::Fail;
 use text_out::{Out, ToVec, ToWriter};
-use tm_debug::{FromReader, In, Manner, Session, SessionFault, serve_in};
+use tm_debug::{FromReader, In, Session, SessionFault, serve_in};
 use tm_hist::Board;
 
 /// Gives these bytes, and then ends, or fails.

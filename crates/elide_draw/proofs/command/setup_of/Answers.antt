@@ -1,6 +1,6 @@
 use Rattle.std.proofs.lemmas.Result.{IfOk-weaker}
-use Rattle.elide_setup.specs.ElideProgram.ProgramFile.{IsFile}
-use Rattle.elide_setup.specs.ElideProgram.ProgramFileType.{ProgramFile}
+use Rattle.elide_program.specs.ProgramFile.{IsFile}
+use Rattle.elide_program.specs.declared.file.ProgramFile.{ProgramFile}
 use Rattle.elide_setup.specs.Setup.{IsSetup}
 use Rattle.elide_setup.specs.declared.machine.Setup.{Setup}
 use Rattle.elide_draw.proofs.command.setup_of.Goals as goal

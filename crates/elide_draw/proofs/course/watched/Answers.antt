@@ -3,7 +3,7 @@ use Rattle.std.proofs.lemmas.Result.{IfOk-weaker}
 use Rattle.elide_setup.proofs.Runs.{run_of_all}
 use Rattle.elide_setup.specs.Runs.{AreMachineSteps}
 use Rattle.elide_setup.specs.Schedules.{AreOf, picks_made}
-use Rattle.elide_setup.specs.TmCore.Theorem.{ShownMachine}
+use Rattle.tm_core.specs.Theorem.{ShownMachine}
 use Rattle.elide_setup.specs.Walks.{Leads}
 use Rattle.tm_model.specs.declared.outcome.Outcome.{Outcome}
 use Rattle.tm_model.specs.declared.outcome.Pick.{Pick}

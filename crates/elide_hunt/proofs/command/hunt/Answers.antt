@@ -2,8 +2,8 @@ use Rattle.std.proofs.Common.{◌∙◌, ℕ, List, Option, refl, subst, sym}
 use Rattle.std.proofs.lemmas.Result.{err_from_is_err_and}
 use Rattle.std.specs.Borrow.{Bor}
 use Rattle.std.specs.Prelude.{IfSome}
-use Rattle.elide_setup.specs.ElideProgram.Files.{Gives, most_bytes}
-use Rattle.elide_setup.specs.ElideProgram.ProgramFile.{IsFile}
+use Rattle.elide_program.specs.Files.{Gives, most_bytes}
+use Rattle.elide_program.specs.ProgramFile.{IsFile}
 use Rattle.elide_setup.specs.Recorded.{IsRecorded}
 use Rattle.elide_setup.specs.Refused.{HasNoProgram, IsNotPaged, no_setup, not_read}
 use Rattle.tm_schedule.specs.Schedule.{schedule_text}

@@ -1,7 +1,7 @@
 use Rattle.std.proofs.Common.{refl}
 use Rattle.std.proofs.lemmas.Result.{IfErr-weaker, IfOk-weaker, err_from_is_err_and}
-use Rattle.elide_setup.specs.ElideProgram.ProgramFile.{IsFile}
-use Rattle.elide_setup.specs.ElideProgram.ProgramFileType.{ProgramFile}
+use Rattle.elide_program.specs.ProgramFile.{IsFile}
+use Rattle.elide_program.specs.declared.file.ProgramFile.{ProgramFile}
 use Rattle.elide_setup.specs.Refused.{no_program, no_setup, not_loaded}
 use Rattle.elide_setup.specs.Setup.{IsSetup}
 use Rattle.elide_setup.specs.declared.machine.Setup.{Setup}

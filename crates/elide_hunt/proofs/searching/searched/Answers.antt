@@ -1,6 +1,6 @@
 use Rattle.std.proofs.Common.{rules, ◌≡◌, ℕ, true, false, arith, refl}
 use Rattle.std.specs.Prelude.{is_some}
-use Rattle.elide_setup.specs.TmHist.Board.{ShownBoard as Board}
+use Rattle.tm_hist.specs.Board.{ShownBoard as Board}
 use Rattle.tm_hunt.specs.Sources.{IsPlannedRun}
 use Rattle.elide_hunt.proofs.Shares.{passed_all, passed_more, passed_none, search_behind, search_fits, search_within}
 use Rattle.elide_hunt.proofs.searching.searched.Goals as goal

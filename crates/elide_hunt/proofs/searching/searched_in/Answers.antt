@@ -1,5 +1,5 @@
 use Rattle.std.proofs.Common.{ℕ, arith, refl}
-use Rattle.elide_setup.specs.TmHist.Board.{ShownBoard as Board}
+use Rattle.tm_hist.specs.Board.{ShownBoard as Board}
 use Rattle.tm_hunt.specs.Sources.{IsPlannedRun}
 use Rattle.elide_hunt.proofs.Shares.{search_behind}
 use Rattle.elide_hunt.specs.Refused.{not_made}

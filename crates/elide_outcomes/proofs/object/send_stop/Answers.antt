@@ -2,7 +2,7 @@ use Rattle.std.proofs.Common.{codes}
 use Rattle.std.proofs.lemmas.Result.{on_ok_weaker}
 use Rattle.elide_object.specs.Object.{schedule_value}
 use Rattle.elide_object.proofs.Sending.{sent_equal}
-use Rattle.elide_setup.specs.TmHist.Lines.{stop_word}
+use Rattle.tm_hist.specs.Lines.{stop_word}
 use Rattle.serde_json.specs.Data.{string}
 use Rattle.elide_outcomes.proofs.object.send_stop.Goals as goal
 

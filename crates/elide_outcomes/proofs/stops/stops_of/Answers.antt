@@ -1,7 +1,7 @@
 use Rattle.std.proofs.Common.{◌≡◌, inl, ℕ, List, Bor, get_or}
 use Rattle.std.proofs.lemmas.List.Elements.{Contains-get_or}
 use Rattle.std.proofs.lemmas.Result.{err_from_is_err_and}
-use Rattle.elide_setup.specs.TmHist.Lines.{stop_word}
+use Rattle.tm_hist.specs.Lines.{stop_word}
 use Rattle.tm_rule.specs.declared.kinds.Stop.{Stop}
 use Rattle.elide_outcomes.proofs.Zips.{no_text, zip_added}
 use Rattle.elide_outcomes.proofs.stops.stops_of.Goals as goal

@@ -1,5 +1,5 @@
 use Rattle.std.proofs.Common.{◌≡◌, ℕ, ◌<◌, ◌≤◌, length}
-use Rattle.elide_why.specs.TmHist.Replay.{cores_of}
+use Rattle.tm_hist.specs.Replay.{cores_of}
 use Rattle.elide_replay.specs.Alike.{SameCore}
 use Rattle.elide_replay.proofs.agreement.has_cores_of.Given as goal
 

@@ -1,7 +1,7 @@
 use Rattle.std.proofs.Common.{◌∙◌, subst, ℕ}
 use Rattle.std.specs.Prelude.{max}
 use Rattle.elide_setup.specs.Refused.{IsNoBoard}
-use Rattle.elide_setup.specs.TmHist.Board.{IsNew}
+use Rattle.tm_hist.specs.Board.{IsNew}
 use Rattle.elide_setup.specs.Schedules.{most_of}
 use Rattle.elide_setup.proofs.Runs.{made_all}
 use Rattle.std.proofs.lemmas.Result.{err_from_is_err_and}

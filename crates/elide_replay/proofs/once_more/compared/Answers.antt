@@ -4,7 +4,7 @@ use Rattle.text_out.proofs.Writing.{appends_none}
 use Rattle.text_out.specs.Writing.{Device}
 use Rattle.elide_setup.specs.Gathering.{told}
 use Rattle.elide_setup.specs.Shown.{shown_text}
-use Rattle.elide_setup.specs.TmCore.Theorem.{ShownMachine as Machine}
+use Rattle.tm_core.specs.Theorem.{ShownMachine as Machine}
 use Rattle.elide_setup.specs.declared.gathered.Gathered.{Gathered}
 use Rattle.elide_replay.specs.Told.{agreement_object, agreement_text}
 use Rattle.elide_replay.specs.declared.agreement.Agreement.{Agreement}

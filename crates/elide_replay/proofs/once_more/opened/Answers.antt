@@ -1,7 +1,7 @@
 use Rattle.std.proofs.Common.{◌≡◌, ap, refl, subst, true, ℕ}
 use Rattle.std.specs.Prelude.{Err}
 use Rattle.elide_setup.specs.Refused.{not_made}
-use Rattle.elide_why.specs.TmHist.Board.{bad_limit}
+use Rattle.tm_hist.specs.Board.{bad_limit}
 use Rattle.elide_replay.proofs.once_more.opened.Goals as goal
 
 pub returns-in-Err-clause-none : goal.returns-in-Err-clause-none

@@ -8,7 +8,7 @@ use Rattle.elide_setup.proofs.Schedules.{asked_before}
 use Rattle.elide_setup.specs.Setup.{IsAsked}
 use Rattle.elide_replay.specs.Printed.{IsPrinted, IsTold}
 use Rattle.elide_setup.specs.Recorded.{IsRecorded}
-use Rattle.elide_setup.specs.TmSchedule.Schedule.{schedule_text}
+use Rattle.tm_schedule.specs.Schedule.{schedule_text}
 use Rattle.elide_setup.specs.Schedules.{picks_made, picks_told}
 use Rattle.elide_replay.specs.declared.agreement.Agreement.{Agreement}
 use Rattle.std.proofs.lemmas.Result.{IfErr-weaker, err_from_is_err_and}

@@ -1,7 +1,7 @@
 use Rattle.std.proofs.Common.{subst}
 use Rattle.std.proofs.lemmas.Result.{err_from_is_err_and}
 use Rattle.elide_json.specs.Refused.{IsUnsent}
-use Rattle.elide_setup.specs.TmCore.Theorem.{ShownMachine as Machine}
+use Rattle.tm_core.specs.Theorem.{ShownMachine as Machine}
 use Rattle.elide_replay.proofs.once_more.tell_object.Goals as goal
 
 pub returns-in_err-put_replay-clause-unsent : goal.returns-in_err-put_replay-clause-unsent

@@ -1,7 +1,7 @@
 use Rattle.std.proofs.Common.{ℕ, List, refl, subst, sym}
 use Rattle.std.proofs.lemmas.Result.{err_from_is_err_and}
-use Rattle.elide_setup.specs.ElideProgram.Files.{Gives, most_bytes}
-use Rattle.elide_setup.specs.ElideProgram.ProgramFile.{IsFile}
+use Rattle.elide_program.specs.Files.{Gives, most_bytes}
+use Rattle.elide_program.specs.ProgramFile.{IsFile}
 use Rattle.elide_setup.specs.Refused.{misread, no_program, no_setup, not_loaded, not_read}
 use Rattle.elide_setup.specs.Setup.{IsAsked}
 use Rattle.elide_session.specs.Refused.{boardless, without_program}

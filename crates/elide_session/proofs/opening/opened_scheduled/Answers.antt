@@ -2,8 +2,8 @@ use Rattle.std.proofs.Common.{ℕ, List, refl, subst, sym}
 use Rattle.std.proofs.lemmas.Result.{err_from_is_err_and}
 use Rattle.elide_setup.proofs.Refusing.{not_scheduled as of_planned}
 use Rattle.elide_setup.proofs.Schedules.{planned_before}
-use Rattle.elide_setup.specs.ElideProgram.Files.{Gives, most_bytes}
-use Rattle.elide_setup.specs.ElideProgram.ProgramFile.{IsFile}
+use Rattle.elide_program.specs.Files.{Gives, most_bytes}
+use Rattle.elide_program.specs.ProgramFile.{IsFile}
 use Rattle.elide_setup.specs.Refused.{NamesNoCore, misplanned, misread, no_program, no_setup, not_read}
 use Rattle.elide_setup.specs.Schedules.{listed_in}
 use Rattle.elide_setup.specs.Setup.{IsAsked}

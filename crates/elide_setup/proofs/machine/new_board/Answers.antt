@@ -3,8 +3,8 @@ use Rattle.std.proofs.Common.{◌≡◌, ◌∙◌, ap, false, length, List, ℕ
 use Rattle.std.specs.Prelude.{Err}
 use Rattle.elide_setup.specs.Refused.{not_held, not_made}
 use Rattle.elide_setup.specs.Shown.{are_held}
-use Rattle.elide_setup.specs.TmCore.Theorem.{ShownMachine as Machine}
-use Rattle.elide_setup.specs.TmHist.Board.{ShownBoard as Board}
+use Rattle.tm_core.specs.Theorem.{ShownMachine as Machine}
+use Rattle.tm_hist.specs.Board.{ShownBoard as Board}
 use Rattle.elide_setup.proofs.machine.new_board.Goals as goal
 
 pub returns-in-Err-clause-none : goal.returns-in-Err-clause-none

@@ -1,7 +1,7 @@
 use Rattle.std.proofs.Common.{◌≡◌, ◌∙◌, ◌<◌, ◌≤◌, ℕ, ap, arith, false, length, sym, true}
 use Rattle.std.proofs.lemmas.List.{get_or_past}
 use Rattle.std.specs.FinSet as set
-use Rattle.elide_setup.specs.TmCore.Theorem.{ShownMachine as Machine, no_regs, view_at}
+use Rattle.tm_core.specs.Theorem.{ShownMachine as Machine, no_regs, view_at}
 use Rattle.tm_model.specs.Shown.{View, view_outside}
 use Rattle.tm_model.specs.declared.outcome.CoreState.TheVariants.{Running}
 use Rattle.elide_stats.proofs.asked.lines_of.Goals as goal

@@ -2,8 +2,8 @@ use Rattle.std.proofs.Common.{◌≡◌, ◌∙◌, ℕ, List, Option, inl, inr,
 use Rattle.std.proofs.lemmas.Result.{IfErr-weaker, err_from_is_err_and, on_ok_weaker}
 use Rattle.std.specs.Borrow.{Bor}
 use Rattle.elide_setup.proofs.Made.{of_plan}
-use Rattle.elide_setup.specs.ElideProgram.ProgramFile.{IsRead}
-use Rattle.elide_setup.specs.ElideProgram.ProgramFileType.{ProgramFile}
+use Rattle.elide_program.specs.ProgramFile.{IsRead}
+use Rattle.elide_program.specs.declared.file.ProgramFile.{ProgramFile}
 use Rattle.elide_setup.specs.Made.{HasRun, HasRunPlan}
 use Rattle.elide_setup.specs.Refused.{misplanned, misread, no_setup}
 use Rattle.elide_stats.specs.Refused.{IsNotCounted, IsRefused, unscheduled}

@@ -1,9 +1,9 @@
 use Rattle.std.proofs.Common.{ℕ, List, Option, ◌∙◌, subst, sym}
 use Rattle.std.proofs.lemmas.Result.{err_from_is_err_and, on_ok_weaker}
-use Rattle.elide_setup.specs.ElideProgram.ProgramFile.{IsFile}
-use Rattle.elide_setup.specs.ElideProgram.ProgramFileType.{ProgramFile}
+use Rattle.elide_program.specs.ProgramFile.{IsFile}
+use Rattle.elide_program.specs.declared.file.ProgramFile.{ProgramFile}
 use Rattle.elide_setup.specs.Made.{HasRunPlan}
-use Rattle.elide_setup.specs.ElideProgram.Files.{Gives, most_bytes}
+use Rattle.elide_program.specs.Files.{Gives, most_bytes}
 use Rattle.elide_setup.specs.Refused.{no_setup, not_read}
 use Rattle.elide_stats.specs.Refused.{unscheduled}
 use Rattle.elide_stats.proofs.command.stats_of_path.Goals as goal

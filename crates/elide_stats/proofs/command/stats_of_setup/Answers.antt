@@ -4,7 +4,7 @@ use Rattle.elide_setup.proofs.Runs.{run_of_all}
 use Rattle.elide_setup.specs.Recorded.{IsRecorded}
 use Rattle.elide_setup.specs.Runs.{AreMachineSteps, IsRunOf}
 use Rattle.elide_setup.specs.Schedules.{AreOf, picks_made, picks_told, schedule_made}
-use Rattle.elide_setup.specs.TmCore.Theorem.{ShownMachine}
+use Rattle.tm_core.specs.Theorem.{ShownMachine}
 use Rattle.elide_setup.specs.Walks.{Leads}
 use Rattle.tm_model.specs.declared.outcome.Outcome.{Outcome}
 use Rattle.tm_model.specs.declared.outcome.Pick.{Pick}

@@ -2,7 +2,7 @@ use Rattle.std.proofs.Common.{[], inl, inr, subst, sym}
 use Rattle.std.proofs.lemmas.Result.{IfErr-weaker, err_from_is_err_and}
 use Rattle.elide_setup.specs.Refused.{IsUntold}
 use Rattle.elide_setup.specs.Runs.{IsRunOf}
-use Rattle.elide_setup.specs.TmCore.Theorem.{ShownMachine as Machine}
+use Rattle.tm_core.specs.Theorem.{ShownMachine as Machine}
 use Rattle.elide_stats.specs.Refused.{AreUntold}
 use Rattle.elide_stats.proofs.told.tell_counts.Goals as goal
 

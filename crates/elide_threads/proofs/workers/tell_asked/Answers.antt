@@ -1,7 +1,7 @@
 use Rattle.std.proofs.Common.{subst}
 use Rattle.std.proofs.lemmas.Result.{IfErr-weaker}
 use Rattle.elide_json.specs.Refused.{IsUnsent}
-use Rattle.elide_setup.specs.TmCore.Theorem.{ShownMachine as Machine}
+use Rattle.tm_core.specs.Theorem.{ShownMachine as Machine}
 use Rattle.elide_threads.proofs.Refusing.{of_object}
 use Rattle.elide_threads.specs.Refused.{IsNotTold}
 use Rattle.elide_threads.proofs.workers.tell_asked.Goals as goal

@@ -1,13 +1,13 @@
 use Rattle.std.proofs.Common.{ℕ, List, Option, refl, subst, sym}
 use Rattle.std.proofs.lemmas.Result.{IfOk-weaker}
 use Rattle.std.specs.Borrow.{Bor}
-use Rattle.elide_setup.specs.ElideProgram.Files.{Gives, most_bytes}
-use Rattle.elide_setup.specs.ElideProgram.ProgramFile.{IsFile}
-use Rattle.elide_setup.specs.ElideProgram.ProgramFileType.{ProgramFile}
+use Rattle.elide_program.specs.Files.{Gives, most_bytes}
+use Rattle.elide_program.specs.ProgramFile.{IsFile}
+use Rattle.elide_program.specs.declared.file.ProgramFile.{ProgramFile}
 use Rattle.elide_setup.specs.Recorded.{IsRecorded}
-use Rattle.elide_setup.specs.TmSchedule.Schedule.{schedule_text}
+use Rattle.tm_schedule.specs.Schedule.{schedule_text}
 use Rattle.elide_setup.specs.Setup.{IsSetup}
-use Rattle.elide_setup.specs.TmHist.Board.{ShownBoard as Board}
+use Rattle.tm_hist.specs.Board.{ShownBoard as Board}
 use Rattle.elide_setup.specs.declared.machine.Setup.{Setup}
 use Rattle.elide_threads.specs.Printed.{IsPrinted, IsTold, IsWorked}
 use Rattle.tm_model.specs.Runs.{picks_of}

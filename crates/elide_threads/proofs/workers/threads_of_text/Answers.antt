@@ -2,12 +2,12 @@ use Rattle.std.proofs.Common.{ℕ, List, Option, refl, subst}
 use Rattle.std.proofs.lemmas.Result.{IfErr-weaker, err_from_is_err_and}
 use Rattle.std.specs.Borrow.{Bor}
 use Rattle.std.proofs.lemmas.Result.{IfOk-weaker}
-use Rattle.elide_setup.specs.ElideProgram.ProgramFile.{IsFile}
-use Rattle.elide_setup.specs.ElideProgram.ProgramFileType.{ProgramFile}
+use Rattle.elide_program.specs.ProgramFile.{IsFile}
+use Rattle.elide_program.specs.declared.file.ProgramFile.{ProgramFile}
 use Rattle.elide_setup.specs.Recorded.{IsRecorded}
-use Rattle.elide_setup.specs.TmSchedule.Schedule.{schedule_text}
+use Rattle.tm_schedule.specs.Schedule.{schedule_text}
 use Rattle.elide_setup.specs.Setup.{IsSetup}
-use Rattle.elide_setup.specs.TmHist.Board.{ShownBoard as Board}
+use Rattle.tm_hist.specs.Board.{ShownBoard as Board}
 use Rattle.elide_setup.specs.declared.machine.Setup.{Setup}
 use Rattle.elide_threads.specs.Printed.{IsTold, IsWorked}
 use Rattle.tm_model.specs.Runs.{picks_of}

@@ -1,6 +1,6 @@
 use Rattle.std.proofs.Common.{ℕ, List, Option, inl, subst, sym}
 use Rattle.std.proofs.lemmas.Result.{err_from_is_err_and}
-use Rattle.elide_setup.specs.ElideProgram.Files.{Gives, most_bytes}
+use Rattle.elide_program.specs.Files.{Gives, most_bytes}
 use Rattle.elide_setup.specs.Refused.{misplanned, misread, no_setup, not_read}
 use Rattle.elide_trace.proofs.scheduled.scheduled_labels.Goals as goal
 

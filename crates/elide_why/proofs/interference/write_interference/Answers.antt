@@ -1,6 +1,6 @@
 use Rattle.std.proofs.Common.{rules, ◌≡◌, ◌++◌, ℕ, List, ap, subst, ◌∙◌}
 use Rattle.text_out.specs.Writing.{Writes}
-use Rattle.elide_setup.specs.TmHist.Lines.{interference_word}
+use Rattle.tm_hist.specs.Lines.{interference_word}
 use Rattle.elide_why.specs.Interference.{interference_back, interference_front}
 use Rattle.elide_why.specs.Lines.{insn_words}
 use Rattle.elide_why.proofs.interference.write_interference.Goals as goal

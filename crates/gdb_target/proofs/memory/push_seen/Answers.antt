@@ -1,6 +1,6 @@
 use Rattle.std.proofs.Common.{◌≡◌, ◌+◌, [], ◌∷◌, ap, arith}
 use Rattle.hex.specs.Hex.{encode_lower}
-use Rattle.tm_hist.specs.TmCore.Seen.{byte_seen}
+use Rattle.tm_core.specs.Seen.{byte_seen}
 use Rattle.gdb_target.proofs.Ranges.{row_more}
 use Rattle.gdb_target.proofs.memory.push_seen.Goals as goal
 

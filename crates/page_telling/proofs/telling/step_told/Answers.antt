@@ -1,5 +1,5 @@
 use Rattle.std.proofs.Common.{◌≡◌, ℕ, sym, subst}
-use Rattle.elide_setup.specs.TmCore.Theorem.{ShownMachine as Machine}
+use Rattle.tm_core.specs.Theorem.{ShownMachine as Machine}
 use Rattle.tm_page.specs.Applied.{is_listed}
 use Rattle.tm_page.specs.Before.{IsBefore}
 use Rattle.tm_page.specs.Difference.{IsDifference}

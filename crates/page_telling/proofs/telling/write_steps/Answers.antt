@@ -3,7 +3,7 @@ use Rattle.std.proofs.lemmas.Result.{IfOk-weaker, err_from_is_err_and}
 use Rattle.std.specs.Prelude.{codes}
 use Rattle.text_out.specs.Writing.{Wrote}
 use Rattle.elide_setup.specs.Runs.{IsRunOf}
-use Rattle.elide_setup.specs.TmCore.Theorem.{ShownMachine as Machine}
+use Rattle.tm_core.specs.Theorem.{ShownMachine as Machine}
 use Rattle.page_run.proofs.Refusing.{not_told_of}
 use Rattle.page_telling.proofs.Knowing.{IsKnown, known_first}
 use Rattle.page_telling.proofs.Lines.{HasTold, all_tell, has_told, lines_written}

@@ -1,5 +1,5 @@
 use Rattle.std.proofs.Common.{◌≡◌, ◌+◌, ℕ, List, length, ap, ◌∙◌, arith}
-use Rattle.tm_model.specs.IaImage.Program.{ProgramValue as Program}
+use Rattle.ia_image.specs.Program.{ProgramValue as Program}
 use Rattle.tm_core.proofs.Image.{parts_are}
 use Rattle.tm_core.proofs.reopen.reopen_memory.Goals as goal
 

@@ -1,9 +1,9 @@
 use Rattle.std.proofs.Common.{◌≡◌, ◌≤◌, Err, Option, Some, length, rules, subst, sym}
 use Rattle.std.specs.List.{slice_get}
-use Rattle.tm_core.specs.IaImage.Program.{ProgramValue as Program}
+use Rattle.ia_image.specs.Program.{ProgramValue as Program}
 use Rattle.tm_hist.specs.Board.{IsOwedNext}
-use Rattle.tm_core.specs.TmModel.Event.{Event}
-use Rattle.tm_core.specs.TmModel.Runs.{picks_of}
+use Rattle.tm_model.specs.declared.outcome.Event.{Event}
+use Rattle.tm_model.specs.Runs.{picks_of}
 use Rattle.tm_hist.specs.declared.board.StepFault.TheVariants as fault
 use Rattle.tm_hist.proofs.Owed.{first_more, told_at}
 use Rattle.tm_hist.proofs.back.follow_step.Goals as goal

@@ -1,9 +1,9 @@
 use Rattle.std.proofs.Common.{◌∙◌, ap, get_or, map, sym}
 use Rattle.std.proofs.lemmas.Option.{slice_get-get_or}
 use Rattle.std.specs.Prelude.{ℕ}
-use Rattle.tm_core.specs.TmModel.Outcome.{Outcome}
-use Rattle.tm_core.specs.TmModel.Outcome.TheVariants.{Plain}
-use Rattle.tm_core.specs.TmModel.Setting.{setting_of}
+use Rattle.tm_model.specs.declared.outcome.Outcome.{Outcome}
+use Rattle.tm_model.specs.declared.outcome.Outcome.TheVariants.{Plain}
+use Rattle.tm_model.specs.Setting.{setting_of}
 use Rattle.tm_hist.specs.Serial.{core_of, list_step}
 use Rattle.tm_hist.proofs.Runs.{run_at}
 use Rattle.tm_hist.proofs.one_memory.run_given.Goals as goal

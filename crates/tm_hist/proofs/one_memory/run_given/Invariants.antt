@@ -1,6 +1,6 @@
 use Rattle.std.proofs.Common.{◌≡◌, ◌≤◌, Some, map, take}
 use Rattle.std.specs.List.{AllByRecursion}
-use Rattle.tm_core.specs.TmModel.Setting.{setting_of}
+use Rattle.tm_model.specs.Setting.{setting_of}
 use Rattle.tm_hist.specs.Serial.{core_of, list_run, steps_of}
 use Rattle.tm_hist.proofs.one_memory.run_given.Given as goal
 

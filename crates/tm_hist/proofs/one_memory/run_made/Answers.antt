@@ -1,6 +1,6 @@
 use Rattle.std.proofs.Common.{◌∙◌, get_or, map, refl, arith}
 use Rattle.std.proofs.lemmas.List.{length-map}
-use Rattle.tm_core.specs.TmModel.Setting.{setting_of}
+use Rattle.tm_model.specs.Setting.{setting_of}
 use Rattle.tm_hist.specs.History.{pair_of}
 use Rattle.tm_hist.specs.Serial.{core_of}
 use Rattle.tm_hist.proofs.Runs.{kept_at, no_pair, run_at}

@@ -1,6 +1,6 @@
 use Rattle.std.proofs.Common.{◌≡◌, ℕ, List, ◌++◌, length, map, take, drop, sym, ◌∙◌, ap, subst, inr}
-use Rattle.tm_core.specs.TmModel.Setting.{program_setting}
-use Rattle.tm_core.specs.TmModel.State.{opening_state}
+use Rattle.tm_model.specs.Setting.{program_setting}
+use Rattle.tm_model.specs.State.{opening_state}
 use Rattle.tm_hist.specs.History.{pairs_of}
 use Rattle.tm_hist.specs.Serial.{EndsWith, core_of}
 use Rattle.tm_hist.proofs.Runs.{first_closed, opening_size, refused, replayed, written_back}

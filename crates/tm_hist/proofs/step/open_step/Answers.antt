@@ -1,9 +1,9 @@
 use Rattle.std.proofs.Common.{◌≡◌, ◌+◌, suc, sym, ◌∙◌, ap, arith, Some}
 use Rattle.std.specs.Option.{option_and_then}
-use Rattle.tm_core.specs.TmModel.Isolated.{isolated_body}
-use Rattle.tm_core.specs.TmModel.Setting.{setting_of}
-use Rattle.tm_core.specs.TmModel.State.{Closed, Opened}
-use Rattle.tm_core.specs.TmModel.Steps.{after_commit, after_step_of}
+use Rattle.tm_model.specs.Isolated.{isolated_body}
+use Rattle.tm_model.specs.Setting.{setting_of}
+use Rattle.tm_model.specs.State.{Closed, Opened}
+use Rattle.tm_model.specs.Steps.{after_commit, after_step_of}
 use Rattle.tm_hist.proofs.step.open_step.Goals as goal
 
 pub returns-in-None-clause-step : goal.returns-in-None-clause-step

@@ -1,5 +1,5 @@
 use Rattle.std.proofs.Common.{sym, ◌∙◌, length}
-use Rattle.tm_core.specs.TmModel.Access.{bytes_at, loaded_addresses, loaded_value}
+use Rattle.tm_model.specs.Access.{bytes_at, loaded_addresses, loaded_value}
 use Rattle.tm_hist.proofs.Bodies.{store_fits, store_within}
 use Rattle.tm_rule.specs.Rule.{load_at}
 use Rattle.tm_rule.proofs.Facts.{store_within as rule_store_within}

@@ -1,6 +1,6 @@
 use Rattle.std.proofs.Common.{◌≡◌, ◌≤◌, ◌+◌, refl, sym, ◌∙◌, ap, arith, get_or}
-use Rattle.tm_core.specs.TmModel.Setting.{setting_of}
-use Rattle.tm_core.specs.TmModel.Steps.{after_step_of}
+use Rattle.tm_model.specs.Setting.{setting_of}
+use Rattle.tm_model.specs.Steps.{after_step_of}
 use Rattle.tm_hist.specs.History.{outcome_of}
 use Rattle.tm_hist.specs.Serial.{core_of, steps_of}
 use Rattle.tm_hist.proofs.Runs.{growth_some, no_core, step_either, step_some}

@@ -4,7 +4,7 @@ use Rattle.std.proofs.lemmas.List.{take_more}
 use Rattle.std.proofs.lemmas.Option.{get_or_from_slice_get, slice_get_within}
 use Rattle.tm_model.specs.declared.outcome.Pick.{Pick}
 use Rattle.tm_hist.specs.History.{pairs_of}
-use Rattle.tm_hist.specs.TmModel.Runs.{picks_of}
+use Rattle.tm_model.specs.Runs.{picks_of}
 use Rattle.tm_hunt.proofs.attempt.picks_made.Goals as goal
 
 -- one more

@@ -1,6 +1,6 @@
 use Rattle.std.proofs.Common.{◌≡◌, take}
 use Rattle.tm_hist.specs.History.{pairs_of}
-use Rattle.tm_hist.specs.TmModel.Runs.{picks_of}
+use Rattle.tm_model.specs.Runs.{picks_of}
 use Rattle.tm_hunt.proofs.attempt.picks_made.Given as goal
 
 abbrev pub invariant-loop-index : goal.invariant-loop-index

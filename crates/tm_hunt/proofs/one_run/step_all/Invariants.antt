@@ -1,6 +1,6 @@
 use Rattle.std.proofs.Common.{◌≡◌, ◌-◌, length}
 use Rattle.tm_hist.specs.Board.{SameBoard}
-use Rattle.tm_hist.specs.TmModel.Runs.{picks_of}
+use Rattle.tm_model.specs.Runs.{picks_of}
 use Rattle.tm_pick.specs.Kinds.{AreOfKinds}
 use Rattle.tm_hunt.specs.Runs.{AreLeft, AreMade, last_core}
 use Rattle.tm_hunt.proofs.one_run.step_all.Given as goal

@@ -1,7 +1,7 @@
 use Rattle.std.proofs.Common.{◌-◌, ◌<◌, ◌^◌, Option, arith, length, rules, subst, sym}
 use Rattle.tm_hist.proofs.Owed.{first_more, told_at}
 use Rattle.tm_hist.specs.Board.{IsOwedNext}
-use Rattle.tm_hist.specs.TmModel.Event.{Event}
+use Rattle.tm_model.specs.declared.outcome.Event.{Event}
 use Rattle.tm_why.proofs.HistorySteps.{watched_more}
 use Rattle.tm_why.proofs.history.watch_step.Goals as goal
 

@@ -1,6 +1,6 @@
 use Rattle.std.proofs.Common.{rules, ◌≡◌, ◌+◌, ℕ, true, false, arith, subst, Result, Ok, None}
 use Rattle.std.specs.Prelude.{IfErr, IfOk, is_some}
-use Rattle.elide_setup.specs.TmHist.Board.{ShownBoard as Board}
+use Rattle.tm_hist.specs.Board.{ShownBoard as Board}
 use Rattle.tm_hunt.specs.Attempts.{IsRefusal}
 use Rattle.tm_hunt.specs.Sources.{IsPlannedRun}
 use Rattle.tm_hunt.specs.declared.attempt.HuntFault.{HuntFault}

@@ -1,5 +1,5 @@
 use Rattle.std.proofs.Common.{ℕ, ◌+◌, subst}
-use Rattle.elide_setup.specs.TmHist.Board.{ShownBoard as Board}
+use Rattle.tm_hist.specs.Board.{ShownBoard as Board}
 use Rattle.tm_hunt.specs.Attempts.{IsSearch}
 use Rattle.tm_hunt.specs.Sources.{IsPlannedRun}
 use Rattle.elide_hunt.specs.Shares.{share_start}

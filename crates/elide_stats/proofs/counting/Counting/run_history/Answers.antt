@@ -9,7 +9,7 @@ use Rattle.tm_model.specs.Runs.{pick_of, picks_of}
 use Rattle.tm_model.specs.declared.outcome.Outcome.{Outcome}
 use Rattle.tm_model.specs.declared.outcome.Pick.{Pick}
 use Rattle.tm_stats.specs.contracts.cause.AbortCausePartialEq.TheImpl as causes
-use Rattle.elide_setup.specs.TmCore.Theorem.{ShownMachine as Machine}
+use Rattle.tm_core.specs.Theorem.{ShownMachine as Machine}
 use Rattle.elide_setup.proofs.HistoryCores.{history_within}
 use Rattle.elide_stats.proofs.Refusing.{of_step}
 use Rattle.elide_stats.proofs.Steps.{go_on_none, go_on_then}

@@ -1,5 +1,5 @@
 use Rattle.std.proofs.Common.{length, ap, ◌∙◌, sym, subst}
-use Rattle.tm_model.specs.IaImage.Program.{ProgramValue as Program}
+use Rattle.ia_image.specs.Program.{ProgramValue as Program}
 use Rattle.tm_sets.specs.Content.{Content}
 use Rattle.tm_core.specs.Reopening.{IsSameElsewhere}
 use Rattle.tm_core.specs.Theorem.{ShownMachine}

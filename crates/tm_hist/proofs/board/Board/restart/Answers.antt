@@ -1,6 +1,6 @@
 use Rattle.std.proofs.Common.{◌∙◌, ap}
 use Rattle.std.specs.Prelude.{map}
-use Rattle.tm_core.specs.TmModel.Setting.{Setting}
+use Rattle.tm_model.specs.Setting.{Setting}
 use Rattle.tm_hist.specs.History.{pair_of}
 use Rattle.tm_hist.proofs.Boards.{restarted}
 use Rattle.tm_hist.proofs.board.Board.restart.Goals as goal

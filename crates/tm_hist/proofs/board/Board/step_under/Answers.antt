@@ -1,9 +1,9 @@
 use Rattle.std.proofs.Common.{◌≡◌, ◌∙◌, ap, map, None, Some, refl, subst}
 use Rattle.std.specs.Prelude.{◌↔◌}
-use Rattle.tm_core.specs.TmModel.Runs.{doomed_at_end}
-use Rattle.tm_core.specs.TmModel.State.{opening_state}
+use Rattle.tm_model.specs.Runs.{doomed_at_end}
+use Rattle.tm_model.specs.State.{opening_state}
 use Rattle.tm_core.specs.Theorem.{machine_setting}
-use Rattle.tm_core.specs.TmModel.Outcome.TheVariants.{Idle}
+use Rattle.tm_model.specs.declared.outcome.Outcome.TheVariants.{Idle}
 use Rattle.tm_hist.specs.Board.{IsOwedNext, IsStopped, ShownBoard, TellsAsShown, stop_shown}
 use Rattle.tm_hist.specs.History.{pair_of}
 use Rattle.tm_hist.specs.Machine.{shown_state}

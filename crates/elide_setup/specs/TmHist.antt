@@ -1,6 +1,0 @@
--- The words of tm_hist that crates above name, passed on.
-pub use Rattle.tm_hist.specs.Board
-pub use Rattle.tm_hist.specs.Lines
-pub use Rattle.tm_hist.specs.Replay
-pub use Rattle.tm_hist.specs.Serial
-pub use Rattle.tm_hist.specs.declared.replay.Serial as SerialType

@@ -1,5 +1,0 @@
--- The words of tm_model that crates above name, passed on.
-pub use Rattle.tm_hist.specs.TmModel.AbortReason
-pub use Rattle.tm_hist.specs.TmModel.Outcome
-pub use Rattle.tm_hist.specs.TmModel.Setting
-pub use Rattle.tm_hist.specs.TmModel.State

@@ -1,2 +1,0 @@
--- The words of tm_schedule that crates above name, passed on.
-pub use Rattle.tm_schedule.specs.Schedule

@@ -1,2 +1,0 @@
--- The words of ia_decode that crates above name, passed on.
-pub use Rattle.ia_decode.specs.Offsets
